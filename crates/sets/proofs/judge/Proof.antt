@@ -1,0 +1,69 @@
+-- `judge` is right because it asks the definition's three tests in the definition's order, and stops at the first that fails.
+use Prim.Native.Nat.{ℕ, _≤_}
+use mathlib.Core.Path.{_≡_, refl, sym, ap, _∙_}
+use mathlib.Core.Bool.{true, false, _&&_}
+use borrow.Author.Needs.{needs}
+use borrow.Author.Tests.{not-true, not-false}
+use lib.Dec.{leb}
+use Rattle.units.specs.JudgingLaws.{held, failed}
+use Rattle.sets.specs.Rules.{countAllowed, numbersAllowed, walkTimeAllowed, tau}
+use Rattle.sets.specs.Judged.{judged}
+use Rattle.sets.specs.SetLaws.{decides-count, judged-2, judged-4, judged-5, judged-0}
+use Rattle.sets.proofs.judge.Statement.{statement}
+use Rattle.sets.proofs.judge.Tie as tie
+
+count-held : (c : tie.Else1) → countAllowed (c .before .before .before .args .t) ≡ true
+count-held c = not-false _ (c .if1 .left)
+
+numbers-said : (c : tie.After-stations-in-range) → (c .before .head-in-range .result && c .stations-in-range .result) ≡ numbersAllowed (c .before .before .before .before .before .before .args .t)
+numbers-said c = rw (c .before .head-in-range .ensures, c .stations-in-range .ensures)
+
+numbers-held : (c : tie.Else2) → numbersAllowed (c .before .before .before .before .before .before .before .args .t) ≡ true
+numbers-held c = sym (numbers-said (c .before)) ∙ not-false _ (c .if2 .left)
+
+walk-said : (c : tie.After-wide) → (leb 1 (c .before .walk-time .result) && leb (c .before .walk-time .result) (c .wide .result)) ≡ walkTimeAllowed (c .before .before .before .before .before .before .before .before .before .args .t)
+walk-said c = rw (c .before .walk-time .ensures .sum, c .wide .ensures .same)
+
+returns : tie.Need-returns
+returns c = sym (judged-2 _ (not-true _ (c .if1 .taken)))
+
+head-in-range-requires : tie.Need-head-in-range-requires
+head-in-range-requires c κs = search needs
+
+stations-in-range-requires : tie.Need-stations-in-range-requires
+stations-in-range-requires c κs = decides-count (c .before .before .before .before .before .args .t) .0 (count-held (c .before .before)) .1
+
+returns-2 : tie.Need-returns-2
+returns-2 c =
+    sym (judged-4 _ (count-held (c .before .before .before .before)) (sym (numbers-said (c .before)) ∙ not-true _ (c .if2 .taken)))
+
+walk-time-requires : tie.Need-walk-time-requires
+walk-time-requires c κs = search needs
+
+wide-requires : tie.Need-wide-requires
+wide-requires c κs = search needs
+
+returns-3 : tie.Need-returns-3
+returns-3 c =
+    let passed = c .before .before .before in
+    sym
+    (judged-5 _ (count-held (passed .before .before .before .before)) (numbers-held passed) (sym (walk-said (c .before)) ∙ not-true _ (c .if3 .taken)))
+
+returns-4 : tie.Need-returns-4
+returns-4 c =
+    let passed = c .before .before .before in
+    sym
+    (judged-0 _ (count-held (passed .before .before .before .before)) (numbers-held passed) (sym (walk-said (c .before)) ∙ not-false _ (c .if3 .left)))
+
+pub judge-spec : {M : Type 1} → statement M
+judge-spec =
+    tie.close
+    (tie.spec
+    returns
+    head-in-range-requires
+    stations-in-range-requires
+    returns-2
+    walk-time-requires
+    wide-requires
+    returns-3
+    returns-4)

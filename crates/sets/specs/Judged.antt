@@ -1,0 +1,21 @@
+-- The judgement of any set whatever, in the order of the refusal numbers, so that the lowest that applies is given.
+use Prim.Native.Nat.{ℕ}
+use mathlib.Core.List.{List}
+use lib.ListN.{replicate}
+use Rattle.units.specs.Numbers.{accepted, wrongShape, outOfRange, badWalkTime}
+use Rattle.units.specs.Judging.{orElse}
+use Rattle.sets.specs.Rules.{countAllowed, numbersAllowed, walkTimeAllowed}
+use Rattle.sets.specs.declared.Set.{Set}
+
+-- 0, or 2 for a wrong count of stations, 4 for a number out of its range, 5 for a walk time that is 0 or above TTRT
+unfoldable pub judged : Set → ℕ
+judged t =
+    orElse (countAllowed t) wrongShape (orElse (numbersAllowed t) outOfRange (orElse (walkTimeAllowed t) badWalkTime accepted))
+
+-- 128 places of 0
+abbrev pub zeros : List ℕ
+zeros = replicate 128 0
+
+-- what a refused call hands back for a set: N = 0 and every place 0
+abbrev pub blankSet : Set
+blankSet = record { head = record { ttrt = 0 }; n = 0; w = zeros; c = zeros; d = zeros; p = zeros }

@@ -1,0 +1,87 @@
+-- The laws of sets, for the proofs of the layers above. No rule stands here.
+use Prim.Native.Nat.{ℕ, _≤_, _<_}
+use mathlib.Core.Path.{_≡_, refl, ap, _∙_}
+use mathlib.Core.Bool.{Bool, true, false, _&&_}
+use mathlib.Core.Logic.{_↔_}
+use native.Mathlib.Omega.{arith}
+use lib.Dec.{leb}
+use Rattle.units.specs.Numbers.{mostStations, mostTtrt, mostWalk, mostC, mostD, mostP}
+use Rattle.units.specs.Places.{at, sumBelow, allBelow}
+use Rattle.units.specs.Judging.{between}
+use Rattle.units.specs.JudgingLaws.{held, failed, given-later, iff-then, iff-under, Decides, decides-le, decides-both, decides-between}
+use Rattle.units.specs.PlaceLaws.{decides-all, sum-same, all-same}
+use Rattle.sets.specs.Rules.{tau, SameSet, CountAllowed, HeadInRange, StationInRange, NumbersAllowed, WalkTimeAllowed, countAllowed, headInRange, stationInRange, inRangeAt, stationsInRange, numbersAllowed, walkTimeAllowed}
+use Rattle.sets.specs.Judged.{judged}
+use Rattle.sets.specs.declared.Set.{Set}
+use Rattle.sets.specs.declared.Head.{Head}
+
+-- ---- each test decides its sentence
+
+pub decides-count : (t : Set) → Decides (countAllowed t) (CountAllowed t)
+decides-count t = decides-between 1 mostStations (t .n)
+
+pub decides-head : (h : Head) → Decides (headInRange h) (HeadInRange h)
+unfolding headInRange
+decides-head h = decides-between 1 mostTtrt (h .ttrt)
+
+pub decides-station : (w c d p : ℕ) → Decides (stationInRange w c d p) (StationInRange w c d p)
+unfolding stationInRange
+decides-station w c d p =
+    let d₁ = decides-both (leb w mostWalk) (leb c mostC) (w ≤ mostWalk) (c ≤ mostC) (decides-le w mostWalk) (decides-le c mostC) in
+    let d₂ = decides-both _ _ _ _ d₁ (decides-between 1 mostD d) in
+    let d₃ = decides-both _ _ _ _ d₂ (decides-between d mostP p) in (
+      λ h. let f = d₃ .0 h in record { walk = f .0 .0 .0; longest = f .0 .0 .1; deadline = f .0 .1; gap = f .1 },
+      λ f. d₃ .1 (((f .walk, f .longest), f .deadline), f .gap),
+    )
+
+pub decides-numbers : (t : Set) → Decides (numbersAllowed t) (NumbersAllowed t)
+decides-numbers t =
+    let each = decides-all (t .n) (inRangeAt t) _ (λ i. decides-station (at (t .w) i) (at (t .c) i) (at (t .d) i) (at (t .p) i)) in
+    let both = decides-both _ _ _ _ (decides-head (t .head)) each in (
+      λ h. let f = both .0 h in record { header = f .0; stations = f .1 },
+      λ f. both .1 (f .header, f .stations),
+    )
+
+pub decides-walk : (t : Set) → Decides (walkTimeAllowed t) (WalkTimeAllowed t)
+decides-walk t = decides-between 1 (t .head .ttrt) (tau t)
+
+-- ---- what the judgement gives, test by test
+
+pub judged-2 : (t : Set) → countAllowed t ≡ false → judged t ≡ 2
+unfolding judged
+judged-2 t h = failed _ _ _ h
+
+pub judged-4 : (t : Set) → countAllowed t ≡ true → numbersAllowed t ≡ false → judged t ≡ 4
+unfolding judged
+judged-4 t h₂ h₄ = held _ _ _ h₂ ∙ failed _ _ _ h₄
+
+pub judged-5 : (t : Set) → countAllowed t ≡ true → numbersAllowed t ≡ true → walkTimeAllowed t ≡ false → judged t ≡ 5
+unfolding judged
+judged-5 t h₂ h₄ h₅ = held _ _ _ h₂ ∙ held _ _ _ h₄ ∙ failed _ _ _ h₅
+
+pub judged-0 : (t : Set) → countAllowed t ≡ true → numbersAllowed t ≡ true → walkTimeAllowed t ≡ true → judged t ≡ 0
+unfolding judged
+judged-0 t h₂ h₄ h₅ = held _ _ _ h₂ ∙ held _ _ _ h₄ ∙ held _ _ _ h₅
+
+-- judged 0: all is allowed, and the other way round
+pub allowed : (t : Set) → (judged t ≡ 0) ↔ (CountAllowed t × (NumbersAllowed t × WalkTimeAllowed t))
+unfolding judged
+allowed t =
+    iff-then (given-later _ _ 2 _ 0 (decides-count t) (omega arith))
+    (iff-under
+    (iff-then (given-later _ _ 4 _ 0 (decides-numbers t) (omega arith))
+    (iff-under (iff-then (given-later _ _ 5 0 0 (decides-walk t) (omega arith)) ((λ h. h .0), λ w. (w, refl))))))
+
+-- ---- places from N on are never looked at
+
+pub tau-same : (a b : Set) → SameSet a b → tau a ≡ tau b
+tau-same a b s = sum-same (a .n) (at (a .w)) (at (b .w)) (s .walk) ∙ ap (λ (n : ℕ). sumBelow n (at (b .w))) (s .count)
+
+pub stations-same : (a b : Set) → SameSet a b → stationsInRange a ≡ stationsInRange b
+stations-same a b s =
+    all-same (a .n) (inRangeAt a) (inRangeAt b)
+    (λ i l. rw (s .walk i l, s .longest i l, s .deadline i l, s .gap i l)) ∙ ap (λ (n : ℕ). allBelow n (inRangeAt b)) (s .count)
+
+pub judged-same : (a b : Set) → SameSet a b → judged a ≡ judged b
+unfolding judged
+judged-same a b s = rw (stations-same a b s, tau-same a b s, s .count, s .header)

@@ -1,0 +1,144 @@
+-- The laws of sums, tests and fills over the first n places, once for all layers. No rule stands here.
+use Prim.Native.Nat.{ℕ, zero, suc, _+_, _*_, _-_, _≤_, _<_, min}
+use mathlib.Core.Path.{_≡_, refl, sym, ap, _∙_}
+use mathlib.Core.Bool.{Bool, true, false, _&&_}
+use mathlib.Core.List.{List, []}
+use mathlib.Core.Logic.{_⊎_, ⊎-elim, _↔_}
+use native.Mathlib.Numerals.{add-one}
+use native.Mathlib.Omega.{arith}
+use lib.ListN.{length, getD, set, length-set, List·getD-eq-default}
+use lib.Seq.{getD-set-same, getD-set-other}
+use Rattle.units.specs.Places.{at, sumBelow, allBelow, fill}
+use Rattle.units.specs.SmallLaws.{below-or-not}
+use Rattle.units.specs.JudgingLaws.{and-true, true-and, Decides}
+
+-- ---- one more place: where the code's i + 1 meets the definitions' suc i
+
+pub sum-step : (n : ℕ) (f : ℕ → ℕ) → sumBelow (n + 1) f ≡ sumBelow n f + f n
+unfolding sumBelow
+sum-step n f = rw add-one
+
+pub all-step : (n : ℕ) (f : ℕ → Bool) → allBelow (n + 1) f ≡ (allBelow n f && f n)
+unfolding allBelow
+all-step n f = rw add-one
+
+pub fill-step : (n : ℕ) (f : ℕ → ℕ) (xs : List ℕ) → fill (n + 1) f xs ≡ set (fill n f xs) n (f n)
+unfolding fill
+fill-step n f xs = rw add-one
+
+-- ---- no place yet: where a loop begins
+
+pub sum-none : (f : ℕ → ℕ) → sumBelow 0 f ≡ 0
+unfolding sumBelow
+sum-none f = refl
+
+pub all-none : (f : ℕ → Bool) → allBelow 0 f ≡ true
+unfolding allBelow
+all-none f = refl
+
+pub fill-none : (f : ℕ → ℕ) (xs : List ℕ) → fill 0 f xs ≡ xs
+unfolding fill
+fill-none f xs = refl
+
+-- ---- sums
+
+-- the sum looks at the first n places only
+pub sum-same : (n : ℕ) (f g : ℕ → ℕ) → ((i : ℕ) → i < n → f i ≡ g i) → sumBelow n f ≡ sumBelow n g
+unfolding sumBelow
+sum-same zero f g h = refl
+sum-same (suc n) f g h =
+    let e : sumBelow n f ≡ sumBelow n g = sum-same n f g (λ i l. h i (omega arith)) in
+    let d : f n ≡ g n = h n (omega arith) in
+    cc
+
+pub sum-mono : (n : ℕ) (f g : ℕ → ℕ) → ((i : ℕ) → i < n → f i ≤ g i) → sumBelow n f ≤ sumBelow n g
+unfolding sumBelow
+sum-mono zero f g h = omega arith
+sum-mono (suc n) f g h =
+    let e : sumBelow n f ≤ sumBelow n g = sum-mono n f g (λ i l. h i (omega arith)) in
+    let d : f n ≤ g n = h n (omega arith) in
+    omega arith
+
+-- one place is at most the whole
+pub sum-part : (n : ℕ) (f : ℕ → ℕ) (i : ℕ) → i < n → f i ≤ sumBelow n f
+unfolding sumBelow
+sum-part zero f i l = omega arith
+sum-part (suc n) f i l =
+    ⊎-elim (λ (b : i < n). let e : f i ≤ sumBelow n f = sum-part n f i b in omega arith)
+    (λ (b : n ≤ i). let e : i ≡ n = omega arith in rw e (omega arith))
+    (below-or-not i n)
+
+-- places past the end add nothing
+pub sum-held : (xs : List ℕ) (n : ℕ) → sumBelow (min n (length xs)) (at xs) ≡ sumBelow n (at xs)
+unfolding sumBelow
+sum-held xs zero = let e : min 0 (length xs) ≡ 0 = omega arith in rw e
+sum-held xs (suc n) =
+    ⊎-elim (λ (b : n < length xs). let e : min (suc n) (length xs) ≡ suc n = omega arith in rw e)
+    (λ (b : length xs ≤ n).
+    let e : min (suc n) (length xs) ≡ min n (length xs) = omega arith in
+    let z : getD xs n 0 ≡ 0 = List·getD-eq-default xs 0 b in
+    rw (e, z) (omega (arith, sum-held xs n)))
+    (below-or-not n (length xs))
+
+-- ---- tests
+
+-- the test looks at the first n places only
+pub all-same : (n : ℕ) (f g : ℕ → Bool) → ((i : ℕ) → i < n → f i ≡ g i) → allBelow n f ≡ allBelow n g
+unfolding allBelow
+all-same zero f g h = refl
+all-same (suc n) f g h =
+    let e : allBelow n f ≡ allBelow n g = all-same n f g (λ i l. h i (omega arith)) in
+    let d : f n ≡ g n = h n (omega arith) in
+    cc
+
+-- the test over n places decides what its parts decide, at each of the n places
+pub all-at : (n : ℕ) (f : ℕ → Bool) → allBelow n f ≡ true → (i : ℕ) → i < n → f i ≡ true
+unfolding allBelow
+all-at zero f h i l = absurd (omega arith)
+all-at (suc n) f h i l =
+    let w : (allBelow n f ≡ true) × (f n ≡ true) = and-true (allBelow n f) (f n) h in
+    ⊎-elim (λ (b : i < n). all-at n f (w .0) i b)
+    (λ (b : n ≤ i). let e : i ≡ n = omega arith in rw e (w .1))
+    (below-or-not i n)
+
+pub all-of : (n : ℕ) (f : ℕ → Bool) → ((i : ℕ) → i < n → f i ≡ true) → allBelow n f ≡ true
+unfolding allBelow
+all-of zero f h = refl
+all-of (suc n) f h = true-and (allBelow n f) (f n) (all-of n f (λ i l. h i (omega arith))) (h n (omega arith))
+
+pub decides-all : (n : ℕ) (f : ℕ → Bool) (P : ℕ → Type 0) → ((i : ℕ) → Decides (f i) (P i)) → Decides (allBelow n f) ((i : ℕ) → i < n → P i)
+decides-all n f P d =
+    (λ h i l. d i .0 (all-at n f h i l), λ h. all-of n f (λ i l. d i .1 (h i l)))
+
+-- ---- fills
+
+pub fill-length : (n : ℕ) (f : ℕ → ℕ) (xs : List ℕ) → length (fill n f xs) ≡ length xs
+unfolding fill
+fill-length zero f xs = refl
+fill-length (suc n) f xs = length-set (fill n f xs) n (f n) ∙ fill-length n f xs
+
+-- a filled place holds what it was filled with
+pub fill-inside : (n : ℕ) (f : ℕ → ℕ) (xs : List ℕ) (i : ℕ) → i < n → n ≤ length xs → at (fill n f xs) i ≡ f i
+unfolding fill
+fill-inside zero f xs i l m = omega arith
+fill-inside (suc n) f xs i l m =
+    ⊎-elim (λ (b : i < n). getD-set-other (fill n f xs) n i (f n) 0 (omega arith) ∙ fill-inside n f xs i b (omega arith))
+    (λ (b : n ≤ i).
+    let e : i ≡ n = omega arith in
+    rw e (getD-set-same (fill n f xs) n (f n) 0 (omega (arith, fill-length n f xs))))
+    (below-or-not i n)
+
+-- a place past the filled ones is as it was
+pub fill-outside : (n : ℕ) (f : ℕ → ℕ) (xs : List ℕ) (i : ℕ) → n ≤ i → at (fill n f xs) i ≡ at xs i
+unfolding fill
+fill-outside zero f xs i l = refl
+fill-outside (suc n) f xs i l = getD-set-other (fill n f xs) n i (f n) 0 (omega arith) ∙ fill-outside n f xs i (omega arith)
+
+-- the fill looks at the first n places only
+pub fill-same : (n : ℕ) (f g : ℕ → ℕ) (xs : List ℕ) → ((i : ℕ) → i < n → f i ≡ g i) → fill n f xs ≡ fill n g xs
+unfolding fill
+fill-same zero f g xs h = refl
+fill-same (suc n) f g xs h =
+    let e : fill n f xs ≡ fill n g xs = fill-same n f g xs (λ i l. h i (omega arith)) in
+    let d : f n ≡ g n = h n (omega arith) in
+    cc
