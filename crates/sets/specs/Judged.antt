@@ -7,10 +7,14 @@ use Rattle.units.specs.Judging.{orElse}
 use Rattle.sets.specs.Rules.{countAllowed, numbersAllowed, walkTimeAllowed}
 use Rattle.sets.specs.declared.Set.{Set}
 
--- 0, or 2 for a wrong count of stations, 4 for a number out of its range, 5 for a walk time that is 0 or above TTRT
-unfoldable pub judged : Set → ℕ
-judged t =
-    orElse (countAllowed t) wrongShape (orElse (numbersAllowed t) outOfRange (orElse (walkTimeAllowed t) badWalkTime accepted))
+-- 2 for a wrong count of stations, 4 for a number out of its range, 5 for a walk time that is 0 or above TTRT; then what the rest says
+unfoldable pub judgedThen : Set → ℕ → ℕ
+judgedThen t rest =
+    orElse (countAllowed t) wrongShape (orElse (numbersAllowed t) outOfRange (orElse (walkTimeAllowed t) badWalkTime rest))
+
+-- 0, or the lowest of 2, 4 and 5 that applies
+abbrev pub judged : Set → ℕ
+judged t = judgedThen t accepted
 
 -- 128 places of 0
 abbrev pub zeros : List ℕ

@@ -1,17 +1,17 @@
 -- The laws of sets, for the proofs of the layers above. No rule stands here.
-use Prim.Native.Nat.{ℕ, _≤_, _<_}
+use Prim.Native.Nat.{ℕ, _≤_}
 use mathlib.Core.Path.{_≡_, refl, ap, _∙_}
-use mathlib.Core.Bool.{Bool, true, false, _&&_}
-use mathlib.Core.Logic.{_↔_}
+use mathlib.Core.Bool.{Bool, true, false}
+use mathlib.Core.Logic.{_↔_, _≢_, ⊎-elim}
 use native.Mathlib.Omega.{arith}
 use lib.Dec.{leb}
 use Rattle.units.specs.Numbers.{mostStations, mostTtrt, mostWalk, mostC, mostD, mostP}
 use Rattle.units.specs.Places.{at, sumBelow, allBelow}
-use Rattle.units.specs.Judging.{between}
-use Rattle.units.specs.JudgingLaws.{held, failed, given-later, iff-then, iff-under, Decides, decides-le, decides-both, decides-between}
+use Rattle.units.specs.Judging.{orElse}
+use Rattle.units.specs.JudgingLaws.{true-or-false, held, failed, given, given-later, not-given, iff-then, iff-under, Decides, decides-le, decides-both, decides-between}
 use Rattle.units.specs.PlaceLaws.{decides-all, sum-same, all-same}
 use Rattle.sets.specs.Rules.{tau, SameSet, CountAllowed, HeadInRange, StationInRange, NumbersAllowed, WalkTimeAllowed, countAllowed, headInRange, stationInRange, inRangeAt, stationsInRange, numbersAllowed, walkTimeAllowed}
-use Rattle.sets.specs.Judged.{judged}
+use Rattle.sets.specs.Judged.{judged, judgedThen}
 use Rattle.sets.specs.declared.Set.{Set}
 use Rattle.sets.specs.declared.Head.{Head}
 
@@ -48,29 +48,82 @@ decides-walk t = decides-between 1 (t .head .ttrt) (tau t)
 -- ---- what the judgement gives, test by test
 
 pub judged-2 : (t : Set) → countAllowed t ≡ false → judged t ≡ 2
-unfolding judged
+unfolding judgedThen
 judged-2 t h = failed _ _ _ h
 
 pub judged-4 : (t : Set) → countAllowed t ≡ true → numbersAllowed t ≡ false → judged t ≡ 4
-unfolding judged
+unfolding judgedThen
 judged-4 t h₂ h₄ = held _ _ _ h₂ ∙ failed _ _ _ h₄
 
 pub judged-5 : (t : Set) → countAllowed t ≡ true → numbersAllowed t ≡ true → walkTimeAllowed t ≡ false → judged t ≡ 5
-unfolding judged
+unfolding judgedThen
 judged-5 t h₂ h₄ h₅ = held _ _ _ h₂ ∙ held _ _ _ h₄ ∙ failed _ _ _ h₅
 
 pub judged-0 : (t : Set) → countAllowed t ≡ true → numbersAllowed t ≡ true → walkTimeAllowed t ≡ true → judged t ≡ 0
-unfolding judged
+unfolding judgedThen
 judged-0 t h₂ h₄ h₅ = held _ _ _ h₂ ∙ held _ _ _ h₄ ∙ held _ _ _ h₅
+
+-- ---- and what the tests say where a number was not given
+
+pub count-held : (t : Set) → judged t ≢ 2 → countAllowed t ≡ true
+count-held t h = ⊎-elim (λ e. e) (λ e. absurd (h (judged-2 t e))) (true-or-false (countAllowed t))
+
+pub numbers-held : (t : Set) → judged t ≢ 2 → judged t ≢ 4 → numbersAllowed t ≡ true
+numbers-held t h₂ h₄ = ⊎-elim (λ e. e) (λ e. absurd (h₄ (judged-4 t (count-held t h₂) e))) (true-or-false (numbersAllowed t))
+
+pub walk-held : (t : Set) → judged t ≢ 2 → judged t ≢ 4 → judged t ≢ 5 → walkTimeAllowed t ≡ true
+walk-held t h₂ h₄ h₅ =
+    ⊎-elim (λ e. e) (λ e. absurd (h₅ (judged-5 t (count-held t h₂) (numbers-held t h₂ h₄) e))) (true-or-false (walkTimeAllowed t))
 
 -- judged 0: all is allowed, and the other way round
 pub allowed : (t : Set) → (judged t ≡ 0) ↔ (CountAllowed t × (NumbersAllowed t × WalkTimeAllowed t))
-unfolding judged
+unfolding judgedThen
 allowed t =
     iff-then (given-later _ _ 2 _ 0 (decides-count t) (omega arith))
     (iff-under
     (iff-then (given-later _ _ 4 _ 0 (decides-numbers t) (omega arith))
     (iff-under (iff-then (given-later _ _ 5 0 0 (decides-walk t) (omega arith)) ((λ h. h .0), λ w. (w, refl))))))
+
+pub judged-two : (t : Set) → (judged t ≡ 2) ↔ ¬ CountAllowed t
+unfolding judgedThen
+judged-two t =
+    given _ _ 2 _ (decides-count t)
+    (not-given _ 4 _ 2 (omega arith) (not-given _ 5 0 2 (omega arith) (omega arith)))
+
+pub judged-four : (t : Set) → (judged t ≡ 4) ↔ (CountAllowed t × ¬ NumbersAllowed t)
+unfolding judgedThen
+judged-four t =
+    iff-then (given-later _ _ 2 _ 4 (decides-count t) (omega arith))
+    (iff-under (given _ _ 4 _ (decides-numbers t) (not-given _ 5 0 4 (omega arith) (omega arith))))
+
+pub judged-five : (t : Set) → (judged t ≡ 5) ↔ (CountAllowed t × (NumbersAllowed t × ¬ WalkTimeAllowed t))
+unfolding judgedThen
+judged-five t =
+    iff-then (given-later _ _ 2 _ 5 (decides-count t) (omega arith))
+    (iff-under
+    (iff-then (given-later _ _ 4 _ 5 (decides-numbers t) (omega arith))
+    (iff-under (given _ _ 5 0 (decides-walk t) (omega arith)))))
+
+-- a set that is judged 0 leaves it to the rest, any other keeps its number
+pub judged-rest : (t : Set) (rest : ℕ) → judged t ≡ 0 → judgedThen t rest ≡ rest
+unfolding judgedThen orElse
+judged-rest t rest = go (countAllowed t) (numbersAllowed t) (walkTimeAllowed t)
+  where
+    go : (a b c : Bool) → orElse a 2 (orElse b 4 (orElse c 5 0)) ≡ 0 → orElse a 2 (orElse b 4 (orElse c 5 rest)) ≡ rest
+    go false b c h = absurd (omega arith)
+    go true false c h = absurd (omega arith)
+    go true true false h = absurd (omega arith)
+    go true true true h = refl
+
+pub judged-keeps : (t : Set) (rest : ℕ) → judged t ≢ 0 → judgedThen t rest ≡ judged t
+unfolding judgedThen orElse
+judged-keeps t rest = go (countAllowed t) (numbersAllowed t) (walkTimeAllowed t)
+  where
+    go : (a b c : Bool) → orElse a 2 (orElse b 4 (orElse c 5 0)) ≢ 0 → orElse a 2 (orElse b 4 (orElse c 5 rest)) ≡ orElse a 2 (orElse b 4 (orElse c 5 0))
+    go false b c h = refl
+    go true false c h = refl
+    go true true false h = refl
+    go true true true h = absurd (h refl)
 
 -- ---- places from N on are never looked at
 
@@ -83,5 +136,5 @@ stations-same a b s =
     (λ i l. rw (s .walk i l, s .longest i l, s .deadline i l, s .gap i l)) ∙ ap (λ (n : ℕ). allBelow n (inRangeAt b)) (s .count)
 
 pub judged-same : (a b : Set) → SameSet a b → judged a ≡ judged b
-unfolding judged
+unfolding judgedThen
 judged-same a b s = rw (stations-same a b s, tau-same a b s, s .count, s .header)

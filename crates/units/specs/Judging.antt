@@ -1,5 +1,5 @@
 -- How a judgement is put together: one rule after another in 01's order, so that the lowest number that applies is given.
-use Prim.Native.Nat.{ℕ, _≤_}
+use Prim.Native.Nat.{ℕ}
 use mathlib.Core.Bool.{Bool, true, false, _&&_}
 use lib.Dec.{leb}
 

@@ -1,6 +1,6 @@
 -- The laws of tests and judgements, once for all layers. No rule stands here.
 use Prim.Native.Nat.{ℕ, _≤_}
-use mathlib.Core.Path.{_≡_, refl, sym, _∙_}
+use mathlib.Core.Path.{_≡_, refl}
 use mathlib.Core.Bool.{Bool, true, false, _&&_, true≢false, false≢true}
 use mathlib.Core.Logic.{_⊎_, inl, inr, _↔_, _≢_}
 use borrow.Author.Tests.{leb-true, le-leb}

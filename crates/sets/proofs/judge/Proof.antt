@@ -1,13 +1,10 @@
 -- `judge` is right because it asks the definition's three tests in the definition's order, and stops at the first that fails.
-use Prim.Native.Nat.{ℕ, _≤_}
-use mathlib.Core.Path.{_≡_, refl, sym, ap, _∙_}
-use mathlib.Core.Bool.{true, false, _&&_}
+use mathlib.Core.Path.{_≡_, sym, _∙_}
+use mathlib.Core.Bool.{true, _&&_}
 use borrow.Author.Needs.{needs}
 use borrow.Author.Tests.{not-true, not-false}
 use lib.Dec.{leb}
-use Rattle.units.specs.JudgingLaws.{held, failed}
-use Rattle.sets.specs.Rules.{countAllowed, numbersAllowed, walkTimeAllowed, tau}
-use Rattle.sets.specs.Judged.{judged}
+use Rattle.sets.specs.Rules.{countAllowed, numbersAllowed, walkTimeAllowed}
 use Rattle.sets.specs.SetLaws.{decides-count, judged-2, judged-4, judged-5, judged-0}
 use Rattle.sets.proofs.judge.Statement.{statement}
 use Rattle.sets.proofs.judge.Tie as tie

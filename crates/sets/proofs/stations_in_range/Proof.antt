@@ -1,8 +1,8 @@
 -- `stations_in_range` is right because its flag is the test over the stations passed, and it passes the first N.
 use Prim.Native.Nat.{_≤_, _-_}
-use mathlib.Core.Path.{_≡_, sym, ap, _∙_}
+use mathlib.Core.Path.{_≡_, sym, _∙_}
 use native.Mathlib.Omega.{arith}
-use Rattle.units.specs.Places.{at, allBelow}
+use Rattle.units.specs.Places.{allBelow}
 use Rattle.units.specs.PlaceLaws.{all-step, all-none}
 use Rattle.sets.specs.Rules.{inRangeAt}
 use borrow.Author.Needs.{needs}

@@ -1,0 +1,119 @@
+-- `judge_plan` is right because it asks the definition's tests in the definition's order; the judgement of the set answers three of them at once.
+use Prim.Native.Nat.{_≤_}
+use mathlib.Core.Path.{_≡_, sym, _∙_}
+use mathlib.Core.Bool.{true, false, _&&_}
+use mathlib.Core.Logic.{_≢_}
+use borrow.Author.Tests.{not-true, not-false}
+use Rattle.units.specs.Places.{at}
+use Rattle.units.specs.JudgingLaws.{decides-not, true-and}
+use Rattle.sets.specs.Rules.{countAllowed, numbersAllowed, walkTimeAllowed}
+use Rattle.sets.specs.Judged.{judged}
+use Rattle.sets.specs.SetLaws.{decides-count, decides-numbers, decides-walk, count-held, numbers-held, walk-held, judged-two, judged-four, judged-five}
+use Rattle.sets.specs.declared.Set.{Set}
+use Rattle.plans.specs.Planned.{allocInRange, deadlinesFit, tokenFits}
+use Rattle.plans.specs.PlanLaws.{given-2, given-4, given-5, given-7, given-0}
+use borrow.Author.Needs.{needs}
+use Rattle.plans.proofs.judge_plan.Statement.{statement}
+use Rattle.plans.proofs.judge_plan.Tie as tie
+
+count-false : (t : Set) → judged t ≡ 2 → countAllowed t ≡ false
+count-false t h = decides-not _ _ (decides-count t) .1 (judged-two t .0 h)
+
+numbers-false : (t : Set) → judged t ≡ 4 → numbersAllowed t ≡ false
+numbers-false t h = decides-not _ _ (decides-numbers t) .1 (judged-four t .0 h .1)
+
+walk-false : (t : Set) → judged t ≡ 5 → walkTimeAllowed t ≡ false
+walk-false t h = decides-not _ _ (decides-walk t) .1 (judged-five t .0 h .1 .1)
+
+-- neither 2 nor 4 was given
+past-4 : (c : tie.Else2) → (judged (c .before .before .before .args .t) ≢ 2) × (judged (c .before .before .before .args .t) ≢ 4)
+past-4 c =
+    let said = c .before .before .judge .ensures in
+    (λ e. c .before .if1 .left (said ∙ e), λ e. c .if2 .left (said ∙ e))
+
+few : (c : tie.Else2) → c .before .before .before .args .t .n ≤ 128
+few c = decides-count (c .before .before .before .args .t) .0 (count-held (c .before .before .before .args .t) (past-4 c .0)) .1
+
+-- every number is in range
+in-range : (c : tie.Else3) → (numbersAllowed (c .before .before .before .before .before .args .t) && allocInRange (c .before .before .before .before .before .args .t) (at (c .before .before .before .before .before .args .a .s))) ≡ true
+in-range c =
+    let t = c .before .before .before .before .before .args .t in
+    let past = past-4 (c .before .before) in
+    true-and _ _ (numbers-held t (past .0) (past .1)) (sym (c .before .alloc-in-range .ensures) ∙ not-false _ (c .if3 .left))
+
+-- nor was 5
+past-5 : (c : tie.Else4) → judged (c .before .before .before .before .before .before .args .t) ≢ 5
+past-5 c e = c .if4 .left (c .before .before .before .before .before .judge .ensures ∙ e)
+
+rules-said : (c : tie.After-token-fits) → (c .before .deadlines-fit .result && c .token-fits .result) ≡ (deadlinesFit (c .before .before .before .before .before .before .before .before .args .t) (at (c .before .before .before .before .before .before .before .before .args .a .s)) && tokenFits (c .before .before .before .before .before .before .before .before .args .t) (at (c .before .before .before .before .before .before .before .before .args .a .s)))
+rules-said c = rw (c .before .deadlines-fit .ensures, c .token-fits .ensures)
+
+judge-requires : tie.Need-judge-requires
+judge-requires c κs = search needs
+
+returns : tie.Need-returns
+returns c =
+    let args = c .before .before .args in
+    c .if1 .taken ∙ sym (given-2 (args .t) (args .a) (count-false (args .t) (sym (c .before .judge .ensures) ∙ c .if1 .taken)))
+
+returns-2 : tie.Need-returns-2
+returns-2 c =
+    let args = c .before .before .before .args in
+    let said : judged (args .t) ≡ 4 = sym (c .before .before .judge .ensures) ∙ c .if2 .taken in
+    c .if2 .taken ∙ sym (given-4 (args .t) (args .a) (count-held (args .t) (λ e. c .before .if1 .left (c .before .before .judge .ensures ∙ e))) (rw (numbers-false (args .t) said)))
+
+alloc-in-range-requires : tie.Need-alloc-in-range-requires
+alloc-in-range-requires c κs = few c
+
+returns-3 : tie.Need-returns-3
+returns-3 c =
+    let args = c .before .before .before .before .before .args in
+    let past = past-4 (c .before .before) in
+    let out : allocInRange (args .t) (at (args .a .s)) ≡ false = sym (c .before .alloc-in-range .ensures) ∙ not-true _ (c .if3 .taken) in
+    sym (given-4 (args .t) (args .a) (count-held (args .t) (past .0)) (rw (numbers-held (args .t) (past .0) (past .1)) out))
+
+returns-4 : tie.Need-returns-4
+returns-4 c =
+    let args = c .before .before .before .before .before .before .args in
+    let past = past-4 (c .before .before .before) in
+    let said = c .before .before .before .before .before .judge .ensures in
+    c .if4 .taken ∙ sym (given-5 (args .t) (args .a) (count-held (args .t) (past .0)) (in-range (c .before)) (walk-false (args .t) (sym said ∙ c .if4 .taken)))
+
+deadlines-fit-requires : tie.Need-deadlines-fit-requires
+deadlines-fit-requires c κs = few (c .before .before .before)
+
+token-fits-requires : tie.Need-token-fits-requires
+token-fits-requires c κs = search needs
+
+returns-5 : tie.Need-returns-5
+returns-5 c =
+    let at-4 = c .before .before .before in
+    let args = at-4 .before .before .before .before .before .before .args in
+    let past = past-4 (at-4 .before .before .before) in
+    sym
+    (given-7 (args .t) (args .a) (count-held (args .t) (past .0)) (in-range (at-4 .before)) (walk-held (args .t) (past .0) (past .1) (past-5 at-4))
+    (sym (rules-said (c .before)) ∙ not-true _ (c .if5 .taken)))
+
+returns-6 : tie.Need-returns-6
+returns-6 c =
+    let at-4 = c .before .before .before in
+    let args = at-4 .before .before .before .before .before .before .args in
+    let past = past-4 (at-4 .before .before .before) in
+    sym
+    (given-0 (args .t) (args .a) (count-held (args .t) (past .0)) (in-range (at-4 .before)) (walk-held (args .t) (past .0) (past .1) (past-5 at-4))
+    (sym (rules-said (c .before)) ∙ not-false _ (c .if5 .left)))
+
+pub judge-plan-spec : {M : Type 1} → statement M
+judge-plan-spec =
+    tie.close
+    (tie.spec
+    judge-requires
+    returns
+    returns-2
+    alloc-in-range-requires
+    returns-3
+    returns-4
+    deadlines-fit-requires
+    token-fits-requires
+    returns-5
+    returns-6)

@@ -1,0 +1,73 @@
+-- `smallest` is right because its branch is the definition's own; m·α is at most D, so nothing wraps.
+use Prim.Native.Nat.{ℕ}
+use mathlib.Core.Path.{_≡_, sym, _∙_}
+use native.Mathlib.Omega.{arith}
+use native.Mathlib.Nat.{mul-le-mul-left}
+use Rattle.plans.specs.Planned.{smallestWith, smallestFor}
+use Rattle.plans.specs.Bounds.{Smallest}
+use Rattle.plans.specs.PlanLaws.{smallest-small, smallest-whole, smallest-part}
+use borrow.Author.Needs.{needs}
+use borrow.Author.Needs.{needs}
+use Rattle.plans.proofs.smallest.Statement.{statement}
+use Rattle.plans.proofs.smallest.Tie as tie
+
+whole-rotations-requires : tie.Need-whole-rotations-requires
+whole-rotations-requires c κs = search needs
+
+alpha-requires : tie.Need-alpha-requires
+alpha-requires c κs = search needs
+
+wide-requires : tie.Need-wide-requires
+wide-requires c κs = search needs
+
+-- m, α and C as the code has them are the definition's
+smallest-by : (w : tie.After-wide) (r : ℕ) → r ≡ smallestWith (w .before .before .whole-rotations .result) (w .before .alpha .result) (w .wide .result) → Smallest (w .before .before .before .args .ttrt) (w .before .before .before .args .c) (w .before .before .before .args .d) r
+smallest-by w r h =
+    let args = w .before .before .before .args in
+    let is : r ≡ smallestFor (args .ttrt) (args .c) (args .d) = h ∙ rw (w .before .before .whole-rotations .ensures .is, w .before .alpha .ensures .is, w .wide .ensures .same) in
+    record { is = is; small = rw is (smallest-small (args .ttrt) (args .c) (args .d)) }
+
+mul-if1 : tie.Need-mul-if1
+mul-if1 c =
+    let m = c .before .before .whole-rotations .result in
+    let α = c .before .alpha .result in
+    omega (arith, mul-le-mul-left m (c .before .alpha .ensures .small))
+
+rounded-up-requires : tie.Need-rounded-up-requires
+rounded-up-requires c κs = search needs
+
+add-rounded-up : tie.Need-add-rounded-up
+add-rounded-up c = search needs
+
+add-rounded-up-2 : tie.Need-add-rounded-up-2
+add-rounded-up-2 c = search needs
+
+rounded-up-requires-2 : tie.Need-rounded-up-requires-2
+rounded-up-requires-2 c κs = search needs
+
+returns : tie.Need-returns
+returns c =
+    let w = c .before .before in
+    let whole = smallest-whole (w .before .before .whole-rotations .result) (w .before .alpha .result) (w .wide .result) (c .before .if1 .taken) in
+    smallest-by w (c .rounded-up .result) (c .rounded-up .ensures .is ∙ sym whole)
+
+returns-2 : tie.Need-returns-2
+returns-2 c =
+    let w = c .before .before in
+    let part = smallest-part (w .before .before .whole-rotations .result) (w .before .alpha .result) (w .wide .result) (c .before .if1 .left) in
+    smallest-by w (c .rounded-up2 .result) (c .rounded-up2 .ensures .is ∙ sym part)
+
+pub smallest-spec : {M : Type 1} → statement M
+smallest-spec =
+    tie.close
+    (tie.spec
+    whole-rotations-requires
+    alpha-requires
+    wide-requires
+    mul-if1
+    rounded-up-requires
+    add-rounded-up
+    add-rounded-up-2
+    rounded-up-requires-2
+    returns
+    returns-2)

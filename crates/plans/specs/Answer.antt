@@ -1,0 +1,39 @@
+-- Planning as 01's sentences have it, with no way to compute it: what each answer needs, and no more. `Promised` says that just one answer fits, and that it is planning's.
+use Prim.Native.Nat.{ℕ, _≤_, _<_}
+use mathlib.Core.Path.{_≡_}
+use mathlib.Core.List.{List}
+use lib.ListN.{length}
+use Rattle.units.specs.Places.{at}
+use Rattle.sets.specs.Rules.{CountAllowed, NumbersAllowed, WalkTimeAllowed}
+use Rattle.sets.specs.declared.Set.{Set}
+use Rattle.plans.specs.Rules.{MeetsRules, IsSmallest}
+use Rattle.plans.specs.Planned.{blankAlloc}
+use Rattle.plans.specs.declared.Planned.{Planned}
+
+-- some vector of numbers meets both rules
+abbrev pub AllocationExists : Set → Type 0
+AllocationExists t = (s : List ℕ) × MeetsRules t (at s)
+
+-- the answer is this refusal, blank
+abbrev pub Refused : ℕ → Planned → Type 0
+Refused number a = a ≡ record { alloc = blankAlloc; number = number }
+
+-- the answer is the plan: at each station the smallest whole S that meets its deadline rule, and 0 in the places from N on
+pub record IsPlan (t : Set) (a : Planned) : Type 0 where
+  pub accepted : a .number ≡ 0
+  pub places : length (a .alloc .s) ≡ 128
+  pub smallest : (i : ℕ) → i < t .n → IsSmallest (t .head .ttrt) (at (t .c) i) (at (t .d) i) (at (a .alloc .s) i)
+  pub past : (i : ℕ) → t .n ≤ i → at (a .alloc .s) i ≡ 0
+
+-- the answer fits the set
+pub record Fitting (t : Set) (a : Planned) : Type 0 where
+  -- 2: wrong count of stations
+  pub two : ¬ CountAllowed t → Refused 2 a
+  -- 4: a number outside the ranges
+  pub four : CountAllowed t → ¬ NumbersAllowed t → Refused 4 a
+  -- 5: τ is 0 or above TTRT
+  pub five : CountAllowed t → NumbersAllowed t → ¬ WalkTimeAllowed t → Refused 5 a
+  -- 6: no allocation exists
+  pub six : CountAllowed t → NumbersAllowed t → WalkTimeAllowed t → ¬ AllocationExists t → Refused 6 a
+  -- else the plan
+  pub plan : CountAllowed t → NumbersAllowed t → WalkTimeAllowed t → AllocationExists t → IsPlan t a

@@ -1,0 +1,77 @@
+-- The smallest S as a formula, the judgement of a given plan, and planning.
+use Prim.Native.Nat.{ℕ, zero, suc, _+_, _*_}
+use mathlib.Core.Bool.{Bool, cond, _&&_}
+use lib.Dec.{leb}
+use Rattle.units.specs.Numbers.{accepted, wrongShape, outOfRange, badWalkTime, noAllocation, rulesBroken, mostS}
+use Rattle.units.specs.Small.{roundedUp}
+use Rattle.units.specs.Places.{at, sumBelow, allBelow, fill}
+use Rattle.units.specs.Judging.{orElse}
+use Rattle.sets.specs.Rules.{tau, countAllowed, numbersAllowed, walkTimeAllowed}
+use Rattle.sets.specs.Judged.{judgedThen, zeros}
+use Rattle.sets.specs.declared.Set.{Set}
+use Rattle.plans.specs.Rules.{wholeRotations, alpha, leastTime}
+use Rattle.plans.specs.declared.Alloc.{Alloc}
+use Rattle.plans.specs.declared.Planned.{Planned}
+
+-- ---- the smallest S
+
+-- with m and α given: up to C = m·α whole rotations are enough, C / m rounded up; above it the last part counts too, (C + α) / (m + 1) rounded up
+unfoldable pub smallestWith : ℕ → ℕ → ℕ → ℕ
+smallestWith m α c = cond (leb c (m * α)) (roundedUp c m) (roundedUp (c + α) (m + 1))
+
+-- the smallest S for TTRT, C and D. `Promised` says that it is the smallest; at TTRT 0 it is C
+abbrev pub smallestFor : ℕ → ℕ → ℕ → ℕ
+smallestFor ttrt c d = smallestWith (wholeRotations ttrt d) (alpha ttrt d) c
+
+-- the smallest S of station i
+abbrev pub smallestAt : Set → ℕ → ℕ
+smallestAt t i = smallestFor (t .head .ttrt) (at (t .c) i) (at (t .d) i)
+
+-- ---- the rules as tests, of any vector of numbers
+
+abbrev pub deadlineFitsAt : Set → (ℕ → ℕ) → ℕ → Bool
+deadlineFitsAt t s i = leb (at (t .c) i) (leastTime (t .head .ttrt) (at (t .d) i) (s i))
+
+abbrev pub deadlinesFit : Set → (ℕ → ℕ) → Bool
+deadlinesFit t s = allBelow (t .n) (deadlineFitsAt t s)
+
+abbrev pub tokenFits : Set → (ℕ → ℕ) → Bool
+tokenFits t s = leb (sumBelow (t .n) s + tau t) (t .head .ttrt)
+
+abbrev pub inRangeS : (ℕ → ℕ) → ℕ → Bool
+inRangeS s i = leb (s i) mostS
+
+abbrev pub allocInRange : Set → (ℕ → ℕ) → Bool
+allocInRange t s = allBelow (t .n) (inRangeS s)
+
+-- ---- the judgement of a given plan: 0, or the lowest of 2, 4, 5 and 7 that applies
+
+unfoldable pub judgedPlan : Set → Alloc → ℕ
+judgedPlan t a =
+    orElse (countAllowed t) wrongShape
+    (orElse (numbersAllowed t && allocInRange t (at (a .s))) outOfRange
+    (orElse (walkTimeAllowed t) badWalkTime
+    (orElse (deadlinesFit t (at (a .s)) && tokenFits t (at (a .s))) rulesBroken accepted)))
+
+-- ---- planning
+
+-- what a refused call hands back for an allocation
+abbrev pub blankAlloc : Alloc
+blankAlloc = record { s = zeros }
+
+-- the smallest S at each of the N stations, 0 past them
+abbrev pub smallestAlloc : Set → Alloc
+smallestAlloc t = record { s = fill (t .n) (smallestAt t) zeros }
+
+-- the lowest of 2, 4, 5 and 6 that applies; 6 where the smallest S together break the token rule
+abbrev pub planNumber : Set → ℕ
+planNumber t = judgedThen t (orElse (tokenFits t (smallestAt t)) noAllocation accepted)
+
+-- a refused answer is blank
+unfoldable pub answered : ℕ → Alloc → Planned
+answered zero a = record { alloc = a; number = 0 }
+answered (suc k) a = record { alloc = blankAlloc; number = suc k }
+
+-- planning's answer
+abbrev pub planned : Set → Planned
+planned t = answered (planNumber t) (smallestAlloc t)

@@ -1,0 +1,61 @@
+-- What is promised of planning and of the judgement of a given plan, beside the contracts; `proofs/Promised.antt` proves it.
+use Prim.Native.Nat.{ℕ, _≤_, _<_}
+use mathlib.Core.Path.{_≡_}
+use mathlib.Core.List.{List}
+use mathlib.Core.Logic.{_↔_, _≢_}
+use Rattle.units.specs.Places.{at}
+use Rattle.sets.specs.Rules.{CountAllowed, NumbersAllowed, WalkTimeAllowed, SameSet}
+use Rattle.sets.specs.Judged.{judged}
+use Rattle.sets.specs.declared.Set.{Set}
+use Rattle.plans.specs.Rules.{MeetsRules, AllocInRange, IsSmallest}
+use Rattle.plans.specs.Planned.{smallestFor, judgedPlan, planned, blankAlloc}
+use Rattle.plans.specs.Answer.{Fitting, IsPlan}
+use Rattle.plans.specs.declared.Alloc.{Alloc}
+use Rattle.plans.specs.declared.Planned.{Planned}
+
+-- what a plan that planning answered keeps
+pub record KeptBy (t : Set) (a : Planned) : Type 0 where
+  -- it holds the smallest S at each station, and 0 from N on
+  pub plan : IsPlan t a
+  -- it meets the deadline rule at every station and the token rule
+  pub meets : MeetsRules t (at (a .alloc .s))
+  -- every vector that meets the rules is at least as large at every station
+  pub least : (other : ℕ → ℕ) → MeetsRules t other → (i : ℕ) → i < t .n → at (a .alloc .s) i ≤ other i
+  -- the judgement of that set with that allocation is 0
+  pub judged : judgedPlan t (a .alloc) ≡ 0
+
+pub record Promised : Type 0 where
+  -- `smallest` meets the deadline rule, and every number that meets it is at least as large: for all numbers, TTRT 0 among them
+  pub smallest : (ttrt c d : ℕ) → IsSmallest ttrt c d (smallestFor ttrt c d)
+  -- no second number is so
+  pub no-second : (ttrt c d s : ℕ) → IsSmallest ttrt c d s → s ≡ smallestFor ttrt c d
+  -- at TTRT 0, where D / TTRT is read as 0, X is S, and C comes back
+  pub at-zero : (c d : ℕ) → smallestFor 0 c d ≡ c
+  -- planning answers 6 exactly if the set is judged 0 and no list of numbers whatever meets the rules
+  pub six : (t : Set) → (planned t .number ≡ 6) ↔ ((judged t ≡ 0) × ((s : List ℕ) → ¬ MeetsRules t (at s)))
+  -- where the set is refused, so is the plan, with the set's number
+  pub refused-set : (t : Set) → judged t ≢ 0 → planned t .number ≡ judged t
+  -- a refused plan is blank
+  pub blank : (t : Set) → planned t .number ≢ 0 → planned t .alloc ≡ blankAlloc
+  -- an answered plan is what 01 asks
+  pub kept : (t : Set) → planned t .number ≡ 0 → KeptBy t (planned t)
+  -- 01's sentences allow exactly one answer for each set, and it is planning's
+  pub one-answer : (t : Set) (a : Planned) → Fitting t a ↔ (a ≡ planned t)
+  -- places from N on are never looked at, in planning
+  pub first-places : (a b : Set) → SameSet a b → planned a ≡ planned b
+  -- and in judging a given plan
+  pub first-places-judged : (t u : Set) (a b : Alloc) → SameSet t u → ((i : ℕ) → i < t .n → at (a .s) i ≡ at (b .s) i) → judgedPlan t a ≡ judgedPlan u b
+  -- 2 for a given plan, exactly if the count of stations is wrong
+  pub given-two : (t : Set) (a : Alloc) → (judgedPlan t a ≡ 2) ↔ ¬ CountAllowed t
+  -- 4, exactly if the count is right and a number of the set or an S is out of its range
+  pub given-four : (t : Set) (a : Alloc)
+      → (judgedPlan t a ≡ 4) ↔ (CountAllowed t × ¬ (NumbersAllowed t × AllocInRange t (at (a .s))))
+  -- 5, exactly if all numbers are in range and τ is 0 or above TTRT
+  pub given-five : (t : Set) (a : Alloc)
+      → (judgedPlan t a ≡ 5) ↔ (CountAllowed t × ((NumbersAllowed t × AllocInRange t (at (a .s))) × ¬ WalkTimeAllowed t))
+  -- 7, exactly if all that is right and the allocation breaks the token or the deadline rule
+  pub given-seven : (t : Set) (a : Alloc)
+      → (judgedPlan t a ≡ 7) ↔ (CountAllowed t × ((NumbersAllowed t × AllocInRange t (at (a .s))) × (WalkTimeAllowed t × ¬ MeetsRules t (at (a .s)))))
+  -- 0, exactly if all that is right and the allocation meets the rules
+  pub given-none : (t : Set) (a : Alloc)
+      → (judgedPlan t a ≡ 0) ↔ (CountAllowed t × ((NumbersAllowed t × AllocInRange t (at (a .s))) × (WalkTimeAllowed t × MeetsRules t (at (a .s)))))

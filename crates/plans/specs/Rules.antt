@@ -1,0 +1,50 @@
+-- 01, "Allocations": the deadline rule, the token rule and the spare time. An allocation is any vector of numbers, S at each station.
+use Prim.Native.Nat.{ℕ, _+_, _-_, _*_, _/_, _≤_, _<_}
+use Rattle.units.specs.Numbers.{mostS}
+use Rattle.units.specs.Places.{at, sumBelow}
+use Rattle.sets.specs.Rules.{tau}
+use Rattle.sets.specs.declared.Set.{Set}
+
+-- m = D / TTRT rounded down
+abbrev pub wholeRotations : ℕ → ℕ → ℕ
+wholeRotations ttrt d = d / ttrt
+
+-- α = (m + 1)·TTRT − D
+abbrev pub alpha : ℕ → ℕ → ℕ
+alpha ttrt d = (wholeRotations ttrt d + 1) * ttrt - d
+
+-- m·S + the larger of S − α and 0
+abbrev pub timeWith : ℕ → ℕ → ℕ → ℕ
+timeWith m α s = m * s + (s - α)
+
+-- X, the least synchronous time in any interval D (000, Theorem 3)
+abbrev pub leastTime : ℕ → ℕ → ℕ → ℕ
+leastTime ttrt d s = timeWith (wholeRotations ttrt d) (alpha ttrt d) s
+
+-- the deadline rule at one station: X at least C
+abbrev pub MeetsDeadline : ℕ → ℕ → ℕ → ℕ → Type 0
+MeetsDeadline ttrt c d s = c ≤ leastTime ttrt d s
+
+-- s is the smallest number that meets the deadline rule
+pub record IsSmallest (ttrt c d s : ℕ) : Type 0 where
+  pub meets : MeetsDeadline ttrt c d s
+  pub least : (other : ℕ) → MeetsDeadline ttrt c d other → s ≤ other
+
+-- the deadline rule at station i of a set
+abbrev pub MeetsDeadlineAt : Set → ℕ → ℕ → Type 0
+MeetsDeadlineAt t i s = MeetsDeadline (t .head .ttrt) (at (t .c) i) (at (t .d) i) s
+
+-- both rules, of any vector of numbers whatever
+pub record MeetsRules (t : Set) (s : ℕ → ℕ) : Type 0 where
+  -- the deadline rule at every station
+  pub deadlines : (i : ℕ) → i < t .n → MeetsDeadlineAt t i (s i)
+  -- the token rule: the sum of all S at most TTRT − τ, written without a difference
+  pub token : sumBelow (t .n) s + tau t ≤ t .head .ttrt
+
+-- A*, the spare time: TTRT − τ − the sum of S
+abbrev pub spareTime : Set → (ℕ → ℕ) → ℕ
+spareTime t s = t .head .ttrt - tau t - sumBelow (t .n) s
+
+-- every S of a plan is 0 to 1,000,000
+abbrev pub AllocInRange : Set → (ℕ → ℕ) → Type 0
+AllocInRange t s = (i : ℕ) → i < t .n → s i ≤ mostS

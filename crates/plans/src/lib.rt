@@ -1,0 +1,178 @@
+// Plans: the smallest synchronous time S for each station, the judgement of a given plan, and the spare time A*.
+mod shares;
+
+ghost use mathlib.Core.Path.{_≡_};
+ghost use Prim.Native.Nat.{_≤_};
+ghost use Rattle.units.specs.Places.{at, allBelow};
+ghost use Rattle.sets.specs.Rules.{CountAllowed, NumbersAllowed};
+ghost use Rattle.plans.specs.Rules.{leastTime, spareTime};
+ghost use Rattle.plans.specs.Planned.{blankAlloc, smallestAlloc, inRangeS, deadlinesFit, tokenFits, judgedPlan, planned};
+ghost use Rattle.plans.specs.Bounds.{Smallest};
+use sets::Set;
+use units::numbers;
+
+// An allocation: S at each station. Only the first N places are ever looked at.
+#[repr(C)]
+pub struct Alloc {
+    pub s: [u32; 128],
+}
+
+// Planning's answer: the number, 0 with the plan, or a refusal with the blank allocation.
+#[repr(C)]
+pub struct Planned {
+    pub alloc: Alloc,
+    pub number: u8,
+}
+
+// The blank allocation: every S 0.
+pub fn blank_alloc() -> Alloc
+    ensures { λ r. ⌜ r ≡ blankAlloc ⌝ }
+{
+    Alloc { s: [0; 128] }
+}
+
+// X, the least synchronous time in any interval D.
+pub fn least_time(ttrt: u32, d: u32, s: u32) -> u64
+    ensures { λ r. ⌜ r ≡ leastTime ttrt d s ⌝ }
+{
+    let m = shares::whole_rotations(ttrt, d);
+    let a = shares::alpha(ttrt, d);
+    let long = units::wide(s);
+    m * long + units::room(long, a)
+}
+
+// The smallest S that meets the deadline rule.
+pub fn smallest(ttrt: u32, c: u32, d: u32) -> u64
+    ensures { λ r. ⌜ Smallest ttrt c d r ⌝ }
+{
+    let m = shares::whole_rotations(ttrt, d);
+    let a = shares::alpha(ttrt, d);
+    let longest = units::wide(c);
+    if longest <= m * a {
+        shares::rounded_up(longest, m)
+    } else {
+        shares::rounded_up(longest + a, m + 1)
+    }
+}
+
+// Every S is in its range.
+fn alloc_in_range(n: u32, a: Alloc) -> bool
+    requires { ⌜ n ≤ 128 ⌝ }
+    ensures { λ r. ⌜ r ≡ allBelow n (inRangeS (at (a .s))) ⌝ }
+{
+    let end = units::places(n);
+    let mut all = true;
+    let mut i: usize = 0;
+    while i < end {
+        let one = a.s[i] <= numbers::MOST_S;
+        all = all & one;
+        i += 1;
+    }
+    all
+}
+
+// The deadline rule holds at every station.
+fn deadlines_fit(t: Set, a: Alloc) -> bool
+    requires { ⌜ t .n ≤ 128 ⌝ }
+    ensures { λ r. ⌜ r ≡ deadlinesFit t (at (a .s)) ⌝ }
+{
+    let end = units::places(t.n);
+    let mut all = true;
+    let mut i: usize = 0;
+    while i < end {
+        let time = least_time(t.head.ttrt, t.d[i], a.s[i]);
+        let one = units::wide(t.c[i]) <= time;
+        all = all & one;
+        i += 1;
+    }
+    all
+}
+
+// The token rule holds.
+fn token_fits(t: Set, a: Alloc) -> bool
+    ensures { λ r. ⌜ r ≡ tokenFits t (at (a .s)) ⌝ }
+{
+    let s = a.s;
+    let sum = units::sum_first(s, t.n);
+    let tau = sets::walk_time(t);
+    sum + tau <= units::wide(t.head.ttrt)
+}
+
+// A*, the spare time.
+pub fn spare(t: Set, a: Alloc) -> u64
+    ensures { λ r. ⌜ r ≡ spareTime t (at (a .s)) ⌝ }
+{
+    let s = a.s;
+    let sum = units::sum_first(s, t.n);
+    let tau = sets::walk_time(t);
+    units::room(units::room(units::wide(t.head.ttrt), tau), sum)
+}
+
+// The judgement of a given set and allocation: 0, or the lowest of 2, 4, 5 and 7 that applies.
+pub fn judge_plan(t: Set, a: Alloc) -> u8
+    ensures { λ r. ⌜ r ≡ judgedPlan t a ⌝ }
+{
+    let number = sets::judge(t);
+    if number == numbers::WRONG_SHAPE {
+        return number;
+    }
+    if number == numbers::OUT_OF_RANGE {
+        return number;
+    }
+    if !alloc_in_range(t.n, a) {
+        return numbers::OUT_OF_RANGE;
+    }
+    if number == numbers::BAD_WALK_TIME {
+        return number;
+    }
+    let rules_kept = deadlines_fit(t, a) & token_fits(t, a);
+    if !rules_kept {
+        return numbers::RULES_BROKEN;
+    }
+    numbers::ACCEPTED
+}
+
+// The smallest S at each station of an allowed set.
+fn smallest_alloc(t: Set) -> Alloc
+    requires { ⌜ CountAllowed t × NumbersAllowed t ⌝ }
+    ensures { λ r. ⌜ r ≡ smallestAlloc t ⌝ }
+{
+    let end = units::places(t.n);
+    let mut s: [u32; 128] = [0; 128];
+    let mut i: usize = 0;
+    while i < end {
+        let least = smallest(t.head.ttrt, t.c[i], t.d[i]);
+        let stored = least as u32;
+        s[i] = stored;
+        i += 1;
+    }
+    Alloc { s }
+}
+
+// A refused plan: the number, with the blank allocation.
+fn refused(number: u8) -> Planned
+    ensures { λ r. ⌜ r ≡ record { alloc = blankAlloc; number = number } ⌝ }
+{
+    Planned {
+        alloc: blank_alloc(),
+        number,
+    }
+}
+
+// Planning: the smallest S at each station, or the lowest of 2, 4, 5 and 6 that applies.
+pub fn plan(t: Set) -> Planned
+    ensures { λ r. ⌜ r ≡ planned t ⌝ }
+{
+    let number = sets::judge(t);
+    if number != numbers::ACCEPTED {
+        return refused(number);
+    }
+    let alloc = smallest_alloc(t);
+    if !token_fits(t, alloc) {
+        return refused(numbers::NO_ALLOCATION);
+    }
+    Planned {
+        alloc,
+        number: numbers::ACCEPTED,
+    }
+}
