@@ -1,25 +1,26 @@
 -- The laws of plans, for the proofs of this layer and those above. No rule stands here.
 use Prim.Native.Nat.{ℕ, zero, suc, _+_, _-_, _*_, _/_, _≤_, _<_}
-use mathlib.Core.Path.{_≡_, refl, _∙_}
+use mathlib.Core.Path.{_≡_, refl, ap, _∙_}
 use mathlib.Core.Bool.{true, false, _&&_}
-use mathlib.Core.Logic.{_≢_, ⊎-elim}
+use mathlib.Core.Logic.{_↔_, _≢_, ⊎-elim}
 use native.Mathlib.Omega.{arith}
 use native.Mathlib.Nat.{mul-le-mul-left, div-mul-le-self, div-zero, le-mul-of-pos-right, mul-comm, zero-mul}
 use borrow.Author.Tests.{le-leb, lt-leb}
 use lib.ListN.{length, getD-replicate, List·getD-eq-default}
 use Rattle.units.specs.Numbers.{mostS}
 use Rattle.units.specs.Small.{roundedUp}
-use Rattle.units.specs.Places.{at, sumBelow}
-use Rattle.units.specs.PlaceLaws.{sum-same, decides-all, fill-length, fill-inside, fill-outside}
+use Rattle.units.specs.Places.{at, sumBelow, allBelow, fill}
+use Rattle.units.specs.PlaceLaws.{sum-mono, sum-part, all-same, fill-same, sum-same, decides-all, fill-length, fill-inside, fill-outside}
 use Rattle.units.specs.Judging.{orElse}
-use Rattle.units.specs.JudgingLaws.{Decides, decides-le, decides-both, held, failed, given}
-use Rattle.sets.specs.Rules.{tau, countAllowed, numbersAllowed, walkTimeAllowed}
+use Rattle.units.specs.JudgingLaws.{true-and, Decides, decides-le, decides-both, held, failed, given, given-later, not-given, iff-then, iff-under}
+use Rattle.sets.specs.Rules.{tau, SameSet, CountAllowed, NumbersAllowed, WalkTimeAllowed, countAllowed, numbersAllowed, walkTimeAllowed}
 use Rattle.sets.specs.Judged.{judged, zeros}
-use Rattle.sets.specs.SetLaws.{judged-rest, judged-keeps}
+use Rattle.sets.specs.SetLaws.{decides-count, decides-numbers, decides-walk, allowed, judged-rest, judged-keeps, judged-same, tau-same, stations-same}
 use Rattle.sets.specs.declared.Set.{Set}
 use Rattle.units.specs.SmallLaws.{below-or-not, one-more, shares-enough, shares-least}
 use Rattle.plans.specs.Rules.{wholeRotations, alpha, timeWith, leastTime, MeetsDeadlineAt, MeetsRules, AllocInRange, IsSmallest}
 use Rattle.plans.specs.Planned.{smallestWith, smallestFor, smallestAt, inRangeS, deadlineFitsAt, deadlinesFit, tokenFits, allocInRange, judgedPlan, blankAlloc, smallestAlloc, answered, planned}
+use Rattle.plans.specs.Answer.{IsPlan}
 use Rattle.plans.specs.declared.Alloc.{Alloc}
 
 -- ---- how large the numbers of planning can be
@@ -193,3 +194,122 @@ plan-none t h f = rw (judged-rest t (orElse (tokenFits t (smallestAt t)) 6 0) h,
 
 pub plan-found : (t : Set) → judged t ≡ 0 → tokenFits t (smallestAt t) ≡ true → planned t ≡ record { alloc = smallestAlloc t; number = 0 }
 plan-found t h f = rw (judged-rest t (orElse (tokenFits t (smallestAt t)) 6 0) h, held (tokenFits t (smallestAt t)) 6 0 f) (answered-plan 0 (smallestAlloc t) refl)
+
+-- ---- the smallest S against every vector
+
+-- a vector that meets the rules is at least as large at every station
+pub smallest-below : (t : Set) (v : ℕ → ℕ) → MeetsRules t v → (i : ℕ) → i < t .n → smallestAt t i ≤ v i
+smallest-below t v m i l = smallest-is (t .head .ttrt) (at (t .c) i) (at (t .d) i) .least (v i) (m .deadlines i l)
+
+-- so where the smallest S break the token rule, every vector breaks a rule
+pub token-needed : (t : Set) (v : ℕ → ℕ) → MeetsRules t v → tokenFits t (smallestAt t) ≡ true
+token-needed t v m =
+    decides-token t (smallestAt t) .1 (omega (arith, sum-mono (t .n) (smallestAt t) v (smallest-below t v m), m .token))
+
+-- and where they keep it, the smallest allocation meets both rules
+pub smallest-rules : (t : Set) → t .n ≤ 128 → tokenFits t (smallestAt t) ≡ true → MeetsRules t (at (smallestAlloc t .s))
+smallest-rules t few h =
+    record {
+      deadlines = λ i l. rw (smallest-inside t few i l) (smallest-is (t .head .ttrt) (at (t .c) i) (at (t .d) i) .meets);
+      token = decides-token t (at (smallestAlloc t .s)) .0 (token-stored t few ∙ h);
+    }
+
+-- each S of an allocation that meets the rules is at most TTRT
+pub alloc-small : (t : Set) (v : ℕ → ℕ) → MeetsRules t v → (i : ℕ) → i < t .n → v i ≤ t .head .ttrt
+alloc-small t v m i l = omega (arith, sum-part (t .n) v i l, m .token)
+
+-- ---- a plan that planning answered
+
+pub is-plan : (t : Set) → t .n ≤ 128 → IsPlan t (record { alloc = smallestAlloc t; number = 0 })
+is-plan t few =
+    record {
+      accepted = refl;
+      places = smallest-long t;
+      smallest = λ i l. rw (smallest-inside t few i l) (smallest-is (t .head .ttrt) (at (t .c) i) (at (t .d) i));
+      past = smallest-past t;
+    }
+
+pub plan-judged : (t : Set) → judged t ≡ 0 → tokenFits t (smallestAt t) ≡ true → judgedPlan t (smallestAlloc t) ≡ 0
+plan-judged t h f =
+    let all = allowed t .0 h in
+    let meets = smallest-rules t (all .0 .1) f in
+    let small : AllocInRange t (at (smallestAlloc t .s)) = λ i l. omega (arith, alloc-small t (at (smallestAlloc t .s)) meets i l, all .1 .0 .header .1) in
+    given-0 t (smallestAlloc t) (decides-count t .1 (all .0))
+    (true-and _ _ (decides-numbers t .1 (all .1 .0)) (decides-alloc t (at (smallestAlloc t .s)) .1 small))
+    (decides-walk t .1 (all .1 .1))
+    (decides-rules t (at (smallestAlloc t .s)) .1 meets)
+
+-- ---- the judgement of a given plan, number by number
+
+module _ (t : Set) (a : Alloc) where
+  decides-given : Decides (numbersAllowed t && allocInRange t (at (a .s))) (NumbersAllowed t × AllocInRange t (at (a .s)))
+  decides-given = decides-both _ _ _ _ (decides-numbers t) (decides-alloc t (at (a .s)))
+
+  pub given-two : (judgedPlan t a ≡ 2) ↔ ¬ CountAllowed t
+  unfolding judgedPlan
+  given-two =
+      given _ _ 2 _ (decides-count t)
+      (not-given _ 4 _ 2 (omega arith) (not-given _ 5 _ 2 (omega arith) (not-given _ 7 0 2 (omega arith) (omega arith))))
+
+  pub given-four : (judgedPlan t a ≡ 4) ↔ (CountAllowed t × ¬ (NumbersAllowed t × AllocInRange t (at (a .s))))
+  unfolding judgedPlan
+  given-four =
+      iff-then (given-later _ _ 2 _ 4 (decides-count t) (omega arith))
+      (iff-under (given _ _ 4 _ decides-given (not-given _ 5 _ 4 (omega arith) (not-given _ 7 0 4 (omega arith) (omega arith)))))
+
+  pub given-five : (judgedPlan t a ≡ 5) ↔ (CountAllowed t × ((NumbersAllowed t × AllocInRange t (at (a .s))) × ¬ WalkTimeAllowed t))
+  unfolding judgedPlan
+  given-five =
+      iff-then (given-later _ _ 2 _ 5 (decides-count t) (omega arith))
+      (iff-under
+      (iff-then (given-later _ _ 4 _ 5 decides-given (omega arith))
+      (iff-under (given _ _ 5 _ (decides-walk t) (not-given _ 7 0 5 (omega arith) (omega arith))))))
+
+  pub given-seven : (judgedPlan t a ≡ 7) ↔ (CountAllowed t × ((NumbersAllowed t × AllocInRange t (at (a .s))) × (WalkTimeAllowed t × ¬ MeetsRules t (at (a .s)))))
+  unfolding judgedPlan
+  given-seven =
+      iff-then (given-later _ _ 2 _ 7 (decides-count t) (omega arith))
+      (iff-under
+      (iff-then (given-later _ _ 4 _ 7 decides-given (omega arith))
+      (iff-under
+      (iff-then (given-later _ _ 5 _ 7 (decides-walk t) (omega arith))
+      (iff-under (given _ _ 7 0 (decides-rules t (at (a .s))) (omega arith)))))))
+
+  pub given-none : (judgedPlan t a ≡ 0) ↔ (CountAllowed t × ((NumbersAllowed t × AllocInRange t (at (a .s))) × (WalkTimeAllowed t × MeetsRules t (at (a .s)))))
+  unfolding judgedPlan
+  given-none =
+      iff-then (given-later _ _ 2 _ 0 (decides-count t) (omega arith))
+      (iff-under
+      (iff-then (given-later _ _ 4 _ 0 decides-given (omega arith))
+      (iff-under
+      (iff-then (given-later _ _ 5 _ 0 (decides-walk t) (omega arith))
+      (iff-under
+      (iff-then (given-later _ _ 7 0 0 (decides-rules t (at (a .s))) (omega arith)) ((λ h. h .0), λ m. (m, refl))))))))
+
+-- ---- places from N on are never looked at
+
+pub token-same : (a b : Set) (s v : ℕ → ℕ) → SameSet a b → ((i : ℕ) → i < a .n → s i ≡ v i) → tokenFits a s ≡ tokenFits b v
+token-same a b s v same each =
+    let sums : sumBelow (a .n) s ≡ sumBelow (b .n) v = sum-same (a .n) s v each ∙ ap (λ (n : ℕ). sumBelow n v) (same .count) in
+    rw (sums, tau-same a b same, same .header)
+
+pub smallest-same : (a b : Set) → SameSet a b → (i : ℕ) → i < a .n → smallestAt a i ≡ smallestAt b i
+smallest-same a b same i l = rw (same .header, same .longest i l, same .deadline i l)
+
+pub planned-same : (a b : Set) → SameSet a b → planned a ≡ planned b
+planned-same a b same =
+    let filled : fill (a .n) (smallestAt a) zeros ≡ fill (b .n) (smallestAt b) zeros =
+    fill-same (a .n) (smallestAt a) (smallestAt b) zeros (smallest-same a b same) ∙ ap (λ (n : ℕ). fill n (smallestAt b) zeros) (same .count) in
+    let token = token-same a b (smallestAt a) (smallestAt b) same (smallest-same a b same) in
+    rw (filled, token, judged-same a b (orElse (tokenFits b (smallestAt b)) 6 0) same)
+
+pub judged-plan-same : (t u : Set) (a b : Alloc) → SameSet t u → ((i : ℕ) → i < t .n → at (a .s) i ≡ at (b .s) i) → judgedPlan t a ≡ judgedPlan u b
+unfolding judgedPlan
+judged-plan-same t u a b same each =
+    let stations = stations-same t u same in
+    let range : allocInRange t (at (a .s)) ≡ allocInRange u (at (b .s)) =
+    all-same (t .n) (inRangeS (at (a .s))) (inRangeS (at (b .s))) (λ i l. rw (each i l)) ∙ ap (λ (n : ℕ). allBelow n (inRangeS (at (b .s)))) (same .count) in
+    let deadlines : deadlinesFit t (at (a .s)) ≡ deadlinesFit u (at (b .s)) =
+    all-same (t .n) (deadlineFitsAt t (at (a .s))) (deadlineFitsAt u (at (b .s))) (λ i l. rw (same .header, same .longest i l, same .deadline i l, each i l)) ∙ ap (λ (n : ℕ). allBelow n (deadlineFitsAt u (at (b .s)))) (same .count) in
+    let token = token-same t u (at (a .s)) (at (b .s)) same each in
+    rw (range, deadlines, token, stations, tau-same t u same, same .count, same .header)

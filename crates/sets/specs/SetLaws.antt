@@ -104,6 +104,16 @@ judged-five t =
     (iff-then (given-later _ _ 4 _ 5 (decides-numbers t) (omega arith))
     (iff-under (given _ _ 5 0 (decides-walk t) (omega arith)))))
 
+-- a number of the rest is given exactly if the set is judged 0 and the rest gives it
+pub judged-later : (t : Set) (rest k : ℕ) → 2 ≢ k → 4 ≢ k → 5 ≢ k → (judgedThen t rest ≡ k) ↔ ((judged t ≡ 0) × (rest ≡ k))
+unfolding judgedThen
+judged-later t rest k n₂ n₄ n₅ =
+    iff-then (given-later _ _ 2 _ k (decides-count t) n₂)
+    (iff-then (iff-under (iff-then (given-later _ _ 4 _ k (decides-numbers t) n₄) (iff-under (given-later _ _ 5 rest k (decides-walk t) n₅)))) (
+      (λ h. (allowed t .1 (h .0, (h .1 .0, h .1 .1 .0)), h .1 .1 .1)),
+      λ h. let all = allowed t .0 (h .0) in (all .0, (all .1 .0, (all .1 .1, h .1))),
+    ))
+
 -- a set that is judged 0 leaves it to the rest, any other keeps its number
 pub judged-rest : (t : Set) (rest : ℕ) → judged t ≡ 0 → judgedThen t rest ≡ rest
 unfolding judgedThen orElse
@@ -135,6 +145,6 @@ stations-same a b s =
     all-same (a .n) (inRangeAt a) (inRangeAt b)
     (λ i l. rw (s .walk i l, s .longest i l, s .deadline i l, s .gap i l)) ∙ ap (λ (n : ℕ). allBelow n (inRangeAt b)) (s .count)
 
-pub judged-same : (a b : Set) → SameSet a b → judged a ≡ judged b
+pub judged-same : (a b : Set) (rest : ℕ) → SameSet a b → judgedThen a rest ≡ judgedThen b rest
 unfolding judgedThen
-judged-same a b s = rw (stations-same a b s, tau-same a b s, s .count, s .header)
+judged-same a b rest s = rw (stations-same a b s, tau-same a b s, s .count, s .header)

@@ -1,0 +1,160 @@
+-- Planning keeps its promises because the formula gives the least S of each station, and a sum of least numbers that is too large leaves no vector that is not.
+use Prim.Native.Nat.{ℕ, _-_, _≤_, _<_}
+use mathlib.Core.Path.{_≡_, sym, ap, _∙_}
+use mathlib.Core.Bool.{true, false, true≢false}
+use mathlib.Core.List.{List}
+use mathlib.Core.Logic.{_↔_, _≢_, ⊎-elim}
+use native.Mathlib.Omega.{arith}
+use native.Mathlib.Nat.{div-zero}
+use lib.Seq.{ext-getD}
+use Rattle.units.specs.Places.{at}
+use Rattle.units.specs.SmallLaws.{below-or-not}
+use Rattle.units.specs.JudgingLaws.{true-or-false, decides-not, given, given-later}
+use Rattle.sets.specs.Rules.{countAllowed, numbersAllowed, walkTimeAllowed}
+use Rattle.sets.specs.Judged.{judged}
+use Rattle.sets.specs.SetLaws.{decides-count, decides-numbers, decides-walk, allowed, judged-two, judged-four, judged-five, judged-later}
+use Rattle.sets.specs.declared.Set.{Set}
+use Rattle.plans.specs.Rules.{MeetsRules}
+use Rattle.plans.specs.Planned.{smallestFor, smallestAt, smallestAlloc, tokenFits, blankAlloc, planNumber, planned}
+use Rattle.plans.specs.Answer.{IsPlan, Fitting}
+use Rattle.plans.specs.Promised.{KeptBy, Promised}
+use Rattle.plans.specs.PlanLaws.{smallest-meets, smallest-least, smallest-is, smallest-one, smallest-inside, smallest-past, smallest-long, smallest-below, smallest-rules, token-needed, decides-token, answered-number, answered-refused, plan-refused-set, plan-none, plan-found, plan-judged, is-plan, planned-same, judged-plan-same, given-two, given-four, given-five, given-seven, given-none}
+use Rattle.plans.specs.declared.Planned.{Planned}
+
+-- ---- the smallest S
+
+at-zero : (c d : ℕ) → smallestFor 0 c d ≡ c
+at-zero c d =
+    let none : 0 - d ≡ 0 = omega arith in
+    rw (div-zero d, none) (omega (arith, smallest-meets 0 0 c, smallest-least 0 0 c c (omega arith)))
+
+-- ---- 6, and the plan
+
+module _ (t : Set) where
+  -- planning answers 6 or a plan exactly where the set is judged 0, and the token rule decides which
+  six-says : planned t .number ≡ 6 → (judged t ≡ 0) × (tokenFits t (smallestAt t) ≡ false)
+  six-says h =
+      let said = judged-later t _ 6 (omega arith) (omega arith) (omega arith) .0 (sym (answered-number (planNumber t) (smallestAlloc t)) ∙ h) in
+      let d = decides-token t (smallestAt t) in
+      (said .0, decides-not _ _ d .1 (given _ _ 6 0 d (omega arith) .0 (said .1)))
+
+  plan-says : planned t .number ≡ 0 → (judged t ≡ 0) × (tokenFits t (smallestAt t) ≡ true)
+  plan-says h =
+      let said = judged-later t _ 0 (omega arith) (omega arith) (omega arith) .0 (sym (answered-number (planNumber t) (smallestAlloc t)) ∙ h) in
+      let d = decides-token t (smallestAt t) in
+      (said .0, d .1 (given-later _ _ 6 0 0 d (omega arith) .0 (said .1) .0))
+
+  -- where no vector meets the rules, the smallest S break the token rule
+  none-token : judged t ≡ 0 → ((s : List ℕ) → ¬ MeetsRules t (at s)) → tokenFits t (smallestAt t) ≡ false
+  none-token h none =
+      ⊎-elim (λ f. absurd (none (smallestAlloc t .s) (smallest-rules t (allowed t .0 h .0 .1) f))) (λ f. f)
+      (true-or-false (tokenFits t (smallestAt t)))
+
+  six : (planned t .number ≡ 6) ↔ ((judged t ≡ 0) × ((s : List ℕ) → ¬ MeetsRules t (at s)))
+  six = (
+    λ h.
+        let said = six-says h in
+        (said .0, λ s m. true≢false (sym (token-needed t (at s) m) ∙ said .1)),
+    λ h. ap (λ (a : Planned). a .number) (plan-none t (h .0) (none-token (h .0) (h .1))),
+  )
+
+  refused-set : judged t ≢ 0 → planned t .number ≡ judged t
+  refused-set h = ap (λ (a : Planned). a .number) (plan-refused-set t h)
+
+  kept-found : judged t ≡ 0 → tokenFits t (smallestAt t) ≡ true → KeptBy t (record { alloc = smallestAlloc t; number = 0 })
+  kept-found h f =
+      let few = allowed t .0 h .0 .1 in
+      record {
+        plan = is-plan t few;
+        meets = smallest-rules t few f;
+        least = λ v m i l. rw (smallest-inside t few i l) (smallest-below t v m i l);
+        judged = plan-judged t h f;
+      }
+
+  kept : planned t .number ≡ 0 → KeptBy t (planned t)
+  kept h = let said = plan-says h in rw (plan-found t (said .0) (said .1)) (kept-found (said .0) (said .1))
+
+  -- ---- exactly one answer
+
+  -- a plan in 01's words is the smallest allocation
+  one-plan : t .n ≤ 128 → (a : Planned) → IsPlan t a → a ≡ record { alloc = smallestAlloc t; number = 0 }
+  one-plan few a p =
+      let same : a .alloc .s ≡ smallestAlloc t .s =
+      ext-getD 0 (a .alloc .s) (smallestAlloc t .s) (p .places ∙ sym (smallest-long t)) (λ i _.
+      ⊎-elim (λ (b : i < t .n).
+      smallest-one (t .head .ttrt) (at (t .c) i) (at (t .d) i) (at (a .alloc .s) i) (p .smallest i b) ∙ sym (smallest-inside t few i b))
+      (λ (b : t .n ≤ i). p .past i b ∙ sym (smallest-past t i b))
+      (below-or-not i (t .n))) in
+      λ i. record { alloc = record { s = same i }; number = p .accepted i }
+
+  fitting : Fitting t (planned t)
+  fitting =
+      record {
+        two = λ c.
+            let j = judged-two t .1 c in
+            rw (← j) (plan-refused-set t (omega arith));
+        four = λ c n.
+            let j = judged-four t .1 (c, n) in
+            rw (← j) (plan-refused-set t (omega arith));
+        five = λ c n w.
+            let j = judged-five t .1 (c, (n, w)) in
+            rw (← j) (plan-refused-set t (omega arith));
+        six = λ c n w none.
+            let j = allowed t .1 (c, (n, w)) in
+            plan-none t j (none-token j (λ s m. none (s, m)));
+        plan = λ c n w some.
+            rw (plan-found t (allowed t .1 (c, (n, w))) (token-needed t (at (some .0)) (some .1))) (is-plan t (c .1));
+      }
+
+  only-one : (a : Planned) → Fitting t a → a ≡ planned t
+  only-one a f =
+      ⊎-elim (λ c.
+      ⊎-elim (λ n.
+      ⊎-elim (λ w.
+      let count = decides-count t .0 c in
+      let numbers = decides-numbers t .0 n in
+      let walk = decides-walk t .0 w in
+      let j = allowed t .1 (count, (numbers, walk)) in
+      ⊎-elim (λ token.
+      one-plan (count .1) a (f .plan count numbers walk (smallestAlloc t .s, smallest-rules t (count .1) token)) ∙ sym (plan-found t j token))
+      (λ token.
+      f .six count numbers walk (λ some. true≢false (sym (token-needed t (at (some .0)) (some .1)) ∙ token)) ∙ sym (plan-none t j token))
+      (true-or-false (tokenFits t (smallestAt t))))
+      (λ w.
+      let count = decides-count t .0 c in
+      let numbers = decides-numbers t .0 n in
+      let walk = decides-not _ _ (decides-walk t) .0 w in
+      f .five count numbers walk ∙ sym (fitting .five count numbers walk))
+      (true-or-false (walkTimeAllowed t)))
+      (λ n.
+      let count = decides-count t .0 c in
+      let numbers = decides-not _ _ (decides-numbers t) .0 n in
+      f .four count numbers ∙ sym (fitting .four count numbers))
+      (true-or-false (numbersAllowed t)))
+      (λ c. let count = decides-not _ _ (decides-count t) .0 c in f .two count ∙ sym (fitting .two count))
+      (true-or-false (countAllowed t))
+
+blank : (t : Set) → planned t .number ≢ 0 → planned t .alloc ≡ blankAlloc
+blank t h =
+    let k : planNumber t ≢ 0 = λ e. h (answered-number (planNumber t) (smallestAlloc t) ∙ e) in
+    ap (λ (a : Planned). a .alloc) (answered-refused (planNumber t) (smallestAlloc t) k)
+
+pub promised : Promised
+promised =
+    record {
+      smallest = smallest-is;
+      no-second = smallest-one;
+      at-zero = at-zero;
+      six = six;
+      refused-set = refused-set;
+      blank = blank;
+      kept = kept;
+      one-answer = λ t a. (only-one t a, λ e. rw e (fitting t));
+      first-places = planned-same;
+      first-places-judged = judged-plan-same;
+      given-two = given-two;
+      given-four = given-four;
+      given-five = given-five;
+      given-seven = given-seven;
+      given-none = given-none;
+    }
