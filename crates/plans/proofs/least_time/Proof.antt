@@ -31,8 +31,7 @@ add-result c =
     omega (arith, product-small m s (omega arith) (omega arith))
 
 returns : tie.Need-returns
-returns c =
-    rw (c .room .ensures, c .before .wide .ensures .same, c .before .before .alpha .ensures .is, c .before .before .before .whole-rotations .ensures .is)
+returns c = cc
 
 pub least-time-spec : {M : Type 1} → statement M
 least-time-spec =

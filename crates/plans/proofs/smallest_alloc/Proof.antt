@@ -60,7 +60,8 @@ loop-again c =
     let at-loop = c .before .before .before .before in
     let t = at-loop .before .before .args .t1 in
     let filled : at-loop .loop .s ≡ fill (at-loop .loop .i) (smallestAt t) zeros = at-loop .loop .inv .1 in
-    (omega arith, rw (fill-step, filled, c .smallest .ensures .is))
+    let stored : c .smallest .result ≡ smallestAt t (at-loop .loop .i) = c .smallest .ensures .is in
+    (omega arith, cc (fill-step (at-loop .loop .i) (smallestAt t) zeros))
 
 returns : tie.Need-returns Inv-loop μ-loop
 returns c =
