@@ -1,11 +1,13 @@
 -- The laws of tests and judgements, once for all layers. No rule stands here.
-use Prim.Native.Nat.{ℕ, _≤_}
+use Prim.Native.Nat.{ℕ, zero, suc, _≤_}
 use mathlib.Core.Path.{_≡_, refl}
 use mathlib.Core.Bool.{Bool, true, false, _&&_, true≢false, false≢true}
 use mathlib.Core.Logic.{_⊎_, inl, inr, _↔_, _≢_}
+use mathlib.Core.List.{List, [], _∷_}
+use lib.ListN.{getD}
 use borrow.Author.Tests.{leb-true, le-leb}
 use lib.Dec.{leb}
-use Rattle.units.specs.Judging.{orElse, between}
+use Rattle.units.specs.Judging.{orElse, between, allHold}
 
 -- ---- tests
 
@@ -41,6 +43,13 @@ decides-between low high x = decides-both (leb low x) (leb x high) (low ≤ x) (
 pub decides-not : (b : Bool) (P : Type 0) → Decides b P → (b ≡ false) ↔ ¬ P
 decides-not true P d = (λ e. absurd (true≢false e), λ n. absurd (n (d .0 refl)))
 decides-not false P d = (λ e p. false≢true (d .1 p), λ n. refl)
+
+-- of a list of tests that all hold, test k holds; past the end there is none
+pub pick : (ts : List Bool) (k : ℕ) → allHold ts ≡ true → getD ts k true ≡ true
+unfolding allHold
+pick [] k h = refl
+pick (t ∷ ts) zero h = and-true t (allHold ts) h .0
+pick (t ∷ ts) (suc k) h = pick ts k (and-true t (allHold ts) h .1)
 
 -- ---- judgements
 

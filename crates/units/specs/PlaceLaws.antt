@@ -1,5 +1,5 @@
 -- The laws of sums, tests and fills over the first n places, once for all layers. No rule stands here.
-use Prim.Native.Nat.{ℕ, zero, suc, _+_, _≤_, _<_, min}
+use Prim.Native.Nat.{ℕ, zero, suc, _+_, _-_, _≤_, _<_, min}
 use mathlib.Core.Path.{_≡_, refl, _∙_}
 use mathlib.Core.Bool.{Bool, true, _&&_}
 use mathlib.Core.List.{List}
@@ -8,7 +8,7 @@ use native.Mathlib.Numerals.{add-one}
 use native.Mathlib.Omega.{arith}
 use lib.ListN.{length, getD, set, length-set, List·getD-eq-default}
 use lib.Seq.{getD-set-same, getD-set-other}
-use Rattle.units.specs.Places.{at, sumBelow, allBelow, fill}
+use Rattle.units.specs.Places.{at, sumBelow, sumFrom, allBelow, fill, raise}
 use Rattle.units.specs.SmallLaws.{below-or-not}
 use Rattle.units.specs.JudgingLaws.{and-true, true-and, Decides}
 
@@ -142,3 +142,49 @@ fill-same (suc n) f g xs h =
     let e : fill n f xs ≡ fill n g xs = fill-same n f g xs (λ i l. h i (omega arith)) in
     let d : f n ≡ g n = h n (omega arith) in
     cc
+
+-- ---- sums from a place on
+
+-- the places below i and those from i on are all places
+pub sum-split : (n : ℕ) (f : ℕ → ℕ) (i : ℕ) → i ≤ n → sumBelow i f + sumFrom i n f ≡ sumBelow n f
+unfolding sumBelow
+sum-split zero f i l =
+    let e : i ≡ 0 = omega arith in
+    rw e refl
+sum-split (suc n) f i l =
+    ⊎-elim (λ (b : i < suc n).
+    let d : suc n - i ≡ suc (n - i) = omega arith in
+    let k : i + (n - i) ≡ n = omega arith in
+    rw d (rw k (omega (arith, sum-split n f i (omega arith)))))
+    (λ (b : suc n ≤ i).
+    let e : i ≡ suc n = omega arith in
+    let d : suc n - suc n ≡ 0 = omega arith in
+    rw e (rw d (omega arith)))
+    (below-or-not i (suc n))
+
+-- ---- raised lists
+
+pub raise-none : (x : ℕ) (xs : List ℕ) → raise 0 x xs ≡ xs
+unfolding raise
+raise-none x xs = fill-none (λ i. at xs i + x) xs
+
+pub raise-length : (n x : ℕ) (xs : List ℕ) → length (raise n x xs) ≡ length xs
+unfolding raise
+raise-length n x xs = fill-length n (λ i. at xs i + x) xs
+
+-- one of the first n places has risen by x
+pub raise-inside : (n x : ℕ) (xs : List ℕ) (i : ℕ) → i < n → n ≤ length xs → at (raise n x xs) i ≡ at xs i + x
+unfolding raise
+raise-inside n x xs i l m = fill-inside n (λ j. at xs j + x) xs i l m
+
+-- a place past them is as it was
+pub raise-outside : (n x : ℕ) (xs : List ℕ) (i : ℕ) → n ≤ i → at (raise n x xs) i ≡ at xs i
+unfolding raise
+raise-outside n x xs i l = fill-outside n (λ j. at xs j + x) xs i l
+
+-- one more place
+pub raise-step : (n x : ℕ) (xs : List ℕ) → raise (n + 1) x xs ≡ set (raise n x xs) n (at (raise n x xs) n + x)
+unfolding raise
+raise-step n x xs =
+    let e : at (fill n (λ i. at xs i + x) xs) n ≡ at xs n = fill-outside n (λ i. at xs i + x) xs n (omega arith) in
+    fill-step n (λ i. at xs i + x) xs ∙ rw e

@@ -1,5 +1,5 @@
 -- Sums, tests and fills over the first n places. A place past the end of a list reads as 0.
-use Prim.Native.Nat.{ℕ, zero, suc, _+_, _<_, _^_}
+use Prim.Native.Nat.{ℕ, zero, suc, _+_, _-_, _<_, _^_}
 use mathlib.Core.Path.{_≡_}
 use mathlib.Core.Bool.{Bool, true, _&&_}
 use mathlib.Core.List.{List}
@@ -23,6 +23,14 @@ allBelow (suc n) f = allBelow n f && f n
 unfoldable pub fill : ℕ → (ℕ → ℕ) → List ℕ → List ℕ
 fill zero f xs = xs
 fill (suc n) f xs = set (fill n f xs) n (f n)
+
+-- the sum of f over the places i to n − 1
+abbrev pub sumFrom : ℕ → ℕ → (ℕ → ℕ) → ℕ
+sumFrom i n f = sumBelow (n - i) (λ k. f (i + k))
+
+-- the list with each of the places 0 to n − 1 risen by x
+unfoldable pub raise : ℕ → ℕ → List ℕ → List ℕ
+raise n x xs = fill n (λ i. at xs i + x) xs
 
 -- r is the sum of the first n places of xs; 128 places of 32-bit numbers sum to less than 2 ^ 40
 pub record Sum (xs : List ℕ) (n r : ℕ) : Type 0 where

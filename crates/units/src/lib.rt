@@ -12,7 +12,7 @@ pub struct Ticks(pub u64);
 
 // A station's number, from 0 in ring order. No tick count is one.
 #[repr(C)]
-pub struct Station(pub u32);
+pub struct Station(pub u64);
 
 // The smaller of two numbers.
 pub fn least(a: u64, b: u64) -> u64

@@ -1,0 +1,85 @@
+-- Handing in a message: what each of the numbers 9 to 12 asks, the ring that holds the message, and the answer.
+use Prim.Native.Nat.{ℕ, zero, suc, _+_}
+use mathlib.Core.Bool.{Bool, _&&_, _||_}
+use lib.Dec.{ltb, leb, eqb}
+use lib.ListN.{set}
+use Rattle.units.specs.Numbers.{accepted, unsound, noSuchStation, badLength, stillHeld, badArrival, mostClock}
+use Rattle.units.specs.Places.{at}
+use Rattle.units.specs.Judging.{orElse, between}
+use Rattle.rings.specs.State.{count, beforeFirstVisit, beforeFirstMessage}
+use Rattle.rings.specs.Sound.{isSound}
+use Rattle.rings.specs.declared.Ring.{Ring}
+use Rattle.rings.specs.declared.Message.{Message}
+use Rattle.rings.specs.declared.Taken.{Taken}
+
+-- ---- what each number asks
+
+-- 9: the station number is below N
+abbrev pub stationKnown : Ring → Message → Bool
+stationKnown r m = ltb (m .station .0) (count r)
+
+-- 10: the message's length is neither 0 nor above C
+abbrev pub lengthAllowed : Ring → Message → Bool
+lengthAllowed r m = between 1 (at (r .set .c) (m .station .0)) (m .length .0)
+
+-- 11: that station holds no unsent message
+abbrev pub nothingHeld : Ring → Message → Bool
+nothingHeld r m = eqb (at (r .rest) (m .station .0)) 0
+
+-- 12: the arrival is in range
+abbrev pub arrivalInRange : Message → Bool
+arrivalInRange m = leb (m .arrival .0) mostClock
+
+-- 12: it is later than the start of that station's last visit; before its first visit any arrival from 0 passes
+abbrev pub laterThanLastStart : Ring → Message → Bool
+laterThanLastStart r m = beforeFirstVisit r (m .station .0) || ltb (at (r .last) (m .station .0)) (m .arrival .0)
+
+-- 12: it is at least P after that station's last accepted arrival; the first message passes
+abbrev pub gapKept : Ring → Message → Bool
+gapKept r m =
+    beforeFirstMessage r (m .station .0) || leb (at (r .arrival) (m .station .0) + at (r .set .p) (m .station .0)) (m .arrival .0)
+
+-- 12: the arrival time is allowed
+unfoldable pub arrivalAllowed : Ring → Message → Bool
+arrivalAllowed r m = arrivalInRange m && laterThanLastStart r m && gapKept r m
+
+-- ---- the ring that holds the message: its whole length remains, its arrival is the station's last accepted one; nothing else changes
+unfoldable pub holding : Ring → Message → Ring
+holding r m =
+    record {
+      set = r .set;
+      alloc = r .alloc;
+      trt = r .trt;
+      sent = r .sent;
+      rest = set (r .rest) (m .station .0) (m .length .0);
+      arrival = set (r .arrival) (m .station .0) (m .arrival .0);
+      had = set (r .had) (m .station .0) 1;
+      last = r .last;
+      clock = r .clock;
+      visits = r .visits;
+      token = r .token;
+      unused = r .unused;
+    }
+
+-- ---- the answer
+
+-- 9 to 12 of a sound ring, the lowest that applies
+abbrev pub messageNumber : Ring → Message → ℕ
+messageNumber r m =
+    orElse (stationKnown r m) noSuchStation
+    (orElse (lengthAllowed r m) badLength
+    (orElse (nothingHeld r m) stillHeld
+    (orElse (arrivalAllowed r m) badArrival accepted)))
+
+-- 8 for an unsound ring first
+abbrev pub handInNumber : Ring → Message → ℕ
+handInNumber r m = orElse (isSound r) unsound (messageNumber r m)
+
+-- a refused handing in gives the ring back unchanged
+unfoldable pub takenWith : ℕ → Ring → Message → Taken
+takenWith zero r m = record { ring = holding r m; number = 0 }
+takenWith (suc k) r m = record { ring = r; number = suc k }
+
+-- the answer to a handing in
+abbrev pub handedIn : Ring → Message → Taken
+handedIn r m = takenWith (handInNumber r m) r m

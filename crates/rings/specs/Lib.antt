@@ -1,0 +1,11 @@
+-- What a ring is and does: 01, "The ring", by value.
+--     State        what the fields of a ring say of a station
+--     Opening      the opened ring, and opening's answer
+--     Sound        01's list of unsound states (8), a sentence and a test for each line
+--     Steps        the five steps of a visit, the record, and a visit's answer (8, 13)
+--     HandingIn    what each of 9 to 12 asks, the ring that holds the message, and the answer
+pub mod State
+pub mod Opening
+pub mod Sound
+pub mod Steps
+pub mod HandingIn

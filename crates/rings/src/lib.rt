@@ -1,0 +1,82 @@
+// The ring by value: opening, the test of soundness, visits and handing in.
+use plans::Alloc;
+use sets::Set;
+use units::Station;
+use units::Ticks;
+
+// A ring's whole state. Only the first N places of each array are ever looked at or raised.
+#[repr(C)]
+pub struct Ring {
+    pub set: Set,
+    pub alloc: Alloc,
+    // TRT, the time since the station's last token arrival.
+    pub trt: [u32; 128],
+    // s, what the station sent of synchronous traffic at its last visit.
+    pub sent: [u32; 128],
+    // What remains of the held message; 0: none is held.
+    pub rest: [u32; 128],
+    // The held message's arrival, and after it the last accepted one.
+    pub arrival: [u64; 128],
+    // A message was ever accepted there: 0 is no, anything else yes.
+    pub had: [u8; 128],
+    // The start of the station's last visit; there was one where the station's number is below visits.
+    pub last: [u64; 128],
+    pub clock: u64,
+    pub visits: u64,
+    // The station that has the token.
+    pub token: u32,
+    // u, the sum of S − s.
+    pub unused: u32,
+}
+
+// A message to hand in.
+#[repr(C)]
+pub struct Message {
+    pub station: Station,
+    pub length: Ticks,
+    pub arrival: Ticks,
+}
+
+// What happened at a visit.
+#[repr(C)]
+pub struct VisitRecord {
+    pub station: Station,
+    pub start: Ticks,
+    pub trt: Ticks,
+    pub limit: Ticks,
+    pub synchronous: Ticks,
+    pub asynchronous: Ticks,
+    // Finish and margin of the message that was completed; both 0 where none was.
+    pub finish: Ticks,
+    pub margin: i64,
+    // 1: a message was completed. 0: none was.
+    pub completed: u8,
+}
+
+// A visit's answer: what happened, and the number, 0 or a refusal with the blank record.
+#[repr(C)]
+pub struct VisitAnswer {
+    pub record: VisitRecord,
+    pub number: u8,
+}
+
+// The ring after a visit, and the visit's answer.
+#[repr(C)]
+pub struct Visited {
+    pub ring: Ring,
+    pub answer: VisitAnswer,
+}
+
+// The ring after a handing in, and the number.
+#[repr(C)]
+pub struct Taken {
+    pub ring: Ring,
+    pub number: u8,
+}
+
+// The opened ring and 0, or the blank ring and the refusal.
+#[repr(C)]
+pub struct Opened {
+    pub ring: Ring,
+    pub number: u8,
+}
