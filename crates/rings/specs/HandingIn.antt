@@ -1,5 +1,7 @@
 -- Handing in a message: what each of the numbers 9 to 12 asks, the ring that holds the message, and the answer.
-use Prim.Native.Nat.{ℕ, zero, suc, _+_}
+use Prim.Native.Nat.{ℕ, zero, suc, _+_, _≤_, _<_}
+use mathlib.Core.Path.{_≡_}
+use mathlib.Core.Logic.{_≢_}
 use mathlib.Core.Bool.{Bool, _&&_, _||_}
 use lib.Dec.{ltb, leb, eqb}
 use lib.ListN.{set}
@@ -12,7 +14,29 @@ use Rattle.rings.specs.declared.Ring.{Ring}
 use Rattle.rings.specs.declared.Message.{Message}
 use Rattle.rings.specs.declared.Taken.{Taken}
 
--- ---- what each number asks
+-- ---- what each number asks, as sentences
+
+-- 12: when an arrival is allowed
+pub record ArrivalAllowed (r : Ring) (m : Message) : Type 0 where
+  -- it is in range
+  pub range : m .arrival .0 ≤ mostClock
+  -- it is later than the start of that station's last visit; before its first visit any arrival from 0 passes
+  pub later : m .station .0 < r .visits → at (r .last) (m .station .0) < m .arrival .0
+  -- it is at least P after that station's last accepted arrival, where there is one
+  pub gap : at (r .had) (m .station .0) ≢ 0 → at (r .arrival) (m .station .0) + at (r .set .p) (m .station .0) ≤ m .arrival .0
+
+-- what a sound ring asks of a message that it takes
+pub record Takes (r : Ring) (m : Message) : Type 0 where
+  -- 9: the station number is below N
+  pub known : m .station .0 < count r
+  -- 10: the length is neither 0 nor above C
+  pub length : (1 ≤ m .length .0) × (m .length .0 ≤ at (r .set .c) (m .station .0))
+  -- 11: that station holds no unsent message
+  pub free : at (r .rest) (m .station .0) ≡ 0
+  -- 12: the arrival is allowed
+  pub arrival : ArrivalAllowed r m
+
+-- ---- the same as tests, one for each number
 
 -- 9: the station number is below N
 abbrev pub stationKnown : Ring → Message → Bool

@@ -70,10 +70,9 @@ clockSound r = leb (r .clock) mostRingClock
 abbrev pub visitsSound : Ring → Bool
 visitsSound r = ltb (r .visits) visitsEnd
 
--- the tests in 01's order
-abbrev pub soundTests : Ring → List Bool
-soundTests r =
-    planSound r ∷
+-- the tests of the ring's own numbers, in 01's order
+abbrev pub numberTests : Ring → List Bool
+numberTests r =
     tokenSound r ∷
     allBelow (count r) (trtSoundAt r) ∷
     allBelow (count r) (sentSoundAt r) ∷
@@ -84,6 +83,6 @@ soundTests r =
     visitsSound r ∷
     []
 
--- the ring is sound: every test holds
+-- the ring is sound: the test of its set and allocation holds, and every other
 unfoldable pub isSound : Ring → Bool
-isSound r = allHold (soundTests r)
+isSound r = allHold (planSound r ∷ numberTests r)

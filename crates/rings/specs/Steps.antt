@@ -120,13 +120,21 @@ abbrev pub visitNumber : Ring → ℕ
 visitNumber r = orElse (isSound r) unsound (orElse (leb (r .clock) mostClock) clockTooHigh accepted)
 
 -- a refused visit gives the ring back unchanged, and the record blank
-unfoldable pub visitedWith : ℕ → Ring → ℕ → Visited
-visitedWith zero r ask =
+abbrev pub refusedVisit : Ring → ℕ → Visited
+refusedVisit r number = record { ring = r; answer = record { «record» = blankRecord; number = number } }
+
+-- the visit itself
+abbrev pub acceptedVisit : Ring → ℕ → Visited
+acceptedVisit r ask =
     record {
       ring = moved r (syncSent r) (asyncSent r ask);
       answer = record { «record» = recordOf r (syncSent r) (asyncSent r ask); number = 0 };
     }
-visitedWith (suc k) r ask = record { ring = r; answer = record { «record» = blankRecord; number = suc k } }
+
+-- 0 is the visit, any other number a refusal
+unfoldable pub visitedWith : ℕ → Ring → ℕ → Visited
+visitedWith zero r ask = acceptedVisit r ask
+visitedWith (suc k) r ask = refusedVisit r (suc k)
 
 -- a visit's answer, with this many asynchronous ticks asked for
 abbrev pub visited : Ring → ℕ → Visited

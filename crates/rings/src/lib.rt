@@ -1,8 +1,20 @@
 // The ring by value: opening, the test of soundness, visits and handing in.
+mod messages;
+mod opening;
+mod places;
+mod soundness;
+mod steps;
+
+ghost use mathlib.Core.Path.{_≡_};
+ghost use Rattle.rings.specs.Opening.{opening};
+ghost use Rattle.rings.specs.Sound.{isSound};
+ghost use Rattle.rings.specs.Steps.{visited, visitedWith};
+ghost use Rattle.rings.specs.HandingIn.{handedIn};
 use plans::Alloc;
 use sets::Set;
 use units::Station;
 use units::Ticks;
+use units::numbers;
 
 // A ring's whole state. Only the first N places of each array are ever looked at or raised.
 #[repr(C)]
@@ -79,4 +91,64 @@ pub struct Taken {
 pub struct Opened {
     pub ring: Ring,
     pub number: u8,
+}
+
+// A ring's state is sound: none of the lines of 8 holds.
+pub fn sound(ring: Ring) -> bool
+    ensures { λ r. ⌜ r ≡ isSound ring ⌝ }
+{
+    let set = ring.set;
+    let alloc = ring.alloc;
+    let number = plans::judge_plan(set, alloc);
+    if number != numbers::ACCEPTED {
+        return false;
+    }
+    soundness::numbers_sound(ring)
+}
+
+// Opening: the opened ring, or the lowest of 2, 4, 5 and 7 that applies with the blank ring.
+pub fn open(set: Set, alloc: Alloc) -> Opened
+    ensures { λ r. ⌜ r ≡ opening set alloc ⌝ }
+{
+    let number = plans::judge_plan(set, alloc);
+    if number != numbers::ACCEPTED {
+        return Opened {
+            ring: opening::blank_ring(),
+            number,
+        };
+    }
+    Opened {
+        ring: opening::opened_ring(set, alloc),
+        number,
+    }
+}
+
+impl Ring {
+    // A visit at the station that has the token, with this many asynchronous ticks asked for: the moved ring and the record, or 8 or 13 with the ring as it was.
+    pub fn visit(mut self, ask: u32) -> Visited
+        ensures { λ r. ⌜ r ≡ visited self ask ⌝ }
+    {
+        let number = steps::visit_number(self);
+        if number != numbers::ACCEPTED {
+            return steps::refused(self, number);
+        }
+        let sync = steps::sync_sent(self);
+        let limit = steps::limit_of(self);
+        let asynchronous = units::least(limit, units::wide(ask));
+        let record = steps::record_of(self, sync, asynchronous);
+        let answer = VisitAnswer { record, number };
+        self = steps::moved_on(self, sync, asynchronous);
+        Visited { ring: self, answer }
+    }
+
+    // Handing in a message: the ring that holds it, or the lowest of 8 to 12 that applies with the ring as it was.
+    pub fn hand_in(mut self, message: Message) -> Taken
+        ensures { λ r. ⌜ r ≡ handedIn self message ⌝ }
+    {
+        let number = messages::hand_in_number(self, message);
+        if number == numbers::ACCEPTED {
+            self = messages::held(self, message);
+        }
+        Taken { ring: self, number }
+    }
 }

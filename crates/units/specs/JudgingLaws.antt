@@ -51,6 +51,15 @@ pick [] k h = refl
 pick (t ∷ ts) zero h = and-true t (allHold ts) h .0
 pick (t ∷ ts) (suc k) h = pick ts k (and-true t (allHold ts) h .1)
 
+-- and a list of tests all hold if each does
+pub none-hold : allHold [] ≡ true
+unfolding allHold
+none-hold = refl
+
+pub all-hold : (t : Bool) (ts : List Bool) → t ≡ true → allHold ts ≡ true → allHold (t ∷ ts) ≡ true
+unfolding allHold
+all-hold t ts h hs = true-and t (allHold ts) h hs
+
 -- ---- judgements
 
 pub held : (t : Bool) (number rest : ℕ) → t ≡ true → orElse t number rest ≡ rest
@@ -78,6 +87,10 @@ pub given-later : (t : Bool) (P : Type 0) (number rest k : ℕ) → Decides t P 
 unfolding orElse
 given-later true P number rest k d n = (λ e. (d .0 refl, e), λ h. h .1)
 given-later false P number rest k d n = (λ e. absurd (n e), λ h. absurd (false≢true (d .1 (h .0))))
+
+-- a judgement that comes out as 0 has passed its first test, and the rest is 0
+pub passed : (t : Bool) (number rest : ℕ) → number ≢ 0 → orElse t number rest ≡ 0 → (t ≡ true) × (rest ≡ 0)
+passed t number rest n h = given-later t (t ≡ true) number rest 0 (λ e. e, λ e. e) n .0 h
 
 -- ---- "exactly if", step by step
 

@@ -2,7 +2,7 @@
 use Prim.Native.Nat.{ℕ, zero, suc, _+_, _-_, _≤_, _<_, min}
 use mathlib.Core.Path.{_≡_, refl, _∙_}
 use mathlib.Core.Bool.{Bool, true, _&&_}
-use mathlib.Core.List.{List}
+use mathlib.Core.List.{List, [], _∷_}
 use mathlib.Core.Logic.{⊎-elim}
 use native.Mathlib.Numerals.{add-one}
 use native.Mathlib.Omega.{arith}
@@ -162,6 +162,14 @@ sum-split (suc n) f i l =
     rw e (rw d (omega arith)))
     (below-or-not i (suc n))
 
+-- from the first place on they are all
+pub from-first : (n : ℕ) (f : ℕ → ℕ) → sumFrom 0 n f ≡ sumBelow n f
+from-first n f = omega (arith, sum-split n f 0 (omega arith), sum-none f)
+
+-- the first of them, and the others
+pub from-step : (n : ℕ) (f : ℕ → ℕ) (i : ℕ) → i < n → sumFrom i n f ≡ f i + sumFrom (i + 1) n f
+from-step n f i l = omega (arith, sum-split n f i (omega arith), sum-split n f (i + 1) (omega arith), sum-step i f)
+
 -- ---- raised lists
 
 pub raise-none : (x : ℕ) (xs : List ℕ) → raise 0 x xs ≡ xs
@@ -188,3 +196,13 @@ unfolding raise
 raise-step n x xs =
     let e : at (fill n (λ i. at xs i + x) xs) n ≡ at xs n = fill-outside n (λ i. at xs i + x) xs n (omega arith) in
     fill-step n (λ i. at xs i + x) xs ∙ rw e
+
+-- ---- one place set
+
+-- a place set to 0 is no larger than it was, and no other changes
+pub set-zero : (xs : List ℕ) (p i : ℕ) → at (set xs p 0) i ≤ at xs i
+set-zero [] p i = omega arith
+set-zero (x ∷ xs) zero zero = omega arith
+set-zero (x ∷ xs) zero (suc i) = omega arith
+set-zero (x ∷ xs) (suc p) zero = omega arith
+set-zero (x ∷ xs) (suc p) (suc i) = set-zero xs p i

@@ -1,0 +1,41 @@
+-- `completes_with` is right because its body is the definition, test by test.
+use borrow.Author.Needs.{needs}
+use Rattle.rings.proofs.steps.completes_with.Statement.{statement}
+use Rattle.rings.proofs.steps.completes_with.Tie as tie
+
+cast-p : tie.Need-cast-p
+cast-p c = search needs
+
+mul-held : tie.Need-mul-held
+mul-held c = search needs
+
+element-copy-out-held : tie.Need-element-copy-out-held
+element-copy-out-held c = search needs
+
+mul-wide : tie.Need-mul-wide
+mul-wide c = search needs
+
+element-copy-out-wide : tie.Need-element-copy-out-wide
+element-copy-out-wide c = search needs
+
+wide-requires : tie.Need-wide-requires
+wide-requires c κs = search needs
+
+room-requires : tie.Need-room-requires
+room-requires c κs = search needs
+
+returns : tie.Need-returns
+returns c = rw (c .room .ensures, c .before .wide .ensures .same)
+
+pub completes-with-spec : {M : Type 1} → statement M
+completes-with-spec =
+    tie.close
+    (tie.spec
+    cast-p
+    mul-held
+    element-copy-out-held
+    mul-wide
+    element-copy-out-wide
+    wide-requires
+    room-requires
+    returns)

@@ -1,0 +1,106 @@
+-- `moved_on` is right because its stores are the definition's; a safe ring's numbers leave room for every sum.
+use native.Mathlib.Omega.{arith}
+use Rattle.rings.specs.Steps.{moved}
+use Rattle.units.specs.PlaceLaws.{set-zero}
+use borrow.Author.Needs.{needs}
+use Rattle.rings.proofs.steps.moved_on.Statement.{statement}
+use Rattle.rings.proofs.steps.moved_on.Tie as tie
+
+cast-p : tie.Need-cast-p
+cast-p c = search needs
+
+rise-of-requires : tie.Need-rise-of-requires
+rise-of-requires c κs = search needs
+
+cast-sent : tie.Need-cast-sent
+cast-sent c = search needs
+
+unused-after-requires : tie.Need-unused-after-requires
+unused-after-requires c κs = search needs
+
+next-token-requires : tie.Need-next-token-requires
+next-token-requires c κs = search needs
+
+mul-rest : tie.Need-mul-rest
+mul-rest c = search needs
+
+element-copy-out-rest : tie.Need-element-copy-out-rest
+element-copy-out-rest c = search needs
+
+sub-rest : tie.Need-sub-rest
+sub-rest c = search needs
+
+mul-trt : tie.Need-mul-trt
+mul-trt c = search needs
+
+array-write-trt : tie.Need-array-write-trt
+array-write-trt c = search needs
+
+cast-raised : tie.Need-cast-raised
+cast-raised c = search needs
+
+raised-requires : tie.Need-raised-requires
+raised-requires c κs =
+    let start = c .before .before .before .before .before in
+    let r = start .args .t1 in
+    record {
+      few = start .pre .0 .few;
+      each = λ i l. omega (arith, set-zero (r .trt) (r .token) i, start .pre .0 .trts i l);
+      small = omega arith;
+    }
+
+mul-r : tie.Need-mul-r
+mul-r c = search needs
+
+element-write-r : tie.Need-element-write-r
+element-write-r c = search needs
+
+mul-r-2 : tie.Need-mul-r-2
+mul-r-2 c = search needs
+
+element-write-r-2 : tie.Need-element-write-r-2
+element-write-r-2 c = search needs
+
+mul-r-3 : tie.Need-mul-r-3
+mul-r-3 c = search needs
+
+element-write-r-3 : tie.Need-element-write-r-3
+element-write-r-3 c = search needs
+
+add-r : tie.Need-add-r
+add-r c = search needs
+
+add-r-2 : tie.Need-add-r-2
+add-r-2 c = search needs
+
+returns : tie.Need-returns
+unfolding moved
+returns c =
+    let next = c .before .before .before in
+    rw (c .raised .ensures, next .next-token .ensures, next .before .unused-after .ensures, next .before .before .rise-of .ensures)
+
+pub moved-on-spec : {M : Type 1} → statement M
+moved-on-spec =
+    tie.close
+    (tie.spec
+    cast-p
+    rise-of-requires
+    cast-sent
+    unused-after-requires
+    next-token-requires
+    mul-rest
+    element-copy-out-rest
+    sub-rest
+    mul-trt
+    array-write-trt
+    cast-raised
+    raised-requires
+    mul-r
+    element-write-r
+    mul-r-2
+    element-write-r-2
+    mul-r-3
+    element-write-r-3
+    add-r
+    add-r-2
+    returns)

@@ -1,0 +1,77 @@
+-- `sync_sent` is right because its branch is the definition's own.
+use mathlib.Core.Path.{_≡_, sym, _∙_}
+use native.Mathlib.Omega.{arith}
+use Prim.Native.Nat.{min}
+use Rattle.units.specs.Places.{at}
+use Rattle.rings.specs.State.{share}
+use Rattle.rings.specs.RingLaws.{served, not-served}
+use borrow.Author.Needs.{needs}
+use Rattle.rings.proofs.steps.sync_sent.Statement.{statement}
+use Rattle.rings.proofs.steps.sync_sent.Tie as tie
+
+cast-p : tie.Need-cast-p
+cast-p c = search needs
+
+mul-held : tie.Need-mul-held
+mul-held c = search needs
+
+element-copy-out-held : tie.Need-element-copy-out-held
+element-copy-out-held c = search needs
+
+mul-arrived : tie.Need-mul-arrived
+mul-arrived c = search needs
+
+element-copy-out-arrived : tie.Need-element-copy-out-arrived
+element-copy-out-arrived c = search needs
+
+mul-wide : tie.Need-mul-wide
+mul-wide c = search needs
+
+element-copy-out-wide : tie.Need-element-copy-out-wide
+element-copy-out-wide c = search needs
+
+wide-requires : tie.Need-wide-requires
+wide-requires c κs = search needs
+
+mul-wide-2 : tie.Need-mul-wide-2
+mul-wide-2 c = search needs
+
+element-copy-out-wide-2 : tie.Need-element-copy-out-wide-2
+element-copy-out-wide-2 c = search needs
+
+wide-requires-2 : tie.Need-wide-requires-2
+wide-requires-2 c κs = search needs
+
+least-requires : tie.Need-least-requires
+least-requires c κs = search needs
+
+returns : tie.Need-returns
+returns c =
+    let then = c .before .before .before .before .before .before in
+    let r = then .before .before .before .args .t1 in
+    let is : c .least .result ≡ min (share r (r .token)) (at (r .rest) (r .token)) = c .least .ensures ∙ rw (c .before .before .before .wide .ensures .same, c .before .wide2 .ensures .same) in
+    record { is = is ∙ sym (served r (then .if1 .taken)); allotted = omega arith; rest = omega arith }
+
+returns-2 : tie.Need-returns-2
+returns-2 c =
+    let r = c .before .before .before .args .t1 in
+    record { is = sym (not-served r (c .if1 .left)); allotted = omega arith; rest = omega arith }
+
+pub sync-sent-spec : {M : Type 1} → statement M
+sync-sent-spec =
+    tie.close
+    (tie.spec
+    cast-p
+    mul-held
+    element-copy-out-held
+    mul-arrived
+    element-copy-out-arrived
+    mul-wide
+    element-copy-out-wide
+    wide-requires
+    mul-wide-2
+    element-copy-out-wide-2
+    wide-requires-2
+    least-requires
+    returns
+    returns-2)

@@ -1,0 +1,49 @@
+-- `unused_after` is right because its body is the definition, and a safe ring's numbers leave room.
+use borrow.Author.Needs.{needs}
+use Rattle.rings.proofs.steps.unused_after.Statement.{statement}
+use Rattle.rings.proofs.steps.unused_after.Tie as tie
+
+cast-p : tie.Need-cast-p
+cast-p c = search needs
+
+mul-share : tie.Need-mul-share
+mul-share c = search needs
+
+element-copy-out-share : tie.Need-element-copy-out-share
+element-copy-out-share c = search needs
+
+mul-fallen : tie.Need-mul-fallen
+mul-fallen c = search needs
+
+element-copy-out-fallen : tie.Need-element-copy-out-fallen
+element-copy-out-fallen c = search needs
+
+sub-fallen : tie.Need-sub-fallen
+sub-fallen c = search needs
+
+sub-fallen-2 : tie.Need-sub-fallen-2
+sub-fallen-2 c = search needs
+
+sub-result : tie.Need-sub-result
+sub-result c = search needs
+
+add-result : tie.Need-add-result
+add-result c = search needs
+
+returns : tie.Need-returns
+returns c = search needs
+
+pub unused-after-spec : {M : Type 1} → statement M
+unused-after-spec =
+    tie.close
+    (tie.spec
+    cast-p
+    mul-share
+    element-copy-out-share
+    mul-fallen
+    element-copy-out-fallen
+    sub-fallen
+    sub-fallen-2
+    sub-result
+    add-result
+    returns)

@@ -1,0 +1,65 @@
+-- What the inner functions ask for and hand back: the definitions' numbers, and how large they can be.
+use Prim.Native.Nat.{ℕ, _+_, _≤_, _<_, _^_}
+use mathlib.Core.Path.{_≡_}
+use mathlib.Core.List.{List}
+use Rattle.units.specs.Numbers.{mostTtrt, mostD, mostClock}
+use Rattle.units.specs.Places.{at, sumBelow}
+use Rattle.rings.specs.State.{count, ttrt, share, unusedAt}
+use Rattle.rings.specs.Sound.{visitsEnd}
+use Rattle.rings.specs.Steps.{limit, syncSent}
+use Rattle.rings.specs.declared.Ring.{Ring}
+use Rattle.rings.specs.declared.Message.{Message}
+
+-- what a visit needs of a ring so that none of its numbers overflows
+pub record Safe (r : Ring) : Type 0 where
+  pub few : count r ≤ 128
+  pub token : r .token < count r
+  pub rotation : ttrt r ≤ mostTtrt
+  pub walk : at (r .set .w) (r .token) ≤ ttrt r
+  pub allotted : share r (r .token) ≤ ttrt r
+  pub trts : (i : ℕ) → i < count r → at (r .trt) i ≤ ttrt r
+  pub sent : at (r .sent) (r .token) ≤ share r (r .token)
+  pub old : unusedAt r (r .token) ≤ r .unused
+  pub unused : r .unused ≤ ttrt r
+  pub deadline : at (r .set .d) (r .token) ≤ mostD
+  pub arrival : at (r .arrival) (r .token) ≤ mostClock
+  pub clock : r .clock ≤ mostClock
+  pub visits : r .visits < visitsEnd
+
+-- two amounts that a visit may send: at most S and what remains, and at most TTRT
+pub record Sendable (r : Ring) (sync async : ℕ) : Type 0 where
+  pub allotted : sync ≤ share r (r .token)
+  pub rest : sync ≤ at (r .rest) (r .token)
+  pub spare : async ≤ ttrt r
+
+-- x is the limit
+pub record Limit (r : Ring) (x : ℕ) : Type 0 where
+  pub is : x ≡ limit r
+  pub small : x ≤ ttrt r
+
+-- x is what is sent of the held message
+pub record Sent (r : Ring) (x : ℕ) : Type 0 where
+  pub is : x ≡ syncSent r
+  pub allotted : x ≤ share r (r .token)
+  pub rest : x ≤ at (r .rest) (r .token)
+
+-- each of the first n places can rise by x
+pub record Raisable (xs : List ℕ) (n x : ℕ) : Type 0 where
+  pub few : n ≤ 128
+  pub each : (i : ℕ) → i < n → at xs i + x < 2 ^ 32
+  pub small : x < 2 ^ 32
+
+-- the first n places have a sum that one place can hold
+pub record Summable (xs : List ℕ) (n : ℕ) : Type 0 where
+  pub few : n ≤ 128
+  pub small : sumBelow n (at xs) < 2 ^ 32
+
+-- the message is for a station of the ring, whose numbers can be added
+pub record Addressed (r : Ring) (m : Message) : Type 0 where
+  pub inside : m .station .0 < 128
+  pub arrival : at (r .arrival) (m .station .0) ≤ mostClock
+
+-- the message can be stored
+pub record Holdable (m : Message) : Type 0 where
+  pub inside : m .station .0 < 128
+  pub small : m .length .0 < 2 ^ 32

@@ -1,0 +1,70 @@
+// Handing in: what each of the numbers 9 to 12 asks, and the ring that holds the message.
+use super::Message;
+use super::Ring;
+use units::numbers;
+ghost use mathlib.Core.Path.{_≡_};
+ghost use mathlib.Core.Bool.{true};
+ghost use Rattle.rings.specs.Sound.{isSound};
+ghost use Rattle.rings.specs.HandingIn.{arrivalAllowed, messageNumber, handInNumber, holding};
+ghost use Rattle.rings.specs.Bounds.{Addressed, Holdable};
+
+// The arrival time is allowed (12).
+fn arrival_allowed(r: Ring, m: Message) -> bool
+    requires { ⌜ Addressed r m ⌝ }
+    ensures { λ b. ⌜ b ≡ arrivalAllowed r m ⌝ }
+{
+    let i = m.station.0 as usize;
+    let a = m.arrival.0;
+    let set = r.set;
+    let in_range = a <= numbers::MOST_CLOCK;
+    let later = (r.visits <= m.station.0) | (r.last[i] < a);
+    let next = r.arrival[i] + units::wide(set.p[i]);
+    let gap = (r.had[i] == 0) | (next <= a);
+    in_range & later & gap
+}
+
+// The lowest of 9 to 12 that applies to a sound ring, or 0.
+fn message_number(r: Ring, m: Message) -> u8
+    requires { ⌜ isSound r ≡ true ⌝ }
+    ensures { λ x. ⌜ x ≡ messageNumber r m ⌝ }
+{
+    if units::wide(r.set.n) <= m.station.0 {
+        return numbers::NO_SUCH_STATION;
+    }
+    let i = m.station.0 as usize;
+    let set = r.set;
+    let fits = (1 <= m.length.0) & (m.length.0 <= units::wide(set.c[i]));
+    if !fits {
+        return numbers::BAD_LENGTH;
+    }
+    if r.rest[i] != 0 {
+        return numbers::STILL_HELD;
+    }
+    if !arrival_allowed(r, m) {
+        return numbers::BAD_ARRIVAL;
+    }
+    numbers::ACCEPTED
+}
+
+// The lowest of 8 to 12 that applies, or 0.
+pub(crate) fn hand_in_number(r: Ring, m: Message) -> u8
+    ensures { λ x. ⌜ x ≡ handInNumber r m ⌝ }
+{
+    if !super::sound(r) {
+        return numbers::UNSOUND;
+    }
+    message_number(r, m)
+}
+
+// The ring that holds the message.
+pub(crate) fn held(mut r: Ring, m: Message) -> Ring
+    requires { ⌜ Holdable m ⌝ }
+    ensures { λ x. ⌜ x ≡ holding r m ⌝ }
+{
+    let i = m.station.0 as usize;
+    let length = m.length.0 as u32;
+    r.rest[i] = length;
+    r.arrival[i] = m.arrival.0;
+    r.had[i] = 1;
+    r
+}

@@ -1,0 +1,56 @@
+// The opened ring, and the blank one.
+use super::Ring;
+use super::places;
+use plans::Alloc;
+use sets::Set;
+ghost use mathlib.Core.Path.{_≡_};
+ghost use Rattle.plans.specs.Planned.{judgedPlan};
+ghost use Rattle.rings.specs.Opening.{openedRing, blankRing};
+
+// The blank ring: every number in it 0.
+pub(crate) fn blank_ring() -> Ring
+    ensures { λ r. ⌜ r ≡ blankRing ⌝ }
+{
+    let set = sets::blank_set();
+    let alloc = plans::blank_alloc();
+    Ring {
+        set,
+        alloc,
+        trt: [0; 128],
+        sent: [0; 128],
+        rest: [0; 128],
+        arrival: [0; 128],
+        had: [0; 128],
+        last: [0; 128],
+        clock: 0,
+        visits: 0,
+        token: 0,
+        unused: 0,
+    }
+}
+
+// The ring when the silent first rotation has ended and the token is at station 0.
+pub(crate) fn opened_ring(set: Set, alloc: Alloc) -> Ring
+    requires { ⌜ judgedPlan set alloc ≡ 0 ⌝ }
+    ensures { λ r. ⌜ r ≡ openedRing set alloc ⌝ }
+{
+    let w = set.w;
+    let trt = places::sums_to_last(w, set.n);
+    let s = alloc.s;
+    let sum = units::sum_first(s, set.n);
+    let unused = sum as u32;
+    Ring {
+        set,
+        alloc,
+        trt,
+        sent: [0; 128],
+        rest: [0; 128],
+        arrival: [0; 128],
+        had: [0; 128],
+        last: [0; 128],
+        clock: 0,
+        visits: 0,
+        token: 0,
+        unused,
+    }
+}
