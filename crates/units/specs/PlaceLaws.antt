@@ -1,6 +1,6 @@
 -- The laws of sums, tests and fills over the first n places, once for all layers. No rule stands here.
 use Prim.Native.Nat.{ℕ, zero, suc, _+_, _-_, _≤_, _<_, min}
-use mathlib.Core.Path.{_≡_, refl, _∙_}
+use mathlib.Core.Path.{_≡_, refl, ap, _∙_}
 use mathlib.Core.Bool.{Bool, true, _&&_}
 use mathlib.Core.List.{List, [], _∷_}
 use mathlib.Core.Logic.{⊎-elim}
@@ -206,3 +206,11 @@ set-zero (x ∷ xs) zero zero = omega arith
 set-zero (x ∷ xs) zero (suc i) = omega arith
 set-zero (x ∷ xs) (suc p) zero = omega arith
 set-zero (x ∷ xs) (suc p) (suc i) = set-zero xs p i
+
+-- what holds of a place as it was, and of the new number where it is the place that is set, holds of it afterwards
+pub set-each : (xs : List ℕ) (p i v : ℕ) (P : ℕ → Type 0) → P (at xs i) → (i ≡ p → P v) → P (at (set xs p v) i)
+set-each [] p i v P h k = h
+set-each (x ∷ xs) zero zero v P h k = k refl
+set-each (x ∷ xs) zero (suc i) v P h k = h
+set-each (x ∷ xs) (suc p) zero v P h k = h
+set-each (x ∷ xs) (suc p) (suc i) v P h k = set-each xs p i v P h (λ e. k (ap suc e))
