@@ -1,0 +1,49 @@
+-- How a sheet is laid out (01, "Sheets"): the bytes of a request and of a plan.
+use Prim.Native.Nat.{ℕ, _+_, _*_}
+use mathlib.Core.Bool.{Bool, true, false}
+use mathlib.Core.List.{List, [], _∷_, _++_}
+use Rattle.units.specs.Places.{at}
+use Rattle.sets.specs.declared.Head.{Head}
+use Rattle.sets.specs.declared.Set.{Set}
+use Rattle.plans.specs.Planned.{blankAlloc}
+use Rattle.plans.specs.declared.Alloc.{Alloc}
+use Rattle.sheets.specs.Rows.{rows}
+use Rattle.sheets.specs.Bytes.{bytesOf}
+use Rattle.sheets.specs.Fields.{headTag, headSize, stationTag, stationSize, allocationTag, allocationSize, endTag, endSize, allocationsFor}
+
+-- the start of a field: one tag byte, two length bytes; no length here is above 255
+abbrev pub mark : ℕ → ℕ → List ℕ
+mark tag size = tag ∷ 0 ∷ size ∷ []
+
+-- tag 1, length 4, TTRT. Later header fields follow here
+unfoldable pub headBytes : Head → List ℕ
+headBytes h = mark headTag headSize ++ bytesOf (h .ttrt)
+
+-- station i: tag 2, length 16, holding w, C, D, P
+unfoldable pub stationBytes : Set → ℕ → List ℕ
+stationBytes t i =
+    mark stationTag stationSize ++ bytesOf (at (t .w) i) ++ bytesOf (at (t .c) i) ++ bytesOf (at (t .d) i) ++ bytesOf (at (t .p) i)
+
+-- the allocation of station i: tag 3, length 4, holding S
+unfoldable pub allocationBytes : Alloc → ℕ → List ℕ
+allocationBytes a i = mark allocationTag allocationSize ++ bytesOf (at (a .s) i)
+
+-- the end: tag 255, length 0
+abbrev pub endBytes : List ℕ
+endBytes = mark endTag endSize
+
+-- the header; then the stations in ring order; in a plan the allocations; then the end
+unfoldable pub sheetOf : Bool → Set → Alloc → List ℕ
+sheetOf plan t a = headBytes (t .head) ++ rows (t .n) (stationBytes t) ++ rows (allocationsFor plan (t .n)) (allocationBytes a) ++ endBytes
+
+-- a request sheet
+abbrev pub requestSheet : Set → List ℕ
+requestSheet t = sheetOf false t blankAlloc
+
+-- a plan sheet
+abbrev pub planSheet : Set → Alloc → List ℕ
+planSheet t a = sheetOf true t a
+
+-- how many bytes a sheet with n stations has: 10 + 19N for a request, 10 + 26N for a plan
+abbrev pub sheetLength : Bool → ℕ → ℕ
+sheetLength plan n = 10 + 19 * n + 7 * allocationsFor plan n

@@ -1,0 +1,41 @@
+-- What writing answers, and what the lent buffer then holds, for any set, any allocation and any buffer.
+use Prim.Native.Nat.{ℕ, zero, suc}
+use mathlib.Core.Path.{_≡_}
+use mathlib.Core.Bool.{Bool}
+use mathlib.Core.List.{List, _++_}
+use lib.Dec.{leb}
+use lib.ListN.{length, drop}
+use Rattle.units.specs.Numbers.{accepted, bufferTooShort}
+use Rattle.units.specs.Judging.{orElse}
+use Rattle.sets.specs.declared.Set.{Set}
+use Rattle.plans.specs.declared.Alloc.{Alloc}
+use Rattle.sheets.specs.Layout.{sheetOf, sheetLength}
+use Rattle.sheets.specs.Reading.{thenNumber, judgedSheet}
+use Rattle.sheets.specs.declared.Written.{Written}
+
+-- N (2), then 4, 5, for plans 7; then 14 where the buffer is too short
+abbrev pub writeNumber : Bool → Set → Alloc → ℕ → ℕ
+writeNumber plan t a room = thenNumber (judgedSheet plan t a) (orElse (leb (sheetLength plan (t .n)) room) bufferTooShort accepted)
+
+-- refused: nothing is written
+unfoldable pub writeAnswer : ℕ → ℕ → Written
+writeAnswer zero size = record { length = size; number = 0 }
+writeAnswer (suc k) size = record { length = 0; number = suc k }
+
+-- accepted: the sheet stands in the first n bytes, all behind it is as it was; refused: no byte has changed
+unfoldable pub bufferAfter : ℕ → List ℕ → List ℕ → List ℕ
+bufferAfter zero sheet out = sheet ++ drop (length sheet) out
+bufferAfter (suc k) sheet out = out
+
+-- the answer of writing into `out`
+abbrev pub writtenAnswer : Bool → Set → Alloc → List ℕ → Written
+writtenAnswer plan t a out = writeAnswer (writeNumber plan t a (length out)) (sheetLength plan (t .n))
+
+-- what `out` then holds
+abbrev pub writtenBuffer : Bool → Set → Alloc → List ℕ → List ℕ
+writtenBuffer plan t a out = bufferAfter (writeNumber plan t a (length out)) (sheetOf plan t a) out
+
+-- writing: the buffer before and after, and the answer
+pub record Wrote (plan : Bool) (t : Set) (a : Alloc) (before after : List ℕ) (r : Written) : Type 0 where
+  pub answer : r ≡ writtenAnswer plan t a before
+  pub buffer : after ≡ writtenBuffer plan t a before

@@ -1,0 +1,65 @@
+// Numbers in bytes, the highest byte first.
+ghost use mathlib.Core.Path.{_≡_};
+ghost use mathlib.Core.List.{[], _∷_};
+ghost use Prim.Native.Nat.{_+_, _≤_, _%_};
+ghost use lib.ListN.{length};
+ghost use Rattle.sheets.specs.Rows.{laid};
+ghost use Rattle.sheets.specs.Bytes.{shortAt, numberAt, bytesOf};
+ghost use Rattle.sheets.specs.Bounds.{Byte, Short};
+
+// The same byte, with room to put numbers together.
+fn wide(b: u8) -> u32
+    ensures { λ r. ⌜ Byte b r ⌝ }
+{
+    b as u32
+}
+
+// The number in two bytes.
+pub(crate) fn short_at(bs: &[u8], at: usize) -> usize
+    requires { ⌜ at + 2 ≤ length (now bs) ⌝ }
+    ensures { λ r. ⌜ Short (now (bs .entry)) at r ⌝ }
+{
+    let number = wide(bs[at]) * 256 + wide(bs[at + 1]);
+    let short = number as usize;
+    short
+}
+
+// The number in four bytes.
+pub(crate) fn number_at(bs: &[u8], at: usize) -> u32
+    requires { ⌜ at + 4 ≤ length (now bs) ⌝ }
+    ensures { λ r. ⌜ r ≡ numberAt (now (bs .entry)) at ⌝ }
+{
+    wide(bs[at]) * 16_777_216
+        + wide(bs[at + 1]) * 65_536
+        + wide(bs[at + 2]) * 256
+        + wide(bs[at + 3])
+}
+
+// The lowest byte of a number.
+fn low_byte(x: u32) -> u8
+    ensures { λ r. ⌜ r ≡ x % 256 ⌝ }
+{
+    let low = x % 256;
+    low as u8
+}
+
+// Writes a number in four bytes.
+pub(crate) fn put_number(out: &mut [u8], at: usize, x: u32)
+    requires { ⌜ at + 4 ≤ length (now out) ⌝ }
+    ensures { λ _. ⌜ now (out .exit) ≡ laid (now (out .entry)) at (bytesOf x) ⌝ }
+{
+    out[at] = low_byte(x / 16_777_216);
+    out[at + 1] = low_byte(x / 65_536);
+    out[at + 2] = low_byte(x / 256);
+    out[at + 3] = low_byte(x);
+}
+
+// Writes the start of a field: its tag, and its length in two bytes.
+pub(crate) fn put_mark(out: &mut [u8], at: usize, tag: u8, size: u8)
+    requires { ⌜ at + 3 ≤ length (now out) ⌝ }
+    ensures { λ _. ⌜ now (out .exit) ≡ laid (now (out .entry)) at (tag ∷ 0 ∷ size ∷ []) ⌝ }
+{
+    out[at] = tag;
+    out[at + 1] = 0;
+    out[at + 2] = size;
+}
