@@ -19,14 +19,21 @@ mark tag size = tag ∷ 0 ∷ size ∷ []
 unfoldable pub headBytes : Head → List ℕ
 headBytes h = mark headTag headSize ++ bytesOf (h .ttrt)
 
--- station i: tag 2, length 16, holding w, C, D, P
-unfoldable pub stationBytes : Set → ℕ → List ℕ
-stationBytes t i =
-    mark stationTag stationSize ++ bytesOf (at (t .w) i) ++ bytesOf (at (t .c) i) ++ bytesOf (at (t .d) i) ++ bytesOf (at (t .p) i)
+-- a station: tag 2, length 16, holding w, C, D, P
+unfoldable pub stationWith : ℕ → ℕ → ℕ → ℕ → List ℕ
+stationWith w c d p = mark stationTag stationSize ++ bytesOf w ++ bytesOf c ++ bytesOf d ++ bytesOf p
 
--- the allocation of station i: tag 3, length 4, holding S
-unfoldable pub allocationBytes : Alloc → ℕ → List ℕ
-allocationBytes a i = mark allocationTag allocationSize ++ bytesOf (at (a .s) i)
+-- an allocation: tag 3, length 4, holding S
+unfoldable pub allocationWith : ℕ → List ℕ
+allocationWith s = mark allocationTag allocationSize ++ bytesOf s
+
+-- station i of a set
+abbrev pub stationBytes : Set → ℕ → List ℕ
+stationBytes t i = stationWith (at (t .w) i) (at (t .c) i) (at (t .d) i) (at (t .p) i)
+
+-- the allocation of station i
+abbrev pub allocationBytes : Alloc → ℕ → List ℕ
+allocationBytes a i = allocationWith (at (a .s) i)
 
 -- the end: tag 255, length 0
 abbrev pub endBytes : List ℕ

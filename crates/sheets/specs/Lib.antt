@@ -7,7 +7,7 @@
 --     Rows        lists of bytes put together
 --     Bounds      what the small functions hand out, with their bounds
 -- and, for the proofs of this layer and those above:
---     RowLaws, ByteLaws, FieldLaws, ReadLaws
+--     RowLaws, ByteLaws, FieldLaws, ReadLaws, WriteLaws, SheetLaws
 pub mod Rows
 pub mod Bytes
 pub mod Fields
@@ -19,3 +19,5 @@ pub mod RowLaws
 pub mod ByteLaws
 pub mod FieldLaws
 pub mod ReadLaws
+pub mod WriteLaws
+pub mod SheetLaws

@@ -200,3 +200,16 @@ lead-is n f k m h s =
     (λ (d : lead n f ≤ k). omega arith)
     (below-or-not k (lead n f)))
     (below-or-not (lead n f) k)
+
+-- ---- segments laid one after another
+
+-- what stands behind what was laid makes one segment with it
+pub laid-more : (o₀ o o′ : List ℕ) (a b : ℕ) (s t : List ℕ) → o ≡ laid o₀ a s → b ≡ a + length s → o′ ≡ laid o b t → b + length t ≤ length o₀ → o′ ≡ laid o₀ a (s ++ t)
+laid-more o₀ o o′ a b s t e p d fit =
+    d ∙ rw (e, p) (laid-then o₀ a s t (omega arith))
+
+-- the next row behind the rows that were laid
+pub rows-then : (o₀ o o′ : List ℕ) (a b n step : ℕ) (f : ℕ → List ℕ) → ((i : ℕ) → length (f i) ≡ step) → o ≡ laid o₀ a (rows n f) → b ≡ a + step * n → o′ ≡ laid o b (f n) → b + step ≤ length o₀ → o′ ≡ laid o₀ a (rows (n + 1) f)
+rows-then o₀ o o′ a b n step f long e p d fit =
+    rw rows-step
+    (laid-more o₀ o o′ a b (rows n f) (f n) e (omega (arith, rows-length n step f long)) d (omega (arith, long n)))

@@ -18,9 +18,12 @@ abbrev pub writeNumber : Bool → Set → Alloc → ℕ → ℕ
 writeNumber plan t a room = thenNumber (judgedSheet plan t a) (orElse (leb (sheetLength plan (t .n)) room) bufferTooShort accepted)
 
 -- refused: nothing is written
+abbrev pub refusedWriting : ℕ → Written
+refusedWriting k = record { length = 0; number = k }
+
 unfoldable pub writeAnswer : ℕ → ℕ → Written
 writeAnswer zero size = record { length = size; number = 0 }
-writeAnswer (suc k) size = record { length = 0; number = suc k }
+writeAnswer (suc k) size = refusedWriting (suc k)
 
 -- accepted: the sheet stands in the first n bytes, all behind it is as it was; refused: no byte has changed
 unfoldable pub bufferAfter : ℕ → List ℕ → List ℕ → List ℕ

@@ -2,10 +2,13 @@
 mod bytes;
 pub mod fields;
 mod reading;
+mod writing;
 
 ghost use mathlib.Core.Path.{_≡_};
 ghost use mathlib.Core.Bool.{true, false};
+ghost use Rattle.plans.specs.Planned.{blankAlloc};
 ghost use Rattle.sheets.specs.Reading.{readRequest, readPlan, judgedSheet};
+ghost use Rattle.sheets.specs.Writing.{Wrote};
 use plans::Alloc;
 use sets::Set;
 
@@ -59,4 +62,18 @@ pub fn read_plan(sheet: &[u8]) -> ReadPlan
     ensures { λ r. ⌜ r ≡ readPlan (now (sheet .entry)) ⌝ }
 {
     reading::read_sheet(sheet, true)
+}
+
+// Writes a request sheet into the first bytes of a lent buffer.
+pub fn write_request(t: Set, out: &mut [u8]) -> Written
+    ensures { λ r. ⌜ Wrote false t blankAlloc (now (out .entry)) (now (out .exit)) r ⌝ }
+{
+    writing::write_sheet(false, t, plans::blank_alloc(), out)
+}
+
+// Writes a plan sheet into the first bytes of a lent buffer.
+pub fn write_plan(t: Set, a: Alloc, out: &mut [u8]) -> Written
+    ensures { λ r. ⌜ Wrote true t a (now (out .entry)) (now (out .exit)) r ⌝ }
+{
+    writing::write_sheet(true, t, a, out)
 }

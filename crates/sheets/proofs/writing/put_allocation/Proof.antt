@@ -1,0 +1,32 @@
+-- `put_allocation` is right because the start of the field and its number are laid one behind the other.
+use mathlib.Core.Path.{refl}
+use native.Mathlib.Omega.{arith}
+use Rattle.sheets.specs.Bytes.{bytesOf}
+use Rattle.sheets.specs.Layout.{allocationWith}
+use Rattle.sheets.specs.RowLaws.{laid-more}
+use borrow.Author.Needs.{needs}
+use Rattle.sheets.proofs.writing.put_allocation.Statement.{statement}
+use Rattle.sheets.proofs.writing.put_allocation.Tie as tie
+
+put-mark-requires : tie.Need-put-mark-requires
+put-mark-requires c κs = search needs
+
+add-put-number : tie.Need-add-put-number
+add-put-number c = search needs
+
+put-number-requires : tie.Need-put-number-requires
+put-number-requires c κs = search needs
+
+same-length : tie.Need-same-length
+same-length c = search needs
+
+returns : tie.Need-returns
+unfolding allocationWith bytesOf
+returns c =
+    let numbered = c .before .before in
+    let marked = numbered .before .before .before .before in
+    laid-more _ _ _ _ _ _ _ (marked .put-mark .ensures) refl (numbered .put-number .ensures) (omega arith)
+
+pub put-allocation-spec : {M : Type 1} → statement M
+put-allocation-spec =
+    tie.close (tie.spec put-mark-requires add-put-number put-number-requires same-length returns)

@@ -1,0 +1,73 @@
+-- `put_sheet` is right because header, stations, allocations and end are laid one behind the other.
+use native.Mathlib.Omega.{arith}
+use Rattle.sheets.specs.FieldLaws.{allocations-few}
+use Rattle.sheets.specs.WriteLaws.{sheet-laid}
+use borrow.Author.Needs.{needs}
+use Rattle.sheets.proofs.writing.put_sheet.Statement.{statement}
+use Rattle.sheets.proofs.writing.put_sheet.Tie as tie
+
+cast-n : tie.Need-cast-n
+cast-n c = search needs
+
+allocations-for-requires : tie.Need-allocations-for-requires
+allocations-for-requires c κs = search needs
+
+mul-behind : tie.Need-mul-behind
+mul-behind c = search needs
+
+add-behind : tie.Need-add-behind
+add-behind c = search needs
+
+put-head-requires : tie.Need-put-head-requires
+put-head-requires c κs = search needs
+
+put-stations-requires : tie.Need-put-stations-requires
+put-stations-requires c κs = search needs
+
+put-allocations-requires : tie.Need-put-allocations-requires
+put-allocations-requires c κs =
+    let counted = c .before .before .before .before .before .before .before .before .before .before in
+    let start = counted .before .before .before in
+    let few = allocations-few (start .args .plan) (start .args .t .n) in
+    let said = counted .allocations-for .ensures in
+    let fit = start .pre in
+    (omega arith, omega arith)
+
+mul-put-mark : tie.Need-mul-put-mark
+mul-put-mark c = search needs
+
+add-put-mark : tie.Need-add-put-mark
+add-put-mark c = search needs
+
+put-mark-requires : tie.Need-put-mark-requires
+put-mark-requires c κs = search needs
+
+same-length : tie.Need-same-length
+same-length c = search needs
+
+returns : tie.Need-returns
+returns c =
+    let ended = c .before .before in
+    let allocated = ended .before .before .before .before in
+    let placed = allocated .before .before .before .before in
+    let headed = placed .before .before .before .before in
+    let counted = headed .before .before .before in
+    let start = counted .before .before .before in
+    sheet-laid (start .args .plan) (start .args .t) (start .args .a) _ _ _ _ _ _ (counted .allocations-for .ensures) (headed .put-head .ensures) (placed .put-stations .ensures) (allocated .put-allocations .ensures) (ended .put-mark .ensures) (start .pre .1)
+
+pub put-sheet-spec : {M : Type 1} → statement M
+put-sheet-spec =
+    tie.close
+    (tie.spec
+    cast-n
+    allocations-for-requires
+    mul-behind
+    add-behind
+    put-head-requires
+    put-stations-requires
+    put-allocations-requires
+    mul-put-mark
+    add-put-mark
+    put-mark-requires
+    same-length
+    returns)

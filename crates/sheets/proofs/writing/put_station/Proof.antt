@@ -1,0 +1,69 @@
+-- `put_station` is right because the start of the field and its four numbers are laid one behind the other.
+use mathlib.Core.Path.{refl}
+use native.Mathlib.Omega.{arith}
+use Rattle.sheets.specs.Bytes.{bytesOf}
+use Rattle.sheets.specs.Layout.{stationWith}
+use Rattle.sheets.specs.RowLaws.{laid-more}
+use borrow.Author.Needs.{needs}
+use Rattle.sheets.proofs.writing.put_station.Statement.{statement}
+use Rattle.sheets.proofs.writing.put_station.Tie as tie
+
+put-mark-requires : tie.Need-put-mark-requires
+put-mark-requires c κs = search needs
+
+add-put-number : tie.Need-add-put-number
+add-put-number c = search needs
+
+put-number-requires : tie.Need-put-number-requires
+put-number-requires c κs = search needs
+
+add-put-number-2 : tie.Need-add-put-number-2
+add-put-number-2 c = search needs
+
+put-number-requires-2 : tie.Need-put-number-requires-2
+put-number-requires-2 c κs = search needs
+
+add-put-number-3 : tie.Need-add-put-number-3
+add-put-number-3 c = search needs
+
+put-number-requires-3 : tie.Need-put-number-requires-3
+put-number-requires-3 c κs = search needs
+
+add-put-number-4 : tie.Need-add-put-number-4
+add-put-number-4 c = search needs
+
+put-number-requires-4 : tie.Need-put-number-requires-4
+put-number-requires-4 c κs = search needs
+
+same-length : tie.Need-same-length
+same-length c = search needs
+
+returns : tie.Need-returns
+unfolding stationWith bytesOf
+returns c =
+    let gap = c .before .before in
+    let deadline = gap .before .before .before .before in
+    let longest = deadline .before .before .before .before in
+    let walk = longest .before .before .before .before in
+    let marked = walk .before .before .before .before in
+    let fit = marked .before .before .before .pre in
+    let w = laid-more _ _ _ _ _ _ _ (marked .put-mark .ensures) refl (walk .put-number .ensures) (omega arith) in
+    let c = laid-more _ _ _ _ _ _ _ w refl (longest .put-number2 .ensures) (omega arith) in
+    let d = laid-more _ _ _ _ _ _ _ c refl (deadline .put-number3 .ensures) (omega arith) in
+    laid-more _ _ _ _ _ _ _ d refl (gap .put-number4 .ensures) (omega arith)
+
+pub put-station-spec : {M : Type 1} → statement M
+put-station-spec =
+    tie.close
+    (tie.spec
+    put-mark-requires
+    add-put-number
+    put-number-requires
+    add-put-number-2
+    put-number-requires-2
+    add-put-number-3
+    put-number-requires-3
+    add-put-number-4
+    put-number-requires-4
+    same-length
+    returns)

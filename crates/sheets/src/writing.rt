@@ -1,0 +1,122 @@
+// Writing: all is judged first; then the fields are laid one after another.
+ghost use mathlib.Core.Path.{_≡_};
+ghost use Prim.Native.Nat.{_+_, _*_, _≤_, _<_};
+ghost use lib.ListN.{length};
+ghost use Rattle.units.specs.Places.{at};
+ghost use Rattle.sheets.specs.Rows.{laid, rows};
+ghost use Rattle.sheets.specs.Layout.{headBytes, stationWith, allocationWith, stationBytes, allocationBytes, sheetOf, sheetLength};
+ghost use Rattle.sheets.specs.Writing.{Wrote, refusedWriting};
+use crate::Written;
+use crate::bytes;
+use crate::fields;
+use plans::Alloc;
+use sets::Head;
+use sets::Set;
+use units::numbers;
+
+// Writes the header.
+fn put_head(out: &mut [u8], h: Head)
+    requires { ⌜ 7 ≤ length (now out) ⌝ }
+    ensures { λ _. ⌜ now (out .exit) ≡ laid (now (out .entry)) 0 (headBytes h) ⌝ }
+{
+    bytes::put_mark(out, 0, fields::HEAD_TAG, 4);
+    bytes::put_number(out, 3, h.ttrt);
+}
+
+// Writes one station.
+fn put_station(out: &mut [u8], at: usize, w: u32, c: u32, d: u32, p: u32)
+    requires { ⌜ at + 19 ≤ length (now out) ⌝ }
+    ensures { λ _. ⌜ now (out .exit) ≡ laid (now (out .entry)) at (stationWith w c d p) ⌝ }
+{
+    bytes::put_mark(out, at, fields::STATION_TAG, 16);
+    bytes::put_number(out, at + 3, w);
+    bytes::put_number(out, at + 7, c);
+    bytes::put_number(out, at + 11, d);
+    bytes::put_number(out, at + 15, p);
+}
+
+// Writes one allocation.
+fn put_allocation(out: &mut [u8], at: usize, s: u32)
+    requires { ⌜ at + 7 ≤ length (now out) ⌝ }
+    ensures { λ _. ⌜ now (out .exit) ≡ laid (now (out .entry)) at (allocationWith s) ⌝ }
+{
+    bytes::put_mark(out, at, fields::ALLOCATION_TAG, 4);
+    bytes::put_number(out, at + 3, s);
+}
+
+// Writes the first n stations.
+fn put_stations(out: &mut [u8], from: usize, t: Set, n: usize)
+    requires { ⌜ (n ≤ 128) × (from + 19 * n ≤ length (now out)) ⌝ }
+    ensures { λ _. ⌜ now (out .exit) ≡ laid (now (out .entry)) from (rows n (stationBytes t)) ⌝ }
+{
+    let mut at = from;
+    let mut i: usize = 0;
+    while i < n {
+        put_station(out, at, t.w[i], t.c[i], t.d[i], t.p[i]);
+        at += 19;
+        i += 1;
+    }
+}
+
+// Writes the first m allocations.
+fn put_allocations(out: &mut [u8], from: usize, a: Alloc, m: usize)
+    requires { ⌜ (m ≤ 128) × (from + 7 * m ≤ length (now out)) ⌝ }
+    ensures { λ _. ⌜ now (out .exit) ≡ laid (now (out .entry)) from (rows m (allocationBytes a)) ⌝ }
+{
+    let mut at = from;
+    let mut i: usize = 0;
+    while i < m {
+        put_allocation(out, at, a.s[i]);
+        at += 7;
+        i += 1;
+    }
+}
+
+// How many bytes a sheet with n stations has.
+fn sheet_length(plan: bool, n: usize) -> usize
+    requires { ⌜ n ≤ 128 ⌝ }
+    ensures { λ r. ⌜ r ≡ sheetLength plan n ⌝ }
+{
+    10 + 19 * n + 7 * fields::allocations_for(plan, n)
+}
+
+// Writes all fields of a sheet.
+fn put_sheet(plan: bool, t: Set, a: Alloc, out: &mut [u8])
+    requires { ⌜ (t .n ≤ 128) × (sheetLength plan (t .n) ≤ length (now out)) ⌝ }
+    ensures { λ _. ⌜ now (out .exit) ≡ laid (now (out .entry)) 0 (sheetOf plan t a) ⌝ }
+{
+    let n = t.n as usize;
+    let m = fields::allocations_for(plan, n);
+    let h = t.head;
+    let behind = 7 + 19 * n;
+    put_head(out, h);
+    put_stations(out, 7, t, n);
+    put_allocations(out, behind, a, m);
+    bytes::put_mark(out, behind + 7 * m, fields::END_TAG, 0);
+}
+
+// A refused writing.
+fn refused(number: u8) -> Written
+    ensures { λ r. ⌜ r ≡ refusedWriting number ⌝ }
+{
+    Written { length: 0, number }
+}
+
+// Writes a sheet: N (2), then 4, 5, for plans 7, then 14; then all its bytes.
+pub(crate) fn write_sheet(plan: bool, t: Set, a: Alloc, out: &mut [u8]) -> Written
+    ensures { λ r. ⌜ Wrote plan t a (now (out .entry)) (now (out .exit)) r ⌝ }
+{
+    let number = crate::judge_sheet(plan, t, a);
+    if number != numbers::ACCEPTED {
+        return refused(number);
+    }
+    let length = sheet_length(plan, t.n as usize);
+    if out.len() < length {
+        return refused(numbers::BUFFER_TOO_SHORT);
+    }
+    put_sheet(plan, t, a, out);
+    Written {
+        length,
+        number: numbers::ACCEPTED,
+    }
+}
