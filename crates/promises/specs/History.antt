@@ -1,0 +1,47 @@
+-- What is read off the records of a run, the latest first.
+use Prim.Native.Nat.{ℕ, zero, suc, _+_}
+use mathlib.Core.Bool.{Bool, cond}
+use mathlib.Core.List.{List, [], _∷_}
+use mathlib.Core.Logic.{_⊎_}
+use mathlib.Core.Option.{Option, none, some}
+use lib.Dec.{ltb, eqb}
+use Rattle.rings.specs.declared.VisitRecord.{VisitRecord}
+
+-- the asynchronous time of the latest n visits; visits that were not yet, those of the silent first rotation among them, count as nothing
+unfoldable pub asyncOf : ℕ → List VisitRecord → ℕ
+asyncOf n [] = 0
+asyncOf zero (v ∷ before) = 0
+asyncOf (suc n) (v ∷ before) = v .asynchronous .0 + asyncOf n before
+
+-- it is a visit of station i
+abbrev pub visitOf : ℕ → VisitRecord → Bool
+visitOf i v = eqb (v .station .0) i
+
+-- the latest visit of station i, if there was one
+unfoldable pub latestOf : ℕ → List VisitRecord → Option VisitRecord
+latestOf i [] = none
+latestOf i (v ∷ before) = cond (visitOf i v) (some v) (latestOf i before)
+
+-- the synchronous time that station i sent in these visits
+unfoldable pub sentBy : ℕ → List VisitRecord → ℕ
+sentBy i [] = 0
+sentBy i (v ∷ before) = cond (visitOf i v) (v .synchronous .0) 0 + sentBy i before
+
+-- of n stations the one after i, after n − 1 station 0
+unfoldable pub following : ℕ → ℕ → ℕ
+following n i = cond (ltb (i + 1) n) (i + 1) 0
+
+-- the station whose turn it is: station 0 at first, then the one after the latest visit's
+unfoldable pub due : ℕ → List VisitRecord → ℕ
+due n [] = 0
+due n (v ∷ before) = following n (v .station .0)
+
+-- every visit of the list, taken with the visits before it, is so
+abbrev pub Each : (VisitRecord → List VisitRecord → Type 0) → List VisitRecord → Type 0
+Each P [] = Unit {0}
+Each P (v ∷ before) = P v before × Each P before
+
+-- some visit of the list, taken with the visits before it, is so
+abbrev pub Somewhere : (VisitRecord → List VisitRecord → Type 0) → List VisitRecord → Type 0
+Somewhere P [] = ⊥
+Somewhere P (v ∷ before) = P v before ⊎ Somewhere P before
