@@ -1,0 +1,196 @@
+//! Framed cases, one on a line, and the one line of answer to each. README.md has the format.
+
+use crate::check::WatchedRing;
+use crate::commands::framed_command;
+use crate::planner;
+use crate::planted::Planted;
+use crate::ring::Ring;
+use crate::rules::{Plan, Refusal, Request, Station};
+use crate::sheet::{read_plan, read_request, write_plan, write_request};
+use crate::text::{answer_line, call, number, Call};
+
+/// What is answered to a line that is no case.
+pub const NO_CASE: &str = "no case";
+
+/// The line of answer to a case, without its newline.
+pub fn answer(case: &str, planted: Planted) -> String {
+    try_answer(case, planted).unwrap_or_else(|| NO_CASE.to_string())
+}
+
+fn try_answer(case: &str, planted: Planted) -> Option<String> {
+    let (kind, rest) = case.split_once(' ')?;
+    match kind {
+        "request" => Some(line(read_request(&from_hex(rest)?), |set| counted(&set, &[]))),
+        "plan" => Some(line(read_plan(&from_hex(rest)?), |p| counted(&p.request, &p.allocation))),
+        "planning" => planning(rest, planted),
+        "write-request" => writing_request(rest),
+        "write-plan" => writing_plan(rest),
+        "run" => running(rest, planted, |answers, _| answers.join("|")),
+        "ring" => running(rest, planted, |_, ring| ring_after(ring)),
+        "command" => framed_command(rest, planted),
+        _ => None,
+    }
+}
+
+/// `0` and what was answered, or the number alone.
+fn line<T>(answer: Result<T, Refusal>, show: impl FnOnce(T) -> String) -> String {
+    match answer {
+        Ok(answered) => format!("0 {}", show(answered)).trim_end().to_string(),
+        Err(refusal) => refusal.number().to_string(),
+    }
+}
+
+fn counted(request: &Request, allocation: &[u32]) -> String {
+    format!("{} {}", request.stations.len(), show_set(request, allocation))
+}
+
+/// `TTRT;W,C,D,P;...`, and with an allocation `TTRT;W,C,D,P,S;...`.
+pub fn show_set(request: &Request, allocation: &[u32]) -> String {
+    let mut parts = vec![request.ttrt.to_string()];
+    for (index, station) in request.stations.iter().enumerate() {
+        let Station { walk, longest, deadline, gap } = *station;
+        let mut numbers = vec![walk, longest, deadline, gap];
+        numbers.extend(allocation.get(index));
+        parts.push(joined(&numbers));
+    }
+    parts.join(";")
+}
+
+fn joined(numbers: &[u32]) -> String {
+    let words: Vec<String> = numbers.iter().map(u32::to_string).collect();
+    words.join(",")
+}
+
+fn planning(rest: &str, planted: Planted) -> Option<String> {
+    let mut parts = rest.split(';');
+    let request = read_set(&mut parts)?;
+    let show = |plan: Plan| {
+        let spare = plan.spare().expect("a plan keeps the token rule");
+        format!("{spare} {}", joined(&plan.allocation))
+    };
+    Some(line(planner::plan(&request, planted), show))
+}
+
+fn writing_request(rest: &str) -> Option<String> {
+    let mut parts = rest.split(';');
+    let room = parse(parts.next()?)?;
+    let request = read_set(&mut parts)?;
+    Some(line(write_request(&request, room), |bytes| to_hex(&bytes)))
+}
+
+fn writing_plan(rest: &str) -> Option<String> {
+    let mut parts = rest.split(';');
+    let room = parse(parts.next()?)?;
+    let ttrt = parse(parts.next()?)?;
+    let mut plan = Plan { request: Request { ttrt, stations: vec![] }, allocation: vec![] };
+    for part in parts {
+        let (numbers, s) = part.rsplit_once(',')?;
+        plan.request.stations.push(read_station(numbers)?);
+        plan.allocation.push(parse(s)?);
+    }
+    Some(line(write_plan(&plan, room), |bytes| to_hex(&bytes)))
+}
+
+fn read_set<'a>(parts: &mut impl Iterator<Item = &'a str>) -> Option<Request> {
+    let ttrt = parse(parts.next()?)?;
+    let stations: Option<Vec<Station>> = parts.map(read_station).collect();
+    Some(Request { ttrt, stations: stations? })
+}
+
+fn read_station(part: &str) -> Option<Station> {
+    let numbers: Option<Vec<u32>> = part.split(',').map(parse).collect();
+    let [walk, longest, deadline, gap] = numbers?[..] else {
+        return None;
+    };
+    Some(Station { walk, longest, deadline, gap })
+}
+
+fn parse<T: std::str::FromStr>(word: &str) -> Option<T> {
+    number(word.as_bytes())
+}
+
+/// Opens the ring, makes every call, and shows the answers or the ring after them.
+fn running(
+    rest: &str,
+    planted: Planted,
+    show: impl FnOnce(Vec<String>, &Ring) -> String,
+) -> Option<String> {
+    let mut parts = rest.split(';');
+    let plan = read_plan(&from_hex(parts.next()?)?);
+    let steps: Option<Vec<Step>> = parts.map(read_step).collect();
+    let steps = steps?;
+    let opened = plan.and_then(|plan| Ring::open(&plan, planted));
+    let answered = |ring: Ring| {
+        let mut ring = WatchedRing::new(ring, planted);
+        let answers = steps.iter().map(|step| step.answer(&mut ring)).collect();
+        show(answers, ring.ring())
+    };
+    Some(line(opened, answered))
+}
+
+/// A call, made one or more times until it is refused; the last answer counts.
+struct Step {
+    times: u64,
+    call: Call,
+}
+
+impl Step {
+    fn answer(&self, ring: &mut WatchedRing) -> String {
+        let mut answer = ring.answer(&self.call);
+        for _ in 1..self.times {
+            if answer.is_err() {
+                break;
+            }
+            answer = ring.answer(&self.call);
+        }
+        answer_line(answer)
+    }
+}
+
+/// A call as text, or `visits COUNT ASK`.
+fn read_step(part: &str) -> Option<Step> {
+    let words: Vec<&[u8]> = part.split(' ').map(str::as_bytes).collect();
+    if let [b"visits", times, ask] = words[..] {
+        let times = number(times).filter(|&times| times > 0)?;
+        return Some(Step { times, call: Call::Visit(number(ask)?) });
+    }
+    Some(Step { times: 1, call: call(&words)? })
+}
+
+/// `CLOCK TOKEN VISITS U;TRT,s,REMAINING,ARRIVAL;...`
+fn ring_after(ring: &Ring) -> String {
+    let head = format!("{} {} {} {}", ring.clock(), ring.token(), ring.visits(), ring.unused());
+    let mut parts = vec![head];
+    for index in 0..ring.size() {
+        let remaining = ring.held(index).map_or(0, |held| held.remaining);
+        let arrival = ring.last_accepted(index).map_or("-".to_string(), |time| time.to_string());
+        parts.push(format!("{},{},{remaining},{arrival}", ring.trt(index), ring.sent(index)));
+    }
+    parts.join(";")
+}
+
+/// Two lower-case digits for each byte; `-` for no byte.
+pub fn to_hex(bytes: &[u8]) -> String {
+    if bytes.is_empty() {
+        return "-".to_string();
+    }
+    bytes.iter().map(|byte| format!("{byte:02x}")).collect()
+}
+
+/// The bytes of `to_hex`'s text.
+pub fn from_hex(text: &str) -> Option<Vec<u8>> {
+    if text == "-" {
+        return Some(vec![]);
+    }
+    let digits: Option<Vec<u8>> = text.bytes().map(hex_digit).collect();
+    let digits = digits.filter(|digits| !digits.is_empty() && digits.len() % 2 == 0)?;
+    Some(digits.chunks(2).map(|pair| pair[0] << 4 | pair[1]).collect())
+}
+
+fn hex_digit(byte: u8) -> Option<u8> {
+    match byte {
+        b'0'..=b'9' => Some(byte - b'0'),
+        b'a'..=b'f' => Some(byte - b'a' + 10),
+        _ => None,
+    }
+}

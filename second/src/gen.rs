@@ -1,0 +1,165 @@
+//! Framed cases from a seed. Each case depends on its kind, the seed and its place only.
+
+pub mod calls;
+pub mod random;
+pub mod sets;
+pub mod sheets;
+pub mod texts;
+
+use std::io::{Result, Write};
+
+use crate::frames::{show_set, to_hex};
+use crate::sheet::fields;
+use crate::text::Call;
+use random::Random;
+use sheets::SheetKind;
+
+#[derive(Clone, Copy, Debug, PartialEq, Eq)]
+pub enum Kind {
+    Requests,
+    Plans,
+    Planning,
+    Writing,
+    Runs,
+    Rings,
+    Late,
+    Edges,
+    Commands,
+}
+
+impl Kind {
+    pub const ALL: [Kind; 9] = [
+        Kind::Requests,
+        Kind::Plans,
+        Kind::Planning,
+        Kind::Writing,
+        Kind::Runs,
+        Kind::Rings,
+        Kind::Late,
+        Kind::Edges,
+        Kind::Commands,
+    ];
+
+    pub fn name(self) -> &'static str {
+        match self {
+            Kind::Requests => "requests",
+            Kind::Plans => "plans",
+            Kind::Planning => "planning",
+            Kind::Writing => "writing",
+            Kind::Runs => "runs",
+            Kind::Rings => "rings",
+            Kind::Late => "late",
+            Kind::Edges => "edges",
+            Kind::Commands => "commands",
+        }
+    }
+
+    pub fn from_name(name: &str) -> Option<Kind> {
+        Kind::ALL.into_iter().find(|kind| kind.name() == name)
+    }
+
+    /// The lines of one case; more than one only for `edges`.
+    pub fn case(self, seed: u64, place: u64) -> Vec<String> {
+        let random = &mut Random::of_case(seed, place);
+        match self {
+            Kind::Requests => vec![sheet_case(random, SheetKind::Request)],
+            Kind::Plans => vec![sheet_case(random, SheetKind::Plan)],
+            Kind::Planning => vec![planning_case(random)],
+            Kind::Writing => vec![writing_case(random)],
+            Kind::Runs => vec![run_case(random, "run")],
+            Kind::Rings => vec![run_case(random, "ring")],
+            Kind::Late => vec![late_case(random)],
+            Kind::Edges => edge_cases(random),
+            Kind::Commands => vec![command_case(random)],
+        }
+    }
+}
+
+/// Writes the cases of a kind, one on a line.
+pub fn write_cases(kind: Kind, seed: u64, count: u64, out: &mut impl Write) -> Result<()> {
+    for place in 0..count {
+        for case in kind.case(seed, place) {
+            writeln!(out, "{case}")?;
+        }
+    }
+    Ok(())
+}
+
+fn sheet_case(random: &mut Random, kind: SheetKind) -> String {
+    framed_sheet(kind, &sheets::sheet(random, kind))
+}
+
+fn framed_sheet(kind: SheetKind, sheet: &[u8]) -> String {
+    match kind {
+        SheetKind::Request => format!("request {}", to_hex(sheet)),
+        SheetKind::Plan => format!("plan {}", to_hex(sheet)),
+    }
+}
+
+fn planning_case(random: &mut Random) -> String {
+    let sound = !random.once_in(4);
+    let request = if sound { sets::request(random) } else { sets::any_plan(random).request };
+    format!("planning {}", show_set(&request, &[]))
+}
+
+/// A set or plan to write, into room enough or too short by a byte or more.
+fn writing_case(random: &mut Random) -> String {
+    let plan = sets::any_plan(random);
+    let choices = [("write-request", &[][..]), ("write-plan", &plan.allocation[..])];
+    let (kind, allocation) = random.pick(&choices);
+    let length = fields(&plan.request, allocation).concat().len();
+    let room = random.pick(&[length, length + 1, length - 1, 0, 4_000]);
+    format!("{kind} {room};{}", show_set(&plan.request, allocation))
+}
+
+fn run_case(random: &mut Random, kind: &str) -> String {
+    let (plan, calls) = calls::script(random);
+    let sheet = fields(&plan.request, &plan.allocation).concat();
+    format!("{kind} {}{}", to_hex(&sheet), framed_calls(&calls))
+}
+
+fn framed_calls(calls: &[Call]) -> String {
+    calls.iter().map(|call| format!(";{call}")).collect()
+}
+
+fn late_case(random: &mut Random) -> String {
+    let (plan, [asking, silent], calls) = calls::late_script(random);
+    let sheet = to_hex(&fields(&plan.request, &plan.allocation).concat());
+    let visits = |(count, ask): (u64, u32)| match count {
+        0 => String::new(),
+        _ => format!(";visits {count} {ask}"),
+    };
+    let visits = visits((asking, 1)) + &visits((silent, 0));
+    format!("run {sheet}{visits}{}", framed_calls(&calls))
+}
+
+fn edge_cases(random: &mut Random) -> Vec<String> {
+    let mut cases = vec![];
+    for kind in [SheetKind::Request, SheetKind::Plan] {
+        let sheets = sheets::every_damage(random, kind);
+        cases.extend(sheets.iter().map(|sheet| framed_sheet(kind, sheet)));
+    }
+    cases
+}
+
+fn command_case(random: &mut Random) -> String {
+    let name = random.pick(&["plan", "plan-sheet", "show", "compose", "run"]);
+    let kind = random.pick(&[SheetKind::Request, SheetKind::Plan]);
+    let input = match name {
+        "plan" | "plan-sheet" => to_hex(&sheets::sheet(random, SheetKind::Request)),
+        "show" => to_hex(&sheets::sheet(random, kind)),
+        "compose" => to_hex(&texts::sheet_text(random)),
+        _ => run_input(random),
+    };
+    format!("command {name};{input}")
+}
+
+/// A script for its plan; now and then the plan's sheet is damaged.
+fn run_input(random: &mut Random) -> String {
+    let (plan, text) = texts::script_text(random);
+    let mut sheet = fields(&plan.request, &plan.allocation).concat();
+    if random.once_in(8) {
+        sheet = sheets::sheet(random, SheetKind::Plan);
+    }
+    format!("{};{}", to_hex(&sheet), to_hex(&text))
+}

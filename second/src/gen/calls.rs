@@ -1,0 +1,210 @@
+//! Call scripts that mix accepted and refused calls, made by following the ring.
+
+use super::random::Random;
+use super::sets;
+use crate::planted::Planted;
+use crate::ring::{Message, Ring, StationNumber, Ticks};
+use crate::rules::{Plan, Request, Station, LAST_TIME};
+use crate::text::Call;
+
+/// The calls of one script.
+pub const CALLS: usize = 200;
+
+/// How a script chooses its calls.
+#[derive(Clone, Copy, PartialEq, Eq)]
+enum Manner {
+    /// Visits, good messages and bad ones, in any order.
+    Mixed,
+    /// After each visit the next message as early as allowed, and every ask the largest.
+    Crowded,
+}
+
+struct Script {
+    ring: Ring,
+    calls: Vec<Call>,
+    manner: Manner,
+}
+
+impl Script {
+    fn new(plan: &Plan, manner: Manner) -> Script {
+        let ring = Ring::open(plan, Planted::Nothing).expect("the plan is sound");
+        Script { ring, calls: vec![], manner }
+    }
+
+    fn push(&mut self, call: Call) {
+        // A refused call leaves the ring as it was, and belongs to the script all the same.
+        let _ = match &call {
+            Call::Visit(ask) => self.ring.visit(*ask).map(|_| ()),
+            Call::HandIn(message) => self.ring.hand_in(message),
+        };
+        self.calls.push(call);
+    }
+
+    fn push_any(&mut self, random: &mut Random) {
+        let call = match self.manner {
+            Manner::Mixed => self.mixed_call(random),
+            Manner::Crowded => self.crowded_call(random),
+        };
+        self.push(call);
+    }
+
+    fn mixed_call(&self, random: &mut Random) -> Call {
+        match random.between(0, 3) {
+            0 | 1 => Call::Visit(self.ask(random)),
+            2 => Call::HandIn(self.good_message(random)),
+            _ => Call::HandIn(self.bad_message(random)),
+        }
+    }
+
+    fn crowded_call(&self, random: &mut Random) -> Call {
+        match random.between(0, 9) {
+            0..=4 => Call::Visit(u32::MAX),
+            5..=8 => Call::HandIn(self.next_message(random)),
+            _ => self.mixed_call(random),
+        }
+    }
+
+    fn ask(&self, random: &mut Random) -> u32 {
+        let spare = self.ring.plan().spare().expect("a plan keeps the token rule") as u32;
+        match random.between(0, 5) {
+            0 => 0,
+            1 => u32::MAX,
+            2 => 1,
+            3 => random.between32(0, u32::MAX),
+            _ => random.between32(0, spare + 1),
+        }
+    }
+
+    fn message(&self, index: usize, length: u64, arrival: u64) -> Message {
+        Message { station: StationNumber(index as u32), length, arrival }
+    }
+
+    fn longest(&self, index: usize) -> u64 {
+        u64::from(self.ring.plan().request.stations[index].longest)
+    }
+
+    /// A station, most often one that has a stream.
+    fn station(&self, random: &mut Random) -> usize {
+        let any = random.index(self.ring.size());
+        let mut from_any = (0..self.ring.size()).map(|step| (any + step) % self.ring.size());
+        from_any.find(|&index| self.longest(index) > 0).unwrap_or(any)
+    }
+
+    /// The longest message at the earliest time, for the station that the token just left.
+    fn next_message(&self, random: &mut Random) -> Message {
+        let last = (self.ring.token() + self.ring.size() - 1) % self.ring.size();
+        let index = if random.once_in(8) { self.station(random) } else { last };
+        self.message(index, self.longest(index), self.ring.earliest_arrival(index) as u64)
+    }
+
+    /// A message that is accepted unless one is held or the times have run out.
+    fn good_message(&self, random: &mut Random) -> Message {
+        let index = self.station(random);
+        let longest = self.longest(index);
+        let length = if random.once_in(2) { longest } else { random.between(1, longest) };
+        let earliest = self.ring.earliest_arrival(index).max(0) as u64;
+        let ttrt = u64::from(self.ring.plan().request.ttrt);
+        let clock = self.ring.clock() as u64;
+        let arrival = match random.between(0, 5) {
+            0 => clock.max(earliest),
+            1 => random.between(earliest, clock),
+            2 => earliest + random.between(0, 3 * ttrt),
+            3 => random.pick(&[clock + 1, earliest + 1]).max(earliest),
+            _ => earliest,
+        };
+        self.message(index, length, arrival)
+    }
+
+    /// A message with one or more faults.
+    fn bad_message(&self, random: &mut Random) -> Message {
+        let mut message = self.good_message(random);
+        for _ in 0..random.between(1, 2) {
+            self.spoil(random, &mut message);
+        }
+        message
+    }
+
+    fn spoil(&self, random: &mut Random, message: &mut Message) {
+        let count = self.ring.size() as u32;
+        let inside = message.station.0 < count;
+        match random.between(0, 5) {
+            0 => message.station = StationNumber(random.pick(&[count, count + 1, 128, u32::MAX])),
+            1 if inside => {
+                let longest = self.longest(message.station.index());
+                message.length = random.pick(&[0, longest + 1, u64::MAX]);
+            }
+            2 => message.arrival = random.pick(&[LAST_TIME, LAST_TIME + 1, u64::MAX]),
+            3 if inside => {
+                let start = self.ring.last_start(message.station.index());
+                message.arrival = start.unwrap_or(0) as u64;
+            }
+            4 if inside => message.station = self.holder().unwrap_or(message.station),
+            _ if inside => {
+                let earliest = self.ring.earliest_arrival(message.station.index());
+                message.arrival = (earliest - 1).max(0) as u64;
+            }
+            _ => (),
+        }
+    }
+
+    /// The first station that holds a message.
+    fn holder(&self) -> Option<StationNumber> {
+        let holder = (0..self.ring.size()).find(|&index| self.ring.held(index).is_some());
+        holder.map(|index| StationNumber(index as u32))
+    }
+}
+
+/// A plan and a script for its ring.
+pub fn script(random: &mut Random) -> (Plan, Vec<Call>) {
+    let plan = sets::sound_plan(random);
+    let manner = random.pick(&[Manner::Mixed, Manner::Crowded]);
+    let mut script = Script::new(&plan, manner);
+    while script.calls.len() < CALLS {
+        script.push_any(random);
+    }
+    (plan, script.calls)
+}
+
+/// A ring of long rotations, whose clock comes near to the last time in few visits.
+fn slow_plan(random: &mut Random) -> Plan {
+    let count = random.index(3) + 1;
+    let ttrt = 1_000_000;
+    let walk_sum = random.between32(999_900, ttrt - 4 * count as u32);
+    let walks = random.split(walk_sum, count);
+    let share = (ttrt - walk_sum) / (2 * count as u32);
+    let station = |&walk: &u32| {
+        let deadline = random.pick(&[ttrt, 2 * ttrt, 2 * ttrt + 5]);
+        let longest = random.between32(1, share);
+        Station { walk, longest, deadline, gap: deadline }
+    };
+    let stations = walks.iter().map(station).collect();
+    sets::smallest_plan(&Request { ttrt, stations })
+}
+
+/// The two counts of visits that bring the clock to `target`: those that ask for one tick,
+/// then those that ask for none. In every rotation the ring walks τ ticks.
+fn visits_to(plan: &Plan, target: u64) -> (u64, u64) {
+    let walk_sum = plan.request.walk_sum();
+    let visits = target / walk_sum * plan.allocation.len() as u64;
+    let asking = target % walk_sum;
+    (asking, visits - asking)
+}
+
+/// A script whose clock comes to the last time or next to it: the plan, the visits that ask
+/// for one tick, those that ask for none, and the calls after them.
+pub fn late_script(random: &mut Random) -> (Plan, [u64; 2], Vec<Call>) {
+    let plan = slow_plan(random);
+    let target = LAST_TIME - 5_000_000 + random.pick(&[0, 4_999_999, 5_000_000, 5_000_001]);
+    let (asking, silent) = visits_to(&plan, target);
+    let mut script = Script::new(&plan, random.pick(&[Manner::Mixed, Manner::Crowded]));
+    for (count, ask) in [(asking, 1), (silent, 0)] {
+        for _ in 0..count {
+            script.ring.visit(ask).expect("the clock is not past the last time yet");
+        }
+    }
+    assert_eq!(script.ring.clock(), target as Ticks, "the visits bring the clock to the target");
+    while script.calls.len() < CALLS / 4 {
+        script.push_any(random);
+    }
+    (plan, [asking, silent], script.calls)
+}

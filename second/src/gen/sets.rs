@@ -1,0 +1,256 @@
+//! Sets of stations and allocations: feasible, tight, impossible by one tick, and wild.
+
+use super::random::Random;
+use crate::planner;
+use crate::planted::Planted;
+use crate::rules::{least_time, Plan, Request, Station, MOST_GAP, MOST_STATIONS};
+
+const MOST_TICKS: u32 = 100_000_000;
+
+fn station_count(random: &mut Random) -> usize {
+    match random.between(0, 9) {
+        0 => 1,
+        1 => MOST_STATIONS,
+        2 => random.index(MOST_STATIONS) + 1,
+        _ => random.index(6) + 1,
+    }
+}
+
+fn rotation_target(random: &mut Random) -> u32 {
+    match random.between(0, 5) {
+        0 => random.pick(&[1, 2, 3, 10, 999_999, 1_000_000]),
+        1 => random.between32(1, 1_000_000),
+        2 => 100,
+        _ => random.between32(20, 3_000),
+    }
+}
+
+/// Deadlines around whole rotations, below one rotation, and at the ends of the range.
+fn deadline(random: &mut Random, ttrt: u32) -> u32 {
+    let near = match random.between(0, 9) {
+        0 => random.pick(&[1, MOST_TICKS]),
+        1 => random.between32(1, ttrt),
+        2 => random.between32(1, MOST_TICKS),
+        3 | 4 => ttrt * random.between32(1, 20) - 1,
+        5 | 6 => ttrt * random.between32(1, 20),
+        _ => ttrt + random.between32(0, 5 * ttrt),
+    };
+    near.clamp(1, MOST_TICKS)
+}
+
+fn gap(random: &mut Random, deadline: u32) -> u32 {
+    match random.between(0, 7) {
+        0 => MOST_GAP,
+        1 => random.between32(deadline, MOST_GAP),
+        2 => (deadline + 1).min(MOST_GAP),
+        3 => random.between32(deadline, (2 * deadline).min(MOST_GAP)),
+        _ => deadline,
+    }
+}
+
+/// A longest message that needs about the share: all that it carries, or a little less.
+fn longest(random: &mut Random, ttrt: u32, deadline: u32, share: u32) -> u32 {
+    let carried = |s: u32| least_time(ttrt, deadline, u64::from(s)).min(u64::from(MOST_TICKS));
+    let most = carried(share) as u32;
+    match random.between(0, 5) {
+        0 => random.between32(0, most),
+        1 | 2 => random.between32(carried(share.saturating_sub(1)) as u32, most),
+        _ => most,
+    }
+}
+
+/// Walk times of a given sum, often all at one station.
+fn walks(random: &mut Random, sum: u32, count: usize) -> Vec<u32> {
+    if random.once_in(3) {
+        let mut walks = vec![0; count];
+        walks[random.index(count)] = sum;
+        return walks;
+    }
+    random.split(sum, count)
+}
+
+/// A set with a plan.
+pub fn feasible(random: &mut Random) -> Request {
+    let ttrt = rotation_target(random);
+    let count = station_count(random);
+    feasible_of(random, ttrt, count)
+}
+
+fn feasible_of(random: &mut Random, ttrt: u32, count: usize) -> Request {
+    let walk_sum = match random.between(0, 5) {
+        0 => ttrt,
+        1 => random.between32(1, ttrt),
+        2 => 1,
+        _ => random.between32(1, ttrt / 8),
+    };
+    let room = ttrt - walk_sum.min(ttrt);
+    let shared = if random.once_in(2) { room } else { random.between32(0, room) };
+    let shares = random.split(shared, count);
+    let walks = walks(random, walk_sum, count);
+    let station = |(&walk, &share): (&u32, &u32)| {
+        let deadline = deadline(random, ttrt);
+        let longest = longest(random, ttrt, deadline, share);
+        Station { walk, longest, deadline, gap: gap(random, deadline) }
+    };
+    Request { ttrt, stations: walks.iter().zip(&shares).map(station).collect() }
+}
+
+/// The smallest plan of a feasible set.
+pub fn smallest_plan(request: &Request) -> Plan {
+    planner::plan(request, Planted::Nothing).expect("the set is feasible")
+}
+
+/// A feasible set with all spare time walked away, and `over` ticks more.
+pub fn tight(random: &mut Random, over: u32) -> Request {
+    let mut request = feasible(random);
+    let spare = smallest_plan(&request).spare().expect("a plan keeps the token rule");
+    let index = random.index(request.stations.len());
+    request.stations[index].walk += spare as u32 + over;
+    request
+}
+
+/// A tight set with one message longer by one tick; most often impossible by one tick.
+fn longer_by_one(random: &mut Random) -> Request {
+    let mut request = tight(random, 0);
+    let index = random.index(request.stations.len());
+    let station = &mut request.stations[index];
+    station.longest = (station.longest + 1).min(MOST_TICKS);
+    request
+}
+
+/// Numbers in range, without regard to the rules.
+fn wild(random: &mut Random) -> Request {
+    let mut request = feasible(random);
+    for station in &mut request.stations {
+        station.longest = random.between32(0, MOST_TICKS);
+        station.deadline = random.between32(1, MOST_TICKS);
+        station.gap = random.between32(station.deadline, MOST_GAP);
+    }
+    request
+}
+
+/// A set in range, of any of these kinds.
+pub fn request(random: &mut Random) -> Request {
+    match random.between(0, 9) {
+        0 => tight(random, 0),
+        1 => tight(random, 1),
+        2 => longer_by_one(random),
+        3 => wild(random),
+        _ => feasible(random),
+    }
+}
+
+/// The smallest plan of a feasible set, or one with some of the spare time given away.
+pub fn sound_plan(random: &mut Random) -> Plan {
+    let mut plan = smallest_plan(&feasible(random));
+    if random.once_in(2) {
+        let spare = plan.spare().expect("a plan keeps the token rule") as u32;
+        let given = random.between32(0, spare);
+        let extra = random.split(given, plan.allocation.len());
+        plan.allocation.iter_mut().zip(extra).for_each(|(s, more)| *s += more);
+    }
+    plan
+}
+
+/// A plan in range, now and then with one S too small by a tick, or too large by one.
+pub fn plan(random: &mut Random) -> Plan {
+    let mut plan = sound_plan(random);
+    let index = random.index(plan.allocation.len());
+    match random.between(0, 9) {
+        0 => plan.allocation[index] = plan.allocation[index].saturating_sub(1),
+        1 => {
+            let spare = plan.spare().expect("a plan keeps the token rule") as u32;
+            plan.allocation[index] += spare + random.between32(0, 1);
+        }
+        _ => (),
+    }
+    plan
+}
+
+/// Every number of the plan in turn at the ends of its range, and one past them.
+pub fn at_edges(plan: &Plan) -> Vec<Plan> {
+    let mut edges = ttrt_edges(plan);
+    for index in 0..plan.allocation.len() {
+        edges.extend(station_edges(plan, index));
+    }
+    edges
+}
+
+fn changed(plan: &Plan, change: impl FnOnce(&mut Plan)) -> Plan {
+    let mut plan = plan.clone();
+    change(&mut plan);
+    plan
+}
+
+fn ttrt_edges(plan: &Plan) -> Vec<Plan> {
+    let walk_sum = plan.request.walk_sum() as u32;
+    let values = [0, 1, walk_sum - 1, walk_sum, 1_000_000, 1_000_001, u32::MAX];
+    let edge = |&value| changed(plan, |plan| plan.request.ttrt = value);
+    values.iter().map(edge).collect()
+}
+
+fn station_edges(plan: &Plan, index: usize) -> Vec<Plan> {
+    let Station { walk, deadline, gap, .. } = plan.request.stations[index];
+    let s = plan.allocation[index];
+    let spare = plan.spare().expect("a plan keeps the token rule") as u32;
+    let mut edges = vec![];
+    let mut add = |values: &[u32], place: fn(&mut Plan, usize) -> &mut u32| {
+        edges.extend(values.iter().map(|&value| changed(plan, |p| *place(p, index) = value)));
+    };
+    add(&[0, walk + spare, walk + spare + 1, 1_000_000, 1_000_001, u32::MAX], |plan, index| {
+        &mut plan.request.stations[index].walk
+    });
+    add(&[0, 1, MOST_TICKS, MOST_TICKS + 1, u32::MAX], |plan, index| {
+        &mut plan.request.stations[index].longest
+    });
+    add(&[0, 1, gap, gap + 1, MOST_TICKS, MOST_TICKS + 1, u32::MAX], |plan, index| {
+        &mut plan.request.stations[index].deadline
+    });
+    add(&[0, deadline - 1, deadline, MOST_GAP, MOST_GAP + 1, u32::MAX], |plan, index| {
+        &mut plan.request.stations[index].gap
+    });
+    add(&[0, s.saturating_sub(1), s + spare, s + spare + 1], |plan, index| {
+        &mut plan.allocation[index]
+    });
+    add(&[1_000_000, 1_000_001, u32::MAX], |plan, index| &mut plan.allocation[index]);
+    edges.push(changed(plan, |plan| longest_times(plan, index)));
+    edges.push(changed(plan, |plan| one_long_walk(plan, index)));
+    edges
+}
+
+/// C, D and P all at the top, which only together are in range.
+fn longest_times(plan: &mut Plan, index: usize) {
+    let station = &mut plan.request.stations[index];
+    (station.longest, station.deadline, station.gap) = (MOST_TICKS, MOST_TICKS, MOST_GAP);
+}
+
+/// TTRT and one walk time at the top, the only way to have such a walk time.
+fn one_long_walk(plan: &mut Plan, index: usize) {
+    plan.request.ttrt = 1_000_000;
+    plan.request.stations.iter_mut().for_each(|station| station.walk = 0);
+    plan.request.stations[index].walk = 1_000_000;
+}
+
+/// A small plan, to be damaged at every place.
+pub fn small_plan(random: &mut Random) -> Plan {
+    let ttrt = rotation_target(random);
+    let count = random.index(3) + 1;
+    smallest_plan(&feasible_of(random, ttrt, count))
+}
+
+/// A plan with any of its numbers at an edge.
+pub fn plan_at_edge(random: &mut Random) -> Plan {
+    let edges = at_edges(&small_plan(random));
+    random.pick(&edges)
+}
+
+/// A plan of any kind, in range or not, now and then of a wrong count of stations.
+pub fn any_plan(random: &mut Random) -> Plan {
+    let mut plan = if random.once_in(3) { plan_at_edge(random) } else { plan(random) };
+    if random.once_in(10) {
+        let count = random.pick(&[0, MOST_STATIONS + 1, MOST_STATIONS + 2]);
+        plan.request.stations.resize(count, plan.request.stations[0]);
+        plan.allocation.resize(count, plan.allocation[0]);
+    }
+    plan
+}

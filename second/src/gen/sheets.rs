@@ -1,0 +1,135 @@
+//! Sheets, sound ones and damaged ones.
+
+use super::random::Random;
+use super::sets;
+use crate::rules::Plan;
+use crate::sheet::fields;
+
+const TAGS: [u8; 7] = [0, 1, 2, 3, 4, 254, 255];
+
+#[derive(Clone, Copy, Debug, PartialEq, Eq)]
+pub enum SheetKind {
+    Request,
+    Plan,
+}
+
+fn fields_of(kind: SheetKind, plan: &Plan) -> Vec<Vec<u8>> {
+    match kind {
+        SheetKind::Request => fields(&plan.request, &[]),
+        SheetKind::Plan => fields(&plan.request, &plan.allocation),
+    }
+}
+
+fn sound_fields(random: &mut Random, kind: SheetKind) -> Vec<Vec<u8>> {
+    match kind {
+        SheetKind::Request => fields(&sets::request(random), &[]),
+        SheetKind::Plan => fields_of(kind, &sets::plan(random)),
+    }
+}
+
+/// A sheet: sound, with a number at an edge, or damaged once or twice.
+pub fn sheet(random: &mut Random, kind: SheetKind) -> Vec<u8> {
+    match random.between(0, 9) {
+        0..=3 => sound_fields(random, kind).concat(),
+        4 => fields_of(kind, &sets::plan_at_edge(random)).concat(),
+        5 => {
+            let fields = sound_fields(random, kind);
+            let once = damaged(random, fields);
+            damaged_bytes(random, once)
+        }
+        _ => {
+            let fields = sound_fields(random, kind);
+            damaged(random, fields)
+        }
+    }
+}
+
+fn damaged(random: &mut Random, fields: Vec<Vec<u8>>) -> Vec<u8> {
+    if random.once_in(2) {
+        return damaged_bytes(random, fields.concat());
+    }
+    damaged_fields(random, fields).concat()
+}
+
+/// Damage to whole fields: a wrong tag or length, a field too many, too few or elsewhere.
+fn damaged_fields(random: &mut Random, mut fields: Vec<Vec<u8>>) -> Vec<Vec<u8>> {
+    let (index, other) = (random.index(fields.len()), random.index(fields.len()));
+    match random.between(0, 6) {
+        0 => fields[index][0] = random.pick(&TAGS),
+        1 => fields[index][1] = random.byte(),
+        2 => fields[index][2] = random.pick(&[0, 3, 4, 5, 15, 16, 17, 255]),
+        3 => fields.insert(other, fields[index].clone()),
+        4 => drop(fields.remove(index)),
+        5 => fields.swap(index, other),
+        _ => fields = many_stations(random, &fields),
+    }
+    fields
+}
+
+/// The second field again and again, to 127, 128 or 129 fields of it or beyond.
+fn many_stations(random: &mut Random, fields: &[Vec<u8>]) -> Vec<Vec<u8>> {
+    let times = random.between(124, 130) as usize;
+    let mut many = vec![fields[0].clone()];
+    many.extend(vec![fields[1].clone(); times]);
+    many.extend_from_slice(&fields[2..]);
+    many
+}
+
+/// Damage to bytes: cut, changed, dropped, put in, or put after the end.
+fn damaged_bytes(random: &mut Random, mut bytes: Vec<u8>) -> Vec<u8> {
+    if bytes.is_empty() {
+        return bytes;
+    }
+    let index = random.index(bytes.len());
+    match random.between(0, 6) {
+        0 | 1 => bytes.truncate(index),
+        2 => bytes[index] = random.byte(),
+        3 => bytes[index] ^= 1 << random.index(8),
+        4 => drop(bytes.remove(index)),
+        5 => bytes.insert(index, random.byte()),
+        _ => (0..=random.index(4)).for_each(|_| bytes.push(random.byte())),
+    }
+    bytes
+}
+
+/// A small sheet damaged in every way in turn, each at every place.
+pub fn every_damage(random: &mut Random, kind: SheetKind) -> Vec<Vec<u8>> {
+    let plan = sets::small_plan(random);
+    let fields = fields_of(kind, &plan);
+    let whole = fields.concat();
+    let mut sheets: Vec<Vec<u8>> = (0..=whole.len()).map(|cut| whole[..cut].to_vec()).collect();
+    sheets.extend(every_byte_changed(random, &whole));
+    sheets.extend(every_field_damaged(&fields));
+    sheets.extend([0, 1, 3, 255].map(|byte| [&whole[..], &[byte]].concat()));
+    sheets.extend(sets::at_edges(&plan).iter().map(|plan| fields_of(kind, plan).concat()));
+    sheets
+}
+
+fn every_byte_changed(random: &mut Random, whole: &[u8]) -> Vec<Vec<u8>> {
+    let mut sheets = vec![];
+    for index in 0..whole.len() {
+        for value in [0, 255, whole[index] ^ 1, whole[index] ^ 128, random.byte()] {
+            let mut sheet = whole.to_vec();
+            sheet[index] = value;
+            sheets.push(sheet);
+        }
+    }
+    sheets
+}
+
+fn every_field_damaged(fields: &[Vec<u8>]) -> Vec<Vec<u8>> {
+    let mut sheets = vec![];
+    for (index, field) in fields.iter().enumerate() {
+        let heads = TAGS.iter().map(|&tag| [tag, field[1], field[2]]);
+        let lengths = [0, 1, field[2].wrapping_sub(1), field[2] + 1, 255];
+        let heads = heads.chain(lengths.map(|length| [field[0], 0, length]));
+        for head in heads.chain([[field[0], 1, field[2]]]) {
+            let mut damaged = fields.to_vec();
+            damaged[index].splice(..3, head);
+            sheets.push(damaged.concat());
+        }
+        sheets.push([&fields[..index], &fields[index + 1..]].concat().concat());
+        sheets.push([&fields[..=index], &fields[index..]].concat().concat());
+    }
+    sheets
+}

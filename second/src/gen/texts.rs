@@ -1,0 +1,94 @@
+//! Texts of requests, plans and calls: tidy, untidy, and some that cannot be read.
+
+use super::calls;
+use super::random::Random;
+use super::sets;
+use crate::rules::Plan;
+use crate::text::show_stations;
+
+/// Lines that fit nowhere, or not everywhere.
+const STRAY_LINES: [&str; 20] = [
+    "ttrt",
+    "ttrt 100",
+    "ttrt 4294967296",
+    "ttrt 100 100",
+    "station",
+    "station 1 2 3",
+    "station 1 2 3 4 5 6",
+    "station 1 20 100 100",
+    "station 1 20 100 100 20",
+    "station 1 20 -100 100",
+    "station 1 20 1e2 100",
+    "station 1 20 +100 100",
+    "stations 1 20 100 100",
+    "visit",
+    "visit -1",
+    "visit 4294967296",
+    "visit 1 1",
+    "message 0 1",
+    "message 4294967296 1 1",
+    "message 0 1 18446744073709551616",
+];
+
+/// The text of a request or plan, at times with a stray line or a broken byte.
+pub fn sheet_text(random: &mut Random) -> Vec<u8> {
+    let text = match random.between(0, 5) {
+        0 | 1 => show_stations(&sets::request(random), &[]),
+        2 => {
+            let plan = sets::plan_at_edge(random);
+            let shown = random.pick(&[&plan.allocation[..], &[]]);
+            show_stations(&plan.request, shown)
+        }
+        3 => {
+            // Lines of both kinds, unless the allocation has one number only.
+            let plan = sets::plan(random);
+            show_stations(&plan.request, &plan.allocation[..1])
+        }
+        _ => {
+            let plan = sets::plan(random);
+            show_stations(&plan.request, &plan.allocation)
+        }
+    };
+    untidy(random, &text)
+}
+
+/// The plan and the calls of a script as text.
+pub fn script_text(random: &mut Random) -> (Plan, Vec<u8>) {
+    let (plan, calls) = calls::script(random);
+    let text: String = calls.iter().map(|call| format!("{call}\n")).collect();
+    (plan, untidy(random, &text))
+}
+
+/// The text with blanks, comments and stray lines put in, and now and then a byte changed.
+fn untidy(random: &mut Random, text: &str) -> Vec<u8> {
+    let mut lines: Vec<String> = text.lines().map(str::to_string).collect();
+    for _ in 0..random.between(0, 4) {
+        let index = random.index(lines.len());
+        put_in(random, &mut lines, index);
+    }
+    let mut bytes = lines.join("\n").into_bytes();
+    if !random.once_in(4) {
+        bytes.push(b'\n');
+    }
+    if random.once_in(6) {
+        let index = random.index(bytes.len());
+        bytes[index] = random.byte();
+    }
+    bytes
+}
+
+fn put_in(random: &mut Random, lines: &mut Vec<String>, index: usize) {
+    match random.between(0, 7) {
+        0 => lines.insert(index, String::new()),
+        1 => lines.insert(index, " \t# a comment: ttrt 5".to_string()),
+        2 => lines[index] += "# and no more",
+        3 => lines[index] = format!("  {} ", lines[index].replace(' ', "  ")),
+        4 => lines[index] = lines[index].replace(' ', "\t") + "\r",
+        5 => lines[index] = lines[index].replace(' ', " 00"),
+        6 => lines.insert(index + 1, random.pick(&STRAY_LINES).to_string()),
+        _ => drop(lines.remove(index)),
+    }
+    if lines.is_empty() {
+        lines.push(String::new());
+    }
+}

@@ -1,0 +1,13 @@
+//! An independent second program for the rules of Olivastrum, written from the rules alone.
+
+pub mod check;
+pub mod commands;
+pub mod frames;
+pub mod gen;
+pub mod lines;
+pub mod planner;
+pub mod planted;
+pub mod ring;
+pub mod rules;
+pub mod sheet;
+pub mod text;

@@ -1,0 +1,49 @@
+//! The smallest allocation, found by search on the deadline rule.
+
+use crate::planted::Planted;
+use crate::rules::{least_time, require, rotations, Plan, Refusal, Request, Station};
+
+/// The plan with the smallest S at each station, or number 2, 4, 5 or 6.
+pub fn plan(request: &Request, planted: Planted) -> Result<Plan, Refusal> {
+    request.judge()?;
+    let smallest = |station: &Station| smallest(request.ttrt, station, planted);
+    let plan = Plan {
+        request: request.clone(),
+        allocation: request.stations.iter().map(smallest).collect(),
+    };
+    require(plan.spare().is_some(), Refusal::NoAllocation)?;
+    Ok(plan)
+}
+
+/// The smallest S that meets the deadline rule of a station in range.
+fn smallest(ttrt: u32, station: &Station, planted: Planted) -> u32 {
+    let found = misjudged(ttrt, station, planted).unwrap_or_else(|| searched(ttrt, station));
+    u32::try_from(found).expect("S is at most C + TTRT")
+}
+
+/// X never falls as S grows, and S = C + α always meets the rule: halve between 0 and that.
+fn searched(ttrt: u32, station: &Station) -> u64 {
+    let needed = u64::from(station.longest);
+    let (_, missing) = rotations(ttrt, station.deadline);
+    let (mut low, mut high) = (0, needed + missing);
+    while low < high {
+        let middle = (low + high) / 2;
+        if least_time(ttrt, station.deadline, middle) >= needed {
+            high = middle;
+        } else {
+            low = middle + 1;
+        }
+    }
+    low
+}
+
+/// The wrong S of a planted error, where it applies.
+fn misjudged(ttrt: u32, station: &Station, planted: Planted) -> Option<u64> {
+    let needed = u64::from(station.longest);
+    let (whole, missing) = rotations(ttrt, station.deadline);
+    match planted {
+        Planted::TimeForNobody if needed == 0 && whole == 0 => Some(missing),
+        Planted::RoundedDown if needed <= whole * missing => needed.checked_div(whole),
+        _ => None,
+    }
+}

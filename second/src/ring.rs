@@ -1,0 +1,239 @@
+//! The ring on one absolute time line. Its clock 0 is the end of the silent first rotation,
+//! which began at −τ; the ring remembers when the token last came to each station, and derives
+//! every TRT and u from what it remembers.
+
+use crate::planted::Planted;
+use crate::rules::{require, Plan, Refusal, Station, LAST_TIME};
+
+/// A time, or a length of time.
+pub type Ticks = i64;
+
+/// A station's number in the ring, from 0.
+#[derive(Clone, Copy, Debug, PartialEq, Eq)]
+pub struct StationNumber(pub u32);
+
+impl StationNumber {
+    pub fn index(self) -> usize {
+        self.0 as usize
+    }
+
+    fn of(index: usize) -> StationNumber {
+        StationNumber(index as u32)
+    }
+}
+
+/// A message to hand in.
+#[derive(Clone, Copy, Debug, PartialEq, Eq)]
+pub struct Message {
+    pub station: StationNumber,
+    pub length: u64,
+    pub arrival: u64,
+}
+
+/// When a message was completed, and the deadline less that.
+#[derive(Clone, Copy, Debug, PartialEq, Eq)]
+pub struct Completed {
+    pub finish: Ticks,
+    pub margin: Ticks,
+}
+
+/// The record of one visit.
+#[derive(Clone, Copy, Debug, PartialEq, Eq)]
+pub struct Visit {
+    pub station: StationNumber,
+    pub start: Ticks,
+    pub trt: Ticks,
+    pub limit: Ticks,
+    pub synchronous: Ticks,
+    pub asynchronous: Ticks,
+    pub completed: Option<Completed>,
+}
+
+/// A message that a station holds.
+#[derive(Clone, Copy, Debug, PartialEq, Eq)]
+pub struct Held {
+    pub remaining: Ticks,
+    pub arrival: Ticks,
+}
+
+/// What the ring remembers of a station.
+#[derive(Clone, Debug, PartialEq, Eq)]
+struct Memory {
+    /// When the token last came, the silent rotation included.
+    token_came: Ticks,
+    /// The synchronous time used then.
+    sent: Ticks,
+    held: Option<Held>,
+    last_accepted: Option<Ticks>,
+}
+
+#[derive(Clone, Debug, PartialEq, Eq)]
+pub struct Ring {
+    plan: Plan,
+    clock: Ticks,
+    visits: u64,
+    memories: Vec<Memory>,
+    planted: Planted,
+}
+
+impl Ring {
+    /// The ring at the end of the silent rotation, or number 2, 4, 5 or 7.
+    pub fn open(plan: &Plan, planted: Planted) -> Result<Ring, Refusal> {
+        plan.judge()?;
+        Ok(Ring {
+            plan: plan.clone(),
+            clock: 0,
+            visits: 0,
+            memories: silent_rotation(&plan.request.stations),
+            planted,
+        })
+    }
+
+    pub fn plan(&self) -> &Plan {
+        &self.plan
+    }
+
+    pub fn clock(&self) -> Ticks {
+        self.clock
+    }
+
+    pub fn visits(&self) -> u64 {
+        self.visits
+    }
+
+    /// The number of stations.
+    pub fn size(&self) -> usize {
+        self.memories.len()
+    }
+
+    /// The station that has the token.
+    pub fn token(&self) -> usize {
+        (self.visits % self.size() as u64) as usize
+    }
+
+    /// The time since a station's last token arrival.
+    pub fn trt(&self, index: usize) -> Ticks {
+        self.clock - self.memories[index].token_came
+    }
+
+    /// The synchronous time that a station used when the token last came.
+    pub fn sent(&self, index: usize) -> Ticks {
+        self.memories[index].sent
+    }
+
+    pub fn held(&self, index: usize) -> Option<Held> {
+        self.memories[index].held
+    }
+
+    pub fn last_accepted(&self, index: usize) -> Option<Ticks> {
+        self.memories[index].last_accepted
+    }
+
+    /// The start of a station's last visit; the silent rotation is none.
+    pub fn last_start(&self, index: usize) -> Option<Ticks> {
+        self.visited(index).then_some(self.memories[index].token_came)
+    }
+
+    fn visited(&self, index: usize) -> bool {
+        self.visits > index as u64
+    }
+
+    pub fn allocation(&self, index: usize) -> Ticks {
+        Ticks::from(self.plan.allocation[index])
+    }
+
+    /// u, the allocated time that the stations left unused when the token last came.
+    pub fn unused(&self) -> Ticks {
+        (0..self.size()).map(|index| self.unused_at(index)).sum()
+    }
+
+    fn unused_at(&self, index: usize) -> Ticks {
+        if self.planted == Planted::UnusedFromZero && !self.visited(index) {
+            return 0;
+        }
+        self.allocation(index) - self.sent(index)
+    }
+
+    /// One visit at the station that has the token, or number 13.
+    pub fn visit(&mut self, ask: u32) -> Result<Visit, Refusal> {
+        require(self.clock <= LAST_TIME as Ticks, Refusal::ClockPast)?;
+        let here = self.token();
+        let start = self.clock;
+        let trt = self.trt(here);
+        let limit = self.limit(trt);
+        let (synchronous, completed) = self.serve(here);
+        let asynchronous = limit.min(Ticks::from(ask));
+        self.memories[here].token_came = start;
+        self.memories[here].sent = synchronous;
+        let walk = Ticks::from(self.plan.request.stations[here].walk);
+        self.clock = start + synchronous + asynchronous + walk;
+        self.visits += 1;
+        let station = StationNumber::of(here);
+        Ok(Visit { station, start, trt, limit, synchronous, asynchronous, completed })
+    }
+
+    fn limit(&self, trt: Ticks) -> Ticks {
+        let unused = match self.planted {
+            Planted::LimitWithoutUnused => 0,
+            _ => self.unused(),
+        };
+        (Ticks::from(self.plan.request.ttrt) - unused - trt).max(0)
+    }
+
+    /// Sends of the station's message what it may; gives the amount, and the completion if any.
+    fn serve(&mut self, here: usize) -> (Ticks, Option<Completed>) {
+        let Some(held) = self.held(here).filter(|held| self.has_arrived(held)) else {
+            return (0, None);
+        };
+        let sent = held.remaining.min(self.allocation(here));
+        let remaining = held.remaining - sent;
+        if remaining > 0 {
+            self.memories[here].held = Some(Held { remaining, ..held });
+            return (sent, None);
+        }
+        self.memories[here].held = None;
+        let finish = self.clock + sent;
+        let deadline = held.arrival + Ticks::from(self.plan.request.stations[here].deadline);
+        (sent, Some(Completed { finish, margin: deadline - finish }))
+    }
+
+    fn has_arrived(&self, held: &Held) -> bool {
+        held.arrival <= self.clock || self.planted == Planted::ServedAhead
+    }
+
+    /// Hands in a message, or gives number 9, 10, 11 or 12.
+    pub fn hand_in(&mut self, message: &Message) -> Result<(), Refusal> {
+        let index = message.station.index();
+        require(index < self.size(), Refusal::NoSuchStation)?;
+        let longest = u64::from(self.plan.request.stations[index].longest);
+        require((1..=longest).contains(&message.length), Refusal::WrongLength)?;
+        require(self.held(index).is_none(), Refusal::StillHeld)?;
+        require(message.arrival <= LAST_TIME, Refusal::WrongArrival)?;
+        let arrival = message.arrival as Ticks;
+        require(arrival >= self.earliest_arrival(index), Refusal::WrongArrival)?;
+        let remaining = message.length as Ticks;
+        self.memories[index].held = Some(Held { remaining, arrival });
+        self.memories[index].last_accepted = Some(arrival);
+        Ok(())
+    }
+
+    /// The earliest arrival that a station's next message may have.
+    pub fn earliest_arrival(&self, index: usize) -> Ticks {
+        let gap = Ticks::from(self.plan.request.stations[index].gap);
+        let after_visit = self.last_start(index).map_or(0, |start| start + 1);
+        let after_message = self.last_accepted(index).map_or(0, |arrival| arrival + gap);
+        after_visit.max(after_message)
+    }
+}
+
+/// The token leaves station 0 at −τ, and nobody sends.
+fn silent_rotation(stations: &[Station]) -> Vec<Memory> {
+    let walk_sum: Ticks = stations.iter().map(|station| Ticks::from(station.walk)).sum();
+    let mut now = -walk_sum;
+    let mut memories = Vec::new();
+    for station in stations {
+        memories.push(Memory { token_came: now, sent: 0, held: None, last_accepted: None });
+        now += Ticks::from(station.walk);
+    }
+    memories
+}

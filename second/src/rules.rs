@@ -1,0 +1,152 @@
+//! The numbers allowed, the refusal numbers, and the judgement of a set and of an allocation.
+
+use std::ops::RangeInclusive;
+
+pub const MOST_STATIONS: usize = 128;
+pub const TTRT: RangeInclusive<u32> = 1..=1_000_000;
+pub const WALK: RangeInclusive<u32> = 0..=1_000_000;
+pub const LONGEST: RangeInclusive<u32> = 0..=100_000_000;
+pub const DEADLINE: RangeInclusive<u32> = 1..=100_000_000;
+/// The least gap goes from the deadline to this.
+pub const MOST_GAP: u32 = 100_000_000;
+pub const ALLOCATION: RangeInclusive<u32> = 0..=1_000_000;
+/// The last arrival time, and the last clock at which a visit may start.
+pub const LAST_TIME: u64 = 1_000_000_000_000;
+
+/// The refusals by their numbers. Number 8, an unsound ring, has no place here:
+/// this program's rings come from an opening only.
+#[derive(Clone, Copy, Debug, PartialEq, Eq)]
+#[repr(u8)]
+pub enum Refusal {
+    EndsEarly = 1,
+    WrongField = 2,
+    TrailingByte = 3,
+    OutOfRange = 4,
+    WalkSum = 5,
+    NoAllocation = 6,
+    RuleBroken = 7,
+    NoSuchStation = 9,
+    WrongLength = 10,
+    StillHeld = 11,
+    WrongArrival = 12,
+    ClockPast = 13,
+    NoRoom = 14,
+}
+
+impl Refusal {
+    pub fn number(self) -> u8 {
+        self as u8
+    }
+}
+
+/// Refuses unless the condition holds.
+pub fn require(holds: bool, otherwise: Refusal) -> Result<(), Refusal> {
+    if holds {
+        Ok(())
+    } else {
+        Err(otherwise)
+    }
+}
+
+/// One station's walk time w to the next, longest message C, deadline D and least gap P.
+#[derive(Clone, Copy, Debug, PartialEq, Eq)]
+pub struct Station {
+    pub walk: u32,
+    pub longest: u32,
+    pub deadline: u32,
+    pub gap: u32,
+}
+
+impl Station {
+    fn in_range(&self) -> bool {
+        WALK.contains(&self.walk)
+            && LONGEST.contains(&self.longest)
+            && DEADLINE.contains(&self.deadline)
+            && (self.deadline..=MOST_GAP).contains(&self.gap)
+    }
+}
+
+/// The set of a request sheet.
+#[derive(Clone, Debug, PartialEq, Eq)]
+pub struct Request {
+    pub ttrt: u32,
+    pub stations: Vec<Station>,
+}
+
+impl Request {
+    /// τ, the sum of all walk times.
+    pub fn walk_sum(&self) -> u64 {
+        self.stations.iter().map(|station| u64::from(station.walk)).sum()
+    }
+
+    /// Numbers 2, 4 and 5, in this order.
+    pub fn judge(&self) -> Result<(), Refusal> {
+        require(self.count_allowed(), Refusal::WrongField)?;
+        require(self.in_range(), Refusal::OutOfRange)?;
+        require(self.walk_sum_allowed(), Refusal::WalkSum)
+    }
+
+    fn count_allowed(&self) -> bool {
+        (1..=MOST_STATIONS).contains(&self.stations.len())
+    }
+
+    fn in_range(&self) -> bool {
+        TTRT.contains(&self.ttrt) && self.stations.iter().all(Station::in_range)
+    }
+
+    fn walk_sum_allowed(&self) -> bool {
+        (1..=u64::from(self.ttrt)).contains(&self.walk_sum())
+    }
+}
+
+/// A set with the synchronous time S of each station.
+#[derive(Clone, Debug, PartialEq, Eq)]
+pub struct Plan {
+    pub request: Request,
+    pub allocation: Vec<u32>,
+}
+
+impl Plan {
+    /// The sum of all S.
+    pub fn allocated(&self) -> u64 {
+        self.allocation.iter().map(|&s| u64::from(s)).sum()
+    }
+
+    /// The spare time A*; `None` when the token rule is broken.
+    pub fn spare(&self) -> Option<u64> {
+        u64::from(self.request.ttrt).checked_sub(self.request.walk_sum() + self.allocated())
+    }
+
+    /// Numbers 2, 4, 5 and 7, in this order.
+    pub fn judge(&self) -> Result<(), Refusal> {
+        let counts = self.allocation.len() == self.request.stations.len();
+        require(counts && self.request.count_allowed(), Refusal::WrongField)?;
+        let in_range = self.allocation.iter().all(|s| ALLOCATION.contains(s));
+        require(in_range && self.request.in_range(), Refusal::OutOfRange)?;
+        require(self.request.walk_sum_allowed(), Refusal::WalkSum)?;
+        let rules = self.spare().is_some() && self.meets_deadlines();
+        require(rules, Refusal::RuleBroken)
+    }
+
+    fn meets_deadlines(&self) -> bool {
+        let pairs = self.request.stations.iter().zip(&self.allocation);
+        let meets = |(station, &s): (&Station, &u32)| {
+            least_time(self.request.ttrt, station.deadline, u64::from(s))
+                >= u64::from(station.longest)
+        };
+        pairs.into_iter().all(meets)
+    }
+}
+
+/// m and α of a station: the whole rotations in its deadline, and what is missing to one more.
+pub fn rotations(ttrt: u32, deadline: u32) -> (u64, u64) {
+    let (ttrt, deadline) = (u64::from(ttrt), u64::from(deadline));
+    let whole = deadline / ttrt;
+    (whole, (whole + 1) * ttrt - deadline)
+}
+
+/// X, the least synchronous time in any interval of the deadline's length.
+pub fn least_time(ttrt: u32, deadline: u32, s: u64) -> u64 {
+    let (whole, missing) = rotations(ttrt, deadline);
+    whole * s + s.saturating_sub(missing)
+}
