@@ -15,8 +15,16 @@ pub const CALLS: usize = 200;
 enum Manner {
     /// Visits, good messages and bad ones, in any order.
     Mixed,
-    /// After each visit the next message as early as allowed, and every ask the largest.
+    /// The longest messages as early as allowed, and every ask the largest.
     Crowded,
+    /// The same, but every message arrives just after the token came, which is the worst time.
+    Unlucky,
+}
+
+impl Manner {
+    fn any(random: &mut Random) -> Manner {
+        random.pick(&[Manner::Mixed, Manner::Crowded, Manner::Unlucky])
+    }
 }
 
 struct Script {
@@ -43,23 +51,26 @@ impl Script {
     fn push_any(&mut self, random: &mut Random) {
         let call = match self.manner {
             Manner::Mixed => self.mixed_call(random),
-            Manner::Crowded => self.crowded_call(random),
+            Manner::Crowded => self.crowded_call(random, |_| true),
+            Manner::Unlucky => self.crowded_call(random, |index| self.just_missed(index)),
         };
         self.push(call);
     }
 
     fn mixed_call(&self, random: &mut Random) -> Call {
-        match random.between(0, 3) {
-            0 | 1 => Call::Visit(self.ask(random)),
-            2 => Call::HandIn(self.good_message(random)),
-            _ => Call::HandIn(self.bad_message(random)),
+        let free = self.free_station(random, |_| true);
+        match (random.between(0, 9), free) {
+            (0..=2, _) => Call::Visit(self.ask(random)),
+            (3..=6, Some(index)) => Call::HandIn(self.good_message(random, index)),
+            (7.., _) => Call::HandIn(self.bad_message(random, free.unwrap_or(0))),
+            _ => Call::Visit(self.ask(random)),
         }
     }
 
-    fn crowded_call(&self, random: &mut Random) -> Call {
-        match random.between(0, 9) {
-            0..=4 => Call::Visit(u32::MAX),
-            5..=8 => Call::HandIn(self.next_message(random)),
+    fn crowded_call(&self, random: &mut Random, ready: impl Fn(usize) -> bool) -> Call {
+        match (random.between(0, 9), self.free_station(random, ready)) {
+            (0..=7, Some(index)) => Call::HandIn(self.next_message(index)),
+            (0..=8, _) => Call::Visit(u32::MAX),
             _ => self.mixed_call(random),
         }
     }
@@ -83,23 +94,26 @@ impl Script {
         u64::from(self.ring.plan().request.stations[index].longest)
     }
 
-    /// A station, most often one that has a stream.
-    fn station(&self, random: &mut Random) -> usize {
-        let any = random.index(self.ring.size());
-        let mut from_any = (0..self.ring.size()).map(|step| (any + step) % self.ring.size());
-        from_any.find(|&index| self.longest(index) > 0).unwrap_or(any)
+    /// A station that has a stream, holds no message, and is ready for one.
+    fn free_station(&self, random: &mut Random, ready: impl Fn(usize) -> bool) -> Option<usize> {
+        let size = self.ring.size();
+        let from = random.index(size);
+        let free = |index| self.longest(index) > 0 && self.ring.held(index).is_none();
+        (from..from + size).map(|index| index % size).find(|&index| free(index) && ready(index))
     }
 
-    /// The longest message at the earliest time, for the station that the token just left.
-    fn next_message(&self, random: &mut Random) -> Message {
-        let last = (self.ring.token() + self.ring.size() - 1) % self.ring.size();
-        let index = if random.once_in(8) { self.station(random) } else { last };
+    /// Whether a station's next message may arrive just after its last visit's start.
+    fn just_missed(&self, index: usize) -> bool {
+        self.ring.last_start(index).is_some_and(|start| self.ring.earliest_arrival(index) == start + 1)
+    }
+
+    /// The longest message at the earliest time.
+    fn next_message(&self, index: usize) -> Message {
         self.message(index, self.longest(index), self.ring.earliest_arrival(index) as u64)
     }
 
-    /// A message that is accepted unless one is held or the times have run out.
-    fn good_message(&self, random: &mut Random) -> Message {
-        let index = self.station(random);
+    /// A message that a free station accepts, unless the times have run out.
+    fn good_message(&self, random: &mut Random, index: usize) -> Message {
         let longest = self.longest(index);
         let length = if random.once_in(2) { longest } else { random.between(1, longest) };
         let earliest = self.ring.earliest_arrival(index).max(0) as u64;
@@ -115,9 +129,9 @@ impl Script {
         self.message(index, length, arrival)
     }
 
-    /// A message with one or more faults.
-    fn bad_message(&self, random: &mut Random) -> Message {
-        let mut message = self.good_message(random);
+    /// A message with one or two faults.
+    fn bad_message(&self, random: &mut Random, index: usize) -> Message {
+        let mut message = self.good_message(random, index);
         for _ in 0..random.between(1, 2) {
             self.spoil(random, &mut message);
         }
@@ -156,9 +170,8 @@ impl Script {
 
 /// A plan and a script for its ring.
 pub fn script(random: &mut Random) -> (Plan, Vec<Call>) {
-    let plan = sets::sound_plan(random);
-    let manner = random.pick(&[Manner::Mixed, Manner::Crowded]);
-    let mut script = Script::new(&plan, manner);
+    let plan = sets::plan_to_run(random);
+    let mut script = Script::new(&plan, Manner::any(random));
     while script.calls.len() < CALLS {
         script.push_any(random);
     }
@@ -196,7 +209,7 @@ pub fn late_script(random: &mut Random) -> (Plan, [u64; 2], Vec<Call>) {
     let plan = slow_plan(random);
     let target = LAST_TIME - 5_000_000 + random.pick(&[0, 4_999_999, 5_000_000, 5_000_001]);
     let (asking, silent) = visits_to(&plan, target);
-    let mut script = Script::new(&plan, random.pick(&[Manner::Mixed, Manner::Crowded]));
+    let mut script = Script::new(&plan, Manner::any(random));
     for (count, ask) in [(asking, 1), (silent, 0)] {
         for _ in 0..count {
             script.ring.visit(ask).expect("the clock is not past the last time yet");

@@ -38,6 +38,16 @@ fn deadline(random: &mut Random, ttrt: u32) -> u32 {
     near.clamp(1, MOST_TICKS)
 }
 
+/// Deadlines of about one to four rotations, now and then of less than one.
+fn short_deadline(random: &mut Random, ttrt: u32) -> u32 {
+    match random.between(0, 7) {
+        0 => random.between32(ttrt / 2 + 1, ttrt),
+        1 | 2 => ttrt * random.between32(1, 3),
+        3 => ttrt * random.between32(2, 4) - 1,
+        _ => random.between32(ttrt, 4 * ttrt),
+    }
+}
+
 fn gap(random: &mut Random, deadline: u32) -> u32 {
     match random.between(0, 7) {
         0 => MOST_GAP,
@@ -73,10 +83,27 @@ fn walks(random: &mut Random, sum: u32, count: usize) -> Vec<u32> {
 pub fn feasible(random: &mut Random) -> Request {
     let ttrt = rotation_target(random);
     let count = station_count(random);
-    feasible_of(random, ttrt, count)
+    feasible_of(random, ttrt, count, deadline)
 }
 
-fn feasible_of(random: &mut Random, ttrt: u32, count: usize) -> Request {
+/// A set with a plan, whose messages take few rotations.
+fn lively(random: &mut Random) -> Request {
+    let ttrt = rotation_target(random);
+    let count = if random.once_in(30) { MOST_STATIONS } else { random.index(6) + 1 };
+    let mut request = feasible_of(random, ttrt, count, short_deadline);
+    for station in &mut request.stations {
+        let longer = random.pick(&[0, 0, 1, ttrt]);
+        station.gap = (station.deadline + longer).min(MOST_GAP);
+    }
+    request
+}
+
+fn feasible_of(
+    random: &mut Random,
+    ttrt: u32,
+    count: usize,
+    deadline: fn(&mut Random, u32) -> u32,
+) -> Request {
     let walk_sum = match random.between(0, 5) {
         0 => ttrt,
         1 => random.between32(1, ttrt),
@@ -142,8 +169,19 @@ pub fn request(random: &mut Random) -> Request {
 
 /// The smallest plan of a feasible set, or one with some of the spare time given away.
 pub fn sound_plan(random: &mut Random) -> Plan {
-    let mut plan = smallest_plan(&feasible(random));
-    if random.once_in(2) {
+    let request = feasible(random);
+    generous_plan(random, &request)
+}
+
+/// The same of a set that suits a run of a few hundred calls.
+pub fn plan_to_run(random: &mut Random) -> Plan {
+    let request = if random.once_in(8) { feasible(random) } else { lively(random) };
+    generous_plan(random, &request)
+}
+
+fn generous_plan(random: &mut Random, request: &Request) -> Plan {
+    let mut plan = smallest_plan(request);
+    if random.once_in(3) {
         let spare = plan.spare().expect("a plan keeps the token rule") as u32;
         let given = random.between32(0, spare);
         let extra = random.split(given, plan.allocation.len());
@@ -235,7 +273,7 @@ fn one_long_walk(plan: &mut Plan, index: usize) {
 pub fn small_plan(random: &mut Random) -> Plan {
     let ttrt = rotation_target(random);
     let count = random.index(3) + 1;
-    smallest_plan(&feasible_of(random, ttrt, count))
+    smallest_plan(&feasible_of(random, ttrt, count, deadline))
 }
 
 /// A plan with any of its numbers at an edge.

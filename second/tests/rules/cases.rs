@@ -1,0 +1,156 @@
+//! The frames and the generator.
+
+use crate::{worked_plan, worked_request};
+use second::frames::{answer, from_hex, show_set, to_hex, NO_CASE};
+use second::gen::{write_cases, Kind};
+use second::planted::Planted;
+use second::sheet::fields;
+
+fn answered(case: &str) -> String {
+    answer(case, Planted::Nothing)
+}
+
+const WORKED_SET: &str = "100;2,20,100,100;0,20,100,100;0,20,100,100;0,20,100,100";
+
+fn request_hex() -> String {
+    to_hex(&fields(&worked_request(), &[]).concat())
+}
+
+fn plan_hex() -> String {
+    to_hex(&fields(&worked_plan().request, &worked_plan().allocation).concat())
+}
+
+#[test]
+fn every_frame_has_its_answer() {
+    let (request, plan) = (request_hex(), plan_hex());
+    let planned = show_set(&worked_request(), &[20; 4]);
+    let cases = [
+        ("request -".to_string(), "1".to_string()),
+        (format!("request {request}"), format!("0 4 {WORKED_SET}")),
+        (format!("plan {plan}"), format!("0 4 {planned}")),
+        (format!("plan {request}"), "2".to_string()),
+        (format!("planning {WORKED_SET}"), "0 18 20,20,20,20".to_string()),
+        ("planning 1;1,1,1,1".to_string(), "6".to_string()),
+        ("planning 100".to_string(), "2".to_string()),
+        (format!("write-request 86;{WORKED_SET}"), format!("0 {request}")),
+        (format!("write-request 85;{WORKED_SET}"), "14".to_string()),
+        (format!("write-plan 114;{planned}"), format!("0 {plan}")),
+        ("write-plan 114;100".to_string(), "2".to_string()),
+        (format!("run {plan}"), "0".to_string()),
+        (format!("run {request};visit 1"), "2".to_string()),
+        (
+            format!("run {plan};message 0 20 0;visit 1000;visits 3 7;message 0 1 1;visit 4294967295"),
+            "0 taken|visit 0 0 2 18 20 18 20 80|visit 3 40 40 0 0 0 - -|refused 12|\
+             visit 0 40 40 0 0 0 - -".to_string(),
+        ),
+        (
+            format!("ring {plan};message 1 20 5;message 2 7 0;visits 3 1"),
+            "0 12 3 3 73;12,0,0,-;9,0,20,5;8,7,0,0;12,0,0,-".to_string(),
+        ),
+        ("command plan;-".to_string(), format!("{} -", to_hex(b"refused 1\n"))),
+        ("command plan-sheet;-".to_string(), format!("- {}", to_hex(b"refused 1\n"))),
+        (format!("command plan-sheet;{request}"), format!("{plan} -")),
+        (
+            format!("command run;{plan};{}", to_hex(b"visit 0\nvisit")),
+            format!("{} -", to_hex(b"visit 0 0 2 18 0 0 - -\nline 2: cannot be read\n")),
+        ),
+    ];
+    for (case, expected) in cases {
+        assert_eq!(answered(&case), expected, "{case}");
+    }
+}
+
+#[test]
+fn a_line_of_no_frame() {
+    let lines = [
+        "", "request", "request ", "request 0", "request 0g", "request 0A", "else 1",
+        "planning 100;1,2,3", "planning x", "write-plan 1;100;1,2,3,4", "write-request 100",
+        "run -;stop", "run -;visits 0 1", "ring -;visit", "command else;-", "command plan;-;-",
+    ];
+    for line in lines {
+        assert_eq!(answered(line), NO_CASE, "{line}");
+    }
+}
+
+#[test]
+fn hex() {
+    let bytes: Vec<u8> = (0..=255).collect();
+    assert_eq!(from_hex(&to_hex(&bytes)), Some(bytes));
+    assert_eq!((to_hex(&[]), from_hex("-")), ("-".to_string(), Some(vec![])));
+}
+
+fn cases(kind: Kind, seed: u64, count: u64) -> Vec<String> {
+    let mut bytes = vec![];
+    write_cases(kind, seed, count, &mut bytes).expect("room in memory");
+    String::from_utf8(bytes).expect("text").lines().map(str::to_string).collect()
+}
+
+#[test]
+fn every_case_is_framed_and_comes_again_from_its_seed() {
+    for kind in Kind::ALL.into_iter().filter(|&kind| kind != Kind::Late) {
+        let made = cases(kind, 3, 40);
+        assert!(made.len() >= 40);
+        assert!(made.iter().all(|case| answered(case) != NO_CASE), "{}", kind.name());
+        assert_eq!(made, cases(kind, 3, 40));
+        assert_ne!(made, cases(kind, 4, 40));
+        assert_eq!(Kind::from_name(kind.name()), Some(kind));
+    }
+}
+
+/// The numbers that begin the answers to a kind's cases, each once, in order.
+fn numbers(kind: Kind, count: u64) -> Vec<u8> {
+    let first = |case: &String| {
+        let answer = answered(case);
+        answer.split(' ').next().and_then(|word| word.parse().ok()).expect("a number")
+    };
+    let mut numbers: Vec<u8> = cases(kind, 11, count).iter().map(first).collect();
+    numbers.sort();
+    numbers.dedup();
+    numbers
+}
+
+#[test]
+fn every_number_of_a_kind_is_reached() {
+    assert_eq!(numbers(Kind::Requests, 600), [0, 1, 2, 3, 4, 5]);
+    assert_eq!(numbers(Kind::Plans, 600), [0, 1, 2, 3, 4, 5, 7]);
+    assert_eq!(numbers(Kind::Edges, 3), [0, 1, 2, 3, 4, 5, 7]);
+    assert_eq!(numbers(Kind::Planning, 600), [0, 2, 4, 5, 6]);
+    assert_eq!(numbers(Kind::Writing, 600), [0, 2, 4, 5, 7, 14]);
+}
+
+#[test]
+fn accepted_sheets_are_written_again_the_same() {
+    for (kind, name) in [(Kind::Requests, "request"), (Kind::Plans, "plan")] {
+        for case in cases(kind, 21, 500) {
+            let sheet = case.split(' ').nth(1).expect("a sheet");
+            if let Some(read) = answered(&case).strip_prefix("0 ") {
+                let set = read.split_once(' ').expect("a count").1;
+                let written = answered(&format!("write-{name} 4000;{set}"));
+                assert_eq!(written, format!("0 {sheet}"));
+                shown_and_composed(sheet);
+            }
+        }
+    }
+}
+
+fn shown_and_composed(sheet: &str) {
+    let shown = answered(&format!("command show;{sheet}"));
+    let text = shown.strip_suffix(" -").expect("no error");
+    assert_eq!(answered(&format!("command compose;{text}")), format!("{sheet} -"));
+}
+
+#[test]
+fn feasible_and_impossible_by_one_tick() {
+    use second::gen::{random::Random, sets};
+    for place in 0..500 {
+        let planned = |over| {
+            let request = sets::tight(&mut Random::of_case(5, place), over);
+            answered(&format!("planning {}", show_set(&request, &[])))
+        };
+        let exact = planned(0);
+        let list = exact.strip_prefix("0 0 ").expect("no spare time");
+        // Without any S the tick too many is one of walking, and breaks other rules.
+        let impossible = if list.contains(|digit| digit > '0') { &["6"][..] } else { &["4", "5"] };
+        assert!(impossible.contains(&&*planned(1)), "{list}");
+    }
+}

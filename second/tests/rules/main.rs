@@ -1,0 +1,26 @@
+//! The tables of the rules, the refusals at each place, the round trips, and the promises.
+
+mod allocations;
+mod cases;
+mod planted;
+mod program;
+mod promises;
+mod ring;
+mod sheets;
+mod texts;
+
+use second::rules::{Plan, Request, Station};
+
+pub fn station(walk: u32, longest: u32, deadline: u32, gap: u32) -> Station {
+    Station { walk, longest, deadline, gap }
+}
+
+/// The ring of the worked run.
+pub fn worked_request() -> Request {
+    let later = station(0, 20, 100, 100);
+    Request { ttrt: 100, stations: vec![station(2, 20, 100, 100), later, later, later] }
+}
+
+pub fn worked_plan() -> Plan {
+    Plan { request: worked_request(), allocation: vec![20; 4] }
+}

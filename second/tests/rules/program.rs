@@ -1,0 +1,152 @@
+//! The program itself, from its arguments and standard input to its outputs.
+
+use std::env::temp_dir;
+use std::fs;
+use std::io::{Read, Write};
+use std::process::{Command, Output, Stdio};
+
+use crate::{worked_plan, worked_request};
+use second::sheet::{write_plan, write_request};
+
+fn second(arguments: &[&str], input: &[u8]) -> Output {
+    let mut child = Command::new(env!("CARGO_BIN_EXE_second"))
+        .args(arguments)
+        .stdin(Stdio::piped())
+        .stdout(Stdio::piped())
+        .stderr(Stdio::piped())
+        .spawn()
+        .expect("the program starts");
+    // The program may answer without reading all.
+    let _ = child.stdin.take().expect("piped").write_all(input);
+    child.wait_with_output().expect("the program ends")
+}
+
+fn said(arguments: &[&str], input: &[u8]) -> String {
+    let output = second(arguments, input);
+    assert!(output.status.success() && output.stderr.is_empty());
+    String::from_utf8(output.stdout).expect("text")
+}
+
+fn request_sheet() -> Vec<u8> {
+    write_request(&worked_request(), 86).expect("sound")
+}
+
+fn plan_sheet() -> Vec<u8> {
+    write_plan(&worked_plan(), 114).expect("sound")
+}
+
+#[test]
+fn the_plan_of_the_worked_ring() {
+    let text = "plan 4 100 2 18\n0 20\n1 20\n2 20\n3 20\n";
+    assert_eq!(said(&[], &request_sheet()), text);
+    assert_eq!(said(&["plan"], &request_sheet()), text);
+}
+
+#[test]
+fn refused_requests() {
+    assert_eq!(said(&[], b""), "refused 1\n");
+    assert_eq!(said(&[], &plan_sheet()), "refused 2\n");
+    assert_eq!(said(&["plan"], &[request_sheet(), vec![0; 5_000]].concat()), "refused 3\n");
+}
+
+#[test]
+fn sheets_and_texts() {
+    let text = said(&["show"], &plan_sheet());
+    assert_eq!(second(&["compose"], text.as_bytes()).stdout, plan_sheet());
+    let text = said(&["show"], &request_sheet());
+    assert_eq!(second(&["compose"], text.as_bytes()).stdout, request_sheet());
+    assert_eq!(second(&["plan-sheet"], &request_sheet()).stdout, plan_sheet());
+    assert_eq!(said(&["show"], b""), "refused 1\n");
+}
+
+#[test]
+fn refusals_beside_bytes_go_to_standard_error() {
+    let refusals: [(&str, &[u8], &[u8]); 3] = [
+        ("compose", b"ttrt 100\n", b"refused 2\n"),
+        ("compose", b"ttrt 100\n\nstation\n", b"line 3: cannot be read\n"),
+        ("plan-sheet", b"", b"refused 1\n"),
+    ];
+    for (command, input, refusal) in refusals {
+        let output = second(&[command], input);
+        assert_eq!((&output.stdout[..], &output.stderr[..]), (&b""[..], refusal));
+        assert!(!output.status.success());
+    }
+}
+
+fn file(name: &str, bytes: &[u8]) -> String {
+    let path = temp_dir().join(format!("second-{}-{name}", std::process::id()));
+    fs::write(&path, bytes).expect("a place for files");
+    path.to_str().expect("a plain path").to_string()
+}
+
+#[test]
+fn the_worked_run_as_calls() {
+    let plan = file("worked.plan", &plan_sheet());
+    let calls = "message 0 20 0\nmessage 1 20 0 # both\n\nvisit 1000\nvisit\nvisit 0\nvisit 5\n\
+                 message 4 1 1\nmessage 0 20 100";
+    let answers = "taken\ntaken\nvisit 0 0 2 18 20 18 20 80\nline 5: cannot be read\n\
+                   visit 1 40 40 0 20 0 60 40\nvisit 2 60 60 0 0 0 - -\nrefused 9\ntaken\n";
+    assert_eq!(said(&["run", &plan], calls.as_bytes()), answers);
+    fs::remove_file(plan).expect("the file is there");
+}
+
+#[test]
+fn a_refused_plan_answers_no_call() {
+    let plan = file("broken.plan", &plan_sheet()[..20]);
+    assert_eq!(said(&["run", &plan], b"visit 1\nvisit 1\n"), "refused 1\n");
+    fs::remove_file(&plan).expect("the file is there");
+    assert!(!second(&["run", &plan], b"").status.success());
+}
+
+#[test]
+fn an_answer_does_not_wait_for_the_next_call() {
+    let plan = file("waiting.plan", &plan_sheet());
+    let mut child = Command::new(env!("CARGO_BIN_EXE_second"))
+        .args(["run", &plan])
+        .stdin(Stdio::piped())
+        .stdout(Stdio::piped())
+        .spawn()
+        .expect("the program starts");
+    let mut calls = child.stdin.take().expect("piped");
+    calls.write_all(b"visit 0\n").expect("the program reads");
+    let expected = b"visit 0 0 2 18 0 0 - -\n";
+    let mut answer = [0; 23];
+    child.stdout.take().expect("piped").read_exact(&mut answer).expect("an answer");
+    assert_eq!(&answer, expected);
+    drop(calls);
+    child.wait().expect("the program ends");
+    fs::remove_file(plan).expect("the file is there");
+}
+
+#[test]
+fn usage_for_anything_else() {
+    let usage = said(&["help"], b"");
+    for name in ["plan", "compose", "show", "plan-sheet", "run PLAN", "generate", "answers"] {
+        assert!(usage.contains(&format!("  {name}")), "{name}");
+    }
+    let others: [&[&str]; 7] = [
+        &["else"],
+        &["plan", "more"],
+        &["run"],
+        &["--planted", "6", "plan"],
+        &["--planted"],
+        &["generate", "runs", "1"],
+        &["generate", "runs", "1", "1", "-", "more"],
+    ];
+    for arguments in others {
+        assert_eq!(said(arguments, b""), usage, "{arguments:?}");
+    }
+}
+
+#[test]
+fn cases_go_to_standard_output_or_a_file() {
+    let shown = said(&["generate", "requests", "5", "3"], b"");
+    assert_eq!(shown.lines().count(), 3);
+    let folder = temp_dir().join(format!("second-{}-cases", std::process::id()));
+    let folder = folder.to_str().expect("a plain path");
+    assert_eq!(said(&["generate", "requests", "5", "3", folder], b""), "");
+    let stored = fs::read_to_string(format!("{folder}/requests-5.cases")).expect("written");
+    assert_eq!(stored, shown);
+    assert_eq!(said(&["answers"], shown.as_bytes()).lines().count(), 3);
+    fs::remove_dir_all(folder).expect("the folder is there");
+}

@@ -1,0 +1,106 @@
+//! The promises of every run, on thousands of generated runs.
+
+use std::collections::HashMap;
+
+use second::check::WatchedRing;
+use second::frames::answer;
+use second::gen::{calls, random::Random, Kind};
+use second::planted::Planted;
+use second::ring::Ring;
+use second::rules::{Refusal, LAST_TIME};
+use second::text::{Answer, Call};
+
+/// How often each answer was given: its number, or 0 for taken and 100 for a completion.
+type Counts = HashMap<u8, usize>;
+
+fn follow(place: u64, counts: &mut Counts) {
+    let (plan, script) = calls::script(&mut Random::of_case(1, place));
+    let ring = Ring::open(&plan, Planted::Nothing).expect("sound");
+    let mut ring = WatchedRing::new(ring, Planted::Nothing);
+    for call in &script {
+        let before = ring.ring().clone();
+        let answer = ring.checked(call).unwrap_or_else(|broken| {
+            panic!("run {place} breaks {broken:?} at {call}");
+        });
+        if answer.is_err() {
+            assert_eq!(*ring.ring(), before);
+        }
+        *counts.entry(kind(&answer)).or_default() += 1;
+    }
+}
+
+fn kind(answer: &Result<Answer, Refusal>) -> u8 {
+    match answer {
+        Ok(Answer::Taken) => 0,
+        Ok(Answer::Visited(visit)) if visit.completed.is_some() => 100,
+        Ok(Answer::Visited(_)) => 101,
+        Err(refusal) => refusal.number(),
+    }
+}
+
+#[test]
+fn thousands_of_runs_keep_every_promise() {
+    let mut counts = Counts::new();
+    (0..3_000).for_each(|place| follow(place, &mut counts));
+    for kind in [0, 9, 10, 11, 12, 100, 101] {
+        assert!(counts[&kind] > 1_000, "{kind}: {counts:?}");
+    }
+    assert_eq!(counts.len(), 7);
+}
+
+/// What the scripts reach: asks at both ends, margins of 0 or 1, messages ahead of the clock,
+/// and each of the reasons for number 12.
+#[test]
+fn the_scripts_reach_the_edges() {
+    let mut reached = [0; 7];
+    for place in 0..1_000 {
+        let (plan, script) = calls::script(&mut Random::of_case(2, place));
+        let mut ring = Ring::open(&plan, Planted::Nothing).expect("sound");
+        script.iter().for_each(|call| count_edges(&mut ring, call, &mut reached));
+    }
+    assert!(reached.iter().all(|&times| times > 50), "{reached:?}");
+}
+
+fn count_edges(ring: &mut Ring, call: &Call, reached: &mut [usize; 7]) {
+    match call {
+        Call::Visit(ask) => {
+            let visit = ring.visit(*ask).expect("in time");
+            reached[0] += usize::from(*ask == 0);
+            reached[1] += usize::from(*ask == u32::MAX);
+            reached[2] += usize::from(visit.completed.is_some_and(|done| done.margin <= 1));
+        }
+        Call::HandIn(message) => {
+            let answer = ring.hand_in(message);
+            let index = message.station.index();
+            let refused = answer == Err(Refusal::WrongArrival);
+            let past = message.arrival > LAST_TIME;
+            let early = refused && !past;
+            let arrival = message.arrival as i64;
+            let before_visit = early && ring.last_start(index).is_some_and(|last| arrival <= last);
+            reached[3] += usize::from(answer.is_ok() && arrival > ring.clock());
+            reached[4] += usize::from(refused && past);
+            reached[5] += usize::from(before_visit);
+            reached[6] += usize::from(early && !before_visit);
+        }
+    }
+}
+
+#[test]
+fn a_clock_at_the_last_time() {
+    let case = &Kind::Late.case(1, 0)[0];
+    let answers = answer(case, Planted::Nothing);
+    assert!(answers.contains("|refused 13"), "{answers}");
+}
+
+#[test]
+fn the_extremes_are_among_the_rings() {
+    let mut sizes = HashMap::<usize, usize>::new();
+    let (mut shortest, mut no_walk) = (0, 0);
+    for place in 0..3_000 {
+        let (plan, _) = calls::script(&mut Random::of_case(1, place));
+        *sizes.entry(plan.allocation.len()).or_default() += 1;
+        shortest += usize::from(plan.request.ttrt == 1);
+        no_walk += usize::from(plan.request.stations.iter().any(|station| station.walk == 0));
+    }
+    assert!(sizes[&1] > 100 && sizes[&128] > 20 && shortest > 20 && no_walk > 100);
+}

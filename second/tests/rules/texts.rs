@@ -1,0 +1,100 @@
+use crate::{worked_plan, worked_request};
+use second::lines::{Line, Lines};
+use second::rules::Refusal;
+use second::sheet::{write_plan, write_request, Sheet};
+use second::text::{compose, number, read_call, show_sheet, Call, Fault};
+
+fn composed(text: &str) -> Result<Vec<u8>, Fault> {
+    compose(text.as_bytes()).expect("bytes at hand")
+}
+
+fn refused(text: &str) -> u8 {
+    match composed(text) {
+        Err(Fault::Refused(refusal)) => refusal.number(),
+        other => panic!("{other:?} of {text:?}"),
+    }
+}
+
+fn unreadable(text: &str) -> u64 {
+    match composed(text) {
+        Err(Fault::Unreadable(line)) => line,
+        other => panic!("{other:?} of {text:?}"),
+    }
+}
+
+#[test]
+fn show_and_compose() {
+    let request = Sheet::Request(worked_request());
+    let text = "ttrt 100\nstation 2 20 100 100\n".to_string() + &"station 0 20 100 100\n".repeat(3);
+    assert_eq!(show_sheet(&request), text);
+    assert_eq!(composed(&text).ok(), write_request(&worked_request(), 86).ok());
+    let text = show_sheet(&Sheet::Plan(worked_plan()));
+    assert!(text.ends_with("\nstation 0 20 100 100 20\n"));
+    assert_eq!(composed(&text).ok(), write_plan(&worked_plan(), 114).ok());
+}
+
+#[test]
+fn blanks_and_comments() {
+    let untidy = "# a ring\n\n\t ttrt  0100 # rotation\r\n \nstation 2\t20 100 00100#c\n\
+                  station 0 20 100 100\nstation 0 20 100 100\nstation 0 20 100 100";
+    assert_eq!(composed(untidy).ok(), write_request(&worked_request(), 86).ok());
+}
+
+#[test]
+fn lines_that_cannot_be_read() {
+    assert_eq!(unreadable("station 1 1 1 1\n"), 1);
+    assert_eq!(unreadable("ttrt 100\nttrt 100\n"), 2);
+    assert_eq!(unreadable("ttrt 100 1\n"), 1);
+    assert_eq!(unreadable("ttrt 4294967296\n"), 1);
+    assert_eq!(unreadable("ttrt -1\n"), 1);
+    assert_eq!(unreadable("\n#\nttrt 100\n\nstation 1 1 1\n"), 5);
+    assert_eq!(unreadable("ttrt 100\nstation 1 1 1 1 1 1\n"), 2);
+    assert_eq!(unreadable("ttrt 100\nstation 1 1 1 1\nstation 1 1 1 1 1\nstop"), 4);
+    assert_eq!(unreadable("TTRT 100\n"), 1);
+    let long = format!("ttrt 100 {}\n", "1 ".repeat(300));
+    assert_eq!(unreadable(&long), 1);
+}
+
+#[test]
+fn texts_that_are_refused() {
+    assert_eq!(refused(""), 2);
+    assert_eq!(refused("ttrt 100\n"), 2);
+    assert_eq!(refused("ttrt 100\nstation 1 1 100 100\nstation 1 1 100 100 1\n"), 2);
+    assert_eq!(refused("ttrt 100\nstation 1 1 100 100 1\nstation 1 1 100 100\n"), 2);
+    assert_eq!(refused(&("ttrt 500\n".to_string() + &"station 1 0 1 1\n".repeat(129))), 2);
+    assert_eq!(refused(&("ttrt 500\n".to_string() + &"station 1 0 1 1 0\n".repeat(300))), 2);
+    assert_eq!(refused("ttrt 4294967295\nstation 1 0 1 1\n"), 4);
+    assert_eq!(refused("ttrt 1\nstation 2 0 1 1\n"), 5);
+    assert_eq!(refused("ttrt 100\nstation 1 20 100 100 19\n"), 7);
+}
+
+#[test]
+fn lines_are_numbered_and_tidied() {
+    let mut lines = Lines::new(&b"a  b # c\n\n  0001 00 0x0\r\nlast"[..]);
+    let mut next = || lines.next_line().expect("bytes at hand");
+    let line = |number, text: &str| Some(Line { number, text: text.into() });
+    assert_eq!(next(), line(1, "a b "));
+    assert_eq!(next(), line(2, ""));
+    assert_eq!(next(), line(3, "1 0 0x0 "));
+    assert_eq!(next(), line(4, "last"));
+    assert_eq!(next(), None);
+}
+
+#[test]
+fn calls() {
+    let read = |text: &str| read_call(&Line { number: 9, text: text.into() });
+    assert_eq!(read(""), Ok(None));
+    assert_eq!(read("visit 4294967295"), Ok(Some(Call::Visit(u32::MAX))));
+    let call = read("message 3 18446744073709551615 7").expect("readable").expect("a call");
+    assert_eq!(call.to_string(), "message 3 18446744073709551615 7");
+    for text in ["visit", "visit 4294967296", "visit 1 2", "message 1 2", "visits 1 1", "visit x"] {
+        assert_eq!(read(text), Err(Fault::Unreadable(9)), "{text}");
+    }
+}
+
+#[test]
+fn numbers_and_faults() {
+    assert_eq!((number::<u32>(b""), number::<u32>(b"+1"), number(b"7")), (None, None, Some(7)));
+    assert_eq!(Fault::Unreadable(7).to_string(), "line 7: cannot be read");
+    assert_eq!(Fault::Refused(Refusal::NoRoom).to_string(), "refused 14");
+}
