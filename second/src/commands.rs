@@ -12,9 +12,7 @@ use crate::planner;
 use crate::planted::Planted;
 use crate::ring::Ring;
 use crate::rules::{Plan, Refusal};
-use crate::sheet::{
-    read_either, read_plan, read_request, write_plan, PLAN_READ, REQUEST_READ,
-};
+use crate::sheet::{read_either, read_plan, read_request, write_plan, PLAN_READ, REQUEST_READ};
 use crate::text::{self, answer_line, number, read_call, Fault};
 
 const USAGE: &str = "\

@@ -45,7 +45,7 @@ impl Random {
 
     /// True once in `times`.
     pub fn once_in(&mut self, times: u64) -> bool {
-        self.next() % times == 0
+        self.between(1, times) == 1
     }
 
     pub fn pick<T: Clone>(&mut self, choices: &[T]) -> T {

@@ -1,4 +1,5 @@
 use crate::station;
+use second::gen::{random::Random, sets};
 use second::planner;
 use second::planted::Planted;
 use second::rules::{least_time, Plan, Refusal, Request};
@@ -60,6 +61,20 @@ fn the_search_finds_what_trying_every_s_finds() {
                 let found = answer.map(|plan| plan.allocation[0]).map_err(Refusal::number);
                 assert_eq!(found, expected, "TTRT {ttrt}, D {deadline}, C {longest}");
             }
+        }
+    }
+}
+
+#[test]
+fn every_s_of_a_plan_is_the_smallest() {
+    for place in 0..1_000 {
+        let request = sets::feasible(&mut Random::of_case(8, place));
+        let smallest = plan(&request).expect("feasible");
+        assert_eq!(smallest.judge(), Ok(()));
+        for index in 0..smallest.allocation.len() {
+            let mut less = smallest.clone();
+            less.allocation[index] = less.allocation[index].saturating_sub(1);
+            assert!(less == smallest || less.judge() == Err(Refusal::RuleBroken));
         }
     }
 }

@@ -39,9 +39,12 @@ fn every_frame_has_its_answer() {
         (format!("run {plan}"), "0".to_string()),
         (format!("run {request};visit 1"), "2".to_string()),
         (
-            format!("run {plan};message 0 20 0;visit 1000;visits 3 7;message 0 1 1;visit 4294967295"),
+            format!(
+                "run {plan};message 0 20 0;visit 1000;visits 3 7;message 0 1 1;visit 4294967295"
+            ),
             "0 taken|visit 0 0 2 18 20 18 20 80|visit 3 40 40 0 0 0 - -|refused 12|\
-             visit 0 40 40 0 0 0 - -".to_string(),
+             visit 0 40 40 0 0 0 - -"
+                .to_string(),
         ),
         (
             format!("ring {plan};message 1 20 5;message 2 7 0;visits 3 1"),
@@ -63,9 +66,22 @@ fn every_frame_has_its_answer() {
 #[test]
 fn a_line_of_no_frame() {
     let lines = [
-        "", "request", "request ", "request 0", "request 0g", "request 0A", "else 1",
-        "planning 100;1,2,3", "planning x", "write-plan 1;100;1,2,3,4", "write-request 100",
-        "run -;stop", "run -;visits 0 1", "ring -;visit", "command else;-", "command plan;-;-",
+        "",
+        "request",
+        "request ",
+        "request 0",
+        "request 0g",
+        "request 0A",
+        "else 1",
+        "planning 100;1,2,3",
+        "planning x",
+        "write-plan 1;100;1,2,3,4",
+        "write-request 100",
+        "run -;stop",
+        "run -;visits 0 1",
+        "ring -;visit",
+        "command else;-",
+        "command plan;-;-",
     ];
     for line in lines {
         assert_eq!(answered(line), NO_CASE, "{line}");

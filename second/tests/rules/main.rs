@@ -7,6 +7,7 @@ mod program;
 mod promises;
 mod ring;
 mod sheets;
+mod steps;
 mod texts;
 
 use second::rules::{Plan, Request, Station};

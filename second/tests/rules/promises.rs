@@ -87,9 +87,11 @@ fn count_edges(ring: &mut Ring, call: &Call, reached: &mut [usize; 7]) {
 
 #[test]
 fn a_clock_at_the_last_time() {
-    let case = &Kind::Late.case(1, 0)[0];
-    let answers = answer(case, Planted::Nothing);
-    assert!(answers.contains("|refused 13"), "{answers}");
+    for place in 0..4 {
+        let case = &Kind::Late.case(1, place)[0];
+        let answers = answer(case, Planted::Nothing);
+        assert!(answers.contains("|refused 13"), "{answers}");
+    }
 }
 
 #[test]
