@@ -70,7 +70,7 @@ fn untidy(random: &mut Random, text: &str) -> Vec<u8> {
     if !random.once_in(4) {
         bytes.push(b'\n');
     }
-    if random.once_in(6) {
+    if !bytes.is_empty() && random.once_in(6) {
         let index = random.index(bytes.len());
         bytes[index] = random.byte();
     }

@@ -135,6 +135,12 @@ fn every_number_of_a_kind_is_reached() {
 }
 
 #[test]
+fn the_empty_text_is_among_the_commands() {
+    let made = cases(Kind::Commands, 7, 2_000);
+    assert!(made.iter().any(|case| case == "command compose;-"));
+}
+
+#[test]
 fn accepted_sheets_are_written_again_the_same() {
     for (kind, name) in [(Kind::Requests, "request"), (Kind::Plans, "plan")] {
         for case in cases(kind, 21, 500) {
