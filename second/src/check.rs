@@ -8,7 +8,7 @@ use crate::rules::{Refusal, LAST_TIME};
 use crate::text::{Answer, Call};
 
 /// A promise that a call broke.
-#[derive(Clone, Copy, Debug, PartialEq, Eq)]
+#[derive(Clone, Copy, Debug, PartialEq, Eq, Hash)]
 pub enum Broken {
     /// The token came back later than TTRT.
     TokenLate,
@@ -46,47 +46,45 @@ impl Watch {
         }
     }
 
-    fn visited(&mut self, ring: &Ring, visit: &Visit) -> Result<(), Broken> {
+    fn visited(&mut self, ring: &Ring, visit: &Visit) -> Vec<Broken> {
         let index = visit.station.index();
-        let ttrt = Ticks::from(ring.plan().request.ttrt);
-        let last = self.last_starts[index].replace(visit.start);
-        let apart = last.map_or(visit.trt, |last| visit.start - last);
-        hold(apart == visit.trt && apart <= ttrt, Broken::TokenLate)?;
-        hold(visit.synchronous <= ring.allocation(index), Broken::TooMuchSynchronous)?;
-        self.limit_exact(visit)?;
-        let in_time = visit.completed.is_none_or(|completed| completed.margin >= 0);
-        hold(in_time, Broken::MessageLate)?;
-        (0..ring.size()).try_for_each(|index| unsent_in_time(ring, index))?;
-        sound(ring)
-    }
-
-    fn limit_exact(&mut self, visit: &Visit) -> Result<(), Broken> {
-        let before: Ticks = self.before.iter().sum();
-        hold(visit.limit == self.spare - before, Broken::LimitNotExact)?;
-        hold(visit.asynchronous <= visit.limit, Broken::TooMuchAsynchronous)?;
+        let apart = match self.last_starts[index].replace(visit.start) {
+            Some(last) => visit.start - last,
+            None => visit.trt,
+        };
+        let limit = self.spare - self.before.iter().sum::<Ticks>();
         self.before.pop_front();
         self.before.push_back(visit.asynchronous);
-        Ok(())
+        let in_time = apart == visit.trt && apart <= Ticks::from(ring.plan().request.ttrt);
+        let synchronous = visit.synchronous <= ring.allocation(index);
+        let completed = visit.completed.is_none_or(|completed| completed.margin >= 0);
+        let unsent = (0..ring.size()).all(|index| unsent_in_time(ring, index));
+        broken(&[
+            (in_time, Broken::TokenLate),
+            (synchronous, Broken::TooMuchSynchronous),
+            (visit.limit == limit, Broken::LimitNotExact),
+            (visit.asynchronous <= visit.limit, Broken::TooMuchAsynchronous),
+            (completed, Broken::MessageLate),
+            (unsent, Broken::UnsentAtDeadline),
+            (sound(ring), Broken::Unsound),
+        ])
     }
 }
 
-fn hold(holds: bool, otherwise: Broken) -> Result<(), Broken> {
-    if holds {
-        Ok(())
-    } else {
-        Err(otherwise)
-    }
+/// The promises that do not hold.
+fn broken(promises: &[(bool, Broken)]) -> Vec<Broken> {
+    let not_held = promises.iter().filter(|(holds, _)| !holds);
+    not_held.map(|&(_, broken)| broken).collect()
 }
 
 /// While a message is unsent, its deadline is ahead of the clock.
-fn unsent_in_time(ring: &Ring, index: usize) -> Result<(), Broken> {
+fn unsent_in_time(ring: &Ring, index: usize) -> bool {
     let deadline = Ticks::from(ring.plan().request.stations[index].deadline);
-    let ahead = ring.held(index).is_none_or(|held| held.arrival + deadline > ring.clock());
-    hold(ahead, Broken::UnsentAtDeadline)
+    ring.held(index).is_none_or(|held| held.arrival + deadline > ring.clock())
 }
 
-/// What can become unsound in a ring that was opened soundly.
-fn sound(ring: &Ring) -> Result<(), Broken> {
+/// Whether all is sound that can become unsound in a ring opened soundly.
+fn sound(ring: &Ring) -> bool {
     let ttrt = Ticks::from(ring.plan().request.ttrt);
     let station_sound = |index: usize| {
         let longest = Ticks::from(ring.plan().request.stations[index].longest);
@@ -96,17 +94,28 @@ fn sound(ring: &Ring) -> Result<(), Broken> {
     };
     let clock = ring.clock() <= LAST_TIME as Ticks + 2_000_000;
     let count = ring.visits() < 1 << 62;
-    hold(clock && count && (0..ring.size()).all(station_sound), Broken::Unsound)
+    clock && count && (0..ring.size()).all(station_sound)
 }
 
-/// A message that keeps C and P, and is handed in when the clock has reached its arrival and
-/// it is later than the station's last start, is never answered 11.
-fn eleven_allowed(ring: &Ring, message: &Message) -> Result<(), Broken> {
+/// Whether a message keeps C and P, and is handed in when the clock has reached its arrival
+/// and it is later than the station's last start. Such a message is never answered 11.
+fn due(ring: &Ring, message: &Message) -> bool {
     let index = message.station.index();
     let longest = u64::from(ring.plan().request.stations[index].longest);
-    let arrival = message.arrival as Ticks;
-    let keeps = (1..=longest).contains(&message.length) && arrival >= ring.earliest_arrival(index);
-    hold(!(keeps && message.arrival <= ring.clock() as u64), Broken::WrongElevenAnswer)
+    (1..=longest).contains(&message.length)
+        && message.arrival <= ring.clock() as u64
+        && message.arrival as Ticks >= ring.earliest_arrival(index)
+}
+
+fn handed_in(ring: &Ring, message: &Message, answer: Result<(), Refusal>) -> Vec<Broken> {
+    match answer {
+        Ok(()) => {
+            let unsent = unsent_in_time(ring, message.station.index());
+            broken(&[(unsent, Broken::UnsentAtDeadline), (sound(ring), Broken::Unsound)])
+        }
+        Err(Refusal::StillHeld) => broken(&[(!due(ring, message), Broken::WrongElevenAnswer)]),
+        Err(_) => vec![],
+    }
 }
 
 /// A ring whose every call is checked, unless an error is planted in it.
@@ -132,34 +141,34 @@ impl WatchedRing {
 
     /// The answer to a call. A broken promise is an error of this program, and ends it.
     pub fn answer(&mut self, call: &Call) -> Result<Answer, Refusal> {
-        self.checked(call).expect("every run from an opening keeps the promises")
+        let (answer, broken) = self.checked(call);
+        assert!(broken.is_empty(), "a run from an opening broke {broken:?} at {call}");
+        answer
     }
 
-    /// The answer to a call, or the promise that it broke.
-    pub fn checked(&mut self, call: &Call) -> Result<Result<Answer, Refusal>, Broken> {
+    /// The answer to a call, and the promises that it broke.
+    pub fn checked(&mut self, call: &Call) -> (Result<Answer, Refusal>, Vec<Broken>) {
         match call {
             Call::Visit(ask) => self.visit(*ask),
             Call::HandIn(message) => self.hand_in(message),
         }
     }
 
-    fn visit(&mut self, ask: u32) -> Result<Result<Answer, Refusal>, Broken> {
+    fn visit(&mut self, ask: u32) -> (Result<Answer, Refusal>, Vec<Broken>) {
         let answer = self.ring.visit(ask);
-        if let (Some(watch), Ok(visit)) = (&mut self.watch, &answer) {
-            watch.visited(&self.ring, visit)?;
-        }
-        Ok(answer.map(Answer::Visited))
+        let broken = match (&mut self.watch, &answer) {
+            (Some(watch), Ok(visit)) => watch.visited(&self.ring, visit),
+            _ => vec![],
+        };
+        (answer.map(Answer::Visited), broken)
     }
 
-    fn hand_in(&mut self, message: &Message) -> Result<Result<Answer, Refusal>, Broken> {
+    fn hand_in(&mut self, message: &Message) -> (Result<Answer, Refusal>, Vec<Broken>) {
         let answer = self.ring.hand_in(message);
-        if self.watch.is_some() {
-            match answer {
-                Ok(()) => unsent_in_time(&self.ring, message.station.index())?,
-                Err(Refusal::StillHeld) => eleven_allowed(&self.ring, message)?,
-                Err(_) => (),
-            }
-        }
-        Ok(answer.map(|()| Answer::Taken))
+        let broken = match self.watch {
+            Some(_) => handed_in(&self.ring, message, answer),
+            None => vec![],
+        };
+        (answer.map(|()| Answer::Taken), broken)
     }
 }

@@ -1,5 +1,7 @@
 //! Each planted error is found by comparing answers, and most of them by the promises too.
 
+use std::collections::HashSet;
+
 use second::check::{Broken, WatchedRing};
 use second::frames::answer;
 use second::gen::{calls, random::Random, Kind};
@@ -24,18 +26,27 @@ fn comparing_finds_every_planted_error() {
     assert_eq!([0, 6].map(Planted::from_number), [None, None]);
 }
 
-/// The first promise that a run with the error breaks.
-fn first_broken(planted: Planted) -> Option<Broken> {
-    (0..400).find_map(|place| {
+/// Every promise that the runs with the error break.
+fn broken(planted: Planted) -> HashSet<Broken> {
+    let of_run = |place| {
         let (plan, script) = calls::script(&mut Random::of_case(6, place));
         let mut ring = WatchedRing::suspected(Ring::open(&plan, planted).expect("sound"));
-        script.iter().find_map(|call| ring.checked(call).err())
-    })
+        script.into_iter().flat_map(move |call| ring.checked(&call).1)
+    };
+    (0..400).flat_map(of_run).collect()
 }
 
 #[test]
 fn the_promises_find_wrong_limits() {
-    assert_eq!(first_broken(Planted::LimitWithoutUnused), Some(Broken::LimitNotExact));
-    assert_eq!(first_broken(Planted::UnusedFromZero), Some(Broken::LimitNotExact));
-    assert_eq!(first_broken(Planted::Nothing), None);
+    let late = HashSet::from([
+        Broken::LimitNotExact,
+        Broken::TokenLate,
+        Broken::MessageLate,
+        Broken::UnsentAtDeadline,
+        Broken::WrongElevenAnswer,
+        Broken::Unsound,
+    ]);
+    assert_eq!(broken(Planted::LimitWithoutUnused), late);
+    assert!(broken(Planted::UnusedFromZero).contains(&Broken::LimitNotExact));
+    assert_eq!(broken(Planted::Nothing), HashSet::new());
 }

@@ -19,9 +19,8 @@ fn follow(place: u64, counts: &mut Counts) {
     let mut ring = WatchedRing::new(ring, Planted::Nothing);
     for call in &script {
         let before = ring.ring().clone();
-        let answer = ring.checked(call).unwrap_or_else(|broken| {
-            panic!("run {place} breaks {broken:?} at {call}");
-        });
+        let (answer, broken) = ring.checked(call);
+        assert!(broken.is_empty(), "run {place} breaks {broken:?} at {call}");
         if answer.is_err() {
             assert_eq!(*ring.ring(), before);
         }
