@@ -1,6 +1,5 @@
 -- The ★ cases hold because the formula and planning compute to the table's numbers, and both are what the rules ask.
 use mathlib.Core.Path.{_≡_, refl}
-use mathlib.Core.List.{List, [], _∷_}
 use mathlib.Core.Logic.{_≢_}
 use native.Mathlib.Omega.{arith}
 use Rattle.units.specs.Places.{at, sumBelow, allBelow, fill}
@@ -10,7 +9,7 @@ use Rattle.sets.specs.Judged.{judgedThen}
 use Rattle.plans.specs.Rules.{spareTime}
 use Rattle.plans.specs.Planned.{smallestFor, smallestWith, answered, planned}
 use Rattle.plans.proofs.Promised.{promised}
-use Rattle.stars.specs.Allocations.{Case, cases, CaseHolds, SetCase, setCases, SetCaseHolds, places, Every, Allocations}
+use Rattle.stars.specs.Allocations.{Case, cases, CaseHolds, SetCase, SetCaseHolds, places, Allocations}
 
 case-holds : (r : Case) → smallestFor 100 (r .c) (r .d) ≡ r .s → CaseHolds r
 case-holds r e = rw (← e) (promised .smallest 100 (r .c) (r .d))

@@ -1,2 +1,3 @@
 -- The proofs of the ★ table.
 pub mod Allocations
+pub mod Run

@@ -1,0 +1,22 @@
+-- The worked run holds because opening, handing in and visits compute to the table's numbers, through every test of 8 and 12.
+use mathlib.Core.Path.{refl}
+use Rattle.units.specs.Places.{sumBelow, allBelow, fill, raise}
+use Rattle.units.specs.Judging.{orElse, allHold}
+use Rattle.sets.specs.Rules.{headInRange, stationInRange}
+use Rattle.sets.specs.Judged.{judgedThen}
+use Rattle.plans.specs.Planned.{smallestWith, judgedPlan, answered}
+use Rattle.rings.specs.Opening.{openedRing, openedWith}
+use Rattle.rings.specs.Sound.{isSound}
+use Rattle.rings.specs.Steps.{syncSent, nextToken, moved, recordOf, visitedWith}
+use Rattle.rings.specs.HandingIn.{arrivalAllowed, holding, takenWith}
+use Rattle.stars.specs.Run.{WorkedRun}
+
+pub workedRun : WorkedRun
+unfolding sumBelow allBelow fill raise orElse allHold headInRange stationInRange judgedThen smallestWith judgedPlan answered openedRing openedWith isSound syncSent nextToken moved recordOf visitedWith arrivalAllowed holding takenWith
+workedRun =
+    record {
+      plan = refl;
+      spare = refl;
+      opened = refl;
+      table = (refl, (refl, (refl, (refl, (refl, (refl, (refl, (refl, (refl, (refl, (refl, (refl, (refl, (refl, tt))))))))))))));
+    }
