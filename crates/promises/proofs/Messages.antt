@@ -156,13 +156,10 @@ module _ (t : Set) (a : Alloc) (r q : Ring) (m : Message) (h : List VisitRecord)
   -- the station's last synchronous part ended by the arrival: at the start of its last visit, or by the deadline of the message before, which is at most P after that one's arrival
   ended-before : Messaged t a r (m .station .0) → r .clock + at (r .sent) (m .station .0) ≤ m .arrival .0 + at (r .trt) (m .station .0)
   ended-before M =
-      let i = m .station .0 in
       ⊎-elim (λ (x : Idle t r (m .station .0)).
-      ⊎-elim (λ (z : at (r .sent) (m .station .0) ≡ 0). quiet z)
+      ⊎-elim quiet
       (λ (z : (at (r .had) (m .station .0) ≢ 0) × (r .clock + at (r .sent) (m .station .0) ≤ deadlineAt t r (m .station .0) + at (r .trt) (m .station .0))).
-      ⊎-elim (λ (g : at (r .had) (m .station .0) ≡ 0). absurd (z .0 g))
-      (λ (g : at (r .arrival) (m .station .0) + at (t .p) (m .station .0) ≤ m .arrival .0). omega (arith, P .gaps (m .station .0) (A .known)))
-      (A .gap))
+      omega (arith, A .gap (z .0), P .gaps (m .station .0) (A .known)))
       (x .ended))
       (λ (w : Waiting t a r (m .station .0)). absurd (omega (arith, A .free, w .held)))
       (M .state)
@@ -170,10 +167,7 @@ module _ (t : Set) (a : Alloc) (r q : Ring) (m : Message) (h : List VisitRecord)
       quiet : at (r .sent) (m .station .0) ≡ 0 → r .clock + at (r .sent) (m .station .0) ≤ m .arrival .0 + at (r .trt) (m .station .0)
       quiet z =
           ⊎-elim (λ (u : Unvisited t r h (m .station .0)). omega (arith, u .silent))
-          (λ (u : (w : VisitRecord) × Since r h (m .station .0) w).
-          ⊎-elim (λ (e : r .visits ≤ m .station .0). absurd (omega (arith, u .1 .counted)))
-          (λ (e : at (r .last) (m .station .0) < m .arrival .0). omega (arith, u .1 .start, u .1 .last))
-          (A .later))
+          (λ (u : (w : VisitRecord) × Since r h (m .station .0) w). omega (arith, u .1 .start, u .1 .last, A .later (u .1 .counted)))
           (T .arrived (m .station .0) (A .known))
 
   taken-here : Messaged t a r (m .station .0) → Messaged t a q (m .station .0)

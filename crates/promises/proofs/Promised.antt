@@ -1,35 +1,36 @@
 -- The promises, read off what every run keeps.
-use Prim.Native.Nat.{ℕ, _+_, _≤_, _<_}
+use Prim.Native.Nat.{ℕ, _+_, _-_, _≤_, _<_}
 use mathlib.Core.Path.{_≡_, sym, ap, _∙_}
-use mathlib.Core.Bool.{true, false}
+use mathlib.Core.Bool.{true}
 use mathlib.Core.List.{List, [], _∷_}
-use mathlib.Core.Logic.{_≢_, ⊎-elim}
+use mathlib.Core.Logic.{_⊎_, inl, inr, _≢_, _↔_, ⊎-elim}
+use mathlib.Core.Option.{none, some}
 use native.Mathlib.Omega.{arith}
-use borrow.Author.Tests.{ltb-true, eq-eqb}
-use lib.Dec.{leb}
+use borrow.Author.Tests.{ltb-true, lt-ltb, eqb-true, eq-eqb}
 use Rattle.units.specs.Numbers.{mostClock}
 use Rattle.units.specs.Places.{at}
-use Rattle.units.specs.JudgingLaws.{true-or-false, held, given, given-later, not-given, decides-between}
+use Rattle.units.specs.Judging.{orElse}
+use Rattle.units.specs.JudgingLaws.{Decides, held, given, given-later, not-given, decides-between}
 use Rattle.units.specs.SmallLaws.{below-or-not}
 use Rattle.sets.specs.declared.Set.{Set}
 use Rattle.plans.specs.Planned.{planned}
 use Rattle.plans.specs.declared.Alloc.{Alloc}
 use Rattle.plans.proofs.Promised.{promised as plans-promised}
-use Rattle.rings.specs.State.{count, holds}
+use Rattle.rings.specs.Sound.{isSound}
 use Rattle.rings.specs.Steps.{syncSent, asyncSent, recordOf, visited}
-use Rattle.rings.specs.HandingIn.{stationKnown, lengthAllowed, nothingHeld, arrivalAllowed, gapKept, messageNumber, handedIn}
+use Rattle.rings.specs.HandingIn.{stationKnown, lengthAllowed, nothingHeld, arrivalAllowed, messageNumber, handedIn}
+use Rattle.rings.specs.RingLaws.{sound-sentences, decides-arrival}
 use Rattle.rings.specs.declared.Message.{Message}
 use Rattle.rings.specs.declared.VisitRecord.{VisitRecord}
-use Rattle.promises.specs.Run.{Call, Run, runOf}
-use Rattle.promises.specs.History.{Each}
+use Rattle.promises.specs.Run.{Call, Run, runOf, ringOf, recordsOf}
+use Rattle.promises.specs.History.{latestOf, Each}
 use Rattle.promises.specs.Facts.{Completing, Leaving}
-use Rattle.promises.specs.Promised.{Opens, FinishesInTime, Promised}
-use Rattle.promises.proofs.Timing.{Plan}
+use Rattle.promises.specs.Promised.{Opens, Regular, FinishesInTime, Promised}
+use Rattle.promises.proofs.Timing.{Plan, Unvisited, Since}
 use Rattle.promises.proofs.Messages.{Waiting, clock-ahead, held-in-time, completed-in-time}
-use Rattle.promises.proofs.Steps.{decides-lt, decides-eq, gap-says, arrival-says}
 use Rattle.promises.proofs.Opening.{judged-opens}
 use Rattle.promises.proofs.Soundness.{visits-bounded}
-use Rattle.promises.proofs.Runs.{VisitKept, Kept, kept, kept-sound, opens-plan, movedRun, visit-facts, visit-parts, visit-accepted, visit-refused, message-number, sound-number, margin-made}
+use Rattle.promises.proofs.Runs.{VisitKept, Kept, kept, kept-sound, opens-plan, movedRun, visit-facts, visit-parts, visit-goes, visit-stops, message-number, margin-made}
 use Rattle.promises.proofs.Followed.{followed-from}
 
 -- ---- records
@@ -60,26 +61,38 @@ module _ (t : Set) (a : Alloc) (P : Plan t a) (s : Run) (K : Kept t a s) where
 
   finishes-in-time : (ask : ℕ) → visited (s .ring) ask .answer .«record» .completed ≡ 1 → FinishesInTime t (s .ring) (visited (s .ring) ask .answer .«record»)
   finishes-in-time ask =
-      ⊎-elim (λ (h : leb (s .ring .clock) mostClock ≡ true). rw (visit-accepted (s .ring) ask (kept-sound t a P s K) h) (made-in-time ask))
-      (λ (h : leb (s .ring .clock) mostClock ≡ false).
-      rw (visit-refused (s .ring) ask (kept-sound t a P s K) h) (λ e. absurd (omega arith)))
-      (true-or-false (leb (s .ring .clock) mostClock))
+      ⊎-elim (λ (late : mostClock < s .ring .clock).
+      rw (visit-stops (s .ring) ask (kept-sound t a P s K) late) (λ e. absurd (omega arith)))
+      (λ (early : s .ring .clock ≤ mostClock). rw (visit-goes (s .ring) ask (kept-sound t a P s K) early) (made-in-time ask))
+      (below-or-not mostClock (s .ring .clock))
+
+  -- the number of a visit: 0 or 13
+  visit-answers : (ask : ℕ) → ((s .ring .clock ≤ mostClock) × (visited (s .ring) ask .answer .number ≡ 0)) ⊎ ((mostClock < s .ring .clock) × (visited (s .ring) ask .answer .number ≡ 13))
+  visit-answers ask =
+      ⊎-elim (λ (late : mostClock < s .ring .clock). inr (late, rw (visit-stops (s .ring) ask (kept-sound t a P s K) late)))
+      (λ (early : s .ring .clock ≤ mostClock). inl (early, rw (visit-goes (s .ring) ask (kept-sound t a P s K) early)))
+      (below-or-not mostClock (s .ring .clock))
 
   never-8 : (ask : ℕ) → visited (s .ring) ask .answer .number ≢ 8
   never-8 ask =
-      ⊎-elim (λ (h : leb (s .ring .clock) mostClock ≡ true). rw (visit-accepted (s .ring) ask (kept-sound t a P s K) h) (omega arith))
-      (λ (h : leb (s .ring .clock) mostClock ≡ false). rw (visit-refused (s .ring) ask (kept-sound t a P s K) h) (omega arith))
-      (true-or-false (leb (s .ring .clock) mostClock))
+      ⊎-elim (λ (g : (s .ring .clock ≤ mostClock) × (visited (s .ring) ask .answer .number ≡ 0)). omega arith)
+      (λ (g : (mostClock < s .ring .clock) × (visited (s .ring) ask .answer .number ≡ 13)). omega arith)
+      (visit-answers ask)
+
+  goes-exactly : (ask : ℕ) → (visited (s .ring) ask .answer .number ≡ 0) ↔ (s .ring .clock ≤ mostClock)
+  goes-exactly ask =
+      ⊎-elim (λ (g : (s .ring .clock ≤ mostClock) × (visited (s .ring) ask .answer .number ≡ 0)). ((λ _. g .0), (λ _. g .1)))
+      (λ (g : (mostClock < s .ring .clock) × (visited (s .ring) ask .answer .number ≡ 13)).
+      ((λ e. absurd (omega arith)), (λ l. absurd (omega arith))))
+      (visit-answers ask)
 
   -- ---- messages
 
-  still-ahead : (i : ℕ) → i < t .n → holds (s .ring) i ≡ true → s .ring .clock < at (s .ring .arrival) i + at (t .d) i
-  still-ahead i l h =
-      let held : 0 < at (s .ring .rest) i = ltb-true _ _ h in
-      omega (arith, clock-ahead t a (s .ring) (s .records) P (K .timed) i l (K .messaged i l) held)
+  still-ahead : (i : ℕ) → i < t .n → 0 < at (s .ring .rest) i → s .ring .clock < at (s .ring .arrival) i + at (t .d) i
+  still-ahead i l held = omega (arith, clock-ahead t a (s .ring) (s .records) P (K .timed) i l (K .messaged i l) held)
 
   answer-of : (m : Message) → handedIn (s .ring) m .number ≡ messageNumber (s .ring) m
-  answer-of m = message-number (s .ring) m ∙ sound-number (s .ring) m (kept-sound t a P s K)
+  answer-of m = message-number (s .ring) m ∙ held (isSound (s .ring)) 8 (messageNumber (s .ring) m) (kept-sound t a P s K)
 
   message-never-8 : (m : Message) → handedIn (s .ring) m .number ≢ 8
   message-never-8 m =
@@ -87,41 +100,57 @@ module _ (t : Set) (a : Alloc) (P : Plan t a) (s : Run) (K : Kept t a s) where
       (not-given _ 9 _ 8 (omega arith) (not-given _ 10 _ 8 (omega arith) (not-given _ 11 _ 8 (omega arith) (not-given _ 12 _ 8 (omega arith) (omega arith)))))
 
   -- a message that keeps P and has arrived finds its station free: the deadline of the one before would lie behind the clock
-  free : (m : Message) → m .station .0 < t .n → gapKept (s .ring) m ≡ true → m .arrival .0 ≤ s .ring .clock → at (s .ring .rest) (m .station .0) ≡ 0
-  free m l g arrived =
-      let i = m .station .0 in
+  free : (m : Message) → m .station .0 < t .n → Regular t (s .ring) m → at (s .ring .rest) (m .station .0) ≡ 0
+  free m l R =
       ⊎-elim (λ (b : 0 < at (s .ring .rest) (m .station .0)).
       let w : Waiting t a (s .ring) (m .station .0) = held-in-time t a (s .ring) (s .records) P (K .timed) (m .station .0) l (K .messaged (m .station .0) l) b in
-      ⊎-elim (λ (z : at (s .ring .had) (m .station .0) ≡ 0). absurd (w .had z))
-      (λ (z : at (s .ring .arrival) (m .station .0) + at (s .ring .set .p) (m .station .0) ≤ m .arrival .0).
-      let p : at (s .ring .set .p) (m .station .0) ≡ at (t .p) (m .station .0) = ap (λ (x : Set). at (x .p) (m .station .0)) (K .timed .set) in
-      absurd (omega (arith, P .gaps (m .station .0) l, clock-ahead t a (s .ring) (s .records) P (K .timed) (m .station .0) l (K .messaged (m .station .0) l) b)))
-      (gap-says (s .ring) m g))
+      absurd (omega (arith, R .gap (w .had), P .gaps (m .station .0) l, still-ahead (m .station .0) l b)))
       (λ (b : at (s .ring .rest) (m .station .0) ≤ 0). omega arith)
       (below-or-not 0 (at (s .ring .rest) (m .station .0)))
 
-  below : (m : Message) → m .station .0 < count (s .ring) → m .station .0 < t .n
-  below m l = rw (K .timed .set) at l
+  -- the ring's own set is the one with which it was opened
+  known : (m : Message) → Decides (stationKnown (s .ring) m) (m .station .0 < t .n)
+  known m = rw (K .timed .set) (ltb-true (m .station .0) (t .n), lt-ltb (m .station .0) (t .n))
 
-  never-11 : (m : Message) → gapKept (s .ring) m ≡ true → m .arrival .0 ≤ s .ring .clock → handedIn (s .ring) m .number ≢ 11
-  never-11 m g arrived e =
+  short : (m : Message) → Regular t (s .ring) m → lengthAllowed (s .ring) m ≡ true
+  short m R = rw (K .timed .set) (decides-between 1 (at (t .c) (m .station .0)) (m .length .0) .1 (R .length))
+
+  never-11 : (m : Message) → Regular t (s .ring) m → handedIn (s .ring) m .number ≢ 11
+  never-11 m R e =
       let n : messageNumber (s .ring) m ≡ 11 = sym (answer-of m) ∙ e in
-      let x = given-later _ _ 9 _ 11 (decides-lt (m .station .0) (count (s .ring))) (omega arith) .0 n in
-      let y = given-later _ _ 10 _ 11 (decides-between 1 (at (s .ring .set .c) (m .station .0)) (m .length .0)) (omega arith) .0 (x .1) in
-      given _ _ 11 _ (decides-eq (at (s .ring .rest) (m .station .0)) 0) (not-given _ 12 0 11 (omega arith) (omega arith)) .0 (y .1)
-      (free m (below m (x .0)) g arrived)
+      let x = given-later _ _ 9 _ 11 (known m) (omega arith) .0 n in
+      let y : orElse (nothingHeld (s .ring) m) 11 (orElse (arrivalAllowed (s .ring) m) 12 0) ≡ 11 = sym (held _ 10 _ (short m R)) ∙ x .1 in
+      given (nothingHeld (s .ring) m) (at (s .ring .rest) (m .station .0) ≡ 0) 11 _ (eqb-true _ _, eq-eqb _ _) (not-given _ 12 0 11 (omega arith) (omega arith)) .0 y
+      (free m (x .0) R)
 
-  message-is-taken : (m : Message) → stationKnown (s .ring) m ≡ true → lengthAllowed (s .ring) m ≡ true → arrivalAllowed (s .ring) m ≡ true → m .arrival .0 ≤ s .ring .clock → handedIn (s .ring) m .number ≡ 0
-  message-is-taken m known length allowed arrived =
-      let l : m .station .0 < t .n = below m (ltb-true _ _ known) in
-      let none : nothingHeld (s .ring) m ≡ true = eq-eqb _ _ (free m l (arrival-says (s .ring) m allowed .2) arrived) in
-      answer-of m ∙ held _ 9 _ known ∙ held _ 10 _ length ∙ held _ 11 _ none ∙ held _ 12 0 allowed
+  message-is-taken : (m : Message) → m .station .0 < t .n → m .arrival .0 ≤ mostClock → Regular t (s .ring) m → handedIn (s .ring) m .number ≡ 0
+  message-is-taken m l range R =
+      let none : nothingHeld (s .ring) m ≡ true = eq-eqb _ _ (free m l R) in
+      let gap : at (s .ring .had) (m .station .0) ≢ 0 → at (s .ring .arrival) (m .station .0) + at (s .ring .set .p) (m .station .0) ≤ m .arrival .0 = rw (K .timed .set) (R .gap) in
+      let allowed : arrivalAllowed (s .ring) m ≡ true = decides-arrival (s .ring) m .1 (record { range = range; later = R .later; gap = gap }) in
+      answer-of m ∙ held _ 9 _ (known m .1 l) ∙ held _ 10 _ (short m R) ∙ held _ 11 _ none ∙ held _ 12 0 allowed
+
+  -- ---- the last start of a station
+
+  last-is : (i : ℕ) → i < t .n → (u : VisitRecord) → latestOf i (s .records) ≡ some u → (i < s .ring .visits) × (at (s .ring .last) i ≡ u .start .0)
+  last-is i l u e =
+      ⊎-elim (λ (x : Unvisited t (s .ring) (s .records) i). let z : _≡_ {A = ℕ} 0 1 = cc (e, x .latest) in absurd (omega arith))
+      (λ (x : (w : VisitRecord) × Since (s .ring) (s .records) i w).
+      let same : x .0 ≡ u = cc (e, x .1 .latest) in
+      (x .1 .counted, x .1 .last ∙ ap (λ (w : VisitRecord). w .start .0) same))
+      (K .timed .arrived i l)
+
+  last-is-not : (i : ℕ) → i < t .n → latestOf i (s .records) ≡ none → s .ring .visits ≤ i
+  last-is-not i l e =
+      ⊎-elim (λ (x : Unvisited t (s .ring) (s .records) i). x .early)
+      (λ (x : (w : VisitRecord) × Since (s .ring) (s .records) i w). let z : _≡_ {A = ℕ} 0 1 = cc (e, x .1 .latest) in absurd (omega arith))
+      (K .timed .arrived i l)
 
 -- ---- the record of all of it
 
 module _ (t : Set) (a : Alloc) (o : Opens t a) (calls : List Call) where
-  each-kept : {B : VisitRecord → List VisitRecord → Type 0} → ((v : VisitRecord) (before : List VisitRecord) → VisitKept t a v before → B v before) → Each B (runOf t a calls .records)
-  each-kept f = each-of f (runOf t a calls .records) (kept t a o calls .each)
+  each-kept : {B : VisitRecord → List VisitRecord → Type 0} → ((v : VisitRecord) (before : List VisitRecord) → VisitKept t a v before → B v before) → Each B (recordsOf t a calls)
+  each-kept f = each-of f (recordsOf t a calls) (kept t a o calls .each)
 
 pub promised : Promised
 promised =
@@ -131,18 +160,21 @@ promised =
       share-kept = λ t a o calls. each-kept t a o calls (λ v before k. k .share);
       exact-limit = λ t a o calls. each-kept t a o calls (λ v before k. k .limit);
       followed = λ t a o calls m h later.
-          followed-from t a (opens-plan t a o) (runOf t a calls) (kept t a o calls) m (sym (message-number (runOf t a calls .ring) m) ∙ h) later;
+          followed-from t a (opens-plan t a o) (runOf t a calls) (kept t a o calls) m (sym (message-number (ringOf t a calls) m) ∙ h) later;
       ahead = λ t a o calls. still-ahead t a (opens-plan t a o) (runOf t a calls) (kept t a o calls);
       finishes = λ t a o calls. finishes-in-time t a (opens-plan t a o) (runOf t a calls) (kept t a o calls);
       none-late = λ t a o calls. each-kept t a o calls (λ v before k. k .none-late);
-      sound = λ t a o calls. kept-sound t a (opens-plan t a o) (runOf t a calls) (kept t a o calls);
+      sound = λ t a o calls. sound-sentences (ringOf t a calls) (kept-sound t a (opens-plan t a o) (runOf t a calls) (kept t a o calls));
       no-visit-8 = λ t a o calls. never-8 t a (opens-plan t a o) (runOf t a calls) (kept t a o calls);
       no-message-8 = λ t a o calls. message-never-8 t a (opens-plan t a o) (runOf t a calls) (kept t a o calls);
+      goes = λ t a o calls. goes-exactly t a (opens-plan t a o) (runOf t a calls) (kept t a o calls);
       counted = λ t a o calls. kept t a o calls .timed .counted;
       bounded = λ t a o calls.
           rw (← (kept t a o calls .timed .counted))
-          (visits-bounded t a (runOf t a calls .ring) (runOf t a calls .records) (opens-plan t a o) (kept t a o calls .timed));
-      no-11 = λ t a o calls m length gap later. never-11 t a (opens-plan t a o) (runOf t a calls) (kept t a o calls) m gap;
+          (visits-bounded t a (ringOf t a calls) (recordsOf t a calls) (opens-plan t a o) (kept t a o calls .timed));
+      no-11 = λ t a o calls. never-11 t a (opens-plan t a o) (runOf t a calls) (kept t a o calls);
       taken = λ t a o calls. message-is-taken t a (opens-plan t a o) (runOf t a calls) (kept t a o calls);
+      last-start = λ t a o calls. last-is t a (opens-plan t a o) (runOf t a calls) (kept t a o calls);
+      no-start = λ t a o calls. last-is-not t a (opens-plan t a o) (runOf t a calls) (kept t a o calls);
       plan-opens = λ t h. judged-opens t (planned t .alloc) (plans-promised .kept t h .judged);
     }

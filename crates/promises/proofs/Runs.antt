@@ -1,26 +1,27 @@
 -- What a run keeps, call by call: every answer is the steps' own or leaves all as it was.
 use Prim.Native.Nat.{ℕ, zero, suc, _+_, _-_, _≤_, _<_}
 use mathlib.Core.Path.{_≡_, refl, sym, ap, _∙_}
-use mathlib.Core.Bool.{true, false}
+use mathlib.Core.Bool.{true}
 use mathlib.Core.List.{List, [], _∷_}
 use mathlib.Core.Logic.{_⊎_, inl, inr, _≢_, ⊎-elim}
 use mathlib.Core.Option.{none, some}
 use native.Mathlib.Omega.{arith}
-use borrow.Author.Tests.{leb-true, le-ltb}
-use lib.Dec.{leb}
+use borrow.Author.Tests.{le-ltb}
 use lib.IntN.{pos}
 use Rattle.units.specs.Numbers.{mostClock}
 use Rattle.units.specs.Places.{at}
-use Rattle.units.specs.JudgingLaws.{true-or-false, held, failed}
+use Rattle.units.specs.JudgingLaws.{held}
+use Rattle.units.specs.SmallLaws.{below-or-not}
 use Rattle.sets.specs.declared.Set.{Set}
 use Rattle.plans.specs.declared.Alloc.{Alloc}
+use Rattle.rings.specs.Opening.{silentTrt}
 use Rattle.rings.specs.Sound.{isSound}
-use Rattle.rings.specs.Steps.{syncSent, asyncSent, moved, recordOf, blankRecord, visitNumber, visitedWith, visited}
-use Rattle.rings.specs.HandingIn.{holding, messageNumber, handInNumber, takenWith, handedIn}
+use Rattle.rings.specs.Steps.{syncSent, asyncSent, moved, recordOf, visitNumber, refusedVisit, acceptedVisit, visited}
+use Rattle.rings.specs.HandingIn.{holding, handInNumber, takenWith, handedIn}
+use Rattle.rings.specs.RingLaws.{visit-0, visit-13, visit-accepted, visit-refused, taken-accepted, taken-refused}
 use Rattle.rings.specs.declared.Ring.{Ring}
 use Rattle.rings.specs.declared.Message.{Message}
 use Rattle.rings.specs.declared.VisitRecord.{VisitRecord}
-use Rattle.rings.specs.declared.Visited.{Visited}
 use Rattle.promises.specs.Run.{Call, visit, message, Run, noted, after, run, opened, runOf}
 use Rattle.promises.specs.History.{latestOf, Each}
 use Rattle.promises.specs.Facts.{VisitTiming, VisitMessages, Completing, Leaving, Accepting}
@@ -33,54 +34,21 @@ use Rattle.promises.proofs.Soundness.{is-sound}
 
 -- ---- the answers
 
--- the accepted visit
-abbrev pub acceptedAnswer : Ring → ℕ → Visited
-acceptedAnswer r ask =
-    record {
-      ring = moved r (syncSent r) (asyncSent r ask);
-      answer = record { «record» = recordOf r (syncSent r) (asyncSent r ask); number = 0 };
-    }
-
--- the refused one
-abbrev pub refusedAnswer : Ring → Visited
-refusedAnswer r = record { ring = r; answer = record { «record» = blankRecord; number = 13 } }
-
 module _ (r : Ring) (ask : ℕ) (sound : isSound r ≡ true) where
-  pub visit-accepted : leb (r .clock) mostClock ≡ true → visited r ask ≡ acceptedAnswer r ask
-  unfolding visitedWith
-  visit-accepted h =
-      let e : visitNumber r ≡ 0 = held (isSound r) 8 _ sound ∙ held (leb (r .clock) mostClock) 13 0 h in
-      rw e
+  pub visit-goes : r .clock ≤ mostClock → visited r ask ≡ acceptedVisit r ask
+  visit-goes early = visit-accepted (visitNumber r) r ask (visit-0 r sound early)
 
-  pub visit-refused : leb (r .clock) mostClock ≡ false → visited r ask ≡ refusedAnswer r
-  unfolding visitedWith
-  visit-refused h =
-      let e : visitNumber r ≡ 13 = held (isSound r) 8 _ sound ∙ failed (leb (r .clock) mostClock) 13 0 h in
-      rw e
+  pub visit-stops : mostClock < r .clock → visited r ask ≡ refusedVisit r 13
+  visit-stops late = rw (visit-13 r sound late) (visit-refused 13 r ask (omega arith))
 
 module _ (r : Ring) (m : Message) where
-  pub message-taken : handInNumber r m ≡ 0 → handedIn r m ≡ record { ring = holding r m; number = 0 }
-  unfolding takenWith
-  message-taken h = rw h
-
   taken-as : (k : ℕ) → takenWith k r m .number ≡ k
   unfolding takenWith
   taken-as zero = refl
   taken-as (suc k) = refl
 
-  taken-not : (k : ℕ) → k ≢ 0 → takenWith k r m .ring ≡ r
-  unfolding takenWith
-  taken-not zero n = absurd (n refl)
-  taken-not (suc k) n = refl
-
   pub message-number : handedIn r m .number ≡ handInNumber r m
   message-number = taken-as (handInNumber r m)
-
-  pub message-refused : handInNumber r m ≢ 0 → handedIn r m .ring ≡ r
-  message-refused n = taken-not (handInNumber r m) n
-
-  pub sound-number : isSound r ≡ true → handInNumber r m ≡ messageNumber r m
-  sound-number sound = held (isSound r) 8 (messageNumber r m) sound
 
 -- ---- what a new record keeps
 
@@ -104,7 +72,7 @@ module _ (t : Set) (a : Alloc) (r q : Ring) (v : VisitRecord) (h : List VisitRec
       omega (arith, x .1 .start, F .start, F .timer))
       (T .arrived (r .token) (T .token))
 
-  first-since : latestOf (v .station .0) h ≡ none → v .trt .0 ≡ Rattle.rings.specs.Opening.silentTrt t (v .station .0) + v .start .0
+  first-since : latestOf (v .station .0) h ≡ none → v .trt .0 ≡ silentTrt t (v .station .0) + v .start .0
   first-since e =
       let here : latestOf (r .token) h ≡ none = ap (λ (i : ℕ). latestOf i h) (sym (F .station)) ∙ e in
       ⊎-elim (λ (x : Unvisited t r h (r .token)). rw (F .station) (omega (arith, x .silent, F .start, F .timer)))
@@ -199,7 +167,7 @@ module _ (t : Set) (a : Alloc) (P : Plan t a) (s : Run) (K : Kept t a s) where
 
   pub message-facts : (m : Message) → handInNumber (s .ring) m ≡ 0 → Accepting t (s .ring) (holding (s .ring) m) m
   message-facts m e =
-      message-accepts t a (s .ring) (s .records) m P (K .timed) (K .places) (sym (sound-number (s .ring) m kept-sound) ∙ e)
+      message-accepts t a (s .ring) (s .records) m P (K .timed) (K .places) e
 
   kept-held : (m : Message) → handInNumber (s .ring) m ≡ 0 → Kept t a (heldRun m)
   kept-held m e =
@@ -217,21 +185,20 @@ module _ (t : Set) (a : Alloc) (P : Plan t a) (s : Run) (K : Kept t a s) where
   pub after-visit : (ask : ℕ) → ((s .ring .clock ≤ mostClock) × (after s (visit ask) ≡ movedRun ask)) ⊎ (after s (visit ask) ≡ s)
   unfolding after noted
   after-visit ask =
-      ⊎-elim (λ (h : leb (s .ring .clock) mostClock ≡ true).
-      inl (leb-true _ _ h, rw (visit-accepted (s .ring) ask kept-sound h)))
-      (λ (h : leb (s .ring .clock) mostClock ≡ false). inr (rw (visit-refused (s .ring) ask kept-sound h)))
-      (true-or-false (leb (s .ring .clock) mostClock))
+      ⊎-elim (λ (late : mostClock < s .ring .clock). inr (rw (visit-stops (s .ring) ask kept-sound late)))
+      (λ (early : s .ring .clock ≤ mostClock). inl (early, rw (visit-goes (s .ring) ask kept-sound early)))
+      (below-or-not mostClock (s .ring .clock))
 
   pub after-held : (m : Message) → handInNumber (s .ring) m ≡ 0 → after s (message m) ≡ heldRun m
   unfolding after
-  after-held m h = rw (message-taken (s .ring) m h)
+  after-held m h = rw (taken-accepted (handInNumber (s .ring) m) (s .ring) m h)
 
   -- a handing in: held, or as it was
   pub after-message : (m : Message) → ((handInNumber (s .ring) m ≡ 0) × (after s (message m) ≡ heldRun m)) ⊎ (after s (message m) ≡ s)
   unfolding after
   after-message m =
       ⊎-elim (λ (h : handInNumber (s .ring) m ≡ 0). inl (h, after-held m h))
-      (λ (n : handInNumber (s .ring) m ≢ 0). inr (rw (message-refused (s .ring) m n)))
+      (λ (n : handInNumber (s .ring) m ≢ 0). inr (rw (taken-refused (handInNumber (s .ring) m) (s .ring) m n)))
       (same-or-not (handInNumber (s .ring) m) 0)
 
 pub kept-after : (t : Set) (a : Alloc) → Plan t a → (s : Run) → Kept t a s → (c : Call) → Kept t a (after s c)

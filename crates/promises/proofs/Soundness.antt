@@ -1,38 +1,22 @@
 -- What a run keeps makes its ring sound: every test of 01's list holds. The visit count stays small, because each rotation takes a tick at least and no visit starts after 1,000,000,000,000.
 use Prim.Native.Nat.{ℕ, _+_, _*_, _<_}
-use mathlib.Core.Path.{_≡_, refl}
+use mathlib.Core.Path.{_≡_}
 use mathlib.Core.Bool.{true}
 use mathlib.Core.List.{List}
 use native.Mathlib.Omega.{arith}
 use native.Mathlib.Nat.{mul-le-mul-left, le-mul-of-pos-right}
-use borrow.Author.Tests.{lt-ltb, le-leb, eq-eqb}
 use Rattle.units.specs.Numbers.{mostClock, mostTtrt, mostStations}
 use Rattle.units.specs.Places.{at}
-use Rattle.units.specs.PlaceLaws.{all-of}
-use Rattle.units.specs.Judging.{allHold}
-use Rattle.units.specs.JudgingLaws.{true-and}
 use Rattle.sets.specs.declared.Set.{Set}
 use Rattle.plans.specs.declared.Alloc.{Alloc}
 use Rattle.rings.specs.State.{count}
-use Rattle.rings.specs.Sound.{Sound, isSound, trtSoundAt, sentSoundAt, restSoundAt, arrivalSoundAt}
+use Rattle.rings.specs.Sound.{Sound, isSound}
+use Rattle.rings.specs.RingLaws.{sound-tests}
 use Rattle.rings.specs.declared.Ring.{Ring}
 use Rattle.rings.specs.declared.VisitRecord.{VisitRecord}
 use Rattle.promises.proofs.Timing.{Plan, Timed, never-late}
 use Rattle.promises.proofs.Messages.{Messaged}
 use Rattle.promises.proofs.Steps.{unused-is, Places}
-
--- the sentences make the tests true
-sound-holds : (r : Ring) → Sound r → isSound r ≡ true
-unfolding isSound allHold
-sound-holds r S =
-    true-and _ _ (eq-eqb _ _ (S .plan))
-    (true-and _ _ (lt-ltb _ _ (S .token))
-    (true-and _ _ (all-of (count r) (trtSoundAt r) (λ i l. le-leb _ _ (S .trts i l)))
-    (true-and _ _ (all-of (count r) (sentSoundAt r) (λ i l. le-leb _ _ (S .sents i l)))
-    (true-and _ _ (eq-eqb _ _ (S .unused))
-    (true-and _ _ (all-of (count r) (restSoundAt r) (λ i l. le-leb _ _ (S .rests i l)))
-    (true-and _ _ (all-of (count r) (arrivalSoundAt r) (λ i l. le-leb _ _ (S .arrivals i l)))
-    (true-and _ _ (le-leb _ _ (S .clock)) (true-and _ _ (lt-ltb _ _ (S .visits)) refl))))))))
 
 module _ (t : Set) (a : Alloc) (r : Ring) (h : List VisitRecord) (P : Plan t a) (T : Timed t a r h) where
   pub visits-bounded : r .visits < mostStations * (mostClock + mostTtrt + 1)
@@ -57,4 +41,4 @@ module _ (t : Set) (a : Alloc) (r : Ring) (h : List VisitRecord) (P : Plan t a) 
       }
 
   pub is-sound : Places r → ((i : ℕ) → i < t .n → Messaged t a r i) → isSound r ≡ true
-  is-sound L M = sound-holds r (sound-of L M)
+  is-sound L M = sound-tests r (sound-of L M)

@@ -1,22 +1,23 @@
 -- The rings' own steps give the facts: a visit its two halves, a handing in what it asks and does.
-use Prim.Native.Nat.{ℕ, _+_, _-_, _≤_, _<_, min}
+use Prim.Native.Nat.{ℕ, _+_, _-_, _≤_, _<_}
 use mathlib.Core.Path.{_≡_, refl, subst, subst₂, _∙_}
-use mathlib.Core.Bool.{Bool, true, false, _&&_, _||_}
+use mathlib.Core.Bool.{Bool, true, false, _&&_}
 use mathlib.Core.List.{List}
 use mathlib.Core.Logic.{_⊎_, inl, inr, _≢_, ⊎-elim}
 use native.Mathlib.Omega.{arith}
-use borrow.Author.Tests.{ltb-true, ltb-false, leb-true, leb-false, eqb-true, eqb-false, lt-ltb, eq-eqb}
-use lib.Dec.{ltb, leb, eqb}
+use borrow.Author.Tests.{ltb-true, ltb-false, leb-true, leb-false, eqb-true, eqb-false}
+use lib.Dec.{leb, eqb}
 use lib.ListN.{length, set, length-set}
 use lib.Seq.{getD-set-same, getD-set-other}
 use Rattle.units.specs.Places.{at, sumBelow}
 use Rattle.units.specs.PlaceLaws.{sum-part, raise-inside, raise-length}
-use Rattle.units.specs.JudgingLaws.{true-or-false, and-true, given-later, Decides, decides-between}
+use Rattle.units.specs.JudgingLaws.{true-or-false, and-true}
 use Rattle.sets.specs.declared.Set.{Set}
 use Rattle.plans.specs.declared.Alloc.{Alloc}
-use Rattle.rings.specs.State.{count, share, unusedAt, holds, beforeFirstVisit, beforeFirstMessage}
+use Rattle.rings.specs.State.{count, share, unusedAt, holds}
 use Rattle.rings.specs.Steps.{limit, serves, syncSent, asyncSent, rise, nextToken, moved, completes, recordOf}
-use Rattle.rings.specs.HandingIn.{arrivalAllowed, arrivalInRange, laterThanLastStart, gapKept, holding, messageNumber}
+use Rattle.rings.specs.HandingIn.{Takes, holding, handInNumber}
+use Rattle.rings.specs.RingLaws.{served, not-served, taken-passed}
 use Rattle.rings.specs.declared.Ring.{Ring}
 use Rattle.rings.specs.declared.Message.{Message}
 use Rattle.rings.specs.declared.VisitRecord.{VisitRecord}
@@ -35,16 +36,6 @@ pub record Places (r : Ring) : Type 0 where
   pub last : length (r .last) ≡ 128
 
 -- ---- tests
-
-pub decides-lt : (a b : ℕ) → Decides (ltb a b) (a < b)
-decides-lt a b = (ltb-true a b, lt-ltb a b)
-
-pub decides-eq : (a b : ℕ) → Decides (eqb a b) (a ≡ b)
-decides-eq a b = (eqb-true a b, eq-eqb a b)
-
-or-true : (a b : Bool) → (a || b) ≡ true → (a ≡ true) ⊎ (b ≡ true)
-or-true true b h = inl refl
-or-true false b h = inr h
 
 and-false : (a b : Bool) → (a && b) ≡ false → (a ≡ false) ⊎ (b ≡ false)
 and-false true b h = inr h
@@ -105,20 +96,11 @@ module _ (r : Ring) (sync async : ℕ) (L : Places r) (few : count r ≤ 128) (b
 
 -- ---- what is sent of the held message
 
-module _ (r : Ring) where
-  sends : serves r ≡ true → syncSent r ≡ min (share r (r .token)) (at (r .rest) (r .token))
-  unfolding syncSent
-  sends h = rw h
-
-  sends-not : serves r ≡ false → syncSent r ≡ 0
-  unfolding syncSent
-  sends-not h = rw h
-
-  pub sync-small : (syncSent r ≤ share r (r .token)) × (syncSent r ≤ at (r .rest) (r .token))
-  sync-small =
-      ⊎-elim (λ (h : serves r ≡ true). rw (sends h) (omega arith))
-      (λ (h : serves r ≡ false). rw (sends-not h) (omega arith))
-      (true-or-false (serves r))
+pub sync-small : (r : Ring) → (syncSent r ≤ share r (r .token)) × (syncSent r ≤ at (r .rest) (r .token))
+sync-small r =
+    ⊎-elim (λ (h : serves r ≡ true). rw (served r h) (omega arith))
+    (λ (h : serves r ≡ false). rw (not-served r h) (omega arith))
+    (true-or-false (serves r))
 
 -- ---- the message half, of the ring's own plan
 
@@ -128,11 +110,11 @@ module _ (r : Ring) (async : ℕ) (L : Places r) (few : count r ≤ 128) (below 
   sending =
       ⊎-elim (λ (h : serves r ≡ true).
       let both = and-true (holds r (r .token)) (leb (at (r .arrival) (r .token)) (r .clock)) h in
-      inl (record { held = ltb-true _ _ (both .0); arrived = leb-true _ _ (both .1); amount = sends r h }))
+      inl (record { held = ltb-true _ _ (both .0); arrived = leb-true _ _ (both .1); amount = served r h }))
       (λ (h : serves r ≡ false).
       inr
       (record {
-        nothing = sends-not r h;
+        nothing = not-served r h;
         reason =
             ⊎-elim (λ (z : holds r (r .token) ≡ false). let l : at (r .rest) (r .token) ≤ 0 = ltb-false _ _ z in inl (omega arith))
             (λ (z : leb (at (r .arrival) (r .token)) (r .clock) ≡ false). inr (leb-false _ _ z))
@@ -224,36 +206,7 @@ module _ (t : Set) (a : Alloc) (r : Ring) (h : List VisitRecord) (P : Plan t a) 
 
 -- ---- a handing in
 
--- a number of 0 says that every test was passed
-asked : (r : Ring) (m : Message) → messageNumber r m ≡ 0 → (m .station .0 < count r) × (((1 ≤ m .length .0) × (m .length .0 ≤ at (r .set .c) (m .station .0))) × ((at (r .rest) (m .station .0) ≡ 0) × (arrivalAllowed r m ≡ true)))
-asked r m e =
-    let a = given-later _ _ 9 _ 0 (decides-lt (m .station .0) (count r)) (omega arith) .0 e in
-    let b = given-later _ _ 10 _ 0 (decides-between 1 (at (r .set .c) (m .station .0)) (m .length .0)) (omega arith) .0 (a .1) in
-    let c = given-later _ _ 11 _ 0 (decides-eq (at (r .rest) (m .station .0)) 0) (omega arith) .0 (b .1) in
-    let d = given-later (arrivalAllowed r m) (arrivalAllowed r m ≡ true) 12 0 0 (λ x. x, λ x. x) (omega arith) .0 (c .1) in
-    (a .0, (b .0, (c .0, d .0)))
-
 module _ (r : Ring) (m : Message) where
-  later-says : laterThanLastStart r m ≡ true → (r .visits ≤ m .station .0) ⊎ (at (r .last) (m .station .0) < m .arrival .0)
-  later-says g =
-      ⊎-elim (λ (z : beforeFirstVisit r (m .station .0) ≡ true). inl (leb-true _ _ z))
-      (λ (z : ltb (at (r .last) (m .station .0)) (m .arrival .0) ≡ true). inr (ltb-true _ _ z))
-      (or-true (beforeFirstVisit r (m .station .0)) (ltb (at (r .last) (m .station .0)) (m .arrival .0)) g)
-
-  pub gap-says : gapKept r m ≡ true → (at (r .had) (m .station .0) ≡ 0) ⊎ (at (r .arrival) (m .station .0) + at (r .set .p) (m .station .0) ≤ m .arrival .0)
-  gap-says g =
-      ⊎-elim (λ (z : beforeFirstMessage r (m .station .0) ≡ true). inl (eqb-true _ _ z))
-      (λ (z : leb (at (r .arrival) (m .station .0) + at (r .set .p) (m .station .0)) (m .arrival .0) ≡ true). inr (leb-true _ _ z))
-      (or-true (beforeFirstMessage r (m .station .0)) (leb (at (r .arrival) (m .station .0) + at (r .set .p) (m .station .0)) (m .arrival .0)) g)
-
-  -- an allowed arrival is in range, later than the last start, and keeps P
-  pub arrival-says : arrivalAllowed r m ≡ true → (arrivalInRange m ≡ true) × (laterThanLastStart r m ≡ true) × (gapKept r m ≡ true)
-  unfolding arrivalAllowed
-  arrival-says h =
-      let one = and-true (arrivalInRange m && laterThanLastStart r m) (gapKept r m) h in
-      let two = and-true (arrivalInRange m) (laterThanLastStart r m) (one .0) in
-      (two .0, two .1, one .1)
-
   pub holding-places : Places r → Places (holding r m)
   unfolding holding
   holding-places L =
@@ -271,28 +224,26 @@ module _ (r : Ring) (m : Message) where
   holding-timing =
       record { set = refl; alloc = refl; trt = refl; sent = refl; last = refl; clock = refl; visits = refl; token = refl; unused = refl }
 
-  holding-accepts : Places r → count r ≤ 128 → messageNumber r m ≡ 0 → Accepting (r .set) r (holding r m) m
+  holding-accepts : Places r → count r ≤ 128 → Takes r m → Accepting (r .set) r (holding r m) m
   unfolding holding
-  holding-accepts L few e =
-      let q = asked r m e in
-      let w = arrival-says (q .1 .1 .1) in
+  holding-accepts L few A =
       record {
-        known = q .0;
-        length = q .1 .0;
-        free = q .1 .1 .0;
-        range = leb-true _ _ (w .0);
-        later = later-says (w .1);
-        gap = gap-says (w .2);
+        known = A .known;
+        length = A .length;
+        free = A .free;
+        range = A .arrival .range;
+        later = A .arrival .later;
+        gap = A .arrival .gap;
         timing = holding-timing;
-        rest-here = getD-set-same (r .rest) (m .station .0) (m .length .0) 0 (omega (arith, q .0, L .rest));
+        rest-here = getD-set-same (r .rest) (m .station .0) (m .length .0) 0 (omega (arith, A .known, L .rest));
         rest-there = λ i b. getD-set-other (r .rest) (m .station .0) i (m .length .0) 0 b;
-        arrival-here = getD-set-same (r .arrival) (m .station .0) (m .arrival .0) 0 (omega (arith, q .0, L .arrival));
+        arrival-here = getD-set-same (r .arrival) (m .station .0) (m .arrival .0) 0 (omega (arith, A .known, L .arrival));
         arrival-there = λ i b. getD-set-other (r .arrival) (m .station .0) i (m .arrival .0) 0 b;
-        had-here = omega (arith, getD-set-same (r .had) (m .station .0) 1 0 (omega (arith, q .0, L .had)));
+        had-here = omega (arith, getD-set-same (r .had) (m .station .0) 1 0 (omega (arith, A .known, L .had)));
         had-there = λ i b. getD-set-other (r .had) (m .station .0) i 1 0 b;
       }
 
 -- of the plan with which the ring was opened
-pub message-accepts : (t : Set) (a : Alloc) (r : Ring) (h : List VisitRecord) (m : Message) → Plan t a → Timed t a r h → Places r → messageNumber r m ≡ 0 → Accepting t r (holding r m) m
+pub message-accepts : (t : Set) (a : Alloc) (r : Ring) (h : List VisitRecord) (m : Message) → Plan t a → Timed t a r h → Places r → handInNumber r m ≡ 0 → Accepting t r (holding r m) m
 message-accepts t a r h m P T L e =
-    subst (λ (x : Set). Accepting x r (holding r m) m) (T .set) (holding-accepts r m L (rw (T .set) (P .few)) e)
+    subst (λ (x : Set). Accepting x r (holding r m) m) (T .set) (holding-accepts r m L (rw (T .set) (P .few)) (taken-passed r m e .1))

@@ -104,8 +104,8 @@ pub record Accepting (t : Set) (r q : Ring) (m : Message) : Type 0 where
   pub length : (1 ≤ m .length .0) × (m .length .0 ≤ at (t .c) (m .station .0))
   pub free : at (r .rest) (m .station .0) ≡ 0
   pub range : m .arrival .0 ≤ mostClock
-  pub later : (r .visits ≤ m .station .0) ⊎ (at (r .last) (m .station .0) < m .arrival .0)
-  pub gap : (at (r .had) (m .station .0) ≡ 0) ⊎ (at (r .arrival) (m .station .0) + at (t .p) (m .station .0) ≤ m .arrival .0)
+  pub later : m .station .0 < r .visits → at (r .last) (m .station .0) < m .arrival .0
+  pub gap : at (r .had) (m .station .0) ≢ 0 → at (r .arrival) (m .station .0) + at (t .p) (m .station .0) ≤ m .arrival .0
   -- what it does
   pub timing : SameTiming r q
   pub rest-here : at (q .rest) (m .station .0) ≡ m .length .0

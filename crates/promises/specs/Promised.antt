@@ -1,9 +1,8 @@
 -- Demand 3: what is promised of every run, for every set and allocation that opening accepts, whatever calls are made, accepted and refused ones, and whatever is asked for; `proofs/Promised.antt` proves it.
 use Prim.Native.Nat.{ℕ, _+_, _-_, _*_, _≤_, _<_}
 use mathlib.Core.Path.{_≡_}
-use mathlib.Core.Bool.{true}
 use mathlib.Core.List.{List, _++_, _∷_}
-use mathlib.Core.Logic.{_⊎_, _≢_}
+use mathlib.Core.Logic.{_⊎_, _≢_, _↔_}
 use mathlib.Core.Option.{none, some}
 use lib.IntN.{pos}
 use lib.ListN.{length}
@@ -13,15 +12,14 @@ use Rattle.sets.specs.declared.Set.{Set}
 use Rattle.plans.specs.Rules.{spareTime}
 use Rattle.plans.specs.Planned.{planned}
 use Rattle.plans.specs.declared.Alloc.{Alloc}
-use Rattle.rings.specs.State.{holds}
 use Rattle.rings.specs.Opening.{opening, silentTrt}
-use Rattle.rings.specs.Sound.{isSound}
+use Rattle.rings.specs.Sound.{Sound}
 use Rattle.rings.specs.Steps.{visited}
-use Rattle.rings.specs.HandingIn.{stationKnown, lengthAllowed, arrivalAllowed, laterThanLastStart, gapKept, handedIn}
+use Rattle.rings.specs.HandingIn.{handedIn}
 use Rattle.rings.specs.declared.Ring.{Ring}
 use Rattle.rings.specs.declared.Message.{Message}
 use Rattle.rings.specs.declared.VisitRecord.{VisitRecord}
-use Rattle.promises.specs.Run.{Call, message, Run, after, run, runOf}
+use Rattle.promises.specs.Run.{Call, message, Run, after, run, runOf, ringOf, recordsOf}
 use Rattle.promises.specs.History.{asyncOf, latestOf, sentBy, due, Each, Somewhere}
 
 -- the one hypothesis: opening accepts the set with the allocation
@@ -94,36 +92,65 @@ pub record FinishesInTime (t : Set) (r : Ring) (v : VisitRecord) : Type 0 where
   pub in-time : v .finish .0 ≤ at (r .arrival) (r .token) + at (t .d) (r .token)
   pub margin : v .margin ≡ pos (at (r .arrival) (r .token) + at (t .d) (r .token) - v .finish .0)
 
+-- ---- a message that keeps C and P, has arrived, and is later than its station's last start
+
+pub record Regular (t : Set) (r : Ring) (m : Message) : Type 0 where
+  -- it is not longer than C
+  pub length : (1 ≤ m .length .0) × (m .length .0 ≤ at (t .c) (m .station .0))
+  -- it arrives at least P after its station's last accepted one, where there is one
+  pub gap : at (r .had) (m .station .0) ≢ 0 → at (r .arrival) (m .station .0) + at (t .p) (m .station .0) ≤ m .arrival .0
+  -- the clock has reached its arrival
+  pub arrived : m .arrival .0 ≤ r .clock
+  -- it arrives later than its station's last start, where there was a visit
+  pub later : m .station .0 < r .visits → at (r .last) (m .station .0) < m .arrival .0
+
 -- ---- the promises
 
 pub record Promised : Type 0 where
   -- 1. the token is never late: successive arrivals at a station are at most TTRT apart, and TRT is that gap
-  pub never-late : (t : Set) (a : Alloc) → Opens t a → (calls : List Call) → Each (Timely t) (runOf t a calls .records)
+  pub never-late : (t : Set) (a : Alloc) → Opens t a → (calls : List Call) → Each (Timely t) (recordsOf t a calls)
   -- and the stations come in turn, from station 0 on
-  pub in-turn : (t : Set) (a : Alloc) → Opens t a → (calls : List Call) → Each (InTurn t) (runOf t a calls .records)
+  pub in-turn : (t : Set) (a : Alloc) → Opens t a → (calls : List Call) → Each (InTurn t) (recordsOf t a calls)
   -- 2. no visit sends more synchronous time than S
-  pub share-kept : (t : Set) (a : Alloc) → Opens t a → (calls : List Call) → Each (ShareKept a) (runOf t a calls .records)
+  pub share-kept : (t : Set) (a : Alloc) → Opens t a → (calls : List Call) → Each (ShareKept a) (recordsOf t a calls)
   -- 3. the limit is exactly A* less the asynchronous time of the N visits before, the silent rotation counting as nothing
-  pub exact-limit : (t : Set) (a : Alloc) → Opens t a → (calls : List Call) → Each (ExactLimit t a) (runOf t a calls .records)
+  pub exact-limit : (t : Set) (a : Alloc) → Opens t a → (calls : List Call) → Each (ExactLimit t a) (recordsOf t a calls)
   -- 4. every accepted message, followed from its handing in, is held with its deadline ahead of the clock, or was completed by its deadline
-  pub followed : (t : Set) (a : Alloc) → Opens t a → (calls : List Call) (m : Message) → handedIn (runOf t a calls .ring) m .number ≡ 0 → (later : List Call) → Followed t m (runOf t a calls) (run (after (runOf t a calls) (message m)) later)
+  pub followed : (t : Set) (a : Alloc) → Opens t a → (calls : List Call) (m : Message)
+      → handedIn (ringOf t a calls) m .number ≡ 0 → (later : List Call)
+      → Followed t m (runOf t a calls) (run (after (runOf t a calls) (message m)) later)
   -- while a station holds a message, that message's deadline is ahead of the clock
-  pub ahead : (t : Set) (a : Alloc) → Opens t a → (calls : List Call) (i : ℕ) → i < t .n → holds (runOf t a calls .ring) i ≡ true → runOf t a calls .ring .clock < at (runOf t a calls .ring .arrival) i + at (t .d) i
+  pub ahead : (t : Set) (a : Alloc) → Opens t a → (calls : List Call) (i : ℕ)
+      → i < t .n → 0 < at (ringOf t a calls .rest) i → ringOf t a calls .clock < at (ringOf t a calls .arrival) i + at (t .d) i
   -- a visit that completes a message finishes it by its deadline, and the margin is what is left
-  pub finishes : (t : Set) (a : Alloc) → Opens t a → (calls : List Call) (ask : ℕ) → visited (runOf t a calls .ring) ask .answer .«record» .completed ≡ 1 → FinishesInTime t (runOf t a calls .ring) (visited (runOf t a calls .ring) ask .answer .«record»)
+  pub finishes : (t : Set) (a : Alloc) → Opens t a → (calls : List Call) (ask : ℕ)
+      → visited (ringOf t a calls) ask .answer .«record» .completed ≡ 1
+      → FinishesInTime t (ringOf t a calls) (visited (ringOf t a calls) ask .answer .«record»)
   -- so no record of a run has a negative margin
-  pub none-late : (t : Set) (a : Alloc) → Opens t a → (calls : List Call) → Each NoneLate (runOf t a calls .records)
+  pub none-late : (t : Set) (a : Alloc) → Opens t a → (calls : List Call) → Each NoneLate (recordsOf t a calls)
   -- 5. no ring reached from an opening is unsound, whatever the number of calls
-  pub sound : (t : Set) (a : Alloc) → Opens t a → (calls : List Call) → isSound (runOf t a calls .ring) ≡ true
+  pub sound : (t : Set) (a : Alloc) → Opens t a → (calls : List Call) → Sound (ringOf t a calls)
   -- so 8 is never given
-  pub no-visit-8 : (t : Set) (a : Alloc) → Opens t a → (calls : List Call) (ask : ℕ) → visited (runOf t a calls .ring) ask .answer .number ≢ 8
-  pub no-message-8 : (t : Set) (a : Alloc) → Opens t a → (calls : List Call) (m : Message) → handedIn (runOf t a calls .ring) m .number ≢ 8
+  pub no-visit-8 : (t : Set) (a : Alloc) → Opens t a → (calls : List Call) (ask : ℕ) → visited (ringOf t a calls) ask .answer .number ≢ 8
+  pub no-message-8 : (t : Set) (a : Alloc) → Opens t a → (calls : List Call) (m : Message) → handedIn (ringOf t a calls) m .number ≢ 8
+  -- a visit is refused, with 13, exactly if the clock is above 1,000,000,000,000
+  pub goes : (t : Set) (a : Alloc) → Opens t a → (calls : List Call) (ask : ℕ)
+      → (visited (ringOf t a calls) ask .answer .number ≡ 0) ↔ (ringOf t a calls .clock ≤ mostClock)
   -- the visit count is the number of accepted visits, and the clock ends them long before 2^62: each rotation takes a tick at least
-  pub counted : (t : Set) (a : Alloc) → Opens t a → (calls : List Call) → runOf t a calls .ring .visits ≡ length (runOf t a calls .records)
-  pub bounded : (t : Set) (a : Alloc) → Opens t a → (calls : List Call) → length (runOf t a calls .records) < mostStations * (mostClock + mostTtrt + 1)
+  pub counted : (t : Set) (a : Alloc) → Opens t a → (calls : List Call) → ringOf t a calls .visits ≡ length (recordsOf t a calls)
+  pub bounded : (t : Set) (a : Alloc) → Opens t a → (calls : List Call) → length (recordsOf t a calls) < mostStations * (mostClock + mostTtrt + 1)
   -- 6. never 11 for a message that keeps C and P, handed in when the clock has reached its arrival and it is later than its station's last start
-  pub no-11 : (t : Set) (a : Alloc) → Opens t a → (calls : List Call) (m : Message) → lengthAllowed (runOf t a calls .ring) m ≡ true → gapKept (runOf t a calls .ring) m ≡ true → laterThanLastStart (runOf t a calls .ring) m ≡ true → m .arrival .0 ≤ runOf t a calls .ring .clock → handedIn (runOf t a calls .ring) m .number ≢ 11
+  pub no-11 : (t : Set) (a : Alloc) → Opens t a → (calls : List Call) (m : Message)
+      → Regular t (ringOf t a calls) m → handedIn (ringOf t a calls) m .number ≢ 11
   -- it is taken, where its station is one of the ring's and its arrival in range
-  pub taken : (t : Set) (a : Alloc) → Opens t a → (calls : List Call) (m : Message) → stationKnown (runOf t a calls .ring) m ≡ true → lengthAllowed (runOf t a calls .ring) m ≡ true → arrivalAllowed (runOf t a calls .ring) m ≡ true → m .arrival .0 ≤ runOf t a calls .ring .clock → handedIn (runOf t a calls .ring) m .number ≡ 0
+  pub taken : (t : Set) (a : Alloc) → Opens t a → (calls : List Call) (m : Message)
+      → m .station .0 < t .n → m .arrival .0 ≤ mostClock
+      → Regular t (ringOf t a calls) m → handedIn (ringOf t a calls) m .number ≡ 0
+  -- the ring's last start of a station is the start of its latest record, and it says rightly that there was none
+  pub last-start : (t : Set) (a : Alloc) → Opens t a → (calls : List Call) (i : ℕ)
+      → i < t .n → (u : VisitRecord) → latestOf i (recordsOf t a calls) ≡ some u
+      → (i < ringOf t a calls .visits) × (at (ringOf t a calls .last) i ≡ u .start .0)
+  pub no-start : (t : Set) (a : Alloc) → Opens t a → (calls : List Call) (i : ℕ)
+      → i < t .n → latestOf i (recordsOf t a calls) ≡ none → ringOf t a calls .visits ≤ i
   -- 7. a plan that planning made opens, so all of this is true of it
   pub plan-opens : (t : Set) → planned t .number ≡ 0 → Opens t (planned t .alloc)

@@ -48,3 +48,11 @@ opened t a = record { ring = opening t a .ring; records = [] }
 -- these calls on the opened ring
 abbrev pub runOf : Set → Alloc → List Call → Run
 runOf t a calls = run (opened t a) calls
+
+-- the ring after them
+abbrev pub ringOf : Set → Alloc → List Call → Ring
+ringOf t a calls = runOf t a calls .ring
+
+-- the records of the accepted visits among them, the latest first
+abbrev pub recordsOf : Set → Alloc → List Call → List VisitRecord
+recordsOf t a calls = runOf t a calls .records
