@@ -25,7 +25,7 @@ use Rattle.rings.specs.declared.VisitRecord.{VisitRecord}
 use Rattle.promises.specs.Run.{Call, Run, runOf, ringOf, recordsOf}
 use Rattle.promises.specs.History.{latestOf, Each}
 use Rattle.promises.specs.Facts.{Completing, Leaving}
-use Rattle.promises.specs.Promised.{Opens, Regular, FinishesInTime, Promised}
+use Rattle.promises.specs.Promised.{Opens, AheadOf, Regular, FinishesInTime, Valid, Promised}
 use Rattle.promises.proofs.Timing.{Plan, Unvisited, Since}
 use Rattle.promises.proofs.Messages.{Waiting, clock-ahead, held-in-time, completed-in-time}
 use Rattle.promises.proofs.Opening.{judged-opens}
@@ -88,7 +88,7 @@ module _ (t : Set) (a : Alloc) (P : Plan t a) (s : Run) (K : Kept t a s) where
 
   -- ---- messages
 
-  still-ahead : (i : ℕ) → i < t .n → 0 < at (s .ring .rest) i → s .ring .clock < at (s .ring .arrival) i + at (t .d) i
+  still-ahead : (i : ℕ) → i < t .n → 0 < at (s .ring .rest) i → AheadOf (s .ring) (at (s .ring .arrival) i + at (t .d) i)
   still-ahead i l held = omega (arith, clock-ahead t a (s .ring) (s .records) P (K .timed) i l (K .messaged i l) held)
 
   answer-of : (m : Message) → handedIn (s .ring) m .number ≡ messageNumber (s .ring) m
@@ -148,33 +148,48 @@ module _ (t : Set) (a : Alloc) (P : Plan t a) (s : Run) (K : Kept t a s) where
 
 -- ---- the record of all of it
 
-module _ (t : Set) (a : Alloc) (o : Opens t a) (calls : List Call) where
-  each-kept : {B : VisitRecord → List VisitRecord → Type 0} → ((v : VisitRecord) (before : List VisitRecord) → VisitKept t a v before → B v before) → Each B (recordsOf t a calls)
-  each-kept f = each-of f (recordsOf t a calls) (kept t a o calls .each)
+valid : (t : Set) (a : Alloc) → Opens t a → Valid t a
+valid t a o =
+    record {
+      never-late = λ calls. each (λ v before k. k .timely) calls;
+      in-turn = λ calls. each (λ v before k. k .turn) calls;
+      share-kept = λ calls. each (λ v before k. k .share) calls;
+      exact-limit = λ calls. each (λ v before k. k .limit) calls;
+      spare = omega (arith, plan .token);
+      followed = λ calls m h later.
+          followed-from t a plan (runOf t a calls) (every calls) m (sym (message-number (ringOf t a calls) m) ∙ h) later;
+      ahead = λ calls. still-ahead t a plan (runOf t a calls) (every calls);
+      finishes = λ calls. finishes-in-time t a plan (runOf t a calls) (every calls);
+      none-late = λ calls. each (λ v before k. k .none-late) calls;
+      sound = λ calls. sound-sentences (ringOf t a calls) (kept-sound t a plan (runOf t a calls) (every calls));
+      no-visit-8 = λ calls. never-8 t a plan (runOf t a calls) (every calls);
+      no-message-8 = λ calls. message-never-8 t a plan (runOf t a calls) (every calls);
+      goes = λ calls. goes-exactly t a plan (runOf t a calls) (every calls);
+      counted = λ calls. every calls .timed .counted;
+      bounded = λ calls.
+          omega (arith, every calls .timed .counted, visits-bounded t a (ringOf t a calls) (recordsOf t a calls) plan (every calls .timed));
+      no-11 = λ calls. never-11 t a plan (runOf t a calls) (every calls);
+      taken = λ calls. message-is-taken t a plan (runOf t a calls) (every calls);
+      last-start = λ calls. last-is t a plan (runOf t a calls) (every calls);
+      no-start = λ calls. last-is-not t a plan (runOf t a calls) (every calls);
+    }
+  where
+    plan : Plan t a
+    plan = opens-plan t a o
+
+    every : (calls : List Call) → Kept t a (runOf t a calls)
+    every calls = kept t a o calls
+
+    each : {B : VisitRecord → List VisitRecord → Type 0} → ((v : VisitRecord) (before : List VisitRecord) → VisitKept t a v before → B v before) → (calls : List Call) → Each B (recordsOf t a calls)
+    each f calls = each-of f (recordsOf t a calls) (every calls .each)
+
+plan-opens : (t : Set) → planned t .number ≡ 0 → Opens t (planned t .alloc)
+plan-opens t h = judged-opens t (planned t .alloc) (plans-promised .kept t h .judged)
 
 pub promised : Promised
 promised =
     record {
-      never-late = λ t a o calls. each-kept t a o calls (λ v before k. k .timely);
-      in-turn = λ t a o calls. each-kept t a o calls (λ v before k. k .turn);
-      share-kept = λ t a o calls. each-kept t a o calls (λ v before k. k .share);
-      exact-limit = λ t a o calls. each-kept t a o calls (λ v before k. k .limit);
-      followed = λ t a o calls m h later.
-          followed-from t a (opens-plan t a o) (runOf t a calls) (kept t a o calls) m (sym (message-number (ringOf t a calls) m) ∙ h) later;
-      ahead = λ t a o calls. still-ahead t a (opens-plan t a o) (runOf t a calls) (kept t a o calls);
-      finishes = λ t a o calls. finishes-in-time t a (opens-plan t a o) (runOf t a calls) (kept t a o calls);
-      none-late = λ t a o calls. each-kept t a o calls (λ v before k. k .none-late);
-      sound = λ t a o calls. sound-sentences (ringOf t a calls) (kept-sound t a (opens-plan t a o) (runOf t a calls) (kept t a o calls));
-      no-visit-8 = λ t a o calls. never-8 t a (opens-plan t a o) (runOf t a calls) (kept t a o calls);
-      no-message-8 = λ t a o calls. message-never-8 t a (opens-plan t a o) (runOf t a calls) (kept t a o calls);
-      goes = λ t a o calls. goes-exactly t a (opens-plan t a o) (runOf t a calls) (kept t a o calls);
-      counted = λ t a o calls. kept t a o calls .timed .counted;
-      bounded = λ t a o calls.
-          rw (← (kept t a o calls .timed .counted))
-          (visits-bounded t a (ringOf t a calls) (recordsOf t a calls) (opens-plan t a o) (kept t a o calls .timed));
-      no-11 = λ t a o calls. never-11 t a (opens-plan t a o) (runOf t a calls) (kept t a o calls);
-      taken = λ t a o calls. message-is-taken t a (opens-plan t a o) (runOf t a calls) (kept t a o calls);
-      last-start = λ t a o calls. last-is t a (opens-plan t a o) (runOf t a calls) (kept t a o calls);
-      no-start = λ t a o calls. last-is-not t a (opens-plan t a o) (runOf t a calls) (kept t a o calls);
-      plan-opens = λ t h. judged-opens t (planned t .alloc) (plans-promised .kept t h .judged);
+      opened = valid;
+      plan-opens = plan-opens;
+      plan-valid = λ t h. valid t (planned t .alloc) (plan-opens t h);
     }

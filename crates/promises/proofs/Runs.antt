@@ -98,7 +98,7 @@ module _ (t : Set) (a : Alloc) (r q : Ring) (v : VisitRecord) (h : List VisitRec
   turn-made = record { station = rw (F .station) (T .token); turn = F .station ∙ T .turn }
 
   pub share-made : ShareKept a v h
-  share-made = rw (F .station) (F .within)
+  share-made = omega (arith, F .within, ap (at (a .s)) (F .station))
 
   module _ (G : VisitMessages t a r q v) (M : Messaged t a r (r .token)) where
     -- what is left to the deadline

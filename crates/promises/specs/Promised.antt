@@ -7,7 +7,8 @@ use mathlib.Core.Option.{none, some}
 use lib.IntN.{pos}
 use lib.ListN.{length}
 use Rattle.units.specs.Numbers.{mostClock, mostTtrt, mostStations}
-use Rattle.units.specs.Places.{at}
+use Rattle.units.specs.Places.{at, sumBelow}
+use Rattle.sets.specs.Rules.{tau}
 use Rattle.sets.specs.declared.Set.{Set}
 use Rattle.plans.specs.Rules.{spareTime}
 use Rattle.plans.specs.Planned.{planned}
@@ -63,12 +64,16 @@ NoneLate v before = v .completed ≡ 1 → (margin : ℕ) × (v .margin ≡ pos 
 abbrev pub dueBy : Set → Message → ℕ
 dueBy t m = m .arrival .0 + at (t .d) (m .station .0)
 
+-- a moment lies ahead of the ring's clock
+abbrev pub AheadOf : Ring → ℕ → Type 0
+AheadOf r moment = r .clock < moment
+
 -- the ring still holds it: what remains and what its station sent since make up its length, and the deadline is ahead of the clock
 pub record StillHeld (t : Set) (m : Message) (r : Ring) (since : List VisitRecord) : Type 0 where
   pub held : 0 < at (r .rest) (m .station .0)
   pub arrival : at (r .arrival) (m .station .0) ≡ m .arrival .0
   pub parts : at (r .rest) (m .station .0) + sentBy (m .station .0) since ≡ m .length .0
-  pub ahead : r .clock < dueBy t m
+  pub ahead : AheadOf r (dueBy t m)
 
 -- visit v completed it, `before` being the visits since the handing in and before v: what its station sent in all these is its length, and the finish is by the deadline
 pub record CompletedBy (t : Set) (m : Message) (v : VisitRecord) (before : List VisitRecord) : Type 0 where
@@ -104,53 +109,59 @@ pub record Regular (t : Set) (r : Ring) (m : Message) : Type 0 where
   -- it arrives later than its station's last start, where there was a visit
   pub later : m .station .0 < r .visits → at (r .last) (m .station .0) < m .arrival .0
 
--- ---- the promises
+-- ---- what "valid" means: every run of calls on the ring opened with set t and allocation a keeps this
 
-pub record Promised : Type 0 where
+pub record Valid (t : Set) (a : Alloc) : Type 0 where
   -- 1. the token is never late: successive arrivals at a station are at most TTRT apart, and TRT is that gap
-  pub never-late : (t : Set) (a : Alloc) → Opens t a → (calls : List Call) → Each (Timely t) (recordsOf t a calls)
+  pub never-late : (calls : List Call) → Each (Timely t) (recordsOf t a calls)
   -- and the stations come in turn, from station 0 on
-  pub in-turn : (t : Set) (a : Alloc) → Opens t a → (calls : List Call) → Each (InTurn t) (recordsOf t a calls)
+  pub in-turn : (calls : List Call) → Each (InTurn t) (recordsOf t a calls)
   -- 2. no visit sends more synchronous time than S
-  pub share-kept : (t : Set) (a : Alloc) → Opens t a → (calls : List Call) → Each (ShareKept a) (recordsOf t a calls)
+  pub share-kept : (calls : List Call) → Each (ShareKept a) (recordsOf t a calls)
   -- 3. the limit is exactly A* less the asynchronous time of the N visits before, the silent rotation counting as nothing
-  pub exact-limit : (t : Set) (a : Alloc) → Opens t a → (calls : List Call) → Each (ExactLimit t a) (recordsOf t a calls)
+  pub exact-limit : (calls : List Call) → Each (ExactLimit t a) (recordsOf t a calls)
+  -- A* is a true difference: with τ and the sum of S it makes up TTRT
+  pub spare : spareTime t (at (a .s)) + tau t + sumBelow (t .n) (at (a .s)) ≡ t .head .ttrt
   -- 4. every accepted message, followed from its handing in, is held with its deadline ahead of the clock, or was completed by its deadline
-  pub followed : (t : Set) (a : Alloc) → Opens t a → (calls : List Call) (m : Message)
+  pub followed : (calls : List Call) (m : Message)
       → handedIn (ringOf t a calls) m .number ≡ 0 → (later : List Call)
       → Followed t m (runOf t a calls) (run (after (runOf t a calls) (message m)) later)
   -- while a station holds a message, that message's deadline is ahead of the clock
-  pub ahead : (t : Set) (a : Alloc) → Opens t a → (calls : List Call) (i : ℕ)
-      → i < t .n → 0 < at (ringOf t a calls .rest) i → ringOf t a calls .clock < at (ringOf t a calls .arrival) i + at (t .d) i
+  pub ahead : (calls : List Call) (i : ℕ)
+      → i < t .n → 0 < at (ringOf t a calls .rest) i → AheadOf (ringOf t a calls) (at (ringOf t a calls .arrival) i + at (t .d) i)
   -- a visit that completes a message finishes it by its deadline, and the margin is what is left
-  pub finishes : (t : Set) (a : Alloc) → Opens t a → (calls : List Call) (ask : ℕ)
+  pub finishes : (calls : List Call) (ask : ℕ)
       → visited (ringOf t a calls) ask .answer .«record» .completed ≡ 1
       → FinishesInTime t (ringOf t a calls) (visited (ringOf t a calls) ask .answer .«record»)
   -- so no record of a run has a negative margin
-  pub none-late : (t : Set) (a : Alloc) → Opens t a → (calls : List Call) → Each NoneLate (recordsOf t a calls)
+  pub none-late : (calls : List Call) → Each NoneLate (recordsOf t a calls)
   -- 5. no ring reached from an opening is unsound, whatever the number of calls
-  pub sound : (t : Set) (a : Alloc) → Opens t a → (calls : List Call) → Sound (ringOf t a calls)
+  pub sound : (calls : List Call) → Sound (ringOf t a calls)
   -- so 8 is never given
-  pub no-visit-8 : (t : Set) (a : Alloc) → Opens t a → (calls : List Call) (ask : ℕ) → visited (ringOf t a calls) ask .answer .number ≢ 8
-  pub no-message-8 : (t : Set) (a : Alloc) → Opens t a → (calls : List Call) (m : Message) → handedIn (ringOf t a calls) m .number ≢ 8
-  -- a visit is refused, with 13, exactly if the clock is above 1,000,000,000,000
-  pub goes : (t : Set) (a : Alloc) → Opens t a → (calls : List Call) (ask : ℕ)
-      → (visited (ringOf t a calls) ask .answer .number ≡ 0) ↔ (ringOf t a calls .clock ≤ mostClock)
+  pub no-visit-8 : (calls : List Call) (ask : ℕ) → visited (ringOf t a calls) ask .answer .number ≢ 8
+  pub no-message-8 : (calls : List Call) (m : Message) → handedIn (ringOf t a calls) m .number ≢ 8
+  -- a visit is accepted exactly if the clock is not above 1,000,000,000,000
+  pub goes : (calls : List Call) (ask : ℕ) → (visited (ringOf t a calls) ask .answer .number ≡ 0) ↔ (ringOf t a calls .clock ≤ mostClock)
   -- the visit count is the number of accepted visits, and the clock ends them long before 2^62: each rotation takes a tick at least
-  pub counted : (t : Set) (a : Alloc) → Opens t a → (calls : List Call) → ringOf t a calls .visits ≡ length (recordsOf t a calls)
-  pub bounded : (t : Set) (a : Alloc) → Opens t a → (calls : List Call) → length (recordsOf t a calls) < mostStations * (mostClock + mostTtrt + 1)
+  pub counted : (calls : List Call) → ringOf t a calls .visits ≡ length (recordsOf t a calls)
+  pub bounded : (calls : List Call) → length (recordsOf t a calls) < mostStations * (mostClock + mostTtrt + 1)
   -- 6. never 11 for a message that keeps C and P, handed in when the clock has reached its arrival and it is later than its station's last start
-  pub no-11 : (t : Set) (a : Alloc) → Opens t a → (calls : List Call) (m : Message)
-      → Regular t (ringOf t a calls) m → handedIn (ringOf t a calls) m .number ≢ 11
+  pub no-11 : (calls : List Call) (m : Message) → Regular t (ringOf t a calls) m → handedIn (ringOf t a calls) m .number ≢ 11
   -- it is taken, where its station is one of the ring's and its arrival in range
-  pub taken : (t : Set) (a : Alloc) → Opens t a → (calls : List Call) (m : Message)
+  pub taken : (calls : List Call) (m : Message)
       → m .station .0 < t .n → m .arrival .0 ≤ mostClock
       → Regular t (ringOf t a calls) m → handedIn (ringOf t a calls) m .number ≡ 0
-  -- the ring's last start of a station is the start of its latest record, and it says rightly that there was none
-  pub last-start : (t : Set) (a : Alloc) → Opens t a → (calls : List Call) (i : ℕ)
+  -- the ring's last start of a station is the start of its latest record, and the ring says rightly that there was none
+  pub last-start : (calls : List Call) (i : ℕ)
       → i < t .n → (u : VisitRecord) → latestOf i (recordsOf t a calls) ≡ some u
       → (i < ringOf t a calls .visits) × (at (ringOf t a calls .last) i ≡ u .start .0)
-  pub no-start : (t : Set) (a : Alloc) → Opens t a → (calls : List Call) (i : ℕ)
-      → i < t .n → latestOf i (recordsOf t a calls) ≡ none → ringOf t a calls .visits ≤ i
-  -- 7. a plan that planning made opens, so all of this is true of it
+  pub no-start : (calls : List Call) (i : ℕ) → i < t .n → latestOf i (recordsOf t a calls) ≡ none → ringOf t a calls .visits ≤ i
+
+-- ---- the promises
+
+pub record Promised : Type 0 where
+  -- whatever set and allocation opening accepts, they are valid
+  pub opened : (t : Set) (a : Alloc) → Opens t a → Valid t a
+  -- 7. a plan that planning made opens, and so it is valid
   pub plan-opens : (t : Set) → planned t .number ≡ 0 → Opens t (planned t .alloc)
+  pub plan-valid : (t : Set) → planned t .number ≡ 0 → Valid t (planned t .alloc)
