@@ -1,0 +1,27 @@
+-- A call on a lent ring: what the host's memory holds of the ring when the call ends, and what is answered. Both are what the form by value gives.
+use Prim.Native.Nat.{ℕ}
+use mathlib.Core.Path.{_≡_}
+use mathlib.Core.Logic.{_≢_}
+use Rattle.rings.specs.Steps
+use Rattle.rings.specs.HandingIn
+use Rattle.rings.specs.declared.Ring.{Ring}
+use Rattle.rings.specs.declared.Message.{Message}
+use Rattle.rings.specs.declared.VisitAnswer.{VisitAnswer}
+
+-- a visit at the lent ring, with this many asynchronous ticks asked for
+pub record VisitLent (entry : Ring) (ask : ℕ) (exit : Ring) (answer : VisitAnswer) : Type 0 where
+  -- the ring in the host's memory is the ring after the visit
+  pub ring : exit ≡ Steps.visited entry ask .ring
+  -- the number and the record are the visit's
+  pub answered : answer ≡ Steps.visited entry ask .answer
+  -- a refused visit leaves each field of the ring as it was
+  pub refused : answer .number ≢ 0 → exit ≡ entry
+
+-- a message handed in at the lent ring
+pub record HandInLent (entry : Ring) (message : Message) (exit : Ring) (number : ℕ) : Type 0 where
+  -- the ring in the host's memory is the ring after the handing in
+  pub ring : exit ≡ HandingIn.handedIn entry message .ring
+  -- the number is that of the handing in
+  pub answered : number ≡ HandingIn.handedIn entry message .number
+  -- a refused handing in leaves each field of the ring as it was
+  pub refused : number ≢ 0 → exit ≡ entry
