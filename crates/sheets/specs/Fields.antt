@@ -1,5 +1,6 @@
 -- The fields of a sheet: one tag byte, two length bytes, then the body. What is allowed at a place, and what is found there.
-use Prim.Native.Nat.{ℕ, zero, suc, _+_, _-_}
+use Prim.Native.Nat.{ℕ, zero, suc, _+_, _-_, _≤_}
+use mathlib.Core.Path.{_≡_}
 use mathlib.Core.Bool.{Bool, cond, not, _&&_, _||_}
 use mathlib.Core.List.{List}
 use lib.Dec.{leb, ltb, eqb}
@@ -96,3 +97,9 @@ fieldAt bs a allowed = handedOut (fieldNumber bs a allowed) (tagAt bs a) (a + 3)
 -- a whole field with this tag and this length stands at the place a
 unfoldable pub wholeAt : List ℕ → ℕ → ℕ → ℕ → Bool
 wholeAt bs a tag size = leb (3 + size) (left bs a) && (eqb (tagAt bs a) tag && eqb (sizeAt bs a) size)
+
+-- the same as a sentence
+pub record Whole (bs : List ℕ) (a tag size : ℕ) : Type 0 where
+  pub inside : a + 3 + size ≤ length bs
+  pub has-tag : tagAt bs a ≡ tag
+  pub has-size : sizeAt bs a ≡ size

@@ -12,7 +12,7 @@ use Rattle.sets.specs.Judged.{blankSet}
 use Rattle.sets.specs.declared.Set.{Set}
 use Rattle.plans.specs.Planned.{blankAlloc}
 use Rattle.plans.specs.declared.Alloc.{Alloc}
-use Rattle.sheets.specs.Fields.{left, tagAt, sizeAt, wholeAt, allowedNext, allocationsFor}
+use Rattle.sheets.specs.Fields.{Whole, left, wholeAt, allowedNext, allocationsFor}
 use Rattle.sheets.specs.Reading.{thenNumber, readAnswer, readSheet, setIn, allocIn, judgedSheet, stationsIn, allocationsIn, allocationsFrom, wholeFrom, goesOnAt, passedAll, endNumber, shapeNumber}
 use Rattle.sheets.specs.RowLaws.{lead-most}
 use Rattle.sheets.specs.FieldLaws.{FieldWhole, field-says, passed, allocations-few}
@@ -34,12 +34,6 @@ then-none zero rest h = (refl, h)
 then-none (suc k) rest h = absurd (omega arith)
 
 -- ---- whole fields
-
--- what "a whole field stands there" says
-pub record Whole (bs : List ℕ) (a tag size : ℕ) : Type 0 where
-  pub inside : a + 3 + size ≤ length bs
-  pub has-tag : tagAt bs a ≡ tag
-  pub has-size : sizeAt bs a ≡ size
 
 pub whole-says : (bs : List ℕ) (a tag size : ℕ) → wholeAt bs a tag size ≡ true → Whole bs a tag size
 unfolding wholeAt
@@ -85,9 +79,12 @@ module _ (plan : Bool) (bs : List ℕ) where
   unfolding stationsIn
   few-stations = lead-most 128 _
 
-  pub few-allocations : (n : ℕ) → allocationsIn plan bs n ≤ n
+  pub allocations-most : (n : ℕ) → allocationsIn plan bs n ≤ allocationsFor plan n
   unfolding allocationsIn
-  few-allocations n = omega (arith, lead-most (allocationsFor plan n) (wholeFrom bs (allocationsFrom n) 3 4), allocations-few plan n)
+  allocations-most n = lead-most (allocationsFor plan n) (wholeFrom bs (allocationsFrom n) 3 4)
+
+  pub few-allocations : (n : ℕ) → allocationsIn plan bs n ≤ n
+  few-allocations n = omega (arith, allocations-most n, allocations-few plan n)
 
   -- a sheet of the right shape has room for all that is read from it
   pub shape-fits : shapeNumber plan bs ≡ 0 → goesOnAt (stationsIn bs) (allocationsIn plan bs (stationsIn bs)) + 3 ≤ length bs

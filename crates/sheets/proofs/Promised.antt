@@ -1,0 +1,311 @@
+-- The promises hold because a sheet's parts stand one behind the other, are counted where they stand, and hold the numbers that were written.
+use Prim.Native.Nat.{ℕ, zero, suc, _+_, _*_, _≤_, _<_}
+use mathlib.Core.Path.{_≡_, refl, sym, ap, _∙_}
+use mathlib.Core.Bool.{Bool, true, false}
+use mathlib.Core.List.{List, _++_}
+use mathlib.Core.Logic.{⊎-elim, _↔_, _≢_}
+use native.Mathlib.Omega.{arith}
+use lib.ListN.{length, take, drop, getD-replicate, List·getD-eq-default}
+use lib.Seq.{take-at}
+use borrow.Author.Tests.{leb-true}
+use Rattle.units.specs.Places.{at, fill}
+use Rattle.units.specs.PlaceLaws.{fill-outside}
+use Rattle.units.specs.SmallLaws.{below-or-not}
+use Rattle.units.specs.JudgingLaws.{held, not-given}
+use Rattle.sets.specs.Rules.{SameSet, CountAllowed}
+use Rattle.sets.specs.Judged.{judged, judgedThen, blankSet, zeros}
+use Rattle.sets.specs.SetLaws.{decides-count, judged-same}
+use Rattle.sets.specs.declared.Set.{Set}
+use Rattle.plans.specs.Planned.{judgedPlan, blankAlloc}
+use Rattle.plans.specs.PlanLaws.{judged-plan-same}
+use Rattle.plans.specs.declared.Alloc.{Alloc}
+use Rattle.sheets.specs.Rows.{rows}
+use Rattle.sheets.specs.Bytes.{AllBytes}
+use Rattle.sheets.specs.Fields.{allocationsFor}
+use Rattle.sheets.specs.Layout.{stationBytes, allocationBytes, sheetOf, requestSheet, planSheet, sheetLength}
+use Rattle.sheets.specs.Reading.{thenNumber, stationsIn, allocationsIn, shapeNumber, setIn, allocIn, judgedSheet, readSheet, readRequest, readPlan}
+use Rattle.sheets.specs.Writing.{writtenAnswer, writtenBuffer}
+use Rattle.sheets.specs.FirstFault.{Fault, no-start, not-allowed, cut-body, follows, FirstFault, WholeSheet}
+use Rattle.sheets.specs.Promised.{Promised, ZeroPast, GivenRequest, GivenPlan, firstPlaces, firstAllocations}
+use Rattle.sheets.specs.RowLaws.{rows-same}
+use Rattle.sheets.specs.FieldLaws.{passed}
+use Rattle.sheets.specs.ReadLaws.{then-rest, then-keeps, then-none, read-refused, read-accepted, read-number, end-says, few-stations, few-allocations, sheet-accepted}
+use Rattle.sheets.specs.WriteLaws.{sheet-long, answer-accepted, answer-number, buffer-accepted, buffer-refused, number-none}
+use Rattle.sheets.specs.BackLaws.{read-back, first-same, first-allocations}
+use Rattle.sheets.specs.AgainLaws.{stop-is-end, read-again}
+use Rattle.sheets.specs.FaultLaws.{zero-or-not, fault-shape, shape-fault, whole-shape, shape-whole}
+use Rattle.sheets.specs.declared.fields.Allowed.{Allowed}
+use Rattle.sheets.specs.declared.ReadPlan.{ReadPlan}
+use Rattle.sheets.specs.declared.Written.{Written}
+
+-- ---- writing, then reading
+
+-- an accepted writing of what is judged 0
+module _ (plan : Bool) (t : Set) (a : Alloc) (out : List ℕ) (judged-0 : judgedSheet plan t a ≡ 0) (fits : sheetLength plan (t .n) ≤ length out) where
+  answered : writtenAnswer plan t a out ≡ record { length = sheetLength plan (t .n); number = 0 }
+  answered = answer-accepted _ (sheetLength plan (t .n)) (number-none plan t a out judged-0 fits)
+
+  written : writtenBuffer plan t a out ≡ sheetOf plan t a ++ drop (length (sheetOf plan t a)) out
+  written = buffer-accepted _ (sheetOf plan t a) out (number-none plan t a out judged-0 fits)
+
+  -- the first n bytes are the sheet
+  first-bytes : take (sheetLength plan (t .n)) (writtenBuffer plan t a out) ≡ sheetOf plan t a
+  first-bytes = rw written (take-at (sheetOf plan t a) _ (sheetLength plan (t .n)) (sheet-long plan t a))
+
+-- what was accepted was judged 0, and fitted
+accepted-says : (plan : Bool) (t : Set) (a : Alloc) (out : List ℕ) → writtenAnswer plan t a out .number ≡ 0 → (judgedSheet plan t a ≡ 0) × (sheetLength plan (t .n) ≤ length out)
+accepted-says plan t a out h =
+    let both = then-none _ _ (sym (answer-number _ _) ∙ h) in
+    (both .0, leb-true _ _ (passed _ 14 _ (omega arith) (both .1) .0))
+
+-- bytes that writing gave are read back
+given-read : (plan : Bool) (t : Set) (a : Alloc) (out bs : List ℕ) → writtenAnswer plan t a out .number ≡ 0 → bs ≡ take (writtenAnswer plan t a out .length) (writtenBuffer plan t a out) → readSheet plan bs .number ≡ 0
+given-read plan t a out bs h e =
+    let said = accepted-says plan t a out h in
+    let long : writtenAnswer plan t a out .length ≡ sheetLength plan (t .n) = ap (λ (r : Written). r .length) (answered plan t a out (said .0) (said .1)) in
+    let is : bs ≡ sheetOf plan t a = e ∙ rw long (first-bytes plan t a out (said .0) (said .1)) in
+    rw (is, read-back plan t a (said .0))
+
+-- ---- reading, then writing
+
+-- a sheet written into a buffer that is long enough
+same-bytes : (plan : Bool) (t : Set) (a : Alloc) (bs out : List ℕ) → judgedSheet plan t a ≡ 0 → bs ≡ sheetOf plan t a → length bs ≤ length out
+    → (writtenAnswer plan t a out ≡ record { length = length bs; number = 0 }) × (writtenBuffer plan t a out ≡ bs ++ drop (length bs) out)
+same-bytes plan t a bs out judged-0 e fits =
+    let long : length bs ≡ sheetLength plan (t .n) = ap length e ∙ sheet-long plan t a in
+    let fit : sheetLength plan (t .n) ≤ length out = omega arith in
+    (rw long (answered plan t a out judged-0 fit), rw e (written plan t a out judged-0 fit))
+
+-- a request's bytes do not depend on an allocation
+no-allocation : (t : Set) (a b : Alloc) → sheetOf false t a ≡ sheetOf false t b
+unfolding sheetOf rows
+no-allocation t a b = refl
+
+module _ (bs : List ℕ) (bytes : AllBytes bs) where
+  request-same : (out : List ℕ) → readRequest bs .number ≡ 0 → length bs ≤ length out
+      → (writtenAnswer false (readRequest bs .set) blankAlloc out ≡ record { length = length bs; number = 0 })
+      × (writtenBuffer false (readRequest bs .set) blankAlloc out ≡ bs ++ drop (length bs) out)
+  unfolding judgedSheet
+  request-same out h fits =
+      let said = read-again false bs bytes h in
+      rw (sheet-accepted false bs (said .1 .1) (said .0))
+      (same-bytes false (setIn bs) blankAlloc bs out (said .0) (said .1 .0 ∙ no-allocation (setIn bs) (allocIn false bs) blankAlloc) fits)
+
+  plan-same : (out : List ℕ) → readPlan bs .number ≡ 0 → length bs ≤ length out
+      → (writtenAnswer true (readPlan bs .set) (readPlan bs .alloc) out ≡ record { length = length bs; number = 0 })
+      × (writtenBuffer true (readPlan bs .set) (readPlan bs .alloc) out ≡ bs ++ drop (length bs) out)
+  plan-same out h fits =
+      let said = read-again true bs bytes h in
+      rw (sheet-accepted true bs (said .1 .1) (said .0))
+      (same-bytes true (setIn bs) (allocIn true bs) bs out (said .0) (said .1 .0) fits)
+
+-- bytes that stand at the start are the first of them
+first-of : (bs out : List ℕ) → take (length bs) (bs ++ drop (length bs) out) ≡ bs
+first-of bs out = take-at bs _ (length bs) refl
+
+request-given : (bs : List ℕ) → AllBytes bs → (readRequest bs .number ≡ 0) ↔ GivenRequest bs
+request-given bs bytes = (
+  λ h.
+      let w = request-same bs bytes bs h (omega arith) in
+      let t = readRequest bs .set in
+      (t, bs, (ap (λ (r : Written). r .number) (w .0), sym (rw (w .0, w .1) (first-of bs bs)))),
+  λ g. given-read false (g .0) blankAlloc (g .1) bs (g .2 .0) (g .2 .1),
+)
+
+plan-given : (bs : List ℕ) → AllBytes bs → (readPlan bs .number ≡ 0) ↔ GivenPlan bs
+plan-given bs bytes = (
+  λ h.
+      let w = plan-same bs bytes bs h (omega arith) in
+      (readPlan bs .set, readPlan bs .alloc, bs, (ap (λ (r : Written). r .number) (w .0), sym (rw (w .0, w .1) (first-of bs bs)))),
+  λ g. given-read true (g .0) (g .1) (g .2) bs (g .3 .0) (g .3 .1),
+)
+
+-- ---- the first fault
+
+-- a judgement is never 1 or 3, and 2 for the count alone
+not-low : (plan : Bool) (t : Set) (a : Alloc) (k : ℕ) → CountAllowed t → 1 ≤ k → k ≤ 3 → judgedSheet plan t a ≢ k
+unfolding judgedSheet judgedPlan judgedThen
+not-low true t a k count low high h =
+    not-given _ 4 _ k (omega arith) (not-given _ 5 _ k (omega arith) (not-given _ 7 0 k (omega arith) (omega arith)))
+    (sym (held _ 2 _ (decides-count t .1 count)) ∙ h)
+not-low false t a k count low high h =
+    not-given _ 4 _ k (omega arith) (not-given _ 5 0 k (omega arith) (omega arith)) (sym (held _ 2 _ (decides-count t .1 count)) ∙ h)
+
+count-read : (plan : Bool) (bs : List ℕ) → shapeNumber plan bs ≡ 0 → CountAllowed (setIn bs)
+unfolding shapeNumber
+count-read plan bs h =
+    let n = stationsIn bs in
+    let m = allocationsIn plan bs (stationsIn bs) in
+    (stop-is-end plan bs n m refl refl (end-says plan bs n m (then-none _ _ h .1) .0) .some, few-stations plan bs)
+
+-- the number that is read
+number-read : (plan : Bool) (bs : List ℕ) → shapeNumber plan bs ≢ 0 → readSheet plan bs .number ≡ shapeNumber plan bs
+unfolding readSheet
+number-read plan bs h = read-number _ _ _ ∙ then-keeps _ _ h
+
+number-judged : (plan : Bool) (bs : List ℕ) → shapeNumber plan bs ≡ 0 → readSheet plan bs .number ≡ judgedSheet plan (setIn bs) (allocIn plan bs)
+unfolding readSheet
+number-judged plan bs h = read-number _ _ _ ∙ then-rest _ _ h
+
+fault-given : (plan : Bool) (bs : List ℕ) (k : ℕ) → 1 ≤ k → k ≤ 3 → (readSheet plan bs .number ≡ k) ↔ FirstFault plan bs k
+fault-given plan bs k low high = (
+  λ h.
+      ⊎-elim (λ (z : shapeNumber plan bs ≡ 0). absurd (not-low plan (setIn bs) (allocIn plan bs) k (count-read plan bs z) low high (sym (number-judged plan bs z) ∙ h)))
+      (λ (z : shapeNumber plan bs ≢ 0). shape-fault plan bs k (omega arith) (sym (number-read plan bs z) ∙ h))
+      (zero-or-not (shapeNumber plan bs)),
+  λ f.
+      let e = fault-shape plan bs k f in
+      let some : shapeNumber plan bs ≢ 0 = λ z. absurd (omega arith) in
+      number-read plan bs some ∙ e,
+)
+
+-- no fault has a number above 3
+fault-low : (bs : List ℕ) (a : ℕ) (allowed : Allowed) (k : ℕ) → Fault bs a allowed k → k ≤ 3
+fault-low bs a allowed _ (no-start short) = omega arith
+fault-low bs a allowed _ (not-allowed three wrong) = omega arith
+fault-low bs a allowed _ (cut-body three may cut) = omega arith
+fault-low bs a allowed _ (follows e w m) = omega arith
+
+whole-else : (plan : Bool) (bs : List ℕ) → ((k : ℕ) → 1 ≤ k → k ≤ 3 → readSheet plan bs .number ≢ k) → WholeSheet plan bs
+whole-else plan bs h =
+    ⊎-elim (λ (z : shapeNumber plan bs ≡ 0). shape-whole plan bs z)
+    (λ (z : shapeNumber plan bs ≢ 0).
+    let f = shape-fault plan bs (shapeNumber plan bs) z refl in
+    let low : shapeNumber plan bs ≤ 3 = fault-low bs (f .place) _ (shapeNumber plan bs) (f .fault) in
+    absurd (h (shapeNumber plan bs) (above (shapeNumber plan bs) z) low (number-read plan bs z)))
+    (zero-or-not (shapeNumber plan bs))
+  where
+    above : (k : ℕ) → k ≢ 0 → 1 ≤ k
+    above zero z = absurd (z refl)
+    above (suc k) z = omega arith
+
+-- ---- blank, and 0 past N
+
+blank : (plan : Bool) (bs : List ℕ) → readSheet plan bs .number ≢ 0 → readSheet plan bs ≡ record { set = blankSet; alloc = blankAlloc; number = readSheet plan bs .number }
+unfolding readSheet
+blank plan bs h =
+    let e = read-number (thenNumber (shapeNumber plan bs) (judgedSheet plan (setIn bs) (allocIn plan bs))) (setIn bs) (allocIn plan bs) in
+    let some : thenNumber (shapeNumber plan bs) (judgedSheet plan (setIn bs) (allocIn plan bs)) ≢ 0 = λ z. h (e ∙ z) in
+    read-refused _ (setIn bs) (allocIn plan bs) some ∙ ap (λ (k : ℕ). record { set = blankSet; alloc = blankAlloc; number = k }) (sym e)
+
+accepted : (plan : Bool) (bs : List ℕ) → readSheet plan bs .number ≡ 0 → readSheet plan bs ≡ record { set = setIn bs; alloc = allocIn plan bs; number = 0 }
+unfolding readSheet
+accepted plan bs h = read-accepted _ (setIn bs) (allocIn plan bs) (sym (read-number _ _ _) ∙ h)
+
+zeros-at : (i : ℕ) → at zeros i ≡ 0
+zeros-at i = ⊎-elim (λ (b : i < 128). getD-replicate 128 i 0 0 b) (λ (b : 128 ≤ i). List·getD-eq-default zeros 0 b) (below-or-not i 128)
+
+filled-past : (n : ℕ) (f : ℕ → ℕ) (i : ℕ) → n ≤ i → at (fill n f zeros) i ≡ 0
+filled-past n f i l = fill-outside n f zeros i l ∙ zeros-at i
+
+blank-past : ZeroPast blankSet
+blank-past = record { walk = λ i l. zeros-at i; longest = λ i l. zeros-at i; deadline = λ i l. zeros-at i; gap = λ i l. zeros-at i }
+
+read-past : (bs : List ℕ) → ZeroPast (setIn bs)
+read-past bs =
+    record {
+      walk = λ i l. filled-past (stationsIn bs) _ i l;
+      longest = λ i l. filled-past (stationsIn bs) _ i l;
+      deadline = λ i l. filled-past (stationsIn bs) _ i l;
+      gap = λ i l. filled-past (stationsIn bs) _ i l;
+    }
+
+past : (plan : Bool) (bs : List ℕ) → ZeroPast (readSheet plan bs .set)
+past plan bs =
+    ⊎-elim (λ (z : readSheet plan bs .number ≡ 0). rw (accepted plan bs z) (read-past bs))
+    (λ (z : readSheet plan bs .number ≢ 0). rw (blank plan bs z) blank-past)
+    (zero-or-not (readSheet plan bs .number))
+
+past-allocations : (bs : List ℕ) (i : ℕ) → readPlan bs .set .n ≤ i → at (readPlan bs .alloc .s) i ≡ 0
+past-allocations bs i l =
+    ⊎-elim (λ (z : readSheet true bs .number ≡ 0).
+    let e = accepted true bs z in
+    let n : stationsIn bs ≤ i = rw e at l in
+    rw e (filled-past (allocationsIn true bs (stationsIn bs)) _ i (omega (arith, few-allocations true bs (stationsIn bs)))))
+    (λ (z : readSheet true bs .number ≢ 0). rw (blank true bs z) (zeros-at i))
+    (zero-or-not (readSheet true bs .number))
+
+-- ---- the first N places alone are written
+
+sheet-same : (plan : Bool) (t u : Set) (a b : Alloc) → SameSet t u → ((i : ℕ) → i < allocationsFor plan (t .n) → at (a .s) i ≡ at (b .s) i) → sheetOf plan t a ≡ sheetOf plan u b
+unfolding sheetOf
+sheet-same plan t u a b same each =
+    let stations : rows (t .n) (stationBytes t) ≡ rows (t .n) (stationBytes u) =
+    rows-same (t .n) (stationBytes t) (stationBytes u) (λ i l. rw (same .walk i l, same .longest i l, same .deadline i l, same .gap i l)) in
+    let allocations : rows (allocationsFor plan (t .n)) (allocationBytes a) ≡ rows (allocationsFor plan (t .n)) (allocationBytes b) =
+    rows-same (allocationsFor plan (t .n)) (allocationBytes a) (allocationBytes b) (λ i l. rw (each i l)) in
+    rw (stations, allocations, same .header, same .count)
+
+written-same : (plan : Bool) (t u : Set) (a b : Alloc) (out : List ℕ) → SameSet t u → ((i : ℕ) → i < allocationsFor plan (t .n) → at (a .s) i ≡ at (b .s) i) → judgedSheet plan t a ≡ judgedSheet plan u b
+    → (writtenAnswer plan t a out ≡ writtenAnswer plan u b out) × (writtenBuffer plan t a out ≡ writtenBuffer plan u b out)
+written-same plan t u a b out same each judged = (rw (judged, same .count), rw (judged, sheet-same plan t u a b same each, same .count))
+
+request-places : (t u : Set) (out : List ℕ) → SameSet t u
+    → (writtenAnswer false t blankAlloc out ≡ writtenAnswer false u blankAlloc out) × (writtenBuffer false t blankAlloc out ≡ writtenBuffer false u blankAlloc out)
+unfolding judgedSheet
+request-places t u out same = written-same false t u blankAlloc blankAlloc out same (λ i l. refl) (judged-same t u 0 same)
+
+plan-places : (t u : Set) (a b : Alloc) (out : List ℕ) → SameSet t u → ((i : ℕ) → i < t .n → at (a .s) i ≡ at (b .s) i)
+    → (writtenAnswer true t a out ≡ writtenAnswer true u b out) × (writtenBuffer true t a out ≡ writtenBuffer true u b out)
+unfolding judgedSheet
+plan-places t u a b out same each = written-same true t u a b out same each (judged-plan-same t u a b same each)
+
+-- ---- the promises
+
+request-written : (t : Set) (out : List ℕ) → judged t ≡ 0 → 10 + 19 * t .n ≤ length out
+    → (writtenAnswer false t blankAlloc out ≡ record { length = 10 + 19 * t .n; number = 0 })
+    × (readRequest (take (10 + 19 * t .n) (writtenBuffer false t blankAlloc out)) ≡ record { set = firstPlaces t; number = 0 })
+unfolding judgedSheet
+request-written t out h fits =
+    let e : 10 + 19 * t .n ≡ sheetLength false (t .n) = omega arith in
+    let fit : sheetLength false (t .n) ≤ length out = omega arith in
+    let bytes : take (10 + 19 * t .n) (writtenBuffer false t blankAlloc out) ≡ requestSheet t = ap (λ (k : ℕ). take k (writtenBuffer false t blankAlloc out)) e ∙ first-bytes false t blankAlloc out h fit in
+    let back = read-back false t blankAlloc h in
+    (answered false t blankAlloc out h fit ∙ ap (λ (k : ℕ). record { length = k; number = 0 }) (sym e), ap readRequest bytes ∙ ap (λ (r : ReadPlan). record { set = r .set; number = r .number }) back)
+
+plan-written : (t : Set) (a : Alloc) (out : List ℕ) → judgedPlan t a ≡ 0 → 10 + 26 * t .n ≤ length out
+    → (writtenAnswer true t a out ≡ record { length = 10 + 26 * t .n; number = 0 })
+    × (readPlan (take (10 + 26 * t .n) (writtenBuffer true t a out)) ≡ record { set = firstPlaces t; alloc = firstAllocations (t .n) a; number = 0 })
+unfolding judgedSheet
+plan-written t a out h fits =
+    let e : 10 + 26 * t .n ≡ sheetLength true (t .n) = omega arith in
+    let fit : sheetLength true (t .n) ≤ length out = omega arith in
+    let bytes : take (10 + 26 * t .n) (writtenBuffer true t a out) ≡ planSheet t a = ap (λ (k : ℕ). take k (writtenBuffer true t a out)) e ∙ first-bytes true t a out h fit in
+    (answered true t a out h fit ∙ ap (λ (k : ℕ). record { length = k; number = 0 }) (sym e), ap readPlan bytes ∙ read-back true t a h)
+
+request-judgement : (bs : List ℕ) → WholeSheet false bs → readRequest bs .number ≡ judged (setIn bs)
+unfolding judgedSheet
+request-judgement bs w = number-judged false bs (whole-shape false bs w)
+
+plan-judgement : (bs : List ℕ) → WholeSheet true bs → readPlan bs .number ≡ judgedPlan (setIn bs) (allocIn true bs)
+unfolding judgedSheet
+plan-judgement bs w = number-judged true bs (whole-shape true bs w)
+
+pub promised : Promised
+promised =
+    record {
+      request-length = λ t. let e = sheet-long false t blankAlloc in omega arith;
+      plan-length = λ t a. let e = sheet-long true t a in omega arith;
+      request-back = request-written;
+      plan-back = plan-written;
+      back-same = first-same;
+      back-allocations = first-allocations;
+      request-again = λ bs out bytes h fits. request-same bs bytes out h fits;
+      plan-again = λ bs out bytes h fits. plan-same bs bytes out h fits;
+      request-exactly = request-given;
+      plan-exactly = plan-given;
+      request-fault = λ bs k low high. fault-given false bs k low high;
+      plan-fault = λ bs k low high. fault-given true bs k low high;
+      request-whole = λ bs h. whole-else false bs h;
+      plan-whole = λ bs h. whole-else true bs h;
+      request-judged = request-judgement;
+      plan-judged = plan-judgement;
+      request-blank = λ bs h. ap (λ (r : ReadPlan). r .set) (blank false bs h);
+      plan-blank = λ bs h. (ap (λ (r : ReadPlan). r .set) (blank true bs h), ap (λ (r : ReadPlan). r .alloc) (blank true bs h));
+      request-past = past false;
+      plan-past = past true;
+      allocations-past = past-allocations;
+      unchanged = λ plan t a out h. buffer-refused _ (sheetOf plan t a) out (λ e. h (answer-number _ _ ∙ e));
+      request-first-places = request-places;
+      plan-first-places = plan-places;
+    }

@@ -1,0 +1,109 @@
+-- What is promised of reading and writing beside the contracts; `proofs/Promised.antt` proves it.
+use Prim.Native.Nat.{ℕ, _+_, _*_, _≤_, _<_}
+use mathlib.Core.Path.{_≡_}
+use mathlib.Core.Bool.{Bool, true, false}
+use mathlib.Core.List.{List, _++_}
+use mathlib.Core.Logic.{_↔_, _≢_}
+use lib.ListN.{length, take, drop}
+use Rattle.units.specs.Places.{at, fill}
+use Rattle.sets.specs.Rules.{SameSet}
+use Rattle.sets.specs.Judged.{judged, blankSet, zeros}
+use Rattle.sets.specs.declared.Set.{Set}
+use Rattle.plans.specs.Planned.{judgedPlan, blankAlloc}
+use Rattle.plans.specs.declared.Alloc.{Alloc}
+use Rattle.sheets.specs.Bytes.{AllBytes}
+use Rattle.sheets.specs.Layout.{requestSheet, planSheet}
+use Rattle.sheets.specs.Reading.{setIn, allocIn, readRequest, readPlan}
+use Rattle.sheets.specs.Writing.{writtenAnswer, writtenBuffer}
+use Rattle.sheets.specs.FirstFault.{FirstFault, WholeSheet}
+
+-- ---- over the first N places
+
+-- the set over its first N places, 0 past them
+abbrev pub firstPlaces : Set → Set
+firstPlaces t =
+    record {
+      head = t .head;
+      n = t .n;
+      w = fill (t .n) (at (t .w)) zeros;
+      c = fill (t .n) (at (t .c)) zeros;
+      d = fill (t .n) (at (t .d)) zeros;
+      p = fill (t .n) (at (t .p)) zeros;
+    }
+
+-- the allocation over its first N places, 0 past them
+abbrev pub firstAllocations : ℕ → Alloc → Alloc
+firstAllocations n a = record { s = fill n (at (a .s)) zeros }
+
+-- every place from N on is 0
+pub record ZeroPast (t : Set) : Type 0 where
+  pub walk : (i : ℕ) → t .n ≤ i → at (t .w) i ≡ 0
+  pub longest : (i : ℕ) → t .n ≤ i → at (t .c) i ≡ 0
+  pub deadline : (i : ℕ) → t .n ≤ i → at (t .d) i ≡ 0
+  pub gap : (i : ℕ) → t .n ≤ i → at (t .p) i ≡ 0
+
+-- ---- the bytes that writing gives
+
+-- these bytes are what writing some set into some buffer gave
+abbrev pub GivenRequest : List ℕ → Type 0
+GivenRequest bs =
+    (t : Set) × (out : List ℕ)
+    × ((writtenAnswer false t blankAlloc out .number ≡ 0) × (bs ≡ take (writtenAnswer false t blankAlloc out .length) (writtenBuffer false t blankAlloc out)))
+
+-- these bytes are what writing some plan into some buffer gave
+abbrev pub GivenPlan : List ℕ → Type 0
+GivenPlan bs =
+    (t : Set) × (a : Alloc) × (out : List ℕ)
+    × ((writtenAnswer true t a out .number ≡ 0) × (bs ≡ take (writtenAnswer true t a out .length) (writtenBuffer true t a out)))
+
+-- ---- the promises
+
+pub record Promised : Type 0 where
+  -- a request sheet has 10 + 19N bytes, a plan sheet 10 + 26N
+  pub request-length : (t : Set) → length (requestSheet t) ≡ 10 + 19 * t .n
+  pub plan-length : (t : Set) (a : Alloc) → length (planSheet t a) ≡ 10 + 26 * t .n
+  -- read back as written: a request
+  pub request-back : (t : Set) (out : List ℕ) → judged t ≡ 0 → 10 + 19 * t .n ≤ length out
+      → (writtenAnswer false t blankAlloc out ≡ record { length = 10 + 19 * t .n; number = 0 })
+      × (readRequest (take (10 + 19 * t .n) (writtenBuffer false t blankAlloc out)) ≡ record { set = firstPlaces t; number = 0 })
+  -- and a plan
+  pub plan-back : (t : Set) (a : Alloc) (out : List ℕ) → judgedPlan t a ≡ 0 → 10 + 26 * t .n ≤ length out
+      → (writtenAnswer true t a out ≡ record { length = 10 + 26 * t .n; number = 0 })
+      × (readPlan (take (10 + 26 * t .n) (writtenBuffer true t a out)) ≡ record { set = firstPlaces t; alloc = firstAllocations (t .n) a; number = 0 })
+  -- what is read back is the same over the first N places
+  pub back-same : (t : Set) → t .n ≤ 128 → SameSet t (firstPlaces t)
+  pub back-allocations : (n : ℕ) (a : Alloc) → n ≤ 128 → (i : ℕ) → i < n → at (a .s) i ≡ at (firstAllocations n a .s) i
+  -- written again the same: a request
+  pub request-again : (bs out : List ℕ) → AllBytes bs → readRequest bs .number ≡ 0 → length bs ≤ length out
+      → (writtenAnswer false (readRequest bs .set) blankAlloc out ≡ record { length = length bs; number = 0 })
+      × (writtenBuffer false (readRequest bs .set) blankAlloc out ≡ bs ++ drop (length bs) out)
+  -- and a plan
+  pub plan-again : (bs out : List ℕ) → AllBytes bs → readPlan bs .number ≡ 0 → length bs ≤ length out
+      → (writtenAnswer true (readPlan bs .set) (readPlan bs .alloc) out ≡ record { length = length bs; number = 0 })
+      × (writtenBuffer true (readPlan bs .set) (readPlan bs .alloc) out ≡ bs ++ drop (length bs) out)
+  -- reading accepts exactly the bytes that writing gives
+  pub request-exactly : (bs : List ℕ) → AllBytes bs → (readRequest bs .number ≡ 0) ↔ GivenRequest bs
+  pub plan-exactly : (bs : List ℕ) → AllBytes bs → (readPlan bs .number ≡ 0) ↔ GivenPlan bs
+  -- 1, 2 and 3 go by the first fault from the left
+  pub request-fault : (bs : List ℕ) (k : ℕ) → 1 ≤ k → k ≤ 3 → (readRequest bs .number ≡ k) ↔ FirstFault false bs k
+  pub plan-fault : (bs : List ℕ) (k : ℕ) → 1 ≤ k → k ≤ 3 → (readPlan bs .number ≡ k) ↔ FirstFault true bs k
+  -- and only a sheet with no fault gets another number
+  pub request-whole : (bs : List ℕ) → ((k : ℕ) → 1 ≤ k → k ≤ 3 → readRequest bs .number ≢ k) → WholeSheet false bs
+  pub plan-whole : (bs : List ℕ) → ((k : ℕ) → 1 ≤ k → k ≤ 3 → readPlan bs .number ≢ k) → WholeSheet true bs
+  -- with no such fault the number is the judgement of what the bytes hold: 4 or 5, and 7 for plans, or 0
+  pub request-judged : (bs : List ℕ) → WholeSheet false bs → readRequest bs .number ≡ judged (setIn bs)
+  pub plan-judged : (bs : List ℕ) → WholeSheet true bs → readPlan bs .number ≡ judgedPlan (setIn bs) (allocIn true bs)
+  -- refused: the set is blank, and the allocation
+  pub request-blank : (bs : List ℕ) → readRequest bs .number ≢ 0 → readRequest bs .set ≡ blankSet
+  pub plan-blank : (bs : List ℕ) → readPlan bs .number ≢ 0 → (readPlan bs .set ≡ blankSet) × (readPlan bs .alloc ≡ blankAlloc)
+  -- reading hands out 0 in every place from N on
+  pub request-past : (bs : List ℕ) → ZeroPast (readRequest bs .set)
+  pub plan-past : (bs : List ℕ) → ZeroPast (readPlan bs .set)
+  pub allocations-past : (bs : List ℕ) (i : ℕ) → readPlan bs .set .n ≤ i → at (readPlan bs .alloc .s) i ≡ 0
+  -- refused writing changes no byte
+  pub unchanged : (plan : Bool) (t : Set) (a : Alloc) (out : List ℕ) → writtenAnswer plan t a out .number ≢ 0 → writtenBuffer plan t a out ≡ out
+  -- writing looks at the first N places only
+  pub request-first-places : (t u : Set) (out : List ℕ) → SameSet t u
+      → (writtenAnswer false t blankAlloc out ≡ writtenAnswer false u blankAlloc out) × (writtenBuffer false t blankAlloc out ≡ writtenBuffer false u blankAlloc out)
+  pub plan-first-places : (t u : Set) (a b : Alloc) (out : List ℕ) → SameSet t u → ((i : ℕ) → i < t .n → at (a .s) i ≡ at (b .s) i)
+      → (writtenAnswer true t a out ≡ writtenAnswer true u b out) × (writtenBuffer true t a out ≡ writtenBuffer true u b out)
