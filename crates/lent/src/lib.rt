@@ -1,8 +1,69 @@
-// The ring lent by the host, changed where it stands in the host's memory: thin over the forms by value.
+// What a host in C calls: sheets on lent bytes, planning and opening by value, and the ring lent by the host, changed where it stands in the host's memory. All are thin over the layers below; include/olivastrum.h declares them.
+ghost use mathlib.Core.Path.{_≡_};
+ghost use mathlib.Core.Bool.{true, false};
+ghost use Rattle.plans.specs.Planned.{blankAlloc, planned};
+ghost use Rattle.sheets.specs.Reading.{readRequest, readPlan};
+ghost use Rattle.sheets.specs.Writing.{Wrote};
+ghost use Rattle.rings.specs.Opening.{opening};
 ghost use Rattle.lent.specs.Lent.{VisitLent, HandInLent};
+use plans::Alloc;
+use plans::Planned;
 use rings::Message;
+use rings::Opened;
 use rings::Ring;
 use rings::VisitAnswer;
+use sets::Set;
+use sheets::ReadPlan;
+use sheets::ReadRequest;
+use sheets::Written;
+
+// Reads a request sheet from the lent bytes.
+#[no_mangle]
+pub extern "C" fn read_request_sheet(sheet: &[u8]) -> ReadRequest
+    ensures { λ r. ⌜ r ≡ readRequest (now (sheet .entry)) ⌝ }
+{
+    sheets::read_request(sheet)
+}
+
+// Reads a plan sheet from the lent bytes.
+#[no_mangle]
+pub extern "C" fn read_plan_sheet(sheet: &[u8]) -> ReadPlan
+    ensures { λ r. ⌜ r ≡ readPlan (now (sheet .entry)) ⌝ }
+{
+    sheets::read_plan(sheet)
+}
+
+// Writes a request sheet into the first bytes of the lent buffer.
+#[no_mangle]
+pub extern "C" fn write_request_sheet(set: Set, out: &mut [u8]) -> Written
+    ensures { λ r. ⌜ Wrote false set blankAlloc (now (out .entry)) (now (out .exit)) r ⌝ }
+{
+    sheets::write_request(set, out)
+}
+
+// Writes a plan sheet into the first bytes of the lent buffer.
+#[no_mangle]
+pub extern "C" fn write_plan_sheet(set: Set, alloc: Alloc, out: &mut [u8]) -> Written
+    ensures { λ r. ⌜ Wrote true set alloc (now (out .entry)) (now (out .exit)) r ⌝ }
+{
+    sheets::write_plan(set, alloc, out)
+}
+
+// Plans a set: the smallest allocation, or a refusal.
+#[no_mangle]
+pub extern "C" fn plan_set(set: Set) -> Planned
+    ensures { λ r. ⌜ r ≡ planned set ⌝ }
+{
+    plans::plan(set)
+}
+
+// Opens a ring on a set and an allocation.
+#[no_mangle]
+pub extern "C" fn open_ring(set: Set, alloc: Alloc) -> Opened
+    ensures { λ r. ⌜ r ≡ opening set alloc ⌝ }
+{
+    rings::open(set, alloc)
+}
 
 // A visit at the station that has the token of the lent ring, with this many asynchronous ticks asked for.
 #[no_mangle]
