@@ -99,8 +99,8 @@ pub fn sound(ring: Ring) -> bool
 {
     let set = ring.set;
     let alloc = ring.alloc;
-    let number = plans::judge_plan(set, alloc);
-    if number != numbers::ACCEPTED {
+    let refusal = plans::judge_plan(set, alloc);
+    if refusal != numbers::ACCEPTED {
         return false;
     }
     soundness::numbers_sound(ring)

@@ -33,11 +33,12 @@ fn message_number(r: Ring, m: Message) -> u8
     }
     let i = m.station.0 as usize;
     let set = r.set;
+    let held = 0 < r.rest[i];
     let fits = (1 <= m.length.0) & (m.length.0 <= units::wide(set.c[i]));
     if !fits {
         return numbers::BAD_LENGTH;
     }
-    if r.rest[i] != 0 {
+    if held {
         return numbers::STILL_HELD;
     }
     if !arrival_allowed(r, m) {

@@ -1,14 +1,14 @@
 -- `message_number` is right because it asks the definition's tests in the definition's order, and stops at the first that fails.
-use lib.Dec.{leb}
 use mathlib.Core.Path.{_≡_, sym, _∙_}
-use mathlib.Core.Bool.{true, _&&_}
+use mathlib.Core.Bool.{true, false, _&&_}
 use native.Mathlib.Omega.{arith}
-use borrow.Author.Tests.{not-true, not-false, lt-ltb, le-ltb, eq-eqb, ne-eqb}
+use borrow.Author.Tests.{not-true, not-false, ltb-true, ltb-false, lt-ltb, le-ltb, eq-eqb, ne-eqb}
 use Rattle.units.specs.Places.{at}
-use Prim.Native.Nat.{_<_}
+use Prim.Native.Nat.{_≤_, _<_}
+use lib.Dec.{leb}
 use Rattle.rings.specs.RingLaws.{sound-sentences, sound-plan, message-9, message-10, message-11, message-12, message-0}
 use Rattle.rings.specs.State.{count}
-use Rattle.rings.specs.HandingIn.{stationKnown, lengthAllowed}
+use Rattle.rings.specs.HandingIn.{stationKnown, lengthAllowed, nothingHeld}
 use borrow.Author.Needs.{needs}
 use Rattle.rings.proofs.messages.message_number.Statement.{statement}
 use Rattle.rings.proofs.messages.message_number.Tie as tie
@@ -25,11 +25,23 @@ inside c =
 known : (c : tie.Else1) → stationKnown (c .before .before .before .args .t1) (c .before .before .before .args .m) ≡ true
 known c = lt-ltb _ _ (below c)
 
-length-said : (c : tie.After-wide2) → (leb 1 (c .before .before .before .before .before .before .before .args .m .length .0) && leb (c .before .before .before .before .before .before .before .args .m .length .0) (c .wide2 .result)) ≡ lengthAllowed (c .before .before .before .before .before .before .before .args .t1) (c .before .before .before .before .before .before .before .args .m)
+-- the length's test is the definition's
+length-said : (c : tie.After-wide2) → (leb 1 (c .before .before .before .before .before .before .before .before .args .m .length .0) && leb (c .before .before .before .before .before .before .before .before .args .m .length .0) (c .wide2 .result)) ≡ lengthAllowed (c .before .before .before .before .before .before .before .before .args .t1) (c .before .before .before .before .before .before .before .before .args .m)
 length-said c = rw (c .wide2 .ensures .same)
 
-allowed : (c : tie.Else2) → lengthAllowed (c .before .before .before .before .before .before .before .before .before .args .t1) (c .before .before .before .before .before .before .before .before .before .args .m) ≡ true
+allowed : (c : tie.Else2) → lengthAllowed (c .before .before .before .before .before .before .before .before .before .before .args .t1) (c .before .before .before .before .before .before .before .before .before .before .args .m) ≡ true
 allowed c = sym (length-said (c .before .before)) ∙ not-false _ (c .if2 .left)
+
+-- something of a message remains, or nothing does
+held : (c : tie.Then3) → nothingHeld (c .before .before .before .before .before .before .before .before .before .before .before .args .t1) (c .before .before .before .before .before .before .before .before .before .before .before .args .m) ≡ false
+held c =
+    let some : 0 < at (c .before .before .before .before .before .before .before .before .before .before .before .args .t1 .rest) (c .before .before .before .before .before .before .before .before .before .before .before .args .m .station .0) = ltb-true 0 _ (c .if3 .taken) in
+    ne-eqb (at (c .before .before .before .before .before .before .before .before .before .before .before .args .t1 .rest) (c .before .before .before .before .before .before .before .before .before .before .before .args .m .station .0)) 0 (omega arith)
+
+free : (c : tie.Else3) → nothingHeld (c .before .before .before .before .before .before .before .before .before .before .before .args .t1) (c .before .before .before .before .before .before .before .before .before .before .before .args .m) ≡ true
+free c =
+    let none : at (c .before .before .before .before .before .before .before .before .before .before .before .args .t1 .rest) (c .before .before .before .before .before .before .before .before .before .before .before .args .m .station .0) ≤ 0 = ltb-false 0 _ (c .if3 .left) in
+    eq-eqb (at (c .before .before .before .before .before .before .before .before .before .before .before .args .t1 .rest) (c .before .before .before .before .before .before .before .before .before .before .before .args .m .station .0)) 0 (omega arith)
 
 wide-requires : tie.Need-wide-requires
 wide-requires c κs = search needs
@@ -39,33 +51,32 @@ returns c =
     let args = c .before .before .before .args in
     sym (message-9 (args .t1) (args .m) (le-ltb _ _ (rw (c .before .before .wide .ensures .same) at (c .if1 .taken))))
 
+mul-held : tie.Need-mul-held
+mul-held c = search needs
+
+element-copy-out-held : tie.Need-element-copy-out-held
+element-copy-out-held c = inside (c .before)
+
 mul-wide : tie.Need-mul-wide
 mul-wide c = search needs
 
 element-copy-out-wide : tie.Need-element-copy-out-wide
-element-copy-out-wide c = inside (c .before .before)
+element-copy-out-wide c = inside (c .before .before .before)
 
 wide-requires-2 : tie.Need-wide-requires-2
 wide-requires-2 c κs = search needs
 
 returns-2 : tie.Need-returns-2
 returns-2 c =
-    let else = c .before .before .before .before .before .before in
+    let else = c .before .before .before .before .before .before .before in
     let args = else .before .before .before .args in
     sym (message-10 (args .t1) (args .m) (known else) (sym (length-said (c .before .before)) ∙ not-true _ (c .if2 .taken)))
 
-mul-if3 : tie.Need-mul-if3
-mul-if3 c = search needs
-
-element-copy-out-if3 : tie.Need-element-copy-out-if3
-element-copy-out-if3 c = inside (c .before .before .before .before .before .before)
-
 returns-3 : tie.Need-returns-3
 returns-3 c =
-    let else2 = c .before .before in
-    let else = else2 .before .before .before .before .before .before in
+    let else = c .before .before .before .before .before .before .before .before in
     let args = else .before .before .before .args in
-    sym (message-11 (args .t1) (args .m) (known else) (allowed else2) (ne-eqb _ _ (c .if3 .taken)))
+    sym (message-11 (args .t1) (args .m) (known else) (allowed (c .before)) (held c))
 
 arrival-allowed-requires : tie.Need-arrival-allowed-requires
 arrival-allowed-requires c κs =
@@ -77,18 +88,16 @@ arrival-allowed-requires c κs =
 returns-4 : tie.Need-returns-4
 returns-4 c =
     let else3 = c .before .before in
-    let else2 = else3 .before .before in
-    let else = else2 .before .before .before .before .before .before in
+    let else = else3 .before .before .before .before .before .before .before .before in
     let args = else .before .before .before .args in
-    sym (message-12 (args .t1) (args .m) (known else) (allowed else2) (eq-eqb _ _ (else3 .if3 .left)) (sym (c .before .arrival-allowed .ensures) ∙ not-true _ (c .if4 .taken)))
+    sym (message-12 (args .t1) (args .m) (known else) (allowed (else3 .before)) (free else3) (sym (c .before .arrival-allowed .ensures) ∙ not-true _ (c .if4 .taken)))
 
 returns-5 : tie.Need-returns-5
 returns-5 c =
     let else3 = c .before .before in
-    let else2 = else3 .before .before in
-    let else = else2 .before .before .before .before .before .before in
+    let else = else3 .before .before .before .before .before .before .before .before in
     let args = else .before .before .before .args in
-    sym (message-0 (args .t1) (args .m) (known else) (allowed else2) (eq-eqb _ _ (else3 .if3 .left)) (sym (c .before .arrival-allowed .ensures) ∙ not-false _ (c .if4 .left)))
+    sym (message-0 (args .t1) (args .m) (known else) (allowed (else3 .before)) (free else3) (sym (c .before .arrival-allowed .ensures) ∙ not-false _ (c .if4 .left)))
 
 pub message-number-spec : {M : Type 1} → statement M
 message-number-spec =
@@ -96,12 +105,12 @@ message-number-spec =
     (tie.spec
     wide-requires
     returns
+    mul-held
+    element-copy-out-held
     mul-wide
     element-copy-out-wide
     wide-requires-2
     returns-2
-    mul-if3
-    element-copy-out-if3
     returns-3
     arrival-allowed-requires
     returns-4
