@@ -42,7 +42,7 @@ module _ (t : Set) (a : Alloc) (P : Plan t a) (m : Message) (known : m .station 
       record {
         held = held;
         arrival = arrival;
-        parts = parts;
+        parts = omega arith;
         ahead = omega (arith, clock-ahead t a (s .ring) (s .records) P (K .timed) (m .station .0) known (K .messaged (m .station .0) known) held);
       }
 

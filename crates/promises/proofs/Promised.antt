@@ -164,7 +164,9 @@ valid t a o =
       sound = λ calls. sound-sentences (ringOf t a calls) (kept-sound t a plan (runOf t a calls) (every calls));
       no-visit-8 = λ calls. never-8 t a plan (runOf t a calls) (every calls);
       no-message-8 = λ calls. message-never-8 t a plan (runOf t a calls) (every calls);
-      goes = λ calls. goes-exactly t a plan (runOf t a calls) (every calls);
+      goes = λ calls ask.
+          let exactly = goes-exactly t a plan (runOf t a calls) (every calls) ask in
+          (λ e. omega (arith, exactly .0 e), λ l. exactly .1 (omega arith));
       counted = λ calls. every calls .timed .counted;
       bounded = λ calls.
           omega (arith, every calls .timed .counted, visits-bounded t a (ringOf t a calls) (recordsOf t a calls) plan (every calls .timed));

@@ -87,12 +87,12 @@ module _ (t : Set) (a : Alloc) (r q : Ring) (v : VisitRecord) (h : List VisitRec
       record {
         apart = λ u e. omega (arith, gap-since u e, timer-within);
         gap = gap-since;
-        first = first-since;
-        within = timer-within;
+        first = λ e. omega (arith, first-since e);
+        within = omega (arith, timer-within);
       }
 
   pub limit-made : ExactLimit t a v h
-  limit-made = record { exact = omega (arith, F .limit, token-timer t a r h T, T .window); kept = F .offered }
+  limit-made = record { exact = omega (arith, F .limit, token-timer t a r h T, T .window); kept = omega (arith, F .offered) }
 
   pub turn-made : InTurn t v h
   turn-made = record { station = rw (F .station) (T .token); turn = F .station ∙ T .turn }
