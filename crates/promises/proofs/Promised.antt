@@ -13,9 +13,11 @@ use Rattle.units.specs.Judging.{orElse}
 use Rattle.units.specs.JudgingLaws.{Decides, held, given, given-later, not-given, decides-between}
 use Rattle.units.specs.SmallLaws.{below-or-not}
 use Rattle.sets.specs.declared.Set.{Set}
-use Rattle.plans.specs.Planned.{planned}
+use Rattle.plans.specs.Planned.{judgedPlan, planned}
 use Rattle.plans.specs.declared.Alloc.{Alloc}
 use Rattle.plans.proofs.Promised.{promised as plans-promised}
+use Rattle.sheets.specs.Reading.{setIn, allocIn, shapeNumber, judgedSheet, readNumber, readSheet, readPlan, readRequest}
+use Rattle.sheets.specs.ReadLaws.{then-none, read-accepted, read-number}
 use Rattle.rings.specs.Sound.{isSound}
 use Rattle.rings.specs.Steps.{syncSent, asyncSent, recordOf, visited}
 use Rattle.rings.specs.HandingIn.{stationKnown, lengthAllowed, nothingHeld, arrivalAllowed, messageNumber, handedIn}
@@ -188,10 +190,21 @@ valid t a o =
 plan-opens : (t : Set) → planned t .number ≡ 0 → Opens t (planned t .alloc)
 plan-opens t h = judged-opens t (planned t .alloc) (plans-promised .kept t h .judged)
 
+-- reading accepts a plan sheet only if its plan is judged 0
+sheet-opens : (bytes : List ℕ) → readPlan bytes .number ≡ 0 → Opens (readPlan bytes .set) (readPlan bytes .alloc)
+unfolding readSheet judgedSheet
+sheet-opens bytes h =
+    let number : readNumber true bytes ≡ 0 = sym (read-number (readNumber true bytes) (setIn bytes) (allocIn true bytes)) ∙ h in
+    rw (read-accepted (readNumber true bytes) (setIn bytes) (allocIn true bytes) number)
+    (judged-opens (setIn bytes) (allocIn true bytes) (then-none (shapeNumber true bytes) (judgedPlan (setIn bytes) (allocIn true bytes)) number .1))
+
 pub promised : Promised
 promised =
     record {
       opened = valid;
       plan-opens = plan-opens;
       plan-valid = λ t h. valid t (planned t .alloc) (plan-opens t h);
+      sheet-opens = sheet-opens;
+      sheet-valid = λ bytes h. valid (readPlan bytes .set) (readPlan bytes .alloc) (sheet-opens bytes h);
+      request-valid = λ bytes _ h. valid (readRequest bytes .set) (planned (readRequest bytes .set) .alloc) (plan-opens (readRequest bytes .set) h);
     }

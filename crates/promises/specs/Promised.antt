@@ -13,6 +13,7 @@ use Rattle.sets.specs.declared.Set.{Set}
 use Rattle.plans.specs.Rules.{spareTime}
 use Rattle.plans.specs.Planned.{planned}
 use Rattle.plans.specs.declared.Alloc.{Alloc}
+use Rattle.sheets.specs.Reading.{readRequest, readPlan}
 use Rattle.rings.specs.Opening.{opening, silentTrt}
 use Rattle.rings.specs.Sound.{Sound}
 use Rattle.rings.specs.Steps.{visited}
@@ -165,3 +166,10 @@ pub record Promised : Type 0 where
   -- 7. a plan that planning made opens, and so it is valid
   pub plan-opens : (t : Set) → planned t .number ≡ 0 → Opens t (planned t .alloc)
   pub plan-valid : (t : Set) → planned t .number ≡ 0 → Valid t (planned t .alloc)
+  -- a plan sheet that reading accepted opens, and so what it holds is valid
+  pub sheet-opens : (bytes : List ℕ) → readPlan bytes .number ≡ 0 → Opens (readPlan bytes .set) (readPlan bytes .alloc)
+  pub sheet-valid : (bytes : List ℕ) → readPlan bytes .number ≡ 0 → Valid (readPlan bytes .set) (readPlan bytes .alloc)
+  -- from the bytes of a request sheet to the kept deadlines: where reading and then planning accept, the plan is valid
+  pub request-valid : (bytes : List ℕ)
+      → readRequest bytes .number ≡ 0 → planned (readRequest bytes .set) .number ≡ 0
+      → Valid (readRequest bytes .set) (planned (readRequest bytes .set) .alloc)
