@@ -10,7 +10,7 @@
 --     Runs         every run keeps it, call by call
 --     Followed     one message, from its handing in on
 --     Promised     the promises
---     Witness      the runs in which they are called upon
+--     Witness      the run in which they are called upon
 pub mod Sums
 pub mod Windows
 pub mod Deadlines

@@ -1,4 +1,4 @@
--- The runs are computed.
+-- The run is computed.
 use mathlib.Core.Path.{_≡_, refl}
 use native.Mathlib.Omega.{arith}
 use Rattle.units.specs.Places.{at, sumBelow, allBelow, fill, raise}
@@ -12,15 +12,15 @@ use Rattle.rings.specs.Steps.{syncSent, nextToken, moved, recordOf, visitedWith
 use Rattle.rings.specs.HandingIn.{arrivalAllowed, holding, takenWith}
 use Rattle.promises.specs.Run.{noted, after, run, ringOf}
 use Rattle.promises.specs.Promised.{Regular}
-use Rattle.promises.specs.Witness.{worked, shares, twenty, whole, Happens}
+use Rattle.promises.specs.Witness.{pair, shares, thirty, waited, Happens}
 
--- station 2 may get its second message: the first arrived at 0 and was sent at the visit that started at 60
-regular : Regular worked (ringOf worked shares whole) (twenty 2 100)
+-- station 0 may get its second message: the first arrived 250 before, and its last visit started at 202
+regular : Regular pair (ringOf pair shares waited) (thirty 250)
 unfolding judgedThen orElse answered sumBelow allBelow fill raise headInRange stationInRange allHold judgedPlan openedRing openedWith isSound syncSent nextToken moved recordOf visitedWith arrivalAllowed holding takenWith noted after run
 regular =
-    let arrival : at (ringOf worked shares whole .arrival) 2 ≡ 0 = refl in
-    let last : at (ringOf worked shares whole .last) 2 ≡ 60 = refl in
-    let clock : ringOf worked shares whole .clock ≡ 160 = refl in
+    let arrival : at (ringOf pair shares waited .arrival) 0 ≡ 0 = refl in
+    let last : at (ringOf pair shares waited .last) 0 ≡ 202 = refl in
+    let clock : ringOf pair shares waited .clock ≡ 286 = refl in
     record { length = (omega arith, omega arith); gap = λ _. omega arith; arrived = omega arith; later = λ _. omega arith }
 
 pub happens : Happens
@@ -31,13 +31,12 @@ happens =
       spare = refl;
       opens = refl;
       records = refl;
+      accepted = refl;
+      held = refl;
       refused = refl;
       early = refl;
       early-clock = refl;
+      unserved = refl;
       regular = regular;
       taken = refl;
-      slow-opens = refl;
-      slow-taken = refl;
-      slow-held = refl;
-      slow-records = refl;
     }

@@ -2,7 +2,7 @@
 --     Run         calls, and the ring and the records after a list of them
 --     History     what is read off the records: windows, the latest visit of a station, whose turn it is
 --     Promised    the promises
---     Witness     runs in which all that the promises speak of happens
+--     Witness     a run in which all that the promises speak of happens
 -- and, for the proofs:
 --     Facts       what a visit and a handing in do, as records of facts that add up
 pub mod Run

@@ -1,8 +1,8 @@
--- Runs in which all that the promises speak of happens: 01's worked run, with refused calls between its visits. No promise is kept by never being called upon.
+-- A run in which all that the promises speak of happens: none is kept by never being called upon. 01's own worked run stands in `stars`.
 use Prim.Native.Nat.{ℕ}
 use mathlib.Core.Path.{_≡_}
 use mathlib.Core.List.{List, [], _∷_, _++_}
-use lib.IntN.{pos}
+use lib.IntN.{ℤ, pos}
 use lib.ListN.{replicate}
 use Rattle.units.specs.Places.{at}
 use Rattle.sets.specs.declared.Set.{Set}
@@ -15,53 +15,45 @@ use Rattle.rings.specs.declared.VisitRecord.{VisitRecord}
 use Rattle.promises.specs.Run.{Call, visit, message, ringOf, recordsOf}
 use Rattle.promises.specs.Promised.{Opens, Regular}
 
--- four places, and 0 past them
-abbrev pub four : ℕ → ℕ → ℕ → ℕ → List ℕ
-four a b c d = (a ∷ b ∷ c ∷ d ∷ []) ++ replicate 124 0
+-- two places, and 0 past them
+abbrev pub two : ℕ → ℕ → List ℕ
+two a b = (a ∷ b ∷ []) ++ replicate 126 0
 
--- four stations, TTRT 100, w 2, 0, 0, 0, all C 20, D 100, P 100
-abbrev pub worked : Set
-worked =
-    record {
-      head = record { ttrt = 100 };
-      n = 4;
-      w = four 2 0 0 0;
-      c = four 20 20 20 20;
-      d = four 100 100 100 100;
-      p = four 100 100 100 100;
-    }
+-- TTRT 100, w 1 each; station 0 has C 30, D 250, P 250, station 1 has no synchronous stream
+abbrev pub pair : Set
+pair = record { head = record { ttrt = 100 }; n = 2; w = two 1 1; c = two 30 0; d = two 250 100; p = two 250 100 }
 
--- S 20 each
+-- S 15 and 0
 abbrev pub shares : Alloc
-shares = record { s = four 20 20 20 20 }
+shares = record { s = two 15 0 }
 
--- a message of 20 for station i
-abbrev pub twenty : ℕ → ℕ → Message
-twenty i arrival = record { station = record { 0 = i }; length = record { 0 = 20 }; arrival = record { 0 = arrival } }
+-- a message of 30 for station 0
+abbrev pub thirty : ℕ → Message
+thirty arrival = record { station = record { 0 = 0 }; length = record { 0 = 30 }; arrival = record { 0 = arrival } }
 
 -- 1,000 asynchronous ticks are asked for at each visit
 abbrev pub greedy : Call
 greedy = visit 1000
 
--- each station gets its first message
+-- a message that takes two visits is handed in, another at once is refused, and both stations are visited
 abbrev pub begun : List Call
-begun = message (twenty 0 0) ∷ message (twenty 1 0) ∷ message (twenty 2 0) ∷ message (twenty 3 0) ∷ []
+begun = message (thirty 0) ∷ message (thirty 0) ∷ greedy ∷ greedy ∷ []
 
--- station 0 is visited; a second message for station 1, which still holds its first, is refused
-abbrev pub first : List Call
-first = begun ++ greedy ∷ message (twenty 1 100) ∷ []
+-- the message is completed
+abbrev pub completed : List Call
+completed = begun ++ greedy ∷ []
 
--- station 0 gets its second message while its arrival lies ahead of the clock; the others are visited, and get theirs
-abbrev pub round : List Call
-round = first ++ message (twenty 0 100) ∷ greedy ∷ message (twenty 1 100) ∷ greedy ∷ greedy ∷ []
+-- the next one is handed in ahead of its arrival; station 0 is visited before it
+abbrev pub ahead : List Call
+ahead = completed ++ message (thirty 250) ∷ greedy ∷ greedy ∷ []
 
--- the fifth and the sixth visit
-abbrev pub whole : List Call
-whole = round ++ greedy ∷ greedy ∷ []
+-- or it is waited for, four visits long
+abbrev pub waited : List Call
+waited = completed ++ greedy ∷ greedy ∷ greedy ∷ greedy ∷ []
 
--- a visit of the worked run that completed a message
-abbrev pub row : ℕ → ℕ → ℕ → ℕ → ℕ → ℕ → ℕ → ℕ → VisitRecord
-row station start trt limit sync async finish margin =
+-- station, start, TRT, limit, sync, async, and of a completed message finish, margin and flag
+abbrev pub row : ℕ → ℕ → ℕ → ℕ → ℕ → ℕ → ℕ → ℤ → ℕ → VisitRecord
+row station start trt limit sync async finish margin flag =
     record {
       station = record { 0 = station };
       start = record { 0 = start };
@@ -70,79 +62,26 @@ row station start trt limit sync async finish margin =
       synchronous = record { 0 = sync };
       asynchronous = record { 0 = async };
       finish = record { 0 = finish };
-      margin = pos margin;
-      completed = 1;
-    }
-
--- 01's table, the latest visit first: station, start, TRT, limit, sync, async, finish, margin
-abbrev pub table : List VisitRecord
-table =
-    row 1 122 82 18 20 18 142 58 ∷
-    row 0 100 100 0 20 0 120 80 ∷
-    row 3 80 80 0 20 0 100 0 ∷
-    row 2 60 60 0 20 0 80 20 ∷
-    row 1 40 40 0 20 0 60 40 ∷
-    row 0 0 2 18 20 18 20 80 ∷
-    []
-
--- ---- a message that takes two visits
-
--- one station, TTRT 100, w 1, C 30, D 250, P 250
-abbrev pub slow : Set
-slow =
-    record {
-      head = record { ttrt = 100 };
-      n = 1;
-      w = four 1 0 0 0;
-      c = four 30 0 0 0;
-      d = four 250 0 0 0;
-      p = four 250 0 0 0;
-    }
-
--- S 15
-abbrev pub fifteen : Alloc
-fifteen = record { s = four 15 0 0 0 }
-
--- a message of 30 that arrives at 50
-abbrev pub thirty : Message
-thirty = record { station = record { 0 = 0 }; length = record { 0 = 30 }; arrival = record { 0 = 50 } }
-
--- the visit at 0 comes before its arrival, that at 85 sends half of it
-abbrev pub parts : List Call
-parts = message thirty ∷ visit 84 ∷ visit 0 ∷ []
-
--- a visit that completed none
-abbrev pub unfinished : ℕ → ℕ → ℕ → ℕ → ℕ → VisitRecord
-unfinished start trt limit sync async =
-    record {
-      station = record { 0 = 0 };
-      start = record { 0 = start };
-      trt = record { 0 = trt };
-      limit = record { 0 = limit };
-      synchronous = record { 0 = sync };
-      asynchronous = record { 0 = async };
-      finish = record { 0 = 0 };
-      margin = pos 0;
-      completed = 0;
+      margin = margin;
+      completed = flag;
     }
 
 pub record Happens : Type 0 where
-  -- planning gives the worked set S 20 each; A* is 18
-  pub plan : planned worked ≡ record { alloc = shares; number = 0 }
-  pub spare : spareTime worked (at (shares .s)) ≡ 18
-  pub opens : Opens worked shares
-  -- the records are 01's table: first visits and later ones, limits of 0 and above 0, a gap of just TTRT, all of S sent, a margin of just 0
-  pub records : recordsOf worked shares whole ≡ table
-  -- a call between them is refused: a message for a station that still holds one
-  pub refused : handedIn (ringOf worked shares (begun ++ greedy ∷ [])) (twenty 1 100) .number ≡ 11
-  -- a message is accepted while its arrival lies ahead of the clock
-  pub early : handedIn (ringOf worked shares first) (twenty 0 100) .number ≡ 0
-  pub early-clock : ringOf worked shares first .clock ≡ 40
+  -- planning gives this plan; A* is 83, and it opens
+  pub plan : planned pair ≡ record { alloc = shares; number = 0 }
+  pub spare : spareTime pair (at (shares .s)) ≡ 83
+  pub opens : Opens pair shares
+  -- first visits and a second one, TRTs and a gap of just TTRT, all of S sent, limits above 0 and of 0 after the asynchronous time of the two visits before, a message completed in its second part
+  pub records : recordsOf pair shares completed ≡ row 0 100 100 0 15 0 115 (pos 135) 1 ∷ row 1 99 100 0 0 0 0 (pos 0) 0 ∷ row 0 0 2 83 15 83 0 (pos 0) 0 ∷ []
+  -- the message is accepted, half of it is still held when both stations have been visited
+  pub accepted : handedIn (ringOf pair shares []) (thirty 0) .number ≡ 0
+  pub held : at (ringOf pair shares begun .rest) 0 ≡ 15
+  -- a call between them is refused
+  pub refused : handedIn (ringOf pair shares (message (thirty 0) ∷ [])) (thirty 0) .number ≡ 11
+  -- a message is accepted while its arrival lies ahead of the clock, and a visit before that sends nothing of it
+  pub early : handedIn (ringOf pair shares completed) (thirty 250) .number ≡ 0
+  pub early-clock : ringOf pair shares completed .clock ≡ 116
+  pub unserved : recordsOf pair shares ahead ≡ row 0 200 100 0 0 0 0 (pos 0) 0 ∷ row 1 116 17 83 0 83 0 (pos 0) 0 ∷ recordsOf pair shares completed
   -- a message that keeps C and P is handed in when the clock has reached its arrival, and taken
-  pub regular : Regular worked (ringOf worked shares whole) (twenty 2 100)
-  pub taken : handedIn (ringOf worked shares whole) (twenty 2 100) .number ≡ 0
-  -- a message is held over a visit before its arrival, sent in two parts, and completed
-  pub slow-opens : Opens slow fifteen
-  pub slow-taken : handedIn (ringOf slow fifteen []) thirty .number ≡ 0
-  pub slow-held : at (ringOf slow fifteen parts .rest) 0 ≡ 15
-  pub slow-records : recordsOf slow fifteen (parts ++ visit 0 ∷ []) ≡ row 0 101 16 84 15 0 116 184 ∷ unfinished 85 85 0 15 0 ∷ unfinished 0 1 84 0 84 ∷ []
+  pub regular : Regular pair (ringOf pair shares waited) (thirty 250)
+  pub taken : handedIn (ringOf pair shares waited) (thirty 250) .number ≡ 0
