@@ -24,11 +24,11 @@ use Rattle.rings.specs.declared.Message.{Message}
 use Rattle.rings.specs.declared.VisitRecord.{VisitRecord}
 use Rattle.promises.specs.Run.{Call, visit, message, Run, noted, after, run, opened, runOf}
 use Rattle.promises.specs.History.{latestOf, Each}
-use Rattle.promises.specs.Facts.{VisitTiming, VisitMessages, Completing, Leaving, Accepting}
+use Rattle.promises.specs.Facts.{VisitTiming, VisitOffer, VisitMessages, Completing, Leaving, Accepting}
 use Rattle.promises.specs.Promised.{Opens, InTurn, Timely, ShareKept, ExactLimit, NoneLate}
 use Rattle.promises.proofs.Timing.{Plan, Timed, Unvisited, Since, token-timer, never-late, timed-kept, timed-same, same-or-not}
 use Rattle.promises.proofs.Messages.{Messaged, deadlineAt, messaged-kept, messaged-taken, completed-in-time}
-use Rattle.promises.proofs.Steps.{Places, visit-places, visit-timing, visit-messages, holding-places, message-accepts}
+use Rattle.promises.proofs.Steps.{Places, visit-places, visit-timing, visit-offer, visit-messages, holding-places, message-accepts}
 use Rattle.promises.proofs.Opening.{opens-judged, opens-ring, plan-of, opened-places, opened-timed, opened-messaged}
 use Rattle.promises.proofs.Soundness.{is-sound}
 
@@ -91,8 +91,9 @@ module _ (t : Set) (a : Alloc) (r q : Ring) (v : VisitRecord) (h : List VisitRec
         within = omega (arith, timer-within);
       }
 
-  pub limit-made : ExactLimit t a v h
-  limit-made = record { exact = omega (arith, F .limit, token-timer t a r h T, T .window); kept = omega (arith, F .offered) }
+  -- what the timers leave is what the window leaves of A*, so it is nowhere held at 0
+  pub limit-made : VisitOffer t r v → ExactLimit t a v h
+  limit-made O = record { exact = omega (arith, O .limit, token-timer t a r h T, T .window); kept = omega (arith, O .kept) }
 
   pub turn-made : InTurn t v h
   turn-made = record { station = rw (F .station) (T .token); turn = F .station ∙ T .turn }
@@ -113,13 +114,13 @@ module _ (t : Set) (a : Alloc) (r q : Ring) (v : VisitRecord) (h : List VisitRec
         (λ (c : Leaving r q v). absurd (omega (arith, c .flag)))
         (G .completing)
 
-    pub visit-kept : VisitKept t a v h
-    visit-kept =
+    pub visit-kept : VisitOffer t r v → VisitKept t a v h
+    visit-kept O =
         record {
           turn = turn-made;
           timely = timely-made;
           share = share-made;
-          limit = limit-made;
+          limit = limit-made O;
           none-late = none-late-made;
         }
 
@@ -158,7 +159,7 @@ module _ (t : Set) (a : Alloc) (P : Plan t a) (s : Run) (K : Kept t a s) where
         places = visit-places t a (s .ring) (s .records) P (K .timed) (K .places) ask;
         timed = timed-kept t a (s .ring) (movedRun ask .ring) v (s .records) P (K .timed) F early;
         messaged = messaged-kept t a (s .ring) (movedRun ask .ring) v (s .records) P (K .timed) F G (K .messaged);
-        each = (visit-kept t a (s .ring) (movedRun ask .ring) v (s .records) P (K .timed) F G (K .messaged (s .ring .token) (K .timed .token)), K .each);
+        each = (visit-kept t a (s .ring) (movedRun ask .ring) v (s .records) P (K .timed) F G (K .messaged (s .ring .token) (K .timed .token)) (visit-offer t a (s .ring) (s .records) P (K .timed) (K .places) ask), K .each);
       }
 
   -- the run after an accepted handing in

@@ -22,7 +22,7 @@ use Rattle.rings.specs.declared.Ring.{Ring}
 use Rattle.rings.specs.declared.Message.{Message}
 use Rattle.rings.specs.declared.VisitRecord.{VisitRecord}
 use Rattle.promises.specs.History.{following}
-use Rattle.promises.specs.Facts.{VisitTiming, VisitMessages, Sending, Silent, Completing, Leaving, SameTiming, Accepting}
+use Rattle.promises.specs.Facts.{VisitTiming, VisitOffer, VisitMessages, Sending, Silent, Completing, Leaving, SameTiming, Accepting}
 use Rattle.promises.proofs.Sums.{sum-lacking}
 use Rattle.promises.proofs.Timing.{Plan, Timed}
 
@@ -78,8 +78,6 @@ module _ (r : Ring) (sync async : ℕ) (L : Places r) (few : count r ≤ 128) (b
         timer = refl;
         set = refl;
         alloc = refl;
-        limit = refl;
-        offered = offered;
         room = λ fits. omega arith;
         within = within;
         sent-here = getD-set-same (r .sent) (r .token) sync 0 (omega (arith, L .sent));
@@ -93,6 +91,11 @@ module _ (r : Ring) (sync async : ℕ) (L : Places r) (few : count r ≤ 128) (b
         token = refl;
         visits = refl;
       }
+
+-- the offer, of the ring's own plan
+moved-offer : (r : Ring) (sync ask : ℕ) → VisitOffer (r .set) r (recordOf r sync (asyncSent r ask))
+unfolding recordOf
+moved-offer r sync ask = record { limit = refl; kept = omega arith }
 
 -- ---- what is sent of the held message
 
@@ -198,6 +201,9 @@ module _ (t : Set) (a : Alloc) (r : Ring) (h : List VisitRecord) (P : Plan t a) 
   visit-timing =
       subst₂ (λ (x : Set) (y : Alloc). VisitTiming x y r next made) (T .set) (T .alloc)
       (moved-timing r (syncSent r) (asyncSent r ask) L few below (sync-small r .0) (omega arith) old enough)
+
+  pub visit-offer : VisitOffer t r made
+  visit-offer = subst (λ (x : Set). VisitOffer x r made) (T .set) (moved-offer r (syncSent r) ask)
 
   pub visit-messages : VisitMessages t a r next made
   visit-messages =

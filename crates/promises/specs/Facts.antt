@@ -1,4 +1,4 @@
--- What an accepted visit and an accepted handing in do, as facts that add up. The promises are proved of these records alone: another step function that gives them keeps the same promises. The token's timing needs `VisitTiming` alone.
+-- What an accepted visit and an accepted handing in do, as facts that add up. The promises are proved of these records alone: another step function that gives them keeps the same promises. The token's timing needs `VisitTiming` alone, the exact limit `VisitOffer` too, the deadlines `VisitMessages`.
 use Prim.Native.Nat.{ℕ, _+_, _-_, _≤_, _<_, min}
 use mathlib.Core.Path.{_≡_}
 use mathlib.Core.Logic.{_⊎_, _≢_}
@@ -25,9 +25,6 @@ pub record VisitTiming (t : Set) (a : Alloc) (r q : Ring) (v : VisitRecord) : Ty
   -- the plan stays
   pub set : q .set ≡ t
   pub alloc : q .alloc ≡ a
-  -- the limit, held at 0
-  pub limit : v .limit .0 ≡ t .head .ttrt - r .unused - at (r .trt) (r .token)
-  pub offered : v .asynchronous .0 ≤ v .limit .0
   -- the asynchronous part leaves room: where u and TRT are within TTRT, they still are with what was sent
   pub room : r .unused + at (r .trt) (r .token) ≤ t .head .ttrt → v .asynchronous .0 + r .unused + at (r .trt) (r .token) ≤ t .head .ttrt
   -- the synchronous part is within S
@@ -46,6 +43,12 @@ pub record VisitTiming (t : Set) (a : Alloc) (r q : Ring) (v : VisitRecord) : Ty
   -- the token moves on, and the visit is counted
   pub token : q .token ≡ following (t .n) (r .token)
   pub visits : q .visits ≡ r .visits + 1
+
+-- ---- the offer: the limit of a visit, and what was sent of it. The timing needs no more of it than `room` above
+pub record VisitOffer (t : Set) (r : Ring) (v : VisitRecord) : Type 0 where
+  -- the larger of TTRT − u − TRT and 0
+  pub limit : v .limit .0 ≡ t .head .ttrt - r .unused - at (r .trt) (r .token)
+  pub kept : v .asynchronous .0 ≤ v .limit .0
 
 -- ---- the message half
 
