@@ -1,0 +1,64 @@
+-- What the toolchain says of each struct that a host in C passes, lends or is handed: its size, and where each of its fields begins. The host's test holds the twins of include/olivastrum.h to these lines.
+use Prim.Native.Nat.{ℕ, zero, suc}
+use mathlib.Core.Path.{_≡_, refl}
+use mathlib.Core.Option.{Option, none, some}
+use mathlib.Core.List.{List, [], _∷_, _++_}
+use mir.Syntax.{Ty}
+use prog.Memory.{size, fieldOf}
+use Rattle.sets.proofs.Set.Laws as Set
+use Rattle.plans.proofs.Alloc.Laws as Alloc
+use Rattle.plans.proofs.Planned.Laws as Planned
+use Rattle.sheets.proofs.ReadRequest.Laws as ReadRequest
+use Rattle.sheets.proofs.ReadPlan.Laws as ReadPlan
+use Rattle.sheets.proofs.Written.Laws as Written
+use Rattle.rings.proofs.Ring.Laws as Ring
+use Rattle.rings.proofs.Message.Laws as Message
+use Rattle.rings.proofs.VisitRecord.Laws as VisitRecord
+use Rattle.rings.proofs.VisitAnswer.Laws as VisitAnswer
+use Rattle.rings.proofs.Opened.Laws as Opened
+
+abbrev place : Option (Ty × ℕ) → ℕ
+place none = 0
+place (some f) = f .1
+
+-- where the first n fields begin
+abbrev places : Ty → ℕ → List ℕ
+places τ zero = []
+places τ (suc n) = places τ n ++ (place (fieldOf τ n) ∷ [])
+
+-- the size, then where each of the n fields begins
+abbrev layout : Ty → ℕ → List ℕ
+layout τ n = size τ ∷ places τ n
+
+set : layout Set.mir 6 ≡ 2056 ∷ 0 ∷ 4 ∷ 8 ∷ 520 ∷ 1032 ∷ 1544 ∷ []
+set = refl
+
+alloc : layout Alloc.mir 1 ≡ 512 ∷ 0 ∷ []
+alloc = refl
+
+planned : layout Planned.mir 2 ≡ 516 ∷ 0 ∷ 512 ∷ []
+planned = refl
+
+read-request : layout ReadRequest.mir 2 ≡ 2060 ∷ 0 ∷ 2056 ∷ []
+read-request = refl
+
+read-plan : layout ReadPlan.mir 3 ≡ 2572 ∷ 0 ∷ 2056 ∷ 2568 ∷ []
+read-plan = refl
+
+written : layout Written.mir 2 ≡ 16 ∷ 0 ∷ 8 ∷ []
+written = refl
+
+ring : layout Ring.mir 12 ≡ 6304 ∷ 0 ∷ 2056 ∷ 2568 ∷ 3080 ∷ 3592 ∷ 4104 ∷ 5128 ∷ 5256 ∷ 6280 ∷ 6288 ∷ 6296 ∷ 6300 ∷ []
+ring = refl
+
+message : layout Message.mir 3 ≡ 24 ∷ 0 ∷ 8 ∷ 16 ∷ []
+message = refl
+
+visit-record : layout VisitRecord.mir 9 ≡ 72 ∷ 0 ∷ 8 ∷ 16 ∷ 24 ∷ 32 ∷ 40 ∷ 48 ∷ 56 ∷ 64 ∷ []
+visit-record = refl
+
+visit-answer : layout VisitAnswer.mir 2 ≡ 80 ∷ 0 ∷ 72 ∷ []
+visit-answer = refl
+
+opened : layout Opened.mir 2 ≡ 6312 ∷ 0 ∷ 6304 ∷ []
+opened = refl

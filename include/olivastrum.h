@@ -1,0 +1,183 @@
+/*
+ * Olivastrum for a host in C: sheets, planning, and a ring that stands in the host's memory.
+ *
+ *     sheet bytes --read_request_sheet--> set --plan_set--> allocation --write_plan_sheet--> sheet bytes
+ *     set and allocation --open_ring--> ring --visit_lent, hand_in_lent--> the same ring, moved on
+ *
+ * Who owns what. The host owns all memory. A function looks at what it is handed while the call runs, keeps no
+ * pointer, allocates nothing, prints nothing and has no state of its own. Calls that touch different memory may
+ * run at the same time.
+ *
+ * What the host owes. A pointer is never null, not even beside a length of 0. It points at as many bytes as its
+ * length says, or at a whole ring, aligned for uint64_t. While a call runs nothing else reads or writes what is
+ * lent to be written (a ring, an `out` buffer). Nothing more: every bit pattern of a set, an allocation, a
+ * message and a ring is a value, and gets its answer.
+ *
+ * Refusals. `number` is 0 for accepted, or the refusal; the numbers are below, and within one call the lowest
+ * that applies is given (1, 2 and 3: the first fault from the left of the sheet). A refused call changes nothing:
+ * not a byte of a lent ring, not a byte of a lent buffer. What it returns is blank, every number in it 0.
+ *
+ * Padding. What a host lends or passes (olivastrum_set, olivastrum_alloc, olivastrum_message, olivastrum_ring)
+ * has none, so two rings can be compared by their bytes. Answers end in a byte, and bytes after it say nothing.
+ *
+ * The archive to link is target/staticlib/liblent.a, which `rt staticlib lent` proves and writes for x86-64. It uses
+ * memcpy, memmove and memset of the C library, and nothing else.
+ */
+#ifndef OLIVASTRUM_H
+#define OLIVASTRUM_H
+
+#include <stddef.h>
+#include <stdint.h>
+
+#ifdef __cplusplus
+extern "C" {
+#endif
+
+/* What each number means. */
+enum {
+    OLIVASTRUM_ACCEPTED = 0,
+    OLIVASTRUM_SHEET_ENDS = 1,        /* the sheet ends inside a field, or before the end field */
+    OLIVASTRUM_SHEET_WRONG = 2,       /* wrong tag, wrong length, wrong count of stations or allocations */
+    OLIVASTRUM_SHEET_GOES_ON = 3,     /* a byte follows the end field */
+    OLIVASTRUM_OUT_OF_RANGE = 4,      /* w, C, D, P, TTRT or S outside its range */
+    OLIVASTRUM_WALK_TIME = 5,         /* the sum of all w is 0 or above TTRT */
+    OLIVASTRUM_NO_ALLOCATION = 6,     /* planning: no allocation exists */
+    OLIVASTRUM_RULE_BROKEN = 7,       /* the given allocation breaks the token or the deadline rule */
+    OLIVASTRUM_UNSOUND = 8,           /* the ring's state is unsound */
+    OLIVASTRUM_NO_SUCH_STATION = 9,   /* station number not below N */
+    OLIVASTRUM_BAD_LENGTH = 10,       /* message length 0 or above C */
+    OLIVASTRUM_STILL_HELD = 11,       /* that station still holds an unsent message */
+    OLIVASTRUM_BAD_ARRIVAL = 12,      /* arrival time not allowed */
+    OLIVASTRUM_CLOCK_TOO_HIGH = 13,   /* visit: the clock is above 1,000,000,000,000 */
+    OLIVASTRUM_BUFFER_TOO_SHORT = 14  /* the output buffer is too short for the sheet */
+};
+
+/* The most stations that a ring has, and so the places of each array. Places from N on are never looked at. */
+#define OLIVASTRUM_MOST_STATIONS 128
+
+/* The bytes of a request sheet and of a plan sheet of n stations. */
+#define OLIVASTRUM_REQUEST_BYTES(n) (10u + 19u * (n))
+#define OLIVASTRUM_PLAN_BYTES(n) (10u + 26u * (n))
+
+/* A count of ticks, and a station's number from 0 in ring order. The one is never the other. */
+struct olivastrum_ticks {
+    uint64_t ticks;
+};
+
+struct olivastrum_station {
+    uint64_t number;
+};
+
+/* N stations in ring order: walk time w to the next, longest message C (0: no stream), deadline D, least gap P. */
+struct olivastrum_set {
+    uint32_t ttrt;
+    uint32_t n;
+    uint32_t w[OLIVASTRUM_MOST_STATIONS];
+    uint32_t c[OLIVASTRUM_MOST_STATIONS];
+    uint32_t d[OLIVASTRUM_MOST_STATIONS];
+    uint32_t p[OLIVASTRUM_MOST_STATIONS];
+};
+
+/* The synchronous time S of each station. */
+struct olivastrum_alloc {
+    uint32_t s[OLIVASTRUM_MOST_STATIONS];
+};
+
+/* A ring's whole state. */
+struct olivastrum_ring {
+    struct olivastrum_set set;
+    struct olivastrum_alloc alloc;
+    uint32_t trt[OLIVASTRUM_MOST_STATIONS];     /* time since the station's last token arrival */
+    uint32_t sent[OLIVASTRUM_MOST_STATIONS];    /* synchronous ticks sent at its last visit */
+    uint32_t rest[OLIVASTRUM_MOST_STATIONS];    /* what remains of the held message; 0: none is held */
+    uint64_t arrival[OLIVASTRUM_MOST_STATIONS]; /* the held message's arrival, and after it the last accepted one */
+    uint8_t had[OLIVASTRUM_MOST_STATIONS];      /* a message was ever accepted: 0 is no, anything else yes */
+    uint64_t last[OLIVASTRUM_MOST_STATIONS];    /* the start of the last visit, where the station is below visits */
+    uint64_t clock;
+    uint64_t visits;
+    uint32_t token;                             /* the station that has the token */
+    uint32_t unused;                            /* u, the sum of S - s */
+};
+
+/* A message to hand in. */
+struct olivastrum_message {
+    struct olivastrum_station station;
+    struct olivastrum_ticks length;
+    struct olivastrum_ticks arrival;
+};
+
+/* What happened at a visit. finish and margin (deadline less finish, negative when late) are 0 unless completed is 1. */
+struct olivastrum_visit_record {
+    struct olivastrum_station station;
+    struct olivastrum_ticks start;
+    struct olivastrum_ticks trt;
+    struct olivastrum_ticks limit;
+    struct olivastrum_ticks synchronous;
+    struct olivastrum_ticks asynchronous;
+    struct olivastrum_ticks finish;
+    int64_t margin;
+    uint8_t completed;
+};
+
+/* ---- answers */
+struct olivastrum_read_request {
+    struct olivastrum_set set;
+    uint8_t number;
+};
+
+struct olivastrum_read_plan {
+    struct olivastrum_set set;
+    struct olivastrum_alloc alloc;
+    uint8_t number;
+};
+
+struct olivastrum_written {
+    size_t length;
+    uint8_t number;
+};
+
+struct olivastrum_planned {
+    struct olivastrum_alloc alloc;
+    uint8_t number;
+};
+
+struct olivastrum_opened {
+    struct olivastrum_ring ring;
+    uint8_t number;
+};
+
+struct olivastrum_visit_answer {
+    struct olivastrum_visit_record record;
+    uint8_t number;
+};
+
+/* Reads a request sheet: the set, or 1 to 5 with the blank set. */
+struct olivastrum_read_request read_request_sheet(const uint8_t *sheet, size_t length);
+
+/* Reads a plan sheet: the set and its allocation, or 1 to 5 or 7 with both blank. */
+struct olivastrum_read_plan read_plan_sheet(const uint8_t *sheet, size_t length);
+
+/* Writes a request sheet into the first bytes of out and leaves the rest: the sheet's length, or 2, 4, 5 or 14. */
+struct olivastrum_written write_request_sheet(struct olivastrum_set set, uint8_t *out, size_t length);
+
+/* Writes a plan sheet into the first bytes of out and leaves the rest: the sheet's length, or 2, 4, 5, 7 or 14. */
+struct olivastrum_written write_plan_sheet(struct olivastrum_set set, struct olivastrum_alloc alloc, uint8_t *out, size_t length);
+
+/* Plans a set: the smallest S at each station, or 2, 4, 5 or 6. 6 is given exactly if no allocation exists. */
+struct olivastrum_planned plan_set(struct olivastrum_set set);
+
+/* Opens a ring: clock 0, the token at station 0, nothing held; or 2, 4, 5 or 7 with the blank ring. */
+struct olivastrum_opened open_ring(struct olivastrum_set set, struct olivastrum_alloc alloc);
+
+/* A visit at the station that has the token, any number of asynchronous ticks asked for. The ring is changed where
+ * it stands; 8 or 13 leave it as it was. */
+struct olivastrum_visit_answer visit_lent(struct olivastrum_ring *ring, uint32_t ask);
+
+/* Hands in a message. The ring is changed where it stands; 8 to 12 leave it as it was. Returns the number. */
+uint8_t hand_in_lent(struct olivastrum_ring *ring, struct olivastrum_message message);
+
+#ifdef __cplusplus
+}
+#endif
+
+#endif

@@ -1,0 +1,6 @@
+/* For a compiler that comes without the C library's headers. */
+#ifndef HOST_STDIO_H
+#define HOST_STDIO_H
+int printf(const char *format, ...);
+int puts(const char *line);
+#endif

@@ -1,0 +1,7 @@
+/* For a compiler that comes without the C library's headers. */
+#ifndef HOST_STRING_H
+#define HOST_STRING_H
+#include <stddef.h>
+int memcmp(const void *a, const void *b, size_t n);
+void *memset(void *a, int byte, size_t n);
+#endif

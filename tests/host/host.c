@@ -1,0 +1,336 @@
+/*
+ * A host in C that does the whole job with the worked run of the build definition: it reads a request, plans, writes
+ * and reads the plan sheet, opens the ring, hands in messages and visits, and holds each number to the definition's.
+ * Refused calls must leave every byte of the ring and of the buffers as they were, and any bytes at all in place of a
+ * ring must get an answer. Prints `ok`, or the first line that failed.
+ */
+#include "olivastrum.h"
+#include "fields.h"
+#include <stdio.h>
+#include <string.h>
+
+typedef struct olivastrum_ring ring_t;
+
+#define CHECK(test)                                             \
+    do {                                                        \
+        if (!(test)) {                                          \
+            printf("host.c:%d: %s\n", __LINE__, #test);         \
+            return 0;                                           \
+        }                                                       \
+    } while (0)
+
+/* ---- the twins of the structs: sizes and places agree with the toolchain's, and what is lent has no padding */
+#define AT(type, field) offsetof(struct type, field)
+#define SAME(fields, ...)                                                     \
+    do {                                                                      \
+        static const size_t theirs[] = {fields}, ours[] = {__VA_ARGS__};      \
+        CHECK(sizeof theirs == sizeof ours);                                  \
+        CHECK(memcmp(theirs, ours, sizeof ours) == 0);                        \
+    } while (0)
+
+static int layouts(void)
+{
+    SAME(FIELDS_SET, sizeof(struct olivastrum_set), AT(olivastrum_set, ttrt), AT(olivastrum_set, n), AT(olivastrum_set, w),
+         AT(olivastrum_set, c), AT(olivastrum_set, d), AT(olivastrum_set, p));
+    SAME(FIELDS_ALLOC, sizeof(struct olivastrum_alloc), AT(olivastrum_alloc, s));
+    SAME(FIELDS_PLANNED, sizeof(struct olivastrum_planned), AT(olivastrum_planned, alloc), AT(olivastrum_planned, number));
+    SAME(FIELDS_READ_REQUEST, sizeof(struct olivastrum_read_request), AT(olivastrum_read_request, set), AT(olivastrum_read_request, number));
+    SAME(FIELDS_READ_PLAN, sizeof(struct olivastrum_read_plan), AT(olivastrum_read_plan, set), AT(olivastrum_read_plan, alloc),
+         AT(olivastrum_read_plan, number));
+    SAME(FIELDS_WRITTEN, sizeof(struct olivastrum_written), AT(olivastrum_written, length), AT(olivastrum_written, number));
+    SAME(FIELDS_RING, sizeof(ring_t), AT(olivastrum_ring, set), AT(olivastrum_ring, alloc), AT(olivastrum_ring, trt), AT(olivastrum_ring, sent),
+         AT(olivastrum_ring, rest), AT(olivastrum_ring, arrival), AT(olivastrum_ring, had), AT(olivastrum_ring, last), AT(olivastrum_ring, clock),
+         AT(olivastrum_ring, visits), AT(olivastrum_ring, token), AT(olivastrum_ring, unused));
+    SAME(FIELDS_MESSAGE, sizeof(struct olivastrum_message), AT(olivastrum_message, station), AT(olivastrum_message, length),
+         AT(olivastrum_message, arrival));
+    SAME(FIELDS_VISIT_RECORD, sizeof(struct olivastrum_visit_record), AT(olivastrum_visit_record, station), AT(olivastrum_visit_record, start),
+         AT(olivastrum_visit_record, trt), AT(olivastrum_visit_record, limit), AT(olivastrum_visit_record, synchronous),
+         AT(olivastrum_visit_record, asynchronous), AT(olivastrum_visit_record, finish), AT(olivastrum_visit_record, margin),
+         AT(olivastrum_visit_record, completed));
+    SAME(FIELDS_VISIT_ANSWER, sizeof(struct olivastrum_visit_answer), AT(olivastrum_visit_answer, record), AT(olivastrum_visit_answer, number));
+    SAME(FIELDS_OPENED, sizeof(struct olivastrum_opened), AT(olivastrum_opened, ring), AT(olivastrum_opened, number));
+
+    CHECK(sizeof(struct olivastrum_set) == 2 * 4 + 4 * 128 * 4);
+    CHECK(sizeof(struct olivastrum_alloc) == 128 * 4);
+    CHECK(sizeof(struct olivastrum_message) == 3 * 8);
+    CHECK(sizeof(ring_t) == sizeof(struct olivastrum_set) + sizeof(struct olivastrum_alloc) + 3 * 128 * 4 + 2 * 128 * 8 + 128 + 2 * 8 + 2 * 4);
+    return 1;
+}
+
+/* ---- the worked run's request sheet, byte by byte */
+static uint8_t *put(uint8_t *at, unsigned tag, unsigned length)
+{
+    *at++ = (uint8_t)tag;
+    *at++ = (uint8_t)(length >> 8);
+    *at++ = (uint8_t)length;
+    return at;
+}
+
+static uint8_t *put_number(uint8_t *at, uint32_t x)
+{
+    *at++ = (uint8_t)(x >> 24);
+    *at++ = (uint8_t)(x >> 16);
+    *at++ = (uint8_t)(x >> 8);
+    *at++ = (uint8_t)x;
+    return at;
+}
+
+#define STATIONS 4
+
+static const uint32_t walk_times[STATIONS] = {2, 0, 0, 0};
+
+static uint8_t *put_set(uint8_t *at)
+{
+    at = put_number(put(at, 1, 4), 100);
+    for (int i = 0; i < STATIONS; i++)
+        at = put_number(put_number(put_number(put_number(put(at, 2, 16), walk_times[i]), 20), 100), 100);
+    return at;
+}
+
+static int is_the_set(const struct olivastrum_set *set)
+{
+    CHECK(set->ttrt == 100 && set->n == STATIONS);
+    for (int i = 0; i < OLIVASTRUM_MOST_STATIONS; i++) {
+        CHECK(set->w[i] == (i < STATIONS ? walk_times[i] : 0));
+        CHECK(set->c[i] == (i < STATIONS ? 20u : 0));
+        CHECK(set->d[i] == (i < STATIONS ? 100u : 0));
+        CHECK(set->p[i] == (i < STATIONS ? 100u : 0));
+    }
+    return 1;
+}
+
+static int all_zero(const void *bytes, size_t n)
+{
+    for (size_t i = 0; i < n; i++)
+        CHECK(((const uint8_t *)bytes)[i] == 0);
+    return 1;
+}
+
+/* Reads the request, plans it and writes the sheets; hands out the set and the allocation. */
+static int planning(struct olivastrum_set *set, struct olivastrum_alloc *alloc)
+{
+    uint8_t request[OLIVASTRUM_REQUEST_BYTES(STATIONS) + 1], plan[OLIVASTRUM_PLAN_BYTES(STATIONS)];
+    put(put_set(request), 255, 0);
+    uint8_t *at = put_set(plan);
+    for (int i = 0; i < STATIONS; i++)
+        at = put_number(put(at, 3, 4), 20);
+    put(at, 255, 0);
+
+    /* reading: the set, and each refusal of a sheet with the blank set */
+    struct olivastrum_read_request read = read_request_sheet(request, OLIVASTRUM_REQUEST_BYTES(STATIONS));
+    CHECK(read.number == 0);
+    CHECK(is_the_set(&read.set));
+    for (size_t n = 0; n < OLIVASTRUM_REQUEST_BYTES(STATIONS); n++) {
+        struct olivastrum_read_request cut = read_request_sheet(request, n);
+        CHECK(cut.number == OLIVASTRUM_SHEET_ENDS);
+        CHECK(all_zero(&cut.set, sizeof cut.set));
+    }
+    request[OLIVASTRUM_REQUEST_BYTES(STATIONS)] = 7;
+    CHECK(read_request_sheet(request, OLIVASTRUM_REQUEST_BYTES(STATIONS) + 1).number == OLIVASTRUM_SHEET_GOES_ON);
+    request[0] = 2;
+    CHECK(read_request_sheet(request, OLIVASTRUM_REQUEST_BYTES(STATIONS)).number == OLIVASTRUM_SHEET_WRONG);
+    request[0] = 1;
+
+    /* planning: S is 20 at each station */
+    struct olivastrum_planned planned = plan_set(read.set);
+    CHECK(planned.number == 0);
+    for (int i = 0; i < OLIVASTRUM_MOST_STATIONS; i++)
+        CHECK(planned.alloc.s[i] == (i < STATIONS ? 20u : 0));
+    struct olivastrum_set crowded = read.set;
+    crowded.c[3] = 100;
+    struct olivastrum_planned refused = plan_set(crowded);
+    CHECK(refused.number == OLIVASTRUM_NO_ALLOCATION);
+    CHECK(all_zero(&refused.alloc, sizeof refused.alloc));
+
+    /* writing: the sheet stands in the first bytes, and the rest of the buffer is as it was */
+    uint8_t out[200], before[200];
+    memset(out, 0xa5, sizeof out);
+    memset(before, 0xa5, sizeof before);
+    struct olivastrum_written written = write_plan_sheet(read.set, planned.alloc, out, sizeof out);
+    CHECK(written.number == 0 && written.length == sizeof plan);
+    CHECK(memcmp(out, plan, sizeof plan) == 0);
+    CHECK(memcmp(out + sizeof plan, before, sizeof out - sizeof plan) == 0);
+    struct olivastrum_read_plan again = read_plan_sheet(out, sizeof plan);
+    CHECK(again.number == 0);
+    CHECK(memcmp(&again.set, &read.set, sizeof read.set) == 0);
+    CHECK(memcmp(&again.alloc, &planned.alloc, sizeof planned.alloc) == 0);
+    memset(out, 0xa5, sizeof out);
+    written = write_request_sheet(read.set, out, sizeof out);
+    CHECK(written.number == 0 && written.length == OLIVASTRUM_REQUEST_BYTES(STATIONS));
+    CHECK(memcmp(out, request, OLIVASTRUM_REQUEST_BYTES(STATIONS)) == 0);
+    CHECK(memcmp(out + written.length, before, sizeof out - written.length) == 0);
+
+    /* refused writing: no byte of the buffer changes */
+    memset(out, 0xa5, sizeof out);
+    written = write_plan_sheet(read.set, planned.alloc, out, sizeof plan - 1);
+    CHECK(written.number == OLIVASTRUM_BUFFER_TOO_SHORT && written.length == 0);
+    written = write_request_sheet(read.set, out, OLIVASTRUM_REQUEST_BYTES(STATIONS) - 1);
+    CHECK(written.number == OLIVASTRUM_BUFFER_TOO_SHORT && written.length == 0);
+    struct olivastrum_alloc greedy = planned.alloc;
+    greedy.s[0] = 99;
+    written = write_plan_sheet(read.set, greedy, out, sizeof out);
+    CHECK(written.number == OLIVASTRUM_RULE_BROKEN && written.length == 0);
+    CHECK(memcmp(out, before, sizeof out) == 0);
+
+    *set = read.set;
+    *alloc = planned.alloc;
+    return 1;
+}
+
+/* ---- the ring */
+static struct olivastrum_message message(uint64_t station, uint64_t length, uint64_t arrival)
+{
+    struct olivastrum_message m = {{station}, {length}, {arrival}};
+    return m;
+}
+
+/* a handing in that must be refused with this number, and leave every byte of the ring */
+static int hand_in_refused(ring_t *ring, uint64_t station, uint64_t length, uint64_t arrival, uint8_t number)
+{
+    ring_t before = *ring;
+    CHECK(hand_in_lent(ring, message(station, length, arrival)) == number);
+    CHECK(memcmp(ring, &before, sizeof before) == 0);
+    return 1;
+}
+
+/* a visit that must be refused with this number, and leave every byte of the ring */
+static int visit_refused(ring_t *ring, uint8_t number)
+{
+    ring_t before = *ring;
+    struct olivastrum_visit_answer answer = visit_lent(ring, 1000);
+    CHECK(answer.number == number);
+    CHECK(all_zero(&answer.record, offsetof(struct olivastrum_visit_record, completed) + 1));
+    CHECK(memcmp(ring, &before, sizeof before) == 0);
+    return 1;
+}
+
+/* Opens the ring of the worked run. */
+static int opening(ring_t *ring, struct olivastrum_set set, struct olivastrum_alloc alloc)
+{
+    struct olivastrum_alloc greedy = alloc;
+    greedy.s[0] = 99;
+    struct olivastrum_opened refused = open_ring(set, greedy);
+    CHECK(refused.number == OLIVASTRUM_RULE_BROKEN);
+    CHECK(all_zero(&refused.ring, sizeof refused.ring));
+    struct olivastrum_opened opened = open_ring(set, alloc);
+    CHECK(opened.number == 0);
+    *ring = opened.ring;
+    CHECK(memcmp(&ring->set, &set, sizeof set) == 0);
+    CHECK(memcmp(&ring->alloc, &alloc, sizeof alloc) == 0);
+    CHECK(ring->clock == 0 && ring->visits == 0 && ring->token == 0 && ring->unused == 80);
+    CHECK(ring->trt[0] == 2 && all_zero(ring->trt + 1, sizeof ring->trt - 4));
+    CHECK(all_zero(ring->sent, sizeof ring->sent) && all_zero(ring->rest, sizeof ring->rest));
+    CHECK(all_zero(ring->arrival, sizeof ring->arrival) && all_zero(ring->had, sizeof ring->had) && all_zero(ring->last, sizeof ring->last));
+    return 1;
+}
+
+/* visit, station, start, TRT, limit, sync, async, finish, margin */
+static const int64_t rows[][8] = {
+    {0, 0, 2, 18, 20, 18, 20, 80},
+    {1, 40, 40, 0, 20, 0, 60, 40},
+    {2, 60, 60, 0, 20, 0, 80, 20},
+    {3, 80, 80, 0, 20, 0, 100, 0},
+    {0, 100, 100, 0, 20, 0, 120, 80},
+    {1, 122, 82, 18, 20, 18, 142, 58},
+};
+
+static int worked_run(ring_t *ring)
+{
+    for (uint64_t i = 0; i < STATIONS; i++) {
+        CHECK(hand_in_refused(ring, i, 0, 0, OLIVASTRUM_BAD_LENGTH));
+        CHECK(hand_in_refused(ring, i, 21, 0, OLIVASTRUM_BAD_LENGTH));
+        ring_t before = *ring;
+        CHECK(hand_in_lent(ring, message(i, 20, 0)) == 0);
+        before.rest[i] = 20;
+        before.had[i] = 1;
+        CHECK(memcmp(ring, &before, sizeof before) == 0);
+        CHECK(hand_in_refused(ring, i, 20, 100, OLIVASTRUM_STILL_HELD));
+    }
+    CHECK(hand_in_refused(ring, STATIONS, 20, 0, OLIVASTRUM_NO_SUCH_STATION));
+    CHECK(hand_in_refused(ring, UINT64_MAX, 20, 0, OLIVASTRUM_NO_SUCH_STATION));
+    for (size_t k = 0; k < sizeof rows / sizeof rows[0]; k++) {
+        const int64_t *row = rows[k];
+        struct olivastrum_visit_answer answer = visit_lent(ring, 1000);
+        struct olivastrum_visit_record *r = &answer.record;
+        CHECK(answer.number == 0 && r->completed == 1);
+        CHECK((int64_t)r->station.number == row[0] && (int64_t)r->start.ticks == row[1] && (int64_t)r->trt.ticks == row[2]);
+        CHECK((int64_t)r->limit.ticks == row[3] && (int64_t)r->synchronous.ticks == row[4] && (int64_t)r->asynchronous.ticks == row[5]);
+        CHECK((int64_t)r->finish.ticks == row[6] && r->margin == row[7]);
+        CHECK(ring->visits == k + 1 && ring->rest[row[0]] == 0 && ring->sent[row[0]] == 20);
+        if (k < STATIONS) {
+            CHECK(hand_in_refused(ring, (uint64_t)row[0], 20, 99, OLIVASTRUM_BAD_ARRIVAL));
+            CHECK(hand_in_refused(ring, (uint64_t)row[0], 20, 1000000000001u, OLIVASTRUM_BAD_ARRIVAL));
+            CHECK(hand_in_lent(ring, message((uint64_t)row[0], 20, 100)) == 0);
+        }
+    }
+    CHECK(ring->clock == 160 && ring->token == 2);
+    return 1;
+}
+
+/* ---- rings that no opening gives */
+static uint64_t dice = 88172645463325252u;
+
+static uint8_t throw_byte(void)
+{
+    dice ^= dice << 13;
+    dice ^= dice >> 7;
+    dice ^= dice << 17;
+    return (uint8_t)(dice >> 32);
+}
+
+static int unsound(ring_t *ring)
+{
+    CHECK(visit_refused(ring, OLIVASTRUM_UNSOUND));
+    CHECK(hand_in_refused(ring, throw_byte(), throw_byte(), throw_byte(), OLIVASTRUM_UNSOUND));
+    return 1;
+}
+
+static int any_bytes(const ring_t *sound)
+{
+    ring_t ring;
+    memset(&ring, 0, sizeof ring);
+    CHECK(unsound(&ring));
+    memset(&ring, 0xff, sizeof ring);
+    CHECK(unsound(&ring));
+    for (int k = 0; k < 200; k++) {
+        for (size_t i = 0; i < sizeof ring; i++)
+            ((uint8_t *)&ring)[i] = throw_byte();
+        CHECK(unsound(&ring));
+    }
+
+    /* one number wrong in a ring that is otherwise sound */
+    ring = *sound, ring.clock = 1000000000001u;
+    CHECK(visit_refused(&ring, OLIVASTRUM_CLOCK_TOO_HIGH));
+    ring = *sound, ring.clock = 1000002000001u;
+    CHECK(unsound(&ring));
+    ring = *sound, ring.token = STATIONS;
+    CHECK(unsound(&ring));
+    ring = *sound, ring.unused += 1;
+    CHECK(unsound(&ring));
+    ring = *sound, ring.visits = (uint64_t)1 << 62;
+    CHECK(unsound(&ring));
+    ring = *sound, ring.alloc.s[0] = 99;
+    CHECK(unsound(&ring));
+    ring = *sound, ring.set.n = 129;
+    CHECK(unsound(&ring));
+
+    /* a byte that is neither 0 nor 1 in `had` is a yes, and places past N are never looked at */
+    ring = *sound, ring.had[2] = 0x80, ring.trt[STATIONS] = 0xffffffffu, ring.set.w[127] = 0xffffffffu;
+    ring_t other = *sound;
+    struct olivastrum_visit_answer a = visit_lent(&ring, 5), b = visit_lent(&other, 5);
+    CHECK(a.number == 0 && b.number == 0);
+    CHECK(memcmp(&a.record, &b.record, offsetof(struct olivastrum_visit_record, completed) + 1) == 0);
+    CHECK(ring.had[2] == 0x80 && ring.trt[STATIONS] == 0xffffffffu && ring.set.w[127] == 0xffffffffu);
+    return 1;
+}
+
+int main(void)
+{
+    static ring_t ring;
+    struct olivastrum_set set;
+    struct olivastrum_alloc alloc;
+    if (!layouts() || !planning(&set, &alloc) || !opening(&ring, set, alloc) || !worked_run(&ring) || !any_bytes(&ring))
+        return 1;
+    puts("ok");
+    return 0;
+}
