@@ -95,7 +95,7 @@ module _ (r : Ring) (sync async : ℕ) (L : Places r) (few : count r ≤ 128) (b
 -- the offer, of the ring's own plan
 moved-offer : (r : Ring) (sync ask : ℕ) → VisitOffer (r .set) r (recordOf r sync (asyncSent r ask))
 unfolding recordOf
-moved-offer r sync ask = record { limit = refl; kept = omega arith }
+moved-offer r sync ask = record { limit = omega arith; kept = omega arith }
 
 -- ---- what is sent of the held message
 
