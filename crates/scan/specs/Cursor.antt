@@ -1,0 +1,24 @@
+-- A reader of a sheet: the lent bytes and a cursor. What it hands out is the field at the cursor; an accepted field moves the cursor to the next field, a refused one leaves it.
+use Prim.Native.Nat.{ℕ}
+use mathlib.Core.Path.{_≡_}
+use mathlib.Core.Bool.{cond}
+use lib.Dec.{eqb}
+use denote.Ref.{now}
+use Rattle.sheets.specs.Fields.{fieldAt}
+use Rattle.sheets.specs.declared.fields.Allowed.{Allowed}
+use Rattle.sheets.specs.declared.fields.Field.{Field}
+use Rattle.scan.specs.declared.Reader.{Reader}
+
+-- where the cursor stands after a field: at the next field if this one was accepted, else where it stood
+unfoldable pub cursorAfter : ℕ → Field → ℕ
+cursorAfter at field = cond (eqb (field .number) 0) (field .next) at
+
+-- what the reader hands out: the field at its cursor, tested against what is allowed there
+abbrev pub fieldOf : Reader → Allowed → Field
+fieldOf reader allowed = fieldAt (now (reader .sheet)) (reader .at) allowed
+
+-- advancing: the field at the cursor is handed out, the cursor moves over it, and the bytes are the same
+pub record Advanced (entry : Reader) (allowed : Allowed) (exit : Reader) (field : Field) : Type 0 where
+  pub handed : field ≡ fieldOf entry allowed
+  pub cursor : exit .at ≡ cursorAfter (entry .at) (fieldOf entry allowed)
+  pub bytes : exit .sheet ≡ entry .sheet
