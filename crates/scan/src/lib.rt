@@ -1,11 +1,14 @@
 // The fields of a sheet, handed out one after another from the lent bytes. A reader holds the bytes and a cursor; nothing is copied.
 // The functions over the struct are thin: all choices stand in `sheets::fields::field_at` and in `after`.
 ghost use mathlib.Core.Path.{_≡_};
+ghost use Prim.Native.Nat.{_+_, _<_, _^_};
 ghost use Rattle.sheets.specs.Fields.{fieldAt};
 ghost use Rattle.scan.specs.Cursor.{cursorAfter, fieldOf, Advanced};
+ghost use Rattle.scan.specs.Scanned.{stopsAt, stopNumber, withField, scanned};
 use sheets::fields;
 use sheets::fields::Allowed;
 use sheets::fields::Field;
+use sheets::fields::Passed;
 use units::numbers;
 
 // The lent bytes of a sheet, and where the next field begins.
@@ -52,4 +55,83 @@ pub fn field_of(sheet: &[u8], at: usize, allowed: Allowed) -> Field
     ensures { λ r. ⌜ r ≡ fieldAt (now (sheet .entry)) at allowed ⌝ }
 {
     peek(Reader { sheet, at }, allowed)
+}
+
+// ---- a whole sheet
+
+// What a walk over a sheet has seen: the number, 0 or 1, 2, 3; the fields that passed; and the place of the field at which it stopped.
+pub struct Scanned {
+    pub number: u8,
+    pub passed: Passed,
+    pub at: usize,
+}
+
+// The walk stops at a field that is refused, and at the end field.
+fn stops(field: Field) -> bool
+    ensures { λ r. ⌜ r ≡ stopsAt field ⌝ }
+{
+    let is_refused = field.number != numbers::ACCEPTED;
+    is_refused | (field.tag == fields::END_TAG)
+}
+
+// Why it stops there; `size` is the length of the sheet.
+fn stop_number(size: usize, field: Field) -> u8
+    ensures { λ r. ⌜ r ≡ stopNumber size field ⌝ }
+{
+    if field.number != numbers::ACCEPTED {
+        return field.number;
+    }
+    if field.next < size {
+        return numbers::RUNS_ON;
+    }
+    numbers::ACCEPTED
+}
+
+// One more field has passed: a header, a station or an allocation.
+fn with_field(passed: Passed, tag: u8) -> Passed
+    requires { ⌜ (passed .stations + 1 < 2 ^ 64) × (passed .allocations + 1 < 2 ^ 64) ⌝ }
+    ensures { λ r. ⌜ r ≡ withField passed tag ⌝ }
+{
+    if tag == fields::HEAD_TAG {
+        return Passed {
+            head: true,
+            stations: passed.stations,
+            allocations: passed.allocations,
+        };
+    }
+    if tag == fields::STATION_TAG {
+        return Passed {
+            head: passed.head,
+            stations: passed.stations + 1,
+            allocations: passed.allocations,
+        };
+    }
+    Passed {
+        head: passed.head,
+        stations: passed.stations,
+        allocations: passed.allocations + 1,
+    }
+}
+
+// Walks over a whole sheet, field by field, and says how far it is well-formed.
+pub fn scan_sheet(sheet: &[u8], plan: bool) -> Scanned
+    ensures { λ r. ⌜ r ≡ scanned plan (now (sheet .entry)) ⌝ }
+{
+    let mut passed = Passed {
+        head: false,
+        stations: 0,
+        allocations: 0,
+    };
+    let mut at: usize = 0;
+    let mut field = field_of(sheet, at, fields::allowed_next(plan, passed));
+    while !stops(field) {
+        passed = with_field(passed, field.tag);
+        at = after(at, field);
+        field = field_of(sheet, at, fields::allowed_next(plan, passed));
+    }
+    Scanned {
+        number: stop_number(sheet.len(), field),
+        passed,
+        at,
+    }
 }

@@ -1,0 +1,137 @@
+-- `scan_sheet` is right because at each turn the walk from the cursor on is the rest of the definition's walk, and it stops where the definition stops.
+use Prim.Native.Nat.{ℕ, suc, _+_, _≤_, _<_}
+use mathlib.Core.Path.{_≡_, refl, sym, ap, _∙_}
+use mathlib.Core.Bool.{Bool, true, false}
+use mathlib.Core.List.{List}
+use native.Mathlib.Omega.{arith}
+use borrow.Author.Tests.{not-true, not-false}
+use lib.ListN.{length}
+use Rattle.sheets.specs.Fields.{left, fieldAt}
+use Rattle.sheets.specs.declared.fields.Field.{Field}
+use Rattle.sheets.specs.declared.fields.Passed.{Passed}
+use Rattle.scan.specs.Cursor.{cursorAfter}
+use Rattle.scan.specs.Scanned.{nextField, stopsAt, stopNumber, withField, scanFrom, scanned}
+use Rattle.scan.specs.ScanLaws.{goes-on, scan-stops, scan-turn, Over, over, counts-one}
+use borrow.Author.Needs.{needs}
+use Rattle.scan.proofs.scan_sheet.Statement.{statement}
+use Rattle.scan.proofs.scan_sheet.Tie as tie
+
+abbrev Inv-loop : tie.InvT-loop
+Inv-loop sheet plan passed₀ at₀ field₀ passed at field =
+    (field ≡ nextField plan sheet passed at) × (passed .stations + passed .allocations ≤ at) × (at ≤ length sheet)
+    × ((k : ℕ) × ((left sheet at < k) × (scanFrom k plan sheet passed at ≡ scanned plan sheet)))
+
+abbrev μ-loop : tie.MeasureT-loop
+μ-loop sheet plan passed₀ at₀ field₀ passed at field = left sheet at
+
+-- a turn of the loop: the sheet, what has passed, and the cursor
+module _ (c : tie.Then1 Inv-loop μ-loop) where
+  abbrev is-plan : Bool
+  is-plan = c .before .before .before .before .before .before .args .plan
+
+  abbrev bytes : List ℕ
+  bytes = c .before .before .before .before .before .before .args .sheet .now
+
+  abbrev so-far : Passed
+  so-far = c .before .before .loop .passed
+
+  abbrev place : ℕ
+  place = c .before .before .loop .at
+
+  same-field : c .before .before .loop .field ≡ nextField is-plan bytes so-far place
+  same-field = c .before .before .loop .inv .0
+
+  passes : stopsAt (nextField is-plan bytes so-far place) ≡ false
+  passes = ap stopsAt (sym same-field) ∙ sym (c .before .stops .ensures) ∙ not-true _ (c .if1 .taken)
+
+  inside : Over is-plan bytes so-far place
+  inside = over is-plan bytes so-far place (goes-on _ passes .0)
+
+allowed-next-requires : tie.Need-allowed-next-requires Inv-loop μ-loop
+allowed-next-requires c κs = search needs
+
+field-of-requires : tie.Need-field-of-requires Inv-loop μ-loop
+field-of-requires c κs = search needs
+
+loop-holds : tie.Need-loop-holds Inv-loop μ-loop
+loop-holds c =
+    let bs = c .before .before .before .args .sheet .now in
+    (c .field-of .ensures ∙ ap (fieldAt (c .before .before .before .args .sheet .now) 0) (c .before .allowed-next .ensures), omega arith, omega arith, (suc (length bs), (omega arith, refl)))
+
+stops-requires : tie.Need-stops-requires Inv-loop μ-loop
+stops-requires c κs = search needs
+
+with-field-requires : tie.Need-with-field-requires Inv-loop μ-loop
+with-field-requires c κs = let o = inside c in (omega (arith, o .inside, c .before .before .loop .inv .1), omega (arith, o .inside, c .before .before .loop .inv .1))
+
+after-requires : tie.Need-after-requires Inv-loop μ-loop
+after-requires c κs = search needs
+
+allowed-next-requires-2 : tie.Need-allowed-next-requires-2 Inv-loop μ-loop
+allowed-next-requires-2 c κs = search needs
+
+field-of-requires-2 : tie.Need-field-of-requires-2 Inv-loop μ-loop
+field-of-requires-2 c κs = search needs
+
+-- after a turn
+module _ (c : tie.After-with-field Inv-loop μ-loop) where
+  passed-said : c .with-field .result ≡ withField (so-far (c .before)) (nextField (is-plan (c .before)) (bytes (c .before)) (so-far (c .before)) (place (c .before)) .tag)
+  passed-said = c .with-field .ensures ∙ ap (λ (f : Field). withField (so-far (c .before)) (f .tag)) (same-field (c .before))
+
+module _ (c : tie.After-after Inv-loop μ-loop) where
+  cursor-said : c .after .result ≡ cursorAfter (place (c .before .before)) (nextField (is-plan (c .before .before)) (bytes (c .before .before)) (so-far (c .before .before)) (place (c .before .before)))
+  cursor-said = c .after .ensures ∙ ap (cursorAfter (place (c .before .before))) (same-field (c .before .before))
+
+loop-less : tie.Need-loop-less Inv-loop μ-loop
+loop-less c =
+    let turn = c .before .before .before .before in
+    let o = inside turn in
+    omega (arith, cursor-said (c .before .before), o .behind, o .inside)
+
+loop-again : tie.Need-loop-again Inv-loop μ-loop
+loop-again c =
+    let turn = c .before .before .before .before in
+    let o = inside turn in
+    let inv = turn .before .before .loop .inv in
+    let n = passed-said (c .before .before .before) in
+    let a = cursor-said (c .before .before) in
+    let rest = scan-turn (is-plan turn) (bytes turn) (so-far turn) (place turn) (inv .3 .0) (scanned (is-plan turn) (bytes turn)) (inv .3 .1 .0) (passes turn) (inv .3 .1 .1) in (
+      c .field-of2 .ensures ∙ ap (fieldAt (bytes turn) (c .before .before .after .result)) (c .before .allowed-next2 .ensures),
+      rw n (omega (arith, inv .1, a, o .behind, counts-one (so-far turn) (nextField (is-plan turn) (bytes turn) (so-far turn) (place turn) .tag))),
+      omega (arith, a, o .behind, o .inside),
+      rw (n, a) rest,
+    )
+
+stop-number-requires : tie.Need-stop-number-requires Inv-loop μ-loop
+stop-number-requires c κs = search needs
+
+returns : tie.Need-returns Inv-loop μ-loop
+returns c =
+    let at-loop = c .before .before .before in
+    let plan = at-loop .before .before .before .before .args .plan in
+    let bs = at-loop .before .before .before .before .args .sheet .now in
+    let p = at-loop .loop .passed in
+    let a = at-loop .loop .at in
+    let inv = at-loop .loop .inv in
+    let stop : stopsAt (nextField plan bs p a) ≡ true = ap stopsAt (sym (inv .0)) ∙ sym (c .before .before .stops .ensures) ∙ not-false _ (c .before .if1 .left) in
+    let some : 0 < inv .3 .0 = omega (arith, inv .3 .1 .0) in
+    ap (λ (k : ℕ). record { number = k; passed = p; at = a }) (c .stop-number .ensures ∙ ap (stopNumber (length bs)) (inv .0)) ∙ sym (scan-stops plan bs p a (inv .3 .0) some stop) ∙ inv .3 .1 .1
+
+pub scan-sheet-spec : {M : Type 1} → statement M
+scan-sheet-spec =
+    tie.close
+    (tie.spec
+    Inv-loop
+    μ-loop
+    allowed-next-requires
+    field-of-requires
+    loop-holds
+    stops-requires
+    with-field-requires
+    after-requires
+    allowed-next-requires-2
+    field-of-requires-2
+    loop-less
+    loop-again
+    stop-number-requires
+    returns)
