@@ -2,7 +2,7 @@
 use Prim.Native.Nat.{ℕ, zero, suc, _+_, _*_, _≤_, _<_}
 use mathlib.Core.Path.{_≡_, refl, sym, ap, _∙_}
 use mathlib.Core.Bool.{Bool, true, false}
-use mathlib.Core.List.{List, _++_}
+use mathlib.Core.List.{List, [], _∷_, _++_}
 use mathlib.Core.Logic.{⊎-elim, _↔_, _≢_}
 use native.Mathlib.Omega.{arith}
 use lib.ListN.{length, take, drop, getD-replicate, List·getD-eq-default}
@@ -20,20 +20,20 @@ use Rattle.plans.specs.Planned.{judgedPlan, blankAlloc}
 use Rattle.plans.specs.PlanLaws.{judged-plan-same}
 use Rattle.plans.specs.declared.Alloc.{Alloc}
 use Rattle.sheets.specs.Rows.{rows}
-use Rattle.sheets.specs.Bytes.{AllBytes}
+use Rattle.sheets.specs.Bytes.{bytesOf, AllBytes}
 use Rattle.sheets.specs.Fields.{allocationsFor}
-use Rattle.sheets.specs.Layout.{stationBytes, allocationBytes, sheetOf, requestSheet, planSheet, sheetLength}
+use Rattle.sheets.specs.Layout.{headBytes, stationWith, stationBytes, allocationBytes, sheetOf, requestSheet, planSheet, sheetLength}
 use Rattle.sheets.specs.Reading.{thenNumber, stationsIn, allocationsIn, shapeNumber, setIn, allocIn, judgedSheet, readSheet, readRequest, readPlan}
 use Rattle.sheets.specs.Writing.{writtenAnswer, writtenBuffer}
 use Rattle.sheets.specs.FirstFault.{Fault, no-start, not-allowed, cut-body, follows, FirstFault, WholeSheet}
-use Rattle.sheets.specs.Promised.{Promised, ZeroPast, GivenRequest, GivenPlan, firstPlaces, firstAllocations}
+use Rattle.sheets.specs.Promised.{Promised, ZeroPast, GivenRequest, GivenPlan, firstPlaces, firstAllocations, smallSet}
 use Rattle.sheets.specs.RowLaws.{rows-same}
 use Rattle.sheets.specs.FieldLaws.{passed}
 use Rattle.sheets.specs.ReadLaws.{then-rest, then-keeps, then-none, read-refused, read-accepted, read-number, end-says, few-stations, few-allocations, sheet-accepted}
 use Rattle.sheets.specs.WriteLaws.{sheet-long, answer-accepted, answer-number, buffer-accepted, buffer-refused, number-none}
 use Rattle.sheets.specs.BackLaws.{read-back, first-same, first-allocations}
 use Rattle.sheets.specs.AgainLaws.{stop-is-end, read-again}
-use Rattle.sheets.specs.FaultLaws.{zero-or-not, fault-shape, shape-fault, whole-shape, shape-whole}
+use Rattle.sheets.specs.FaultLaws.{zero-or-not, fault-shape, shape-fault, whole-shape, shape-whole, one-fault}
 use Rattle.sheets.specs.declared.fields.Allowed.{Allowed}
 use Rattle.sheets.specs.declared.ReadPlan.{ReadPlan}
 use Rattle.sheets.specs.declared.Written.{Written}
@@ -281,11 +281,18 @@ plan-judgement : (bs : List ℕ) → WholeSheet true bs → readPlan bs .number 
 unfolding judgedSheet
 plan-judgement bs w = number-judged true bs (whole-shape true bs w)
 
+small-written : requestSheet smallSet ≡ 1 ∷ 0 ∷ 4 ∷ 0 ∷ 0 ∷ 0 ∷ 1 ∷ 2 ∷ 0 ∷ 16 ∷ 0 ∷ 0 ∷ 0 ∷ 1 ∷ 0 ∷ 0 ∷ 0 ∷ 0 ∷ 0 ∷ 0 ∷ 0 ∷ 1 ∷ 0 ∷ 0 ∷ 0 ∷ 1 ∷ 255 ∷ 0 ∷ 0 ∷ []
+unfolding sheetOf headBytes stationWith rows bytesOf fill
+small-written = refl
+
 pub promised : Promised
 promised =
     record {
       request-length = λ t. let e = sheet-long false t blankAlloc in omega arith;
       plan-length = λ t a. let e = sheet-long true t a in omega arith;
+      shortest = λ t one. let e = sheet-long false t blankAlloc in omega arith;
+      longest = λ t all. let e = sheet-long false t blankAlloc in omega arith;
+      written-out = small-written;
       request-back = request-written;
       plan-back = plan-written;
       back-same = first-same;
@@ -296,6 +303,7 @@ promised =
       plan-exactly = plan-given;
       request-fault = λ bs k low high. fault-given false bs k low high;
       plan-fault = λ bs k low high. fault-given true bs k low high;
+      one-fault = one-fault;
       request-whole = λ bs h. whole-else false bs h;
       plan-whole = λ bs h. whole-else true bs h;
       request-judged = request-judgement;

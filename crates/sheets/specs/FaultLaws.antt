@@ -334,3 +334,41 @@ shape-whole plan bs e =
       end-whole = ended .whole;
       nothing-follows = omega arith;
     }
+
+-- ---- there is one first fault
+
+-- where the reader stopped: at the header, or where the counting stopped
+pub stopped-at : (plan : Bool) (bs : List ℕ) (k : ℕ) (f : FirstFault plan bs k)
+    → ((headNumber plan bs ≢ 0) × (f .place ≡ 0)) ⊎ ((headNumber plan bs ≡ 0) × (f .place ≡ goesOnAt (stationsIn bs) (allocationsIn plan bs (stationsIn bs))))
+stopped-at plan bs k f =
+    ⊎-elim (λ (none : (f .passed ≡ nothingPassed) × (f .place ≡ 0)). inl (at-start (rw (none .0, none .1) at (f .fault)), none .1))
+    (λ (t : Through plan bs (f .passed) (f .place)). inr (through-head plan bs (f .passed) (f .place) t, behind t))
+    (through plan bs (f .passed) (f .place) (f .before))
+  where
+    at-start : Fault bs 0 (allowedNext plan nothingPassed) k → headNumber plan bs ≢ 0
+    at-start g z =
+        ⊎-elim (λ (e : (headNumber plan bs ≡ k) × (k ≢ 0)). e .1 (sym (e .0) ∙ z))
+        (λ (e : (k ≡ 3) × Follows bs 0 (allowedNext plan nothingPassed)).
+        absurd (false≢true (end-next plan nothingPassed .0 (e .1 .end-allowed) .0)))
+        (fault-number bs 0 (allowedNext plan nothingPassed) k g)
+
+    behind : Through plan bs (f .passed) (f .place) → f .place ≡ goesOnAt (stationsIn bs) (allocationsIn plan bs (stationsIn bs))
+    behind t =
+        let p = f .passed in
+        let a = f .place in
+        let allowed = allowedNext plan p in
+        let n = stations-counted plan bs p a t (λ may. fault-excludes bs a allowed k (f .fault) 2 16 (omega arith) (a-station may refl refl)) in
+        let m = allocations-counted plan bs p a t (λ may. fault-excludes bs a allowed k (f .fault) 3 4 (omega arith) (an-allocation may refl refl)) in
+        rw (n, m) (t .place)
+
+pub one-fault : (plan : Bool) (bs : List ℕ) (j k : ℕ) (f : FirstFault plan bs j) (g : FirstFault plan bs k) → (j ≡ k) × (f .place ≡ g .place)
+one-fault plan bs j k f g =
+    (sym (fault-shape plan bs j f) ∙ fault-shape plan bs k g, same (stopped-at plan bs j f) (stopped-at plan bs k g))
+  where
+    same : ((headNumber plan bs ≢ 0) × (f .place ≡ 0)) ⊎ ((headNumber plan bs ≡ 0) × (f .place ≡ goesOnAt (stationsIn bs) (allocationsIn plan bs (stationsIn bs))))
+        → ((headNumber plan bs ≢ 0) × (g .place ≡ 0)) ⊎ ((headNumber plan bs ≡ 0) × (g .place ≡ goesOnAt (stationsIn bs) (allocationsIn plan bs (stationsIn bs))))
+        → f .place ≡ g .place
+    same (inl x) (inl y) = x .1 ∙ sym (y .1)
+    same (inl x) (inr y) = absurd (x .0 (y .0))
+    same (inr x) (inl y) = absurd (y .0 (x .0))
+    same (inr x) (inr y) = x .1 ∙ sym (y .1)

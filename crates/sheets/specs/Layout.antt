@@ -39,9 +39,13 @@ allocationBytes a i = allocationWith (at (a .s) i)
 abbrev pub endBytes : List ℕ
 endBytes = mark endTag endSize
 
--- the header; then the stations in ring order; in a plan the allocations; then the end
+-- all fields of a sheet but the end: the header; then the stations in ring order; in a plan the allocations
+abbrev pub fieldsOf : Bool → Set → Alloc → List ℕ
+fieldsOf plan t a = headBytes (t .head) ++ rows (t .n) (stationBytes t) ++ rows (allocationsFor plan (t .n)) (allocationBytes a)
+
+-- the sheet: these, then the end
 unfoldable pub sheetOf : Bool → Set → Alloc → List ℕ
-sheetOf plan t a = headBytes (t .head) ++ rows (t .n) (stationBytes t) ++ rows (allocationsFor plan (t .n)) (allocationBytes a) ++ endBytes
+sheetOf plan t a = fieldsOf plan t a ++ endBytes
 
 -- a request sheet
 abbrev pub requestSheet : Set → List ℕ

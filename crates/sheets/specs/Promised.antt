@@ -2,7 +2,7 @@
 use Prim.Native.Nat.{ℕ, _+_, _*_, _≤_, _<_}
 use mathlib.Core.Path.{_≡_}
 use mathlib.Core.Bool.{Bool, true, false}
-use mathlib.Core.List.{List, _++_}
+use mathlib.Core.List.{List, [], _∷_, _++_}
 use mathlib.Core.Logic.{_↔_, _≢_}
 use lib.ListN.{length, take, drop}
 use Rattle.units.specs.Places.{at, fill}
@@ -56,12 +56,27 @@ GivenPlan bs =
     (t : Set) × (a : Alloc) × (out : List ℕ)
     × ((writtenAnswer true t a out .number ≡ 0) × (bs ≡ take (writtenAnswer true t a out .length) (writtenBuffer true t a out)))
 
+-- ---- an example
+
+-- TTRT 1, one station of w 1, C 0, D 1, P 1
+abbrev pub smallSet : Set
+smallSet =
+    record { head = record { ttrt = 1 }; n = 1; w = fill 1 (λ i. 1) zeros; c = zeros; d = fill 1 (λ i. 1) zeros; p = fill 1 (λ i. 1) zeros }
+
 -- ---- the promises
 
 pub record Promised : Type 0 where
   -- a request sheet has 10 + 19N bytes, a plan sheet 10 + 26N
   pub request-length : (t : Set) → length (requestSheet t) ≡ 10 + 19 * t .n
   pub plan-length : (t : Set) (a : Alloc) → length (planSheet t a) ≡ 10 + 26 * t .n
+  -- 29 bytes for one station, 2,442 for 128
+  pub shortest : (t : Set) → t .n ≡ 1 → length (requestSheet t) ≡ 29
+  pub longest : (t : Set) → t .n ≡ 128 → length (requestSheet t) ≡ 2_442
+  -- one sheet written out: TTRT 1, one station of w 1, C 0, D 1, P 1
+  pub written-out : requestSheet smallSet
+      ≡ 1 ∷ 0 ∷ 4 ∷ 0 ∷ 0 ∷ 0 ∷ 1
+      ∷ 2 ∷ 0 ∷ 16 ∷ 0 ∷ 0 ∷ 0 ∷ 1 ∷ 0 ∷ 0 ∷ 0 ∷ 0 ∷ 0 ∷ 0 ∷ 0 ∷ 1 ∷ 0 ∷ 0 ∷ 0 ∷ 1
+      ∷ 255 ∷ 0 ∷ 0 ∷ []
   -- read back as written: a request
   pub request-back : (t : Set) (out : List ℕ) → judged t ≡ 0 → 10 + 19 * t .n ≤ length out
       → (writtenAnswer false t blankAlloc out ≡ record { length = 10 + 19 * t .n; number = 0 })
@@ -87,6 +102,8 @@ pub record Promised : Type 0 where
   -- 1, 2 and 3 go by the first fault from the left
   pub request-fault : (bs : List ℕ) (k : ℕ) → 1 ≤ k → k ≤ 3 → (readRequest bs .number ≡ k) ↔ FirstFault false bs k
   pub plan-fault : (bs : List ℕ) (k : ℕ) → 1 ≤ k → k ≤ 3 → (readPlan bs .number ≡ k) ↔ FirstFault true bs k
+  -- there is one first fault: one number, at one place
+  pub one-fault : (plan : Bool) (bs : List ℕ) (j k : ℕ) (f : FirstFault plan bs j) (g : FirstFault plan bs k) → (j ≡ k) × (f .place ≡ g .place)
   -- and only a sheet with no fault gets another number
   pub request-whole : (bs : List ℕ) → ((k : ℕ) → 1 ≤ k → k ≤ 3 → readRequest bs .number ≢ k) → WholeSheet false bs
   pub plan-whole : (bs : List ℕ) → ((k : ℕ) → 1 ≤ k → k ≤ 3 → readPlan bs .number ≢ k) → WholeSheet true bs

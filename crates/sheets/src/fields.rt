@@ -48,7 +48,7 @@ pub struct Field {
 }
 
 // How many allocations a sheet with n stations has.
-pub fn allocations_for(plan: bool, n: usize) -> usize
+pub(crate) fn allocations_for(plan: bool, n: usize) -> usize
     ensures { λ r. ⌜ r ≡ allocationsFor plan n ⌝ }
 {
     if plan { n } else { 0 }
