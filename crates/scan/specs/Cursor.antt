@@ -3,11 +3,13 @@ use Prim.Native.Nat.{ℕ}
 use mathlib.Core.Path.{_≡_}
 use mathlib.Core.Bool.{cond}
 use lib.Dec.{eqb}
+use mathlib.Core.List.{List}
 use denote.Ref.{now}
 use Rattle.sheets.specs.Fields.{fieldAt}
 use Rattle.sheets.specs.declared.fields.Allowed.{Allowed}
 use Rattle.sheets.specs.declared.fields.Field.{Field}
 use Rattle.scan.specs.declared.Reader.{Reader}
+use Rattle.scan.specs.declared.Step.{Step}
 
 -- where the cursor stands after a field: at the next field if this one was accepted, else where it stood
 unfoldable pub cursorAfter : ℕ → Field → ℕ
@@ -22,3 +24,7 @@ pub record Advanced (entry : Reader) (allowed : Allowed) (exit : Reader) (field 
   pub handed : field ≡ fieldOf entry allowed
   pub cursor : exit .at ≡ cursorAfter (entry .at) (fieldOf entry allowed)
   pub bytes : exit .sheet ≡ entry .sheet
+
+-- a step from a place of the bytes: the field there, and where the cursor stands after it
+abbrev pub stepOf : List ℕ → ℕ → Allowed → Step
+stepOf bs at allowed = record { field = fieldAt bs at allowed; at = cursorAfter at (fieldAt bs at allowed) }

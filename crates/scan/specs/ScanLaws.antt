@@ -83,11 +83,12 @@ module _ (plan : Bool) (bs : List ℕ) (p : Passed) (a : ℕ) where
 
   -- a turn of the walk: what is left of it is the walk from behind the field
   pub scan-turn : (k : ℕ) (all : Scanned) → left bs a < k → stopsAt (nextField plan bs p a) ≡ false → scanFrom k plan bs p a ≡ all
-      → (j : ℕ) × ((left bs (cursorAfter a (nextField plan bs p a)) < j) × (scanFrom j plan bs (withField p (nextField plan bs p a .tag)) (cursorAfter a (nextField plan bs p a)) ≡ all))
-  scan-turn zero all l h e = absurd (omega arith)
-  scan-turn (suc k) all l h e =
+      → (q : Passed) (b : ℕ) → q ≡ withField p (nextField plan bs p a .tag) → b ≡ cursorAfter a (nextField plan bs p a)
+      → (j : ℕ) × ((left bs b < j) × (scanFrom j plan bs q b ≡ all))
+  scan-turn zero all l h e q b n m = absurd (omega arith)
+  scan-turn (suc k) all l h e q b n m =
       let o = over (goes-on _ h .0) in
-      (k, (omega (arith, o .behind, o .inside), sym (scan-goes-on k h) ∙ e))
+      (k, (omega (arith, m, o .behind, o .inside), rw (n, m) (sym (scan-goes-on k h) ∙ e)))
 
 -- one field more, by its tag
 module _ (p : Passed) where

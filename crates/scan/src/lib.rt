@@ -3,7 +3,7 @@
 ghost use mathlib.Core.Path.{_≡_};
 ghost use Prim.Native.Nat.{_+_, _<_, _^_};
 ghost use Rattle.sheets.specs.Fields.{fieldAt};
-ghost use Rattle.scan.specs.Cursor.{cursorAfter, fieldOf, Advanced};
+ghost use Rattle.scan.specs.Cursor.{cursorAfter, fieldOf, stepOf, Advanced};
 ghost use Rattle.scan.specs.Scanned.{stopsAt, stopNumber, withField, scanned};
 use sheets::fields;
 use sheets::fields::Allowed;
@@ -55,6 +55,24 @@ pub fn field_of(sheet: &[u8], at: usize, allowed: Allowed) -> Field
     ensures { λ r. ⌜ r ≡ fieldAt (now (sheet .entry)) at allowed ⌝ }
 {
     peek(Reader { sheet, at }, allowed)
+}
+
+// A field, and where the cursor stands after it.
+pub struct Step {
+    pub field: Field,
+    pub at: usize,
+}
+
+// The field at a place of the lent bytes and where the next one begins, for whoever has no reader: one is made and moves over the field.
+pub fn step_of(sheet: &[u8], at: usize, allowed: Allowed) -> Step
+    ensures { λ r. ⌜ r ≡ stepOf (now (sheet .entry)) at allowed ⌝ }
+{
+    let mut reader = Reader { sheet, at };
+    let field = next(&mut reader, allowed);
+    Step {
+        field,
+        at: reader.at,
+    }
 }
 
 // ---- a whole sheet
@@ -123,14 +141,14 @@ pub fn scan_sheet(sheet: &[u8], plan: bool) -> Scanned
         allocations: 0,
     };
     let mut at: usize = 0;
-    let mut field = field_of(sheet, at, fields::allowed_next(plan, passed));
-    while !stops(field) {
-        passed = with_field(passed, field.tag);
-        at = after(at, field);
-        field = field_of(sheet, at, fields::allowed_next(plan, passed));
+    let mut step = step_of(sheet, at, fields::allowed_next(plan, passed));
+    while !stops(step.field) {
+        passed = with_field(passed, step.field.tag);
+        at = step.at;
+        step = step_of(sheet, at, fields::allowed_next(plan, passed));
     }
     Scanned {
-        number: stop_number(sheet.len(), field),
+        number: stop_number(sheet.len(), step.field),
         passed,
         at,
     }
