@@ -133,8 +133,7 @@ pub fn framed_command(rest: &str, planted: Planted) -> Option<String> {
 /// One line of answer to each line of framed cases.
 fn answers(cases: impl Read, planted: Planted, out: &mut impl Write) -> io::Result<()> {
     for case in BufReader::new(cases).split(b'\n') {
-        let case = case?;
-        writeln!(out, "{}", frames::answer(&String::from_utf8_lossy(&case), planted))?;
+        writeln!(out, "{}", frames::answer_bytes(&case?, planted))?;
     }
     Ok(())
 }

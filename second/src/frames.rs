@@ -12,6 +12,17 @@ use crate::text::{answer_line, call, number, Call};
 /// What is answered to a line that is no case.
 pub const NO_CASE: &str = "no case";
 
+/// A line of more bytes is no case.
+const MOST_BYTES: usize = 65_535;
+
+/// The line of answer to a line of bytes, both without their newlines.
+pub fn answer_bytes(line: &[u8], planted: Planted) -> String {
+    if line.len() > MOST_BYTES {
+        return NO_CASE.to_string();
+    }
+    answer(&String::from_utf8_lossy(line), planted)
+}
+
 /// The line of answer to a case, without its newline.
 pub fn answer(case: &str, planted: Planted) -> String {
     try_answer(case, planted).unwrap_or_else(|| NO_CASE.to_string())

@@ -73,6 +73,17 @@ fn refusals_beside_bytes_go_to_standard_error() {
     }
 }
 
+#[test]
+fn every_line_is_answered() {
+    let longest = ["request ", &"0".repeat(65_526), "0"].concat();
+    let lines = [&longest[1..], &longest, &longest[..65_534], "", " ", "request -"];
+    let input = [lines.join("\n").as_bytes(), b"\n\xff request"].concat();
+    let answers = "no case\nno case\n2\nno case\nno case\n1\nno case\n";
+    assert_eq!(said(&["answers"], &input), answers);
+    let too_long = [&longest, "0\n"].concat();
+    assert_eq!(said(&["answers"], too_long.as_bytes()), "no case\n");
+}
+
 fn file(name: &str, bytes: &[u8]) -> String {
     let path = temp_dir().join(format!("second-{}-{name}", std::process::id()));
     fs::write(&path, bytes).expect("a place for files");
