@@ -4,4 +4,5 @@
 #include <stddef.h>
 int memcmp(const void *a, const void *b, size_t n);
 void *memset(void *a, int byte, size_t n);
+void *memcpy(void *to, const void *from, size_t n);
 #endif

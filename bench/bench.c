@@ -1,0 +1,440 @@
+/*
+ * The proved library against plain C, both in this process and through the same harness. First every answer of the one is
+ * held to the other's: accepted calls, damaged sheets, sets and rings, and long runs. Then each job is timed in turns, one
+ * batch of the proved calls and one of the plain ones, and the median over the turns is printed, with how it grows with N.
+ */
+#include "olivastrum.h"
+#include "plain.h"
+#include "system.h"
+#include <stdio.h>
+#include <string.h>
+
+typedef struct olivastrum_set set_t;
+typedef struct olivastrum_alloc alloc_t;
+typedef struct olivastrum_ring ring_t;
+typedef struct olivastrum_message message_t;
+
+/* ---- the stations that are planned, written, read and run */
+
+static set_t stations(uint32_t n)
+{
+    set_t set = {.ttrt = 100000, .n = n};
+    for (uint32_t i = 0; i < n; i++) {
+        set.w[i] = 10 + i % 3;
+        set.c[i] = 300 + 37 * i % 400;
+        set.d[i] = i % 16 == 5 ? 99900 : 100000 * (1 + i % 7) + 13337 * (i % 5);
+        set.p[i] = set.d[i] + 1000 * (i % 2);
+    }
+    return set;
+}
+
+/* ---- do both give the same answers? */
+
+static unsigned long compared;
+
+#define SAME(test)                                                                  \
+    do {                                                                            \
+        compared++;                                                                 \
+        if (!(test)) {                                                              \
+            printf("bench.c:%d: the two differ: %s\n", __LINE__, #test);            \
+            return 0;                                                               \
+        }                                                                           \
+    } while (0)
+
+static uint64_t seed = 1;
+
+static uint32_t random_number(void)
+{
+    seed ^= seed << 13;
+    seed ^= seed >> 7;
+    seed ^= seed << 17;
+    return (uint32_t)(seed >> 16);
+}
+
+/* A number near one of the ends of the ranges. */
+static uint32_t edge(void)
+{
+    static const uint32_t ends[] = {0, 1, 2, 100, 1000, 100000, 128, 1000000, 100000000, 0xffffffff};
+    return ends[random_number() % (sizeof ends / sizeof *ends)] + random_number() % 3 - 1;
+}
+
+static int same_reading(const uint8_t *sheet, size_t length)
+{
+    struct olivastrum_read_plan proved = read_plan_sheet(sheet, length), plain;
+    plain_read_plan(sheet, length, &plain);
+    SAME(proved.number == plain.number);
+    SAME(memcmp(&proved.set, &plain.set, sizeof plain.set) == 0);
+    SAME(memcmp(&proved.alloc, &plain.alloc, sizeof plain.alloc) == 0);
+    return 1;
+}
+
+static int same_sheets(uint32_t n)
+{
+    static uint8_t sheet[OLIVASTRUM_PLAN_BYTES(128) + 1];
+    set_t set = stations(n);
+    size_t length = write_plan_sheet(set, plan_set(set).alloc, sheet, sizeof sheet).length;
+    SAME(length == OLIVASTRUM_PLAN_BYTES(n));
+    for (size_t cut = 0; cut <= length + 1; cut++)
+        if (!same_reading(sheet, cut))
+            return 0;
+    for (size_t at = 0; at < length; at++) {
+        uint8_t byte = sheet[at];
+        static const uint8_t others[] = {0, 1, 2, 3, 4, 16, 255};
+        for (size_t k = 0; k < sizeof others; k++) {
+            sheet[at] = others[k];
+            if (!same_reading(sheet, length) || !same_reading(sheet, at + random_number() % 20))
+                return 0;
+        }
+        sheet[at] = byte;
+    }
+    return 1;
+}
+
+/* Planning, writing and opening with whatever numbers stand there. */
+static int same_plan(set_t set, alloc_t alloc)
+{
+    struct olivastrum_planned planned = plan_set(set), plain_planned;
+    plain_plan(&set, &plain_planned);
+    SAME(planned.number == plain_planned.number);
+    SAME(memcmp(&planned.alloc, &plain_planned.alloc, sizeof planned.alloc) == 0);
+
+    static uint8_t proved_out[OLIVASTRUM_PLAN_BYTES(128)], plain_out[OLIVASTRUM_PLAN_BYTES(128)];
+    memset(proved_out, 85, sizeof proved_out);
+    memset(plain_out, 85, sizeof plain_out);
+    size_t room = random_number() % 2 ? sizeof proved_out : random_number() % sizeof proved_out;
+    struct olivastrum_written proved = write_plan_sheet(set, alloc, proved_out, room);
+    struct olivastrum_written plain = plain_write_plan(&set, &alloc, plain_out, room);
+    SAME(proved.number == plain.number && proved.length == plain.length);
+    SAME(memcmp(proved_out, plain_out, sizeof plain_out) == 0);
+
+    struct olivastrum_opened opened = open_ring(set, alloc), plain_opened;
+    plain_open(&set, &alloc, &plain_opened);
+    SAME(opened.number == plain_opened.number);
+    SAME(memcmp(&opened.ring, &plain_opened.ring, sizeof opened.ring) == 0);
+    return 1;
+}
+
+static int same_plans(uint32_t n)
+{
+    set_t set = stations(n);
+    alloc_t alloc = plan_set(set).alloc;
+    if (!same_plan(set, alloc))
+        return 0;
+    for (int k = 0; k < 2000; k++) {
+        set_t other = set;
+        alloc_t share = alloc;
+        uint32_t i = random_number() % n;
+        switch (random_number() % 7) {
+        case 0: other.w[i] = edge(); break;
+        case 1: other.c[i] = edge(); break;
+        case 2: other.d[i] = edge(); break;
+        case 3: other.p[i] = edge(); break;
+        case 4: other.ttrt = edge(); break;
+        case 5: other.n = edge(); break;
+        case 6: share.s[i] += random_number() % 3 - 1; break;
+        }
+        if (random_number() % 4 == 0)
+            share.s[random_number() % n] = edge();
+        if (random_number() % 2 == 0)
+            share = plan_set(other).alloc;
+        if (!same_plan(other, share))
+            return 0;
+    }
+    return 1;
+}
+
+static int same_visit(ring_t *proved, ring_t *plain, uint32_t ask)
+{
+    struct olivastrum_visit_answer answer = visit_lent(proved, ask), plain_answer;
+    plain_visit(plain, ask, &plain_answer);
+    SAME(answer.number == plain_answer.number && answer.record.completed == plain_answer.record.completed);
+    SAME(memcmp(&answer.record, &plain_answer.record, offsetof(struct olivastrum_visit_record, completed)) == 0);
+    SAME(memcmp(proved, plain, sizeof *plain) == 0);
+    return 1;
+}
+
+static int same_hand_in(ring_t *proved, ring_t *plain, message_t message)
+{
+    SAME(hand_in_lent(proved, message) == plain_hand_in(plain, &message));
+    SAME(memcmp(proved, plain, sizeof *plain) == 0);
+    return 1;
+}
+
+static message_t any_message(const ring_t *ring)
+{
+    uint32_t n = ring->set.n, i = random_number() % (n + n / 8 + 1);
+    uint32_t c = ring->set.c[i % 128];
+    message_t message = {{i}, {random_number() % (c + 2)}, {ring->clock + random_number() % 100000}};
+    if (random_number() % 8 == 0)
+        message.arrival.ticks = random_number();
+    return message;
+}
+
+/* A long run of visits and handings in, some refused; now and then a number of the ring is overwritten first. */
+static int same_runs(uint32_t n)
+{
+    set_t set = stations(n);
+    ring_t proved = open_ring(set, plan_set(set).alloc).ring, plain = proved;
+    for (int k = 0; k < 5000; k++) {
+        uint32_t ask = random_number() % 2 ? random_number() % 1000 : random_number();
+        if (!same_hand_in(&proved, &plain, any_message(&proved)) || !same_visit(&proved, &plain, ask))
+            return 0;
+        ring_t damaged = proved;
+        uint32_t at = random_number() % (sizeof damaged / 4);
+        uint32_t now = random_number() % 2 ? edge() : random_number();
+        memcpy((uint8_t *)&damaged + 4 * at, &now, 4);
+        ring_t plain_damaged = damaged;
+        if (!same_visit(&damaged, &plain_damaged, ask))
+            return 0;
+        if (!same_hand_in(&damaged, &plain_damaged, any_message(&proved)))
+            return 0;
+    }
+    SAME(proved.visits == 5000);
+    return 1;
+}
+
+static int agree(void)
+{
+    static const uint32_t counts[] = {1, 2, 3, 8, 128};
+    for (size_t k = 0; k < sizeof counts / sizeof *counts; k++)
+        if (!same_sheets(counts[k]) || !same_plans(counts[k]) || !same_runs(counts[k]))
+            return 0;
+    return 1;
+}
+
+/* ---- the jobs, each as a batch of so many calls */
+
+struct work {
+    set_t set;
+    alloc_t alloc;
+    ring_t opened;
+    ring_t ring;
+    uint8_t sheet[OLIVASTRUM_PLAN_BYTES(128)];
+    uint8_t out[OLIVASTRUM_PLAN_BYTES(128)];
+    size_t length;
+    unsigned long refused; /* a timed call that is refused would measure something else */
+};
+
+static void read_proved(struct work *w, unsigned long calls)
+{
+    while (calls-- > 0) {
+        struct olivastrum_read_plan answer = read_plan_sheet(w->sheet, w->length);
+        w->refused += answer.number;
+    }
+}
+
+static void read_plain(struct work *w, unsigned long calls)
+{
+    while (calls-- > 0) {
+        struct olivastrum_read_plan answer;
+        plain_read_plan(w->sheet, w->length, &answer);
+        w->refused += answer.number;
+    }
+}
+
+static void write_proved(struct work *w, unsigned long calls)
+{
+    while (calls-- > 0)
+        w->refused += write_plan_sheet(w->set, w->alloc, w->out, sizeof w->out).number;
+}
+
+static void write_plain(struct work *w, unsigned long calls)
+{
+    while (calls-- > 0)
+        w->refused += plain_write_plan(&w->set, &w->alloc, w->out, sizeof w->out).number;
+}
+
+static void plan_proved(struct work *w, unsigned long calls)
+{
+    while (calls-- > 0) {
+        struct olivastrum_planned answer = plan_set(w->set);
+        w->refused += answer.number;
+    }
+}
+
+static void plan_plain(struct work *w, unsigned long calls)
+{
+    while (calls-- > 0) {
+        struct olivastrum_planned answer;
+        plain_plan(&w->set, &answer);
+        w->refused += answer.number;
+    }
+}
+
+static void open_proved(struct work *w, unsigned long calls)
+{
+    while (calls-- > 0) {
+        struct olivastrum_opened answer = open_ring(w->set, w->alloc);
+        w->refused += answer.number;
+    }
+}
+
+static void open_plain(struct work *w, unsigned long calls)
+{
+    while (calls-- > 0) {
+        struct olivastrum_opened answer;
+        plain_open(&w->set, &w->alloc, &answer);
+        w->refused += answer.number;
+    }
+}
+
+/* Every visit finds a message of full length that has just arrived. */
+static void arrive(ring_t *ring)
+{
+    uint32_t p = ring->token;
+    ring->rest[p] = ring->set.c[p];
+    ring->arrival[p] = ring->clock;
+}
+
+static void visit_proved(struct work *w, unsigned long calls)
+{
+    while (calls-- > 0) {
+        arrive(&w->ring);
+        struct olivastrum_visit_answer answer = visit_lent(&w->ring, 50);
+        w->refused += answer.number;
+    }
+}
+
+static void visit_plain(struct work *w, unsigned long calls)
+{
+    while (calls-- > 0) {
+        arrive(&w->ring);
+        struct olivastrum_visit_answer answer;
+        plain_visit(&w->ring, 50, &answer);
+        w->refused += answer.number;
+    }
+}
+
+/* Every handing in finds a station that holds nothing, the next one each time. */
+static message_t next_message(ring_t *ring, unsigned long call)
+{
+    uint32_t i = (uint32_t)call & (ring->set.n - 1);
+    ring->rest[i] = 0;
+    ring->had[i] = 0;
+    return (message_t){{i}, {ring->set.c[i]}, {ring->clock + 1}};
+}
+
+static void hand_in_proved(struct work *w, unsigned long calls)
+{
+    while (calls-- > 0) {
+        message_t message = next_message(&w->ring, calls);
+        w->refused += hand_in_lent(&w->ring, message);
+    }
+}
+
+static void hand_in_plain(struct work *w, unsigned long calls)
+{
+    while (calls-- > 0) {
+        message_t message = next_message(&w->ring, calls);
+        w->refused += plain_hand_in(&w->ring, &message);
+    }
+}
+
+typedef void batch(struct work *, unsigned long);
+
+static const struct job {
+    const char *name;
+    batch *proved, *plain;
+    const char *aim;
+} jobs[] = {
+    {"reading a plan sheet", read_proved, read_plain, "1.5"},
+    {"writing a plan sheet", write_proved, write_plain, "1.5"},
+    {"planning", plan_proved, plan_plain, "1.5"},
+    {"opening", open_proved, open_plain, "1.5"},
+    {"a lent visit", visit_proved, visit_plain, "2.5"},
+    {"a lent handing in", hand_in_proved, hand_in_plain, "2.5"},
+};
+
+#define JOBS (sizeof jobs / sizeof *jobs)
+
+/* ---- timing */
+
+#define TURNS 31
+#define BATCH_NS 400000.0
+
+static struct work work;
+
+static void prepare(uint32_t n)
+{
+    work.set = stations(n);
+    work.alloc = plan_set(work.set).alloc;
+    work.opened = open_ring(work.set, work.alloc).ring;
+    work.length = write_plan_sheet(work.set, work.alloc, work.sheet, sizeof work.sheet).length;
+}
+
+/* The processor time of one batch, in ns. */
+static double timed(batch *run, unsigned long calls)
+{
+    struct timespec from, to;
+    work.ring = work.opened;
+    run(&work, 16);
+    clock_gettime(CLOCK_THREAD_CPUTIME_ID, &from);
+    run(&work, calls);
+    clock_gettime(CLOCK_THREAD_CPUTIME_ID, &to);
+    return (double)(to.tv_sec - from.tv_sec) * 1e9 + (double)(to.tv_nsec - from.tv_nsec);
+}
+
+static int by_size(const void *a, const void *b)
+{
+    double x = *(const double *)a, y = *(const double *)b;
+    return (x > y) - (x < y);
+}
+
+struct measured {
+    double proved, plain; /* ns per call, medians */
+    double ratio, low, high; /* the ratio of a turn's two batches: median and quartiles */
+};
+
+static struct measured measure(const struct job *job)
+{
+    unsigned long calls = 16;
+    while (timed(job->plain, calls) < BATCH_NS)
+        calls *= 2;
+    double proved[TURNS], plain[TURNS], ratio[TURNS];
+    for (int k = 0; k < TURNS; k++) {
+        proved[k] = timed(job->proved, calls) / (double)calls;
+        plain[k] = timed(job->plain, calls) / (double)calls;
+        ratio[k] = proved[k] / plain[k];
+    }
+    qsort(proved, TURNS, sizeof *proved, by_size);
+    qsort(plain, TURNS, sizeof *plain, by_size);
+    qsort(ratio, TURNS, sizeof *ratio, by_size);
+    return (struct measured){proved[TURNS / 2], plain[TURNS / 2], ratio[TURNS / 2], ratio[TURNS / 4], ratio[3 * TURNS / 4]};
+}
+
+int main(void)
+{
+    static const uint32_t counts[] = {8, 16, 32, 64, 128};
+    enum { COUNTS = sizeof counts / sizeof *counts, LAST = COUNTS - 1 };
+    static struct measured all[JOBS][COUNTS];
+
+    if (!agree())
+        return 1;
+    printf("answers compared before timing: %lu, all the same\n", compared);
+    for (int k = 0; k < COUNTS; k++) {
+        prepare(counts[k]);
+        for (size_t j = 0; j < JOBS; j++)
+            all[j][k] = measure(&jobs[j]);
+    }
+    if (work.refused != 0) {
+        printf("a timed call was refused\n");
+        return 1;
+    }
+
+    printf("\n128 stations          proved ns   plain C ns   ratio (quartiles)     aim\n");
+    for (size_t j = 0; j < JOBS; j++) {
+        struct measured m = all[j][LAST];
+        printf("%-20s %10.0f %12.0f   %5.2f (%.2f to %.2f)   %s\n", jobs[j].name, m.proved, m.plain, m.ratio, m.low, m.high, jobs[j].aim);
+    }
+    printf("\nproved ns at N =    ");
+    for (int k = 0; k < COUNTS; k++)
+        printf("%8u", counts[k]);
+    printf("   128 over 8 (linear: at most 16)   plain C\n");
+    for (size_t j = 0; j < JOBS; j++) {
+        printf("%-20s", jobs[j].name);
+        for (int k = 0; k < COUNTS; k++)
+            printf("%8.0f", all[j][k].proved);
+        printf("   %10.1f %32.1f\n", all[j][LAST].proved / all[j][0].proved, all[j][LAST].plain / all[j][0].plain);
+    }
+    return 0;
+}

@@ -1,0 +1,331 @@
+/*
+ * Sheets, planning and the ring in plain C, from the build definition. Nothing here is proved; bench.c holds every answer
+ * to the proved library's before it measures.
+ */
+#include "plain.h"
+#include <string.h>
+
+#define MOST_TTRT 1000000u
+#define MOST_WALK 1000000u
+#define MOST_C 100000000u
+#define MOST_D 100000000u
+#define MOST_P 100000000u
+#define MOST_S 1000000u
+#define MOST_CLOCK 1000000000000u
+#define MOST_RING_CLOCK 1000002000000u
+#define VISITS_END ((uint64_t)1 << 62)
+
+typedef struct olivastrum_set set_t;
+typedef struct olivastrum_alloc alloc_t;
+typedef struct olivastrum_ring ring_t;
+
+/* ---- judging */
+
+/* The set's numbers are in range, N too; *number is 2 or 4 where one is not. */
+static int numbers_fit(const set_t *set, uint8_t *number)
+{
+    if (set->n < 1 || set->n > OLIVASTRUM_MOST_STATIONS) {
+        *number = OLIVASTRUM_SHEET_WRONG;
+        return 0;
+    }
+    *number = OLIVASTRUM_OUT_OF_RANGE;
+    if (set->ttrt < 1 || set->ttrt > MOST_TTRT)
+        return 0;
+    for (uint32_t i = 0; i < set->n; i++) {
+        if (set->w[i] > MOST_WALK || set->c[i] > MOST_C)
+            return 0;
+        if (set->d[i] < 1 || set->d[i] > MOST_D)
+            return 0;
+        if (set->p[i] < set->d[i] || set->p[i] > MOST_P)
+            return 0;
+    }
+    *number = OLIVASTRUM_ACCEPTED;
+    return 1;
+}
+
+static uint32_t sum(const uint32_t *xs, uint32_t n)
+{
+    uint32_t all = 0;
+    for (uint32_t i = 0; i < n; i++)
+        all += xs[i];
+    return all;
+}
+
+static uint8_t judge(const set_t *set)
+{
+    uint8_t number;
+    if (!numbers_fit(set, &number))
+        return number;
+    uint32_t tau = sum(set->w, set->n);
+    return tau < 1 || tau > set->ttrt ? OLIVASTRUM_WALK_TIME : OLIVASTRUM_ACCEPTED;
+}
+
+/* X, the least synchronous time in any interval d. */
+static uint64_t least_time(uint32_t ttrt, uint32_t d, uint32_t s)
+{
+    uint32_t m = d / ttrt;
+    uint32_t alpha = (m + 1) * ttrt - d;
+    return (uint64_t)m * s + (s > alpha ? s - alpha : 0);
+}
+
+static uint8_t judge_plan(const set_t *set, const alloc_t *alloc)
+{
+    uint8_t number;
+    if (!numbers_fit(set, &number))
+        return number;
+    for (uint32_t i = 0; i < set->n; i++)
+        if (alloc->s[i] > MOST_S)
+            return OLIVASTRUM_OUT_OF_RANGE;
+    uint32_t tau = sum(set->w, set->n);
+    if (tau < 1 || tau > set->ttrt)
+        return OLIVASTRUM_WALK_TIME;
+    for (uint32_t i = 0; i < set->n; i++)
+        if (least_time(set->ttrt, set->d[i], alloc->s[i]) < set->c[i])
+            return OLIVASTRUM_RULE_BROKEN;
+    if (sum(alloc->s, set->n) + tau > set->ttrt)
+        return OLIVASTRUM_RULE_BROKEN;
+    return OLIVASTRUM_ACCEPTED;
+}
+
+/* ---- sheets */
+
+static uint32_t number_at(const uint8_t *at)
+{
+    return (uint32_t)at[0] << 24 | (uint32_t)at[1] << 16 | (uint32_t)at[2] << 8 | at[3];
+}
+
+static uint8_t *put_number(uint8_t *at, uint32_t x)
+{
+    at[0] = (uint8_t)(x >> 24);
+    at[1] = (uint8_t)(x >> 16);
+    at[2] = (uint8_t)(x >> 8);
+    at[3] = (uint8_t)x;
+    return at + 4;
+}
+
+static uint8_t *put_mark(uint8_t *at, uint8_t tag, uint8_t length)
+{
+    at[0] = tag;
+    at[1] = 0;
+    at[2] = length;
+    return at + 3;
+}
+
+/* Field after field from the left, each number stored where it belongs; 0, 1, 2 or 3. */
+static uint8_t read_fields(const uint8_t *sheet, size_t length, struct olivastrum_read_plan *answer)
+{
+    set_t *set = &answer->set;
+    size_t at = 0;
+    uint32_t stations = 0, allocations = 0;
+    int head = 0;
+    for (;;) {
+        if (length - at < 3)
+            return OLIVASTRUM_SHEET_ENDS;
+        uint8_t tag = sheet[at];
+        size_t size = (size_t)sheet[at + 1] << 8 | sheet[at + 2];
+        int allowed;
+        switch (tag) {
+        case 1:
+            allowed = !head && size == 4;
+            break;
+        case 2:
+            allowed = head && allocations == 0 && stations < OLIVASTRUM_MOST_STATIONS && size == 16;
+            break;
+        case 3:
+            allowed = head && allocations < stations && size == 4;
+            break;
+        case 255:
+            allowed = stations > 0 && allocations == stations && size == 0;
+            break;
+        default:
+            allowed = 0;
+        }
+        if (!allowed)
+            return OLIVASTRUM_SHEET_WRONG;
+        at += 3;
+        if (length - at < size)
+            return OLIVASTRUM_SHEET_ENDS;
+        const uint8_t *body = sheet + at;
+        at += size;
+        if (tag == 1) {
+            head = 1;
+            set->ttrt = number_at(body);
+        } else if (tag == 2) {
+            set->w[stations] = number_at(body);
+            set->c[stations] = number_at(body + 4);
+            set->d[stations] = number_at(body + 8);
+            set->p[stations] = number_at(body + 12);
+            stations++;
+        } else if (tag == 3) {
+            answer->alloc.s[allocations++] = number_at(body);
+        } else {
+            set->n = stations;
+            return at < length ? OLIVASTRUM_SHEET_GOES_ON : OLIVASTRUM_ACCEPTED;
+        }
+    }
+}
+
+void plain_read_plan(const uint8_t *sheet, size_t length, struct olivastrum_read_plan *answer)
+{
+    memset(answer, 0, sizeof *answer);
+    uint8_t number = read_fields(sheet, length, answer);
+    if (number == OLIVASTRUM_ACCEPTED)
+        number = judge_plan(&answer->set, &answer->alloc);
+    if (number != OLIVASTRUM_ACCEPTED)
+        memset(answer, 0, sizeof *answer);
+    answer->number = number;
+}
+
+struct olivastrum_written plain_write_plan(const set_t *set, const alloc_t *alloc, uint8_t *out, size_t length)
+{
+    struct olivastrum_written answer = {0, judge_plan(set, alloc)};
+    if (answer.number != OLIVASTRUM_ACCEPTED)
+        return answer;
+    if (length < OLIVASTRUM_PLAN_BYTES(set->n)) {
+        answer.number = OLIVASTRUM_BUFFER_TOO_SHORT;
+        return answer;
+    }
+    uint8_t *at = put_number(put_mark(out, 1, 4), set->ttrt);
+    for (uint32_t i = 0; i < set->n; i++) {
+        at = put_mark(at, 2, 16);
+        at = put_number(at, set->w[i]);
+        at = put_number(at, set->c[i]);
+        at = put_number(at, set->d[i]);
+        at = put_number(at, set->p[i]);
+    }
+    for (uint32_t i = 0; i < set->n; i++)
+        at = put_number(put_mark(at, 3, 4), alloc->s[i]);
+    put_mark(at, 255, 0);
+    answer.length = OLIVASTRUM_PLAN_BYTES(set->n);
+    return answer;
+}
+
+/* ---- planning */
+
+/* The smallest S that meets the deadline rule. All numbers are in range, so 32 bits hold every one of them. */
+static uint32_t smallest(uint32_t ttrt, uint32_t c, uint32_t d)
+{
+    uint32_t m = d / ttrt;
+    uint32_t alpha = (m + 1) * ttrt - d;
+    if (c <= m * alpha)
+        return m == 0 ? 0 : (c + m - 1) / m;
+    return (c + alpha + m) / (m + 1);
+}
+
+void plain_plan(const set_t *set, struct olivastrum_planned *answer)
+{
+    memset(answer, 0, sizeof *answer);
+    answer->number = judge(set);
+    if (answer->number != OLIVASTRUM_ACCEPTED)
+        return;
+    uint64_t all = sum(set->w, set->n);
+    for (uint32_t i = 0; i < set->n; i++) {
+        answer->alloc.s[i] = smallest(set->ttrt, set->c[i], set->d[i]);
+        all += answer->alloc.s[i];
+    }
+    if (all > set->ttrt) {
+        memset(answer, 0, sizeof *answer);
+        answer->number = OLIVASTRUM_NO_ALLOCATION;
+    }
+}
+
+/* ---- the ring */
+
+void plain_open(const set_t *set, const alloc_t *alloc, struct olivastrum_opened *answer)
+{
+    memset(answer, 0, sizeof *answer);
+    answer->number = judge_plan(set, alloc);
+    if (answer->number != OLIVASTRUM_ACCEPTED)
+        return;
+    ring_t *ring = &answer->ring;
+    ring->set = *set;
+    ring->alloc = *alloc;
+    uint32_t walk = 0;
+    for (uint32_t i = set->n; i-- > 0;) {
+        walk += set->w[i];
+        ring->trt[i] = walk;
+    }
+    ring->unused = sum(alloc->s, set->n);
+}
+
+static int sound(const ring_t *ring)
+{
+    if (judge_plan(&ring->set, &ring->alloc) != OLIVASTRUM_ACCEPTED)
+        return 0;
+    if (ring->token >= ring->set.n || ring->clock > MOST_RING_CLOCK || ring->visits >= VISITS_END)
+        return 0;
+    uint32_t unused = 0;
+    for (uint32_t i = 0; i < ring->set.n; i++) {
+        if (ring->trt[i] > ring->set.ttrt || ring->sent[i] > ring->alloc.s[i])
+            return 0;
+        if (ring->rest[i] > ring->set.c[i] || ring->arrival[i] > MOST_CLOCK)
+            return 0;
+        unused += ring->alloc.s[i] - ring->sent[i];
+    }
+    return ring->unused == unused;
+}
+
+void plain_visit(ring_t *ring, uint32_t ask, struct olivastrum_visit_answer *answer)
+{
+    memset(answer, 0, sizeof *answer);
+    if (!sound(ring)) {
+        answer->number = OLIVASTRUM_UNSOUND;
+        return;
+    }
+    if (ring->clock > MOST_CLOCK) {
+        answer->number = OLIVASTRUM_CLOCK_TOO_HIGH;
+        return;
+    }
+    uint32_t p = ring->token, share = ring->alloc.s[p];
+    uint64_t taken = (uint64_t)ring->unused + ring->trt[p];
+    uint32_t limit = taken < ring->set.ttrt ? (uint32_t)(ring->set.ttrt - taken) : 0;
+    uint32_t sync = 0;
+    if (ring->rest[p] > 0 && ring->arrival[p] <= ring->clock)
+        sync = share < ring->rest[p] ? share : ring->rest[p];
+    uint32_t async = limit < ask ? limit : ask;
+
+    struct olivastrum_visit_record *record = &answer->record;
+    record->station.number = p;
+    record->start.ticks = ring->clock;
+    record->trt.ticks = ring->trt[p];
+    record->limit.ticks = limit;
+    record->synchronous.ticks = sync;
+    record->asynchronous.ticks = async;
+    if (ring->rest[p] > 0 && ring->rest[p] == sync) {
+        record->finish.ticks = ring->clock + sync;
+        record->margin = (int64_t)(ring->arrival[p] + ring->set.d[p]) - (int64_t)record->finish.ticks;
+        record->completed = 1;
+    }
+
+    uint32_t rise = sync + async + ring->set.w[p];
+    ring->unused = ring->unused - (share - ring->sent[p]) + (share - sync);
+    ring->sent[p] = sync;
+    ring->rest[p] -= sync;
+    ring->last[p] = ring->clock;
+    ring->trt[p] = 0;
+    for (uint32_t i = 0; i < ring->set.n; i++)
+        ring->trt[i] += rise;
+    ring->clock += rise;
+    ring->visits++;
+    ring->token = p + 1 < ring->set.n ? p + 1 : 0;
+}
+
+uint8_t plain_hand_in(ring_t *ring, const struct olivastrum_message *message)
+{
+    if (!sound(ring))
+        return OLIVASTRUM_UNSOUND;
+    uint64_t i = message->station.number, length = message->length.ticks, arrival = message->arrival.ticks;
+    if (i >= ring->set.n)
+        return OLIVASTRUM_NO_SUCH_STATION;
+    if (length < 1 || length > ring->set.c[i])
+        return OLIVASTRUM_BAD_LENGTH;
+    if (ring->rest[i] > 0)
+        return OLIVASTRUM_STILL_HELD;
+    if (arrival > MOST_CLOCK || (i < ring->visits && arrival <= ring->last[i]) ||
+        (ring->had[i] && arrival < ring->arrival[i] + ring->set.p[i]))
+        return OLIVASTRUM_BAD_ARRIVAL;
+    ring->rest[i] = (uint32_t)length;
+    ring->arrival[i] = arrival;
+    ring->had[i] = 1;
+    return OLIVASTRUM_ACCEPTED;
+}
