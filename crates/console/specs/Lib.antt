@@ -1,0 +1,14 @@
+-- What the program prints and writes, as definitions of the bytes it reads.
+--     Text       decimal numbers, lines of words, and text put into a page
+--     PlanText   what `plan` prints
+--     PlanSheet  what `plan-sheet` writes
+--     Commands   the commands by their names
+-- and the laws of these, for the proofs; a reader of the rules need not look into them:
+--     TextLaws, PlanTextLaws, PlanSheetLaws
+pub mod Text
+pub mod PlanText
+pub mod PlanSheet
+pub mod Commands
+pub mod TextLaws
+pub mod PlanTextLaws
+pub mod PlanSheetLaws

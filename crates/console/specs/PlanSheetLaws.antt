@@ -1,0 +1,61 @@
+-- The laws of what `plan-sheet` writes, for the proofs of this layer. No rule stands here.
+use Prim.Native.Nat.{ℕ, zero, suc, _≤_}
+use mathlib.Core.Path.{_≡_, refl, sym, ap, _∙_}
+use mathlib.Core.Bool.{Bool, true}
+use mathlib.Core.List.{List}
+use mathlib.Core.Logic.{_≢_}
+use native.Mathlib.Omega.{arith}
+use borrow.Author.Tests.{leb-true}
+use lib.Dec.{leb}
+use lib.ListN.{length, take}
+use lib.Seq.{length-take-le}
+use Rattle.units.specs.JudgingLaws.{passed}
+use Rattle.sets.specs.declared.Set.{Set}
+use Rattle.plans.specs.Planned.{planned}
+use Rattle.plans.specs.declared.Alloc.{Alloc}
+use Rattle.plans.specs.declared.Planned.{Planned}
+use Rattle.sheets.specs.Layout.{sheetLength}
+use Rattle.sheets.specs.Reading.{thenNumber}
+use Rattle.sheets.specs.ReadLaws.{then-rest, then-keeps, then-none}
+use Rattle.sheets.specs.Writing.{writeNumber, writeAnswer, refusedWriting, writtenAnswer, writtenBuffer, Wrote}
+use Rattle.sheets.specs.declared.ReadRequest.{ReadRequest}
+use Rattle.sheets.specs.declared.Written.{Written}
+use Rattle.console.specs.PlanSheet.{planningNumber, answerOr, bufferOr, planSheetAnswer, planSheetBuffer, WrotePlan}
+
+answer-fits : (k size room : ℕ) → (k ≡ 0 → size ≤ room) → writeAnswer k size .length ≤ room
+unfolding writeAnswer
+answer-fits zero size room h = h refl
+answer-fits (suc k) size room h = omega arith
+
+-- a sheet that was written lies inside the buffer
+pub written-fits : (plan : Bool) (t : Set) (a : Alloc) (out : List ℕ) → writtenAnswer plan t a out .length ≤ length out
+written-fits plan t a out =
+    answer-fits _ (sheetLength plan (t .n)) (length out)
+    (λ e. leb-true _ _ (passed _ 14 0 (λ x. absurd (omega arith)) (then-none _ _ e .1) .0))
+
+-- a refused reading or planning
+pub wrote-none : (r : ReadRequest) (before : List ℕ) (k : ℕ) (w : Written) → w ≡ refusedWriting k → planningNumber r ≡ k → k ≢ 0 → WrotePlan r before before w
+unfolding answerOr bufferOr
+wrote-none r before zero w e n z = absurd (z refl)
+wrote-none r before (suc k) w e n z =
+    rw e (record { answer = rw n; buffer = rw n; fits = omega arith; counts = refl })
+
+-- an accepted one, and what writing then did
+pub wrote-plan : (r q : ReadRequest) (p : Planned) (before after : List ℕ) (w : Written) → r ≡ q → r .number ≡ 0 → p ≡ planned (r .set) → p .number ≡ 0 → Wrote true (r .set) (p .alloc) before after w → length after ≡ length before → WrotePlan q before after w
+unfolding answerOr bufferOr
+wrote-plan r q p before after w e k made n h same =
+    let none : planningNumber r ≡ 0 = then-rest (r .number) _ k ∙ sym (ap (λ (x : Planned). x .number) made) ∙ n in
+    let inside : w .length ≤ length after = omega (arith, written-fits true (r .set) (p .alloc) before, ap (λ (x : Written). x .length) (h .answer)) in
+    rw (← e)
+    (record {
+      answer = rw none (h .answer ∙ ap (λ (x : Planned). writtenAnswer true (r .set) (x .alloc) before) made);
+      buffer = rw none (h .buffer ∙ ap (λ (x : Planned). writtenBuffer true (r .set) (x .alloc) before) made);
+      fits = inside;
+      counts = sym (length-take-le (w .length) after inside);
+    })
+
+pub planning-unread : (r q : ReadRequest) → r ≡ q → r .number ≢ 0 → planningNumber q ≡ r .number
+planning-unread r q e k = rw (← e) (then-keeps (r .number) _ k)
+
+pub planning-refused : (r q : ReadRequest) (p : Planned) → r ≡ q → r .number ≡ 0 → p ≡ planned (r .set) → planningNumber q ≡ p .number
+planning-refused r q p e k made = rw (← e) (then-rest (r .number) _ k ∙ sym (ap (λ (x : Planned). x .number) made))

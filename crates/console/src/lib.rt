@@ -1,0 +1,70 @@
+// What the program reads and writes, as functions on bytes.
+pub mod commands;
+mod planning;
+mod text;
+
+ghost use mathlib.Core.Path.{_≡_};
+ghost use Rattle.console.specs.Text.{Printed};
+ghost use Rattle.sheets.specs.Reading.{readRequest};
+ghost use Rattle.sheets.specs.Writing.{refusedWriting};
+ghost use Rattle.console.specs.PlanText.{refusedLine, planPrinted};
+ghost use Rattle.console.specs.PlanSheet.{WrotePlan};
+use sheets::Written;
+use units::numbers;
+
+// How many bytes a page must have, so that every text fits.
+pub const PAGE_SIZE: usize = 65_536;
+
+// What `plan` prints of a request sheet's bytes, put at the start of the page; answers how many bytes it is, 0 for a page that is too small.
+pub fn plan_text(sheet: &[u8], page: &mut [u8]) -> usize
+    ensures { λ r. ⌜ Printed (planPrinted (now (sheet .entry))) (now (page .entry)) (now (page .exit)) r ⌝ }
+{
+    if page.len() < PAGE_SIZE {
+        return 0;
+    }
+    let request = sheets::read_request(sheet);
+    if request.number != numbers::ACCEPTED {
+        return planning::put_refused(page, 0, request.number);
+    }
+    let set = request.set;
+    let planned = plans::plan(set);
+    if planned.number != numbers::ACCEPTED {
+        return planning::put_refused(page, 0, planned.number);
+    }
+    let alloc = planned.alloc;
+    planning::put_plan(page, set, alloc)
+}
+
+// A refusal as text, put at the start of the page.
+pub fn refusal_text(number: u8, page: &mut [u8]) -> usize
+    ensures { λ r. ⌜ Printed (refusedLine number) (now (page .entry)) (now (page .exit)) r ⌝ }
+{
+    if page.len() < PAGE_SIZE {
+        return 0;
+    }
+    planning::put_refused(page, 0, number)
+}
+
+// Nothing was written, and why.
+fn nothing_written(number: u8) -> Written
+    ensures { λ r. ⌜ r ≡ refusedWriting number ⌝ }
+{
+    Written { length: 0, number }
+}
+
+// What `plan-sheet` writes: the plan sheet of a request sheet's bytes, put at the start of the buffer; refused, no byte of it changes.
+pub fn plan_sheet(sheet: &[u8], out: &mut [u8]) -> Written
+    ensures { λ r. ⌜ WrotePlan (readRequest (now (sheet .entry))) (now (out .entry)) (now (out .exit)) r ⌝ }
+{
+    let request = sheets::read_request(sheet);
+    if request.number != numbers::ACCEPTED {
+        return nothing_written(request.number);
+    }
+    let set = request.set;
+    let planned = plans::plan(set);
+    if planned.number != numbers::ACCEPTED {
+        return nothing_written(planned.number);
+    }
+    let alloc = planned.alloc;
+    sheets::write_plan(set, alloc, out)
+}

@@ -1,0 +1,57 @@
+// The program: it reads, hands the bytes to `console`, and writes what comes back.
+mod usage;
+
+use console::commands;
+use libc::STDERR_FILENO;
+use libc::STDIN_FILENO;
+use libc::STDOUT_FILENO;
+
+// `plan`: the plan of the request sheet on standard input, or the refusal. A sheet of 128 stations has 2,442 bytes; one more tells that a byte follows it.
+fn plan() {
+    let mut sheet: [u8; 2_443] = [0; 2_443];
+    let read = io::read_full(STDIN_FILENO, &mut sheet);
+    let mut page = io::large_buffer();
+    let length = console::plan_text(&sheet[..read], &mut page);
+    io::write_all(STDOUT_FILENO, &page[..length]);
+}
+
+// A refusal, said on standard error.
+fn refuse(number: u8) {
+    let mut page = io::large_buffer();
+    let length = console::refusal_text(number, &mut page);
+    io::write_all(STDERR_FILENO, &page[..length]);
+}
+
+// `plan-sheet`: the plan sheet of the request sheet on standard input; refused, no byte is written.
+fn plan_sheet() {
+    let mut sheet: [u8; 2_443] = [0; 2_443];
+    let read = io::read_full(STDIN_FILENO, &mut sheet);
+    let mut out = io::large_buffer();
+    let written = console::plan_sheet(&sheet[..read], &mut out);
+    let length = written.length;
+    let number = written.number;
+    if number != 0 {
+        refuse(number);
+    } else {
+        io::write_all(STDOUT_FILENO, &out[..length]);
+    }
+}
+
+// The command that the first argument names; with none, `plan`.
+fn command() -> u8 {
+    if os::arg_count() < 2 {
+        return commands::PLAN;
+    }
+    let mut word = io::buffer();
+    let length = os::arg(1, &mut word);
+    commands::command_of(&word[..length])
+}
+
+fn main() {
+    let asked = command();
+    match asked {
+        1 => plan(),
+        2 => plan_sheet(),
+        _ => usage::print(),
+    }
+}

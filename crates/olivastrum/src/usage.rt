@@ -1,0 +1,19 @@
+// What `help` prints.
+use libc::STDOUT_FILENO;
+
+fn say(text: &[u8]) {
+    io::write_all(STDOUT_FILENO, text);
+}
+
+pub(crate) fn print() {
+    say(b"olivastrum: plans timely-token rings, and runs them one visit at a time\n\n");
+    say(
+        b"  olivastrum plan < REQUEST         print the plan of a request sheet, or `refused` and a number\n",
+    );
+    say(b"  olivastrum plan-sheet < REQUEST   write the plan sheet of a request sheet\n");
+    say(b"  olivastrum help                   print this\n\n");
+    say(b"With no command it is `plan`. For example:\n\n");
+    say(b"  olivastrum plan < examples/four-stations.request\n");
+    say(b"  olivastrum plan-sheet < examples/four-stations.request > four.plan\n\n");
+    say(b"README.md says what the numbers of the refusals mean.\n");
+}
