@@ -7,6 +7,7 @@ use crate::planted::Planted;
 use crate::ring::Ring;
 use crate::rules::{Plan, Refusal, Request, Station};
 use crate::sheet::{read_plan, read_request, write_plan, write_request};
+use crate::state::State;
 use crate::text::{answer_line, call, number, Call};
 
 /// What is answered to a line that is no case.
@@ -38,9 +39,14 @@ fn try_answer(case: &str, planted: Planted) -> Option<String> {
         "write-plan" => writing_plan(rest),
         "run" => running(rest, planted, |answers, _| answers.join("|")),
         "ring" => running(rest, planted, |_, ring| ring_after(ring)),
+        "state" => State::read(rest).map(|state| show_numbers(state.numbers())),
         "command" => framed_command(rest, planted),
         _ => None,
     }
+}
+
+fn show_numbers([visit, hand_in]: [u8; 2]) -> String {
+    format!("{visit} {hand_in}")
 }
 
 /// `0` and what was answered, or the number alone.

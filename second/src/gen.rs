@@ -4,6 +4,7 @@ pub mod calls;
 pub mod random;
 pub mod sets;
 pub mod sheets;
+pub mod states;
 pub mod texts;
 
 use std::io::{Result, Write};
@@ -23,12 +24,13 @@ pub enum Kind {
     Runs,
     Rings,
     Late,
+    States,
     Edges,
     Commands,
 }
 
 impl Kind {
-    pub const ALL: [Kind; 9] = [
+    pub const ALL: [Kind; 10] = [
         Kind::Requests,
         Kind::Plans,
         Kind::Planning,
@@ -36,6 +38,7 @@ impl Kind {
         Kind::Runs,
         Kind::Rings,
         Kind::Late,
+        Kind::States,
         Kind::Edges,
         Kind::Commands,
     ];
@@ -49,6 +52,7 @@ impl Kind {
             Kind::Runs => "runs",
             Kind::Rings => "rings",
             Kind::Late => "late",
+            Kind::States => "states",
             Kind::Edges => "edges",
             Kind::Commands => "commands",
         }
@@ -69,6 +73,7 @@ impl Kind {
             Kind::Runs => vec![run_case(random, "run")],
             Kind::Rings => vec![run_case(random, "ring")],
             Kind::Late => vec![late_case(random)],
+            Kind::States => vec![format!("state {}", states::state(random).show())],
             Kind::Edges => edge_cases(random),
             Kind::Commands => vec![command_case(random)],
         }

@@ -10,4 +10,5 @@ pub mod planted;
 pub mod ring;
 pub mod rules;
 pub mod sheet;
+pub mod state;
 pub mod text;

@@ -13,8 +13,8 @@ pub const ALLOCATION: RangeInclusive<u32> = 0..=1_000_000;
 /// The last arrival time, and the last clock at which a visit may start.
 pub const LAST_TIME: u64 = 1_000_000_000_000;
 
-/// The refusals by their numbers. Number 8, an unsound ring, has no place here:
-/// this program's rings come from an opening only.
+/// The refusals by their numbers. Number 8, an unsound ring, has no place here: this program's
+/// rings come from an opening only, and what a state has to be stands apart, in `state`.
 #[derive(Clone, Copy, Debug, PartialEq, Eq)]
 #[repr(u8)]
 pub enum Refusal {

@@ -1,11 +1,16 @@
 // One case: its answer is put on the page.
 use crate::calls;
 use crate::page;
+use crate::states;
 use crate::stations;
 use crate::stations::Stations;
 use crate::words;
+use rings::Message;
 use rings::Opened;
+use rings::Ring;
 use sheets::Written;
+use units::Station;
+use units::Ticks;
 
 // What a line is answered that is no case.
 pub(crate) fn put_no_case(page: &mut [u8], at: usize) -> usize {
@@ -161,7 +166,36 @@ fn run(
     put_called(line, end, shown, ring, page, at)
 }
 
-// A case of a set or a plan to write; else no case.
+fn wide(number: u8) -> u64 {
+    number as u64
+}
+
+// The numbers of a visit, and of a handing in at station N, which is none.
+fn put_numbers(page: &mut [u8], at: usize, ring: Ring) -> usize {
+    let visited = ring.visit(0);
+    let answer = visited.answer;
+    let n = ring.set.n;
+    let taken = ring.hand_in(Message {
+        station: Station(units::wide(n)),
+        length: Ticks(1),
+        arrival: Ticks(0),
+    });
+    let visit = wide(answer.number);
+    let hand_in = wide(taken.number);
+    let numbered = page::put_number(page, at, visit);
+    page::put_after(page, numbered, b' ', hand_in)
+}
+
+// `state STATE`
+fn state(line: &[u8], from: usize, page: &mut [u8], at: usize) -> usize {
+    let read = states::state_at(line, from);
+    if !read.good {
+        return put_no_case(page, at);
+    }
+    put_numbers(page, at, read.ring)
+}
+
+// A case of a set or a plan to write, or of a state; else no case.
 fn put_writing(line: &[u8], sheet: &mut [u8], page: &mut [u8], at: usize) -> usize {
     let write_request = words::behind(line, 0, b"write-request ");
     if write_request > 0 {
@@ -174,6 +208,10 @@ fn put_writing(line: &[u8], sheet: &mut [u8], page: &mut [u8], at: usize) -> usi
     let set = words::behind(line, 0, b"planning ");
     if set > 0 {
         return planning(line, set, page, at);
+    }
+    let ring = words::behind(line, 0, b"state ");
+    if ring > 0 {
+        return state(line, ring, page, at);
     }
     put_no_case(page, at)
 }

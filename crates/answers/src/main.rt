@@ -3,6 +3,7 @@ mod calls;
 mod cases;
 mod lines;
 mod page;
+mod states;
 mod stations;
 mod words;
 

@@ -55,7 +55,7 @@ fn share_at(text: &[u8], at: usize, plan: bool) -> words::Number {
 }
 
 // The array with a number at a place; past its end it stays as it is.
-fn with(mut xs: [u32; 128], at: u32, x: u32) -> [u32; 128] {
+pub(crate) fn with(mut xs: [u32; 128], at: u32, x: u32) -> [u32; 128] {
     let place = units::places(at);
     if place < 128 {
         xs[place] = x;
@@ -99,7 +99,7 @@ fn one_more(n: u32) -> u32 {
 }
 
 // TTRT at a place, and no station yet.
-fn head_at(text: &[u8], at: usize) -> Stations {
+pub(crate) fn head_at(text: &[u8], at: usize) -> Stations {
     let ttrt = words::small_at(text, at);
     let head = Head {
         ttrt: words::narrow(ttrt.value),
@@ -114,13 +114,17 @@ fn head_at(text: &[u8], at: usize) -> Stations {
     }
 }
 
+// What was read, with the station at a place.
+pub(crate) fn next_station(text: &[u8], at: usize, plan: bool, before: Stations) -> Stations {
+    added(before, station_at(text, at, plan))
+}
+
 // The set or plan from a place to the text's end.
 pub(crate) fn stations_at(text: &[u8], at: usize, plan: bool) -> Stations {
     let mut stations = head_at(text, at);
     let mut turns = text.len();
     while turns > 0 && stations.good && stations.next < text.len() {
-        let station = station_at(text, stations.next, plan);
-        stations = added(stations, station);
+        stations = next_station(text, stations.next, plan, stations);
         turns -= 1;
     }
     stations

@@ -50,6 +50,9 @@ fn every_frame_has_its_answer() {
             format!("ring {plan};message 1 20 5;message 2 7 0;visits 3 1"),
             "0 12 3 3 73;12,0,0,-;9,0,20,5;8,7,0,0;12,0,0,-".to_string(),
         ),
+        ("state 0,0,0,0;1;1,0,1,1,0,1,0,0,0".to_string(), "0 9".to_string()),
+        ("state 1000000000001,0,0,0;1;1,0,1,1,0,1,0,0,0".to_string(), "13 9".to_string()),
+        ("state 0,1,0,0;1;1,0,1,1,0,1,0,0,0".to_string(), "8 8".to_string()),
         ("command plan;-".to_string(), format!("{} -", to_hex(b"refused 1\n"))),
         ("command plan-sheet;-".to_string(), format!("- {}", to_hex(b"refused 1\n"))),
         (format!("command plan-sheet;{request}"), format!("{plan} -")),
@@ -80,6 +83,9 @@ fn a_line_of_no_frame() {
         "run -;stop",
         "run -;visits 0 1",
         "ring -;visit",
+        "state 0,0,0;1",
+        "state 0,0,0,0",
+        "state 0,0,0,0;1;1,0,1,1,0,1,0,0",
         "command else;-",
         "command plan;-;-",
     ];
@@ -132,6 +138,35 @@ fn every_number_of_a_kind_is_reached() {
     assert_eq!(numbers(Kind::Edges, 3), [0, 1, 2, 3, 4, 5, 7]);
     assert_eq!(numbers(Kind::Planning, 600), [0, 2, 4, 5, 6]);
     assert_eq!(numbers(Kind::Writing, 600), [0, 2, 4, 5, 7, 14]);
+    assert_eq!(numbers(Kind::States, 600), [0, 8, 13]);
+}
+
+/// One number of a sound state moved past its end at a time, each alone unsound.
+#[test]
+fn each_line_of_the_unsound_states() {
+    let sound = "5,3,6,60;100;2,20,100,100,20,100,20,0,7;0,20,100,100,20,0,0,20,0;\
+                 0,20,100,100,20,0,0,0,1000000000000;0,20,100,100,20,0,0,1,0";
+    assert_eq!(answered(&format!("state {sound}")), "0 9");
+    let changes = [
+        ("2,20,", "2,21,"),
+        ("5,3,", "5,4,"),
+        ("20,100,20,0,7", "20,101,20,0,7"),
+        ("6,60;100;2,20,100,100,20,100,20,", "6,59;100;2,20,100,100,20,100,21,"),
+        ("6,60;", "6,61;"),
+        (",20,0;", ",21,0;"),
+        ("1000000000000;", "1000000000001;"),
+        ("5,3,", "1000002000001,3,"),
+        (",6,", ",4611686018427387904,"),
+    ];
+    for (from, to) in changes {
+        assert!(sound.contains(from), "{from}");
+        let changed = sound.replacen(from, to, 1);
+        assert_eq!(answered(&format!("state {changed}")), "8 8", "{to}");
+    }
+    let edges = [("5,3,", "1000002000000,3,", "13 9"), (",6,", ",4611686018427387903,", "0 9")];
+    for (from, to, expected) in edges {
+        assert_eq!(answered(&format!("state {}", sound.replacen(from, to, 1))), expected);
+    }
 }
 
 #[test]

@@ -15,11 +15,8 @@ head-at-requires c κs = search needs
 loop-holds : tie.Need-loop-holds Inv-loop μ-loop
 loop-holds c = search needs
 
-station-at-requires : tie.Need-station-at-requires Inv-loop μ-loop
-station-at-requires c κs = search needs
-
-added-requires : tie.Need-added-requires Inv-loop μ-loop
-added-requires c κs = search needs
+next-station-requires : tie.Need-next-station-requires Inv-loop μ-loop
+next-station-requires c κs = search needs
 
 sub-turns : tie.Need-sub-turns Inv-loop μ-loop
 sub-turns c = search needs
@@ -47,8 +44,7 @@ stations-at-spec =
     μ-loop
     head-at-requires
     loop-holds
-    station-at-requires
-    added-requires
+    next-station-requires
     sub-turns
     loop-less
     loop-again
