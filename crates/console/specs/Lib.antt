@@ -3,12 +3,17 @@
 --     PlanText   what `plan` prints
 --     PlanSheet  what `plan-sheet` writes
 --     Commands   the commands by their names
+--     Scan       how a line of text is read
+--     RunText    what `run` prints
 -- and the laws of these, for the proofs; a reader of the rules need not look into them:
---     TextLaws, PlanTextLaws, PlanSheetLaws
+--     TextLaws, PlanTextLaws, PlanSheetLaws, RunLaws
 pub mod Text
 pub mod PlanText
 pub mod PlanSheet
 pub mod Commands
+pub mod Scan
+pub mod RunText
 pub mod TextLaws
 pub mod PlanTextLaws
 pub mod PlanSheetLaws
+pub mod RunLaws

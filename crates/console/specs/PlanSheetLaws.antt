@@ -6,8 +6,7 @@ use mathlib.Core.List.{List}
 use mathlib.Core.Logic.{_≢_}
 use native.Mathlib.Omega.{arith}
 use borrow.Author.Tests.{leb-true}
-use lib.Dec.{leb}
-use lib.ListN.{length, take}
+use lib.ListN.{length}
 use lib.Seq.{length-take-le}
 use Rattle.units.specs.JudgingLaws.{passed}
 use Rattle.sets.specs.declared.Set.{Set}
@@ -15,12 +14,11 @@ use Rattle.plans.specs.Planned.{planned}
 use Rattle.plans.specs.declared.Alloc.{Alloc}
 use Rattle.plans.specs.declared.Planned.{Planned}
 use Rattle.sheets.specs.Layout.{sheetLength}
-use Rattle.sheets.specs.Reading.{thenNumber}
 use Rattle.sheets.specs.ReadLaws.{then-rest, then-keeps, then-none}
-use Rattle.sheets.specs.Writing.{writeNumber, writeAnswer, refusedWriting, writtenAnswer, writtenBuffer, Wrote}
+use Rattle.sheets.specs.Writing.{writeAnswer, refusedWriting, writtenAnswer, writtenBuffer, Wrote}
 use Rattle.sheets.specs.declared.ReadRequest.{ReadRequest}
 use Rattle.sheets.specs.declared.Written.{Written}
-use Rattle.console.specs.PlanSheet.{planningNumber, answerOr, bufferOr, planSheetAnswer, planSheetBuffer, WrotePlan}
+use Rattle.console.specs.PlanSheet.{planningNumber, answerOr, bufferOr, WrotePlan}
 
 answer-fits : (k size room : ℕ) → (k ≡ 0 → size ≤ room) → writeAnswer k size .length ≤ room
 unfolding writeAnswer

@@ -121,3 +121,14 @@ line-next front word words = sym (append-assoc front (space ∷ word) (lineOn wo
 pub line-end : (front : List ℕ) → front ++ lineOn [] ≡ front ++ (newline ∷ [])
 unfolding lineOn
 line-end front = refl
+
+pub line-one : (word : List ℕ) → line (word ∷ []) ≡ word ++ (newline ∷ [])
+line-one word = line-first word [] ∙ line-end word
+
+-- a line whose last word has two parts
+pub line-parts : (word part rest : List ℕ) → line (word ∷ (part ++ rest) ∷ []) ≡ ((word ++ (space ∷ part)) ++ rest) ++ (newline ∷ [])
+line-parts word part rest = rw (line-first, line-next, line-end) (simp append-assoc)
+
+pub line-on-two : (v w : List ℕ) → lineOn (v ∷ w ∷ []) ≡ ((space ∷ v) ++ (space ∷ w)) ++ (newline ∷ [])
+unfolding lineOn
+line-on-two v w = simp append-assoc

@@ -1,6 +1,8 @@
 // What the program reads and writes, as functions on bytes.
 pub mod commands;
 mod planning;
+pub mod running;
+pub mod scan;
 mod text;
 
 ghost use mathlib.Core.Path.{_≡_};

@@ -1,4 +1,5 @@
 // The program: it reads, hands the bytes to `console`, and writes what comes back.
+mod running;
 mod usage;
 
 use console::commands;
@@ -15,11 +16,11 @@ fn plan() {
     io::write_all(STDOUT_FILENO, &page[..length]);
 }
 
-// A refusal, said on standard error.
-fn refuse(number: u8) {
+// A refusal, as text.
+fn refuse(where_to: i32, number: u8) {
     let mut page = io::large_buffer();
     let length = console::refusal_text(number, &mut page);
-    io::write_all(STDERR_FILENO, &page[..length]);
+    io::write_all(where_to, &page[..length]);
 }
 
 // `plan-sheet`: the plan sheet of the request sheet on standard input; refused, no byte is written.
@@ -31,7 +32,7 @@ fn plan_sheet() {
     let length = written.length;
     let number = written.number;
     if number != 0 {
-        refuse(number);
+        refuse(STDERR_FILENO, number);
     } else {
         io::write_all(STDOUT_FILENO, &out[..length]);
     }
@@ -52,6 +53,7 @@ fn main() {
     match asked {
         1 => plan(),
         2 => plan_sheet(),
+        3 => running::run(),
         _ => usage::print(),
     }
 }

@@ -3,12 +3,6 @@ use Rattle.console.specs.PlanSheetLaws.{wrote-none, wrote-plan, planning
 use borrow.Author.Needs.{needs}
 use Rattle.console.proofs.plan_sheet.Statement.{statement}
 use Rattle.console.proofs.plan_sheet.Tie as tie
-use Rattle.console.proofs.plan_sheet.Reads as reads
-use Rattle.console.proofs.plan_sheet.Lts as lts
-use Rattle.console.proofs.nothing_written.Reads as nothing-written-reads
-use Rattle.plans.proofs.plan.Reads as plan-reads
-use Rattle.sheets.proofs.read_request.Reads as read-request-reads
-use Rattle.sheets.proofs.write_plan.Reads as write-plan-reads
 
 read-request-requires : tie.Need-read-request-requires
 read-request-requires c κs = search needs

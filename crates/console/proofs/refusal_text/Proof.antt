@@ -5,9 +5,6 @@ use Rattle.console.specs.TextLaws.{printed, not-printed}
 use borrow.Author.Needs.{needs}
 use Rattle.console.proofs.refusal_text.Statement.{statement}
 use Rattle.console.proofs.refusal_text.Tie as tie
-use Rattle.console.proofs.refusal_text.Reads as reads
-use Rattle.console.proofs.refusal_text.Lts as lts
-use Rattle.console.proofs.planning.put_refused.Reads as put-refused-reads
 
 returns : tie.Need-returns
 returns c = not-printed (c .if1 .taken)

@@ -4,9 +4,6 @@ use Rattle.console.specs.Commands.{commandOf}
 use borrow.Author.Needs.{needs}
 use Rattle.console.proofs.commands.command_of.Statement.{statement}
 use Rattle.console.proofs.commands.command_of.Tie as tie
-use Rattle.console.proofs.commands.command_of.Reads as reads
-use Rattle.console.proofs.commands.command_of.Lts as lts
-use Rattle.console.proofs.commands.same_bytes.Reads as same-bytes-reads
 
 slice-aggregate-same-bytes : tie.Need-slice-aggregate-same-bytes
 slice-aggregate-same-bytes c = search needs

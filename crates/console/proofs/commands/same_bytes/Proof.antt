@@ -11,8 +11,6 @@ use Rattle.console.specs.Commands.{sameBytes}
 use borrow.Author.Needs.{needs}
 use Rattle.console.proofs.commands.same_bytes.Statement.{statement}
 use Rattle.console.proofs.commands.same_bytes.Tie as tie
-use Rattle.console.proofs.commands.same_bytes.Reads as reads
-use Rattle.console.proofs.commands.same_bytes.Lts as lts
 
 abbrev Inv-loop : tie.InvT-loop
 Inv-loop v w same₀ i₀ same i = (i ≤ length v) × (same ≡ allBelow i (λ k. eqb (at v k) (at w k)))

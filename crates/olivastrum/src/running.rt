@@ -1,0 +1,83 @@
+// `run PLAN`: the calls on standard input, answered line by line.
+use console::running;
+use console::running::Run;
+use libc::STDIN_FILENO;
+use libc::STDOUT_FILENO;
+
+// The run behind one reading, and whether the input goes on.
+struct Heard {
+    run: Run,
+    more: bool,
+}
+
+// Answers the lines that end in these bytes.
+fn hear(run: Run, text: &[u8]) -> Run {
+    let mut page = io::large_buffer();
+    let ran = running::run_on(run, text, &mut page);
+    let length = ran.length;
+    io::write_all(STDOUT_FILENO, &page[..length]);
+    ran.run
+}
+
+// Reads once, and answers what came.
+fn turn(run: Run) -> Heard {
+    let mut text: [u8; 256] = [0; 256];
+    let got = libc::read(STDIN_FILENO, &mut text);
+    let length = io::count(got, &text);
+    if length == 0 {
+        return Heard { run, more: false };
+    }
+    let heard = hear(run, &text[..length]);
+    Heard {
+        run: heard,
+        more: true,
+    }
+}
+
+// All the input. A proved loop has to end, and nothing says that the input does: so the turns are counted down, from a number that no run uses up.
+fn hear_all(run: Run) -> Run {
+    let mut stands = run;
+    let mut turns = u64::MAX;
+    while turns > 0 {
+        let heard = turn(stands);
+        let behind = heard.run;
+        stands = behind;
+        if !heard.more {
+            return stands;
+        }
+        turns -= 1;
+    }
+    stands
+}
+
+// The plan sheet in a file: a plan of 128 stations has 3,338 bytes; one more tells that a byte follows it.
+fn start(file: i32) {
+    let mut sheet: [u8; 3_339] = [0; 3_339];
+    let read = io::read_full(file, &mut sheet);
+    let opened = running::open_run(&sheet[..read]);
+    let number = opened.number;
+    if number != 0 {
+        crate::refuse(STDOUT_FILENO, number);
+        return;
+    }
+    let run = opened.run;
+    let behind = hear_all(run);
+    // A last line may lack its newline.
+    hear(behind, b"\n");
+}
+
+pub(crate) fn run() {
+    let mut path = io::buffer();
+    let length = os::arg(2, &mut path);
+    if os::errno() != 0 {
+        os::fail(b"run: the file of the plan");
+        return;
+    }
+    let file = os::open_read(&path[..length]);
+    if file < 0 {
+        os::fail(&path[..length]);
+        return;
+    }
+    start(file);
+    libc::close(file);
+}
