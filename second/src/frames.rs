@@ -13,12 +13,12 @@ use crate::text::{answer_line, call, number, Call};
 /// What is answered to a line that is no case.
 pub const NO_CASE: &str = "no case";
 
-/// A line of more bytes is no case.
+/// A line of more bytes is no case, unless it is a command, whose input may have any length.
 const MOST_BYTES: usize = 65_535;
 
 /// The line of answer to a line of bytes, both without their newlines.
 pub fn answer_bytes(line: &[u8], planted: Planted) -> String {
-    if line.len() > MOST_BYTES {
+    if line.len() > MOST_BYTES && !line.starts_with(b"command ") {
         return NO_CASE.to_string();
     }
     answer(&String::from_utf8_lossy(line), planted)

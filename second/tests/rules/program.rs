@@ -82,6 +82,8 @@ fn every_line_is_answered() {
     assert_eq!(said(&["answers"], &input), answers);
     let too_long = [&longest, "0\n"].concat();
     assert_eq!(said(&["answers"], too_long.as_bytes()), "no case\n");
+    let long_input = ["command plan;", &"00".repeat(40_000), "\n"].concat();
+    assert_eq!(said(&["answers"], long_input.as_bytes()), "7265667573656420320a -\n");
 }
 
 fn file(name: &str, bytes: &[u8]) -> String {
