@@ -5,15 +5,20 @@
 --     Commands   the commands by their names
 --     Scan       how a line of text is read
 --     RunText    what `run` prints
+--     ShowText   what `show` prints
+--     Promised   what is promised beside the contracts
 -- and the laws of these, for the proofs; a reader of the rules need not look into them:
---     TextLaws, PlanTextLaws, PlanSheetLaws, RunLaws
+--     TextLaws, PlanTextLaws, PlanSheetLaws, RunLaws, ShowLaws
 pub mod Text
 pub mod PlanText
 pub mod PlanSheet
 pub mod Commands
 pub mod Scan
 pub mod RunText
+pub mod ShowText
+pub mod Promised
 pub mod TextLaws
 pub mod PlanTextLaws
 pub mod PlanSheetLaws
 pub mod RunLaws
+pub mod ShowLaws

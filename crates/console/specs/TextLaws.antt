@@ -132,3 +132,7 @@ line-parts word part rest = rw (line-first, line-next, line-end) (simp append-as
 pub line-on-two : (v w : List ℕ) → lineOn (v ∷ w ∷ []) ≡ ((space ∷ v) ++ (space ∷ w)) ++ (newline ∷ [])
 unfolding lineOn
 line-on-two v w = simp append-assoc
+
+-- a line of five words and more
+pub line-five : (v a b c d : List ℕ) (rest : List (List ℕ)) → line (v ∷ a ∷ b ∷ c ∷ d ∷ rest) ≡ ((((v ++ (space ∷ a)) ++ (space ∷ b)) ++ (space ∷ c)) ++ (space ∷ d)) ++ lineOn rest
+line-five v a b c d rest = rw (line-first, line-next, line-next, line-next, line-next)

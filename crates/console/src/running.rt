@@ -254,7 +254,7 @@ fn next_line(line: u64) -> u64
 // ---- the run
 
 // A run begins on line 1.
-pub fn start(ring: Ring) -> Run
+pub(crate) fn start(ring: Ring) -> Run
     ensures { λ r. ⌜ r ≡ runFrom ring ⌝ }
 {
     let s = scan::fresh();

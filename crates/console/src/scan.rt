@@ -31,7 +31,7 @@ pub struct Scan {
 }
 
 // Nothing was read yet.
-pub fn fresh() -> Scan
+pub(crate) fn fresh() -> Scan
     ensures { λ r. ⌜ r ≡ freshScan ⌝ }
 {
     Scan {
@@ -170,7 +170,7 @@ fn character_read(s: Scan, byte: u8) -> Scan
 }
 
 // One byte more of the line.
-pub fn step(s: Scan, byte: u8) -> Scan
+pub(crate) fn step(s: Scan, byte: u8) -> Scan
     ensures { λ r. ⌜ r ≡ stepped s byte ⌝ }
 {
     let over = (s.phase == COMMENT) | (s.phase == UNREADABLE);

@@ -38,6 +38,15 @@ fn plan_sheet() {
     }
 }
 
+// `show`: the text of the sheet on standard input, or the refusal. A plan sheet of 128 stations has 3,338 bytes.
+fn show() {
+    let mut sheet: [u8; 3_339] = [0; 3_339];
+    let read = io::read_full(STDIN_FILENO, &mut sheet);
+    let mut page = io::large_buffer();
+    let length = console::show_text(&sheet[..read], &mut page);
+    io::write_all(STDOUT_FILENO, &page[..length]);
+}
+
 // The command that the first argument names; with none, `plan`.
 fn command() -> u8 {
     if os::arg_count() < 2 {
@@ -54,6 +63,7 @@ fn main() {
         1 => plan(),
         2 => plan_sheet(),
         3 => running::run(),
+        5 => show(),
         _ => usage::print(),
     }
 }

@@ -18,6 +18,7 @@ pub(crate) fn print() {
     say(b"With no command it is `plan`. For example:\n\n");
     say(b"  olivastrum plan < examples/four-stations.request\n");
     say(b"  olivastrum plan-sheet < examples/four-stations.request > four.plan\n");
+    say(b"  olivastrum show < four.plan\n");
     say(b"  olivastrum run four.plan < examples/worked-run.calls\n\n");
     say(b"The calls are lines `visit ASK` and `message STATION LENGTH ARRIVAL`.\n");
     say(b"README.md says what the numbers of the refusals mean.\n");

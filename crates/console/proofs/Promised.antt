@@ -1,0 +1,151 @@
+-- Everything that `specs/Promised.antt` lists, proved.
+use Prim.Native.Nat.{ℕ, zero, suc, _+_, _-_, _*_, _/_, _%_, _<_, _≤_, _^_}
+use mathlib.Core.Path.{_≡_, refl, sym, ap, _∙_}
+use mathlib.Core.List.{List, [], _∷_, _++_, append-assoc}
+use mathlib.Core.Logic.{_≢_, ⊎-elim}
+use native.Mathlib.Omega.{arith}
+use native.Mathlib.Nat.{pow-suc, div-lt-iff-lt-mul}
+use borrow.Author.Tests.{lt-ltb, le-ltb}
+use Rattle.units.specs.SmallLaws.{below-or-not}
+use Rattle.units.specs.Places.{at, sumBelow, allBelow, fill}
+use Rattle.units.specs.Judging.{orElse, allHold}
+use Rattle.sets.specs.Rules.{headInRange, stationInRange}
+use Rattle.sets.specs.Judged.{judgedThen, zeros}
+use Rattle.sets.specs.declared.Set.{Set}
+use Rattle.plans.specs.Planned.{planned, smallestWith, answered}
+use Rattle.sheets.specs.Rows.{rows, lead}
+use Rattle.sheets.specs.Bytes.{shortAt, numberAt}
+use Rattle.sheets.specs.Fields.{allowedNext, isAllowed, fieldNumber, wholeAt}
+use Rattle.sheets.specs.Reading.{readRequest, stationsIn, allocationsIn, thenNumber, endNumber, shapeNumber, judgedSheet, readAnswer, readSheet}
+use Rattle.sheets.specs.ReadLaws.{then-none}
+use Rattle.sheets.specs.Writing.{writeAnswer, bufferAfter}
+use Rattle.sheets.specs.declared.Written.{Written}
+use Rattle.console.specs.Text.{digit, newline, decimalWithin, lineOn, line}
+use Rattle.console.specs.PlanText.{textOr, refusedLine, planLines, plannedText, requestText, planPrinted}
+use Rattle.console.specs.PlanTextLaws.{text-accepted, text-refused}
+use Rattle.console.specs.PlanSheet.{planningNumber, answerOr, bufferOr}
+use Rattle.console.specs.RunText.{runOn, saidAt, runAfter, saidOver}
+use Rattle.console.specs.RunLaws.{line-ends, answered-visit, answered-message, answered-unread}
+use Rattle.console.specs.Promised.{Promised, valueOn, workedSheet, workedText}
+use Rattle.console.specs.declared.running.Run.{Run}
+
+-- ---- the digits of a number write it
+
+value-snoc : (v : ℕ) (ds : List ℕ) (d : ℕ) → valueOn v (ds ++ d ∷ []) ≡ valueOn v ds * 10 + (d - 48)
+unfolding valueOn
+value-snoc v [] d = refl
+value-snoc v (x ∷ ds) d = value-snoc (v * 10 + (x - 48)) ds d
+
+value-within : (k n : ℕ) → n < 10 ^ suc k → valueOn 0 (decimalWithin (suc k) n) ≡ n
+unfolding decimalWithin valueOn
+value-within zero n h = let b : n < 10 = h in rw (lt-ltb n 10 b) (omega arith)
+value-within (suc j) n h =
+    ⊎-elim (λ (b : n < 10). rw (lt-ltb n 10 b) (omega arith))
+    (λ (b : 10 ≤ n).
+    let l : n < 10 ^ suc j * 10 = rw (pow-suc 10 (suc j)) at h in
+    let e : valueOn 0 (decimalWithin (suc j) (n / 10)) ≡ n / 10 = value-within j (n / 10) (div-lt-iff-lt-mul (omega arith) .1 l) in
+    let d : valueOn 0 (decimalWithin (suc j) (n / 10) ++ digit (n % 10) ∷ []) ≡ n / 10 * 10 + (digit (n % 10) - 48) =
+    value-snoc 0 (decimalWithin (suc j) (n / 10)) (digit (n % 10)) ∙ ap (λ (v : ℕ). v * 10 + (digit (n % 10) - 48)) e in
+    rw (le-ltb n 10 b) (d ∙ omega arith))
+    (below-or-not n 10)
+
+-- ---- a run in pieces
+
+behind : (u : Run) (first rest : List ℕ) → runAfter u (first ++ rest) ≡ runAfter (runAfter u first) rest
+unfolding runAfter
+behind u [] rest = refl
+behind u (b ∷ first) rest = behind (runOn u b) first rest
+
+said : (u : Run) (first rest : List ℕ) → saidOver u (first ++ rest) ≡ saidOver u first ++ saidOver (runAfter u first) rest
+unfolding runAfter saidOver
+said u [] rest = refl
+said u (b ∷ first) rest = rw (said (runOn u b) first rest) (sym (append-assoc (saidAt u b) (saidOver (runOn u b) first) (saidOver (runAfter (runOn u b) first) rest)))
+
+-- ---- the same plan
+
+or-zero : (k : ℕ) (w : Written) → answerOr k w .number ≡ 0 → (k ≡ 0) × (w .number ≡ 0)
+unfolding answerOr
+or-zero zero w h = (refl, h)
+or-zero (suc k) w h = absurd (omega (arith, h))
+
+write-zero : (k size : ℕ) → writeAnswer k size .number ≡ 0 → k ≡ 0
+unfolding writeAnswer
+write-zero zero size h = refl
+write-zero (suc k) size h = absurd (omega (arith, h))
+
+or-refused : (k : ℕ) (w : Written) → k ≢ 0 → answerOr k w .number ≡ k
+unfolding answerOr
+or-refused zero w h = absurd (h refl)
+or-refused (suc k) w h = refl
+
+or-kept : (k : ℕ) (after before : List ℕ) → k ≢ 0 → bufferOr k after before ≡ before
+unfolding bufferOr
+or-kept zero after before h = absurd (h refl)
+or-kept (suc k) after before h = refl
+
+text-then : (k j : ℕ) (text : List ℕ) → thenNumber k j ≢ 0 → textOr k (textOr j text) ≡ refusedLine (thenNumber k j)
+unfolding textOr thenNumber
+text-then zero zero text h = absurd (h refl)
+text-then zero (suc j) text h = refl
+text-then (suc k) j text h = refl
+
+refused-text : (sheet : List ℕ) → planningNumber (readRequest sheet) ≢ 0 → planPrinted sheet ≡ refusedLine (planningNumber (readRequest sheet))
+refused-text sheet k = text-then (readRequest sheet .number) (planned (readRequest sheet .set) .number) _ k
+
+-- ---- the cases
+
+empty-read : readRequest [] .number ≡ 1
+unfolding readSheet readAnswer thenNumber shapeNumber fieldNumber isAllowed allowedNext orElse
+empty-read = refl
+
+empty-said : planPrinted [] ≡ refusedLine 1
+empty-said = text-refused _ _ (λ e. absurd (omega (arith, e, empty-read))) ∙ ap refusedLine empty-read
+
+workedSet : Set
+workedSet = record { head = record { ttrt = 100 }; n = 4; w = fill 1 (λ i. 2) zeros; c = fill 4 (λ i. 20) zeros; d = fill 4 (λ i. 100) zeros; p = fill 4 (λ i. 100) zeros }
+
+worked-read : readRequest workedSheet ≡ record { set = workedSet; number = 0 }
+unfolding workedSet readSheet readAnswer thenNumber shapeNumber fieldNumber isAllowed allowedNext orElse endNumber stationsIn allocationsIn lead allBelow wholeAt shortAt numberAt fill judgedSheet judgedThen allHold sumBelow headInRange stationInRange
+worked-read = refl
+
+worked-planned : planned workedSet ≡ record { alloc = record { s = fill 4 (λ i. 20) zeros }; number = 0 }
+unfolding workedSet answered smallestWith orElse fill judgedThen allHold allBelow sumBelow headInRange stationInRange
+worked-planned = refl
+
+worked-lines : planLines workedSet (record { s = fill 4 (λ i. 20) zeros }) ≡ workedText
+unfolding workedSet planLines rows line lineOn decimalWithin fill sumBelow
+worked-lines = refl
+
+worked-said : planPrinted workedSheet ≡ workedText
+unfolding textOr
+worked-said = ap requestText worked-read ∙ ap (plannedText workedSet) worked-planned ∙ worked-lines
+
+pub promised : Promised
+unfolding bufferOr bufferAfter answerOr
+promised =
+    record {
+      empty = empty-said;
+      worked = worked-said;
+      decimal = λ n h. value-within 19 n (omega arith);
+      same-plan = λ sheet out h.
+          let refused = or-zero (planningNumber (readRequest sheet)) _ h in
+          let none = then-none _ _ (refused .0) in (
+            text-accepted _ _ (none .0) ∙ text-accepted _ _ (none .1),
+            rw (refused .0, write-zero _ _ (refused .1)),
+          );
+      same-refusal = λ sheet out k. (refused-text sheet k, (or-refused (planningNumber (readRequest sheet)) _ k, or-kept (planningNumber (readRequest sheet)) _ out k));
+      pieces-behind = behind;
+      pieces-said = said;
+      visit-answered = λ u e i.
+          let ends = line-ends u newline refl in
+          let both = answered-visit (u .ring) (u .scan) (u .line) _ e i refl in
+          (ends .1 ∙ sym (both .0), ap (λ (x : Run). x .ring) (ends .0) ∙ sym (both .1));
+      message-answered = λ u e i j.
+          let ends = line-ends u newline refl in
+          let both = answered-message (u .ring) (u .scan) (u .line) _ e i j refl in
+          (ends .1 ∙ sym (both .0), ap (λ (x : Run). x .ring) (ends .0) ∙ sym (both .1));
+      unread-named = λ u e i j.
+          let ends = line-ends u newline refl in
+          let both = answered-unread (u .ring) (u .scan) (u .line) e i j in
+          (ends .1 ∙ sym (both .0), ap (λ (x : Run). x .ring) (ends .0) ∙ sym (both .1));
+    }
