@@ -16,10 +16,14 @@ fn arrival_allowed(r: Ring, m: Message) -> bool
     let i = m.station.0 as usize;
     let a = m.arrival.0;
     let set = r.set;
+    let gaps = set.p;
+    let starts = r.last;
+    let arrivals = r.arrival;
+    let marks = r.had;
     let in_range = a <= numbers::MOST_CLOCK;
-    let later = (r.visits <= m.station.0) | (r.last[i] < a);
-    let next = r.arrival[i] + units::wide(set.p[i]);
-    let gap = (r.had[i] == 0) | (next <= a);
+    let later = (r.visits <= m.station.0) | (starts[i] < a);
+    let next = arrivals[i] + units::wide(gaps[i]);
+    let gap = (marks[i] == 0) | (next <= a);
     in_range & later & gap
 }
 
@@ -33,8 +37,10 @@ fn message_number(r: Ring, m: Message) -> u8
     }
     let i = m.station.0 as usize;
     let set = r.set;
-    let held = 0 < r.rest[i];
-    let fits = (1 <= m.length.0) & (m.length.0 <= units::wide(set.c[i]));
+    let longest = set.c;
+    let rests = r.rest;
+    let held = 0 < rests[i];
+    let fits = (1 <= m.length.0) & (m.length.0 <= units::wide(longest[i]));
     if !fits {
         return numbers::BAD_LENGTH;
     }

@@ -20,8 +20,9 @@ pub(crate) fn limit_of(r: Ring) -> u64
     ensures { λ x. ⌜ Limit r x ⌝ }
 {
     let p = r.token as usize;
+    let times = r.trt;
     let left = units::room(units::wide(r.set.head.ttrt), units::wide(r.unused));
-    units::room(left, units::wide(r.trt[p]))
+    units::room(left, units::wide(times[p]))
 }
 
 // Step 3: what is sent of the held message.
@@ -30,11 +31,14 @@ pub(crate) fn sync_sent(r: Ring) -> u64
     ensures { λ x. ⌜ Sent r x ⌝ }
 {
     let p = r.token as usize;
-    let held = 0 < r.rest[p];
-    let arrived = r.arrival[p] <= r.clock;
+    let rests = r.rest;
+    let arrivals = r.arrival;
+    let held = 0 < rests[p];
+    let arrived = arrivals[p] <= r.clock;
     if held & arrived {
         let alloc = r.alloc;
-        return units::least(units::wide(alloc.s[p]), units::wide(r.rest[p]));
+        let shares = alloc.s;
+        return units::least(units::wide(shares[p]), units::wide(rests[p]));
     }
     0
 }
@@ -47,7 +51,8 @@ fn unused_after(r: Ring, sync: u32) -> u32
     let p = r.token as usize;
     let alloc = r.alloc;
     let share = alloc.s[p];
-    let fallen = r.unused - (share - r.sent[p]);
+    let amounts = r.sent;
+    let fallen = r.unused - (share - amounts[p]);
     fallen + (share - sync)
 }
 
@@ -67,7 +72,8 @@ fn rise_of(r: Ring, sync: u64, asynchronous: u64) -> u64
 {
     let p = r.token as usize;
     let set = r.set;
-    sync + asynchronous + units::wide(set.w[p])
+    let walks = set.w;
+    sync + asynchronous + units::wide(walks[p])
 }
 
 // The ring after a visit that sent these two amounts.
@@ -111,8 +117,9 @@ fn completes_with(r: Ring, sync: u64) -> bool
     ensures { λ b. ⌜ b ≡ completes r sync ⌝ }
 {
     let p = r.token as usize;
-    let held = 0 < r.rest[p];
-    let left = units::room(units::wide(r.rest[p]), sync);
+    let rests = r.rest;
+    let held = 0 < rests[p];
+    let left = units::room(units::wide(rests[p]), sync);
     held & (left == 0)
 }
 
@@ -123,7 +130,9 @@ fn deadline_of(r: Ring) -> u64
 {
     let p = r.token as usize;
     let set = r.set;
-    r.arrival[p] + units::wide(set.d[p])
+    let deadlines = set.d;
+    let arrivals = r.arrival;
+    arrivals[p] + units::wide(deadlines[p])
 }
 
 // The record of a visit that sent these two amounts.
@@ -133,7 +142,8 @@ pub(crate) fn record_of(r: Ring, sync: u64, asynchronous: u64) -> VisitRecord
 {
     let p = r.token as usize;
     let station = units::wide(r.token);
-    let trt = units::wide(r.trt[p]);
+    let times = r.trt;
+    let trt = units::wide(times[p]);
     let limit = limit_of(r);
     let mut finish: u64 = 0;
     let mut margin: i64 = 0;

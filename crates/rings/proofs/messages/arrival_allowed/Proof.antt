@@ -7,20 +7,20 @@ use Rattle.rings.proofs.messages.arrival_allowed.Tie as tie
 mul-later : tie.Need-mul-later
 mul-later c = search needs
 
-element-copy-out-later : tie.Need-element-copy-out-later
-element-copy-out-later c = search needs
+array-read-later : tie.Need-array-read-later
+array-read-later c = search needs
 
 mul-next : tie.Need-mul-next
 mul-next c = search needs
 
-element-copy-out-next : tie.Need-element-copy-out-next
-element-copy-out-next c = search needs
+array-read-next : tie.Need-array-read-next
+array-read-next c = search needs
 
 mul-wide : tie.Need-mul-wide
 mul-wide c = search needs
 
-element-copy-out-wide : tie.Need-element-copy-out-wide
-element-copy-out-wide c = search needs
+array-read-wide : tie.Need-array-read-wide
+array-read-wide c = search needs
 
 wide-requires : tie.Need-wide-requires
 wide-requires c κs = search needs
@@ -28,24 +28,24 @@ wide-requires c κs = search needs
 add-next : tie.Need-add-next
 add-next c = search needs
 
-element-copy-out-gap : tie.Need-element-copy-out-gap
-element-copy-out-gap c = search needs
+array-read-gap : tie.Need-array-read-gap
+array-read-gap c = search needs
 
 returns : tie.Need-returns
 unfolding arrivalAllowed
-returns c = rw (c .before .wide .ensures .same)
+returns c = rw (c .wide .ensures .same)
 
 pub arrival-allowed-spec : {M : Type 1} → statement M
 arrival-allowed-spec =
     tie.close
     (tie.spec
     mul-later
-    element-copy-out-later
+    array-read-later
     mul-next
-    element-copy-out-next
+    array-read-next
     mul-wide
-    element-copy-out-wide
+    array-read-wide
     wide-requires
     add-next
-    element-copy-out-gap
+    array-read-gap
     returns)

@@ -14,34 +14,34 @@ use Rattle.rings.proofs.messages.message_number.Statement.{statement}
 use Rattle.rings.proofs.messages.message_number.Tie as tie
 
 -- the station is below N, so one of the 128
-below : (c : tie.Else1) → c .before .before .before .args .m .station .0 < count (c .before .before .before .args .t1)
+below : (c : tie.Else1) → c .before .before .before .args .m .station .0 < count (c .before .before .before .args .r)
 below c = rw (c .before .before .wide .ensures .same) at (c .if1 .left)
 
 inside : (c : tie.Else1) → c .before .before .before .args .m .station .0 < 128
 inside c =
-    let r = c .before .before .before .args .t1 in
+    let r = c .before .before .before .args .r in
     omega (arith, below c, sound-plan r (sound-sentences r (c .before .before .before .pre)) .0 .1)
 
-known : (c : tie.Else1) → stationKnown (c .before .before .before .args .t1) (c .before .before .before .args .m) ≡ true
+known : (c : tie.Else1) → stationKnown (c .before .before .before .args .r) (c .before .before .before .args .m) ≡ true
 known c = lt-ltb _ _ (below c)
 
 -- the length's test is the definition's
-length-said : (c : tie.After-wide2) → (leb 1 (c .before .before .before .before .before .before .before .before .args .m .length .0) && leb (c .before .before .before .before .before .before .before .before .args .m .length .0) (c .wide2 .result)) ≡ lengthAllowed (c .before .before .before .before .before .before .before .before .args .t1) (c .before .before .before .before .before .before .before .before .args .m)
+length-said : (c : tie.After-wide2) → (leb 1 (c .before .before .before .before .before .before .before .before .args .m .length .0) && leb (c .before .before .before .before .before .before .before .before .args .m .length .0) (c .wide2 .result)) ≡ lengthAllowed (c .before .before .before .before .before .before .before .before .args .r) (c .before .before .before .before .before .before .before .before .args .m)
 length-said c = rw (c .wide2 .ensures .same)
 
-allowed : (c : tie.Else2) → lengthAllowed (c .before .before .before .before .before .before .before .before .before .before .args .t1) (c .before .before .before .before .before .before .before .before .before .before .args .m) ≡ true
+allowed : (c : tie.Else2) → lengthAllowed (c .before .before .before .before .before .before .before .before .before .before .args .r) (c .before .before .before .before .before .before .before .before .before .before .args .m) ≡ true
 allowed c = sym (length-said (c .before .before)) ∙ not-false _ (c .if2 .left)
 
 -- something of a message remains, or nothing does
-held : (c : tie.Then3) → nothingHeld (c .before .before .before .before .before .before .before .before .before .before .before .args .t1) (c .before .before .before .before .before .before .before .before .before .before .before .args .m) ≡ false
+held : (c : tie.Then3) → nothingHeld (c .before .before .before .before .before .before .before .before .before .before .before .args .r) (c .before .before .before .before .before .before .before .before .before .before .before .args .m) ≡ false
 held c =
-    let some : 0 < at (c .before .before .before .before .before .before .before .before .before .before .before .args .t1 .rest) (c .before .before .before .before .before .before .before .before .before .before .before .args .m .station .0) = ltb-true 0 _ (c .if3 .taken) in
-    ne-eqb (at (c .before .before .before .before .before .before .before .before .before .before .before .args .t1 .rest) (c .before .before .before .before .before .before .before .before .before .before .before .args .m .station .0)) 0 (omega arith)
+    let some : 0 < at (c .before .before .before .before .before .before .before .before .before .before .before .args .r .rest) (c .before .before .before .before .before .before .before .before .before .before .before .args .m .station .0) = ltb-true 0 _ (c .if3 .taken) in
+    ne-eqb (at (c .before .before .before .before .before .before .before .before .before .before .before .args .r .rest) (c .before .before .before .before .before .before .before .before .before .before .before .args .m .station .0)) 0 (omega arith)
 
-free : (c : tie.Else3) → nothingHeld (c .before .before .before .before .before .before .before .before .before .before .before .args .t1) (c .before .before .before .before .before .before .before .before .before .before .before .args .m) ≡ true
+free : (c : tie.Else3) → nothingHeld (c .before .before .before .before .before .before .before .before .before .before .before .args .r) (c .before .before .before .before .before .before .before .before .before .before .before .args .m) ≡ true
 free c =
-    let none : at (c .before .before .before .before .before .before .before .before .before .before .before .args .t1 .rest) (c .before .before .before .before .before .before .before .before .before .before .before .args .m .station .0) ≤ 0 = ltb-false 0 _ (c .if3 .left) in
-    eq-eqb (at (c .before .before .before .before .before .before .before .before .before .before .before .args .t1 .rest) (c .before .before .before .before .before .before .before .before .before .before .before .args .m .station .0)) 0 (omega arith)
+    let none : at (c .before .before .before .before .before .before .before .before .before .before .before .args .r .rest) (c .before .before .before .before .before .before .before .before .before .before .before .args .m .station .0) ≤ 0 = ltb-false 0 _ (c .if3 .left) in
+    eq-eqb (at (c .before .before .before .before .before .before .before .before .before .before .before .args .r .rest) (c .before .before .before .before .before .before .before .before .before .before .before .args .m .station .0)) 0 (omega arith)
 
 wide-requires : tie.Need-wide-requires
 wide-requires c κs = search needs
@@ -49,19 +49,19 @@ wide-requires c κs = search needs
 returns : tie.Need-returns
 returns c =
     let args = c .before .before .before .args in
-    sym (message-9 (args .t1) (args .m) (le-ltb _ _ (rw (c .before .before .wide .ensures .same) at (c .if1 .taken))))
+    sym (message-9 (args .r) (args .m) (le-ltb _ _ (rw (c .before .before .wide .ensures .same) at (c .if1 .taken))))
 
 mul-held : tie.Need-mul-held
 mul-held c = search needs
 
-element-copy-out-held : tie.Need-element-copy-out-held
-element-copy-out-held c = inside (c .before)
+array-read-held : tie.Need-array-read-held
+array-read-held c = inside (c .before .before .before)
 
 mul-wide : tie.Need-mul-wide
 mul-wide c = search needs
 
-element-copy-out-wide : tie.Need-element-copy-out-wide
-element-copy-out-wide c = inside (c .before .before .before)
+array-read-wide : tie.Need-array-read-wide
+array-read-wide c = inside (c .before .before .before .before)
 
 wide-requires-2 : tie.Need-wide-requires-2
 wide-requires-2 c κs = search needs
@@ -70,19 +70,19 @@ returns-2 : tie.Need-returns-2
 returns-2 c =
     let else = c .before .before .before .before .before .before .before in
     let args = else .before .before .before .args in
-    sym (message-10 (args .t1) (args .m) (known else) (sym (length-said (c .before .before)) ∙ not-true _ (c .if2 .taken)))
+    sym (message-10 (args .r) (args .m) (known else) (sym (length-said (c .before .before)) ∙ not-true _ (c .if2 .taken)))
 
 returns-3 : tie.Need-returns-3
 returns-3 c =
     let else = c .before .before .before .before .before .before .before .before in
     let args = else .before .before .before .args in
-    sym (message-11 (args .t1) (args .m) (known else) (allowed (c .before)) (held c))
+    sym (message-11 (args .r) (args .m) (known else) (allowed (c .before)) (held c))
 
 arrival-allowed-requires : tie.Need-arrival-allowed-requires
 arrival-allowed-requires c κs =
     let else = c .before .before .before .before .before .before .before .before in
     let args = else .before .before .before .args in
-    let sound = sound-sentences (args .t1) (else .before .before .before .pre) in
+    let sound = sound-sentences (args .r) (else .before .before .before .pre) in
     record { inside = inside else; arrival = sound .arrivals (args .m .station .0) (below else) }
 
 returns-4 : tie.Need-returns-4
@@ -90,14 +90,14 @@ returns-4 c =
     let else3 = c .before .before in
     let else = else3 .before .before .before .before .before .before .before .before in
     let args = else .before .before .before .args in
-    sym (message-12 (args .t1) (args .m) (known else) (allowed (else3 .before)) (free else3) (sym (c .before .arrival-allowed .ensures) ∙ not-true _ (c .if4 .taken)))
+    sym (message-12 (args .r) (args .m) (known else) (allowed (else3 .before)) (free else3) (sym (c .before .arrival-allowed .ensures) ∙ not-true _ (c .if4 .taken)))
 
 returns-5 : tie.Need-returns-5
 returns-5 c =
     let else3 = c .before .before in
     let else = else3 .before .before .before .before .before .before .before .before in
     let args = else .before .before .before .args in
-    sym (message-0 (args .t1) (args .m) (known else) (allowed (else3 .before)) (free else3) (sym (c .before .arrival-allowed .ensures) ∙ not-false _ (c .if4 .left)))
+    sym (message-0 (args .r) (args .m) (known else) (allowed (else3 .before)) (free else3) (sym (c .before .arrival-allowed .ensures) ∙ not-false _ (c .if4 .left)))
 
 pub message-number-spec : {M : Type 1} → statement M
 message-number-spec =
@@ -106,9 +106,9 @@ message-number-spec =
     wide-requires
     returns
     mul-held
-    element-copy-out-held
+    array-read-held
     mul-wide
-    element-copy-out-wide
+    array-read-wide
     wide-requires-2
     returns-2
     returns-3

@@ -9,14 +9,14 @@ cast-p c = search needs
 mul-held : tie.Need-mul-held
 mul-held c = search needs
 
-element-copy-out-held : tie.Need-element-copy-out-held
-element-copy-out-held c = search needs
+array-read-held : tie.Need-array-read-held
+array-read-held c = search needs
 
 mul-wide : tie.Need-mul-wide
 mul-wide c = search needs
 
-element-copy-out-wide : tie.Need-element-copy-out-wide
-element-copy-out-wide c = search needs
+array-read-wide : tie.Need-array-read-wide
+array-read-wide c = search needs
 
 wide-requires : tie.Need-wide-requires
 wide-requires c κs = search needs
@@ -33,9 +33,9 @@ completes-with-spec =
     (tie.spec
     cast-p
     mul-held
-    element-copy-out-held
+    array-read-held
     mul-wide
-    element-copy-out-wide
+    array-read-wide
     wide-requires
     room-requires
     returns)

@@ -20,8 +20,8 @@ wide-requires c κs = search needs
 mul-wide : tie.Need-mul-wide
 mul-wide c = search needs
 
-element-copy-out-wide : tie.Need-element-copy-out-wide
-element-copy-out-wide c = search needs
+array-read-wide : tie.Need-array-read-wide
+array-read-wide c = search needs
 
 wide-requires-2 : tie.Need-wide-requires-2
 wide-requires-2 c κs = search needs
@@ -44,17 +44,17 @@ margin-of-requires c κs = search needs
 returns : tie.Need-returns
 unfolding recordOf
 returns c =
-    let args = c .before .before .before .before .before .before .before .before .args in
-    let yes : completes (args .t1) (args .sync) ≡ true = sym (c .before .before .before .completes-with .ensures) ∙ c .before .before .if1 .taken in
-    let is : c .margin-of .result ≡ margin (args .t1) (args .sync) = c .margin-of .ensures ∙ rw (c .before .deadline-of .ensures) in
-    let stored : toZ w64 (ofZ w64 (c .margin-of .result)) ≡ margin (args .t1) (args .sync) = rw is (toZ-ofZ w64 _ (difference-fits (deadline (args .t1)) (finish (args .t1) (args .sync)) (omega arith) (omega arith))) in
-    rw (stored, c .before .before .before .before .limit-of .ensures .is, c .before .before .before .before .before .wide2 .ensures .same, c .before .before .before .before .before .before .before .wide .ensures .same, yes)
+    let args = c .before .before .before .before .before .before .before .before .before .before .args in
+    let yes : completes (args .r) (args .sync) ≡ true = sym (c .before .before .before .before .completes-with .ensures) ∙ c .before .before .before .if1 .taken in
+    let is : c .margin-of .result ≡ margin (args .r) (args .sync) = c .margin-of .ensures ∙ rw (c .before .deadline-of .ensures) in
+    let stored : toZ w64 (ofZ w64 (c .margin-of .result)) ≡ margin (args .r) (args .sync) = rw is (toZ-ofZ w64 _ (difference-fits (deadline (args .r)) (finish (args .r) (args .sync)) (omega arith) (omega arith))) in
+    rw (stored, c .before .before .before .before .before .limit-of .ensures .is, c .before .before .before .before .before .before .wide2 .ensures .same, c .before .before .before .before .before .before .before .before .wide .ensures .same, yes)
 
 returns-2 : tie.Need-returns-2
 unfolding recordOf
 returns-2 c =
-    let args = c .before .before .before .before .before .before .args in
-    let no : completes (args .t1) (args .sync) ≡ false = sym (c .before .completes-with .ensures) ∙ c .if1 .left in
+    let args = c .before .before .before .before .before .before .before .args in
+    let no : completes (args .r) (args .sync) ≡ false = sym (c .before .completes-with .ensures) ∙ c .if1 .left in
     rw (c .before .before .limit-of .ensures .is, c .before .before .before .wide2 .ensures .same, c .before .before .before .before .before .wide .ensures .same, no)
 
 pub record-of-spec : {M : Type 1} → statement M
@@ -64,7 +64,7 @@ record-of-spec =
     cast-p
     wide-requires
     mul-wide
-    element-copy-out-wide
+    array-read-wide
     wide-requires-2
     limit-of-requires
     completes-with-requires

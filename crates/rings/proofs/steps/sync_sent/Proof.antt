@@ -15,20 +15,20 @@ cast-p c = search needs
 mul-held : tie.Need-mul-held
 mul-held c = search needs
 
-element-copy-out-held : tie.Need-element-copy-out-held
-element-copy-out-held c = search needs
+array-read-held : tie.Need-array-read-held
+array-read-held c = search needs
 
 mul-arrived : tie.Need-mul-arrived
 mul-arrived c = search needs
 
-element-copy-out-arrived : tie.Need-element-copy-out-arrived
-element-copy-out-arrived c = search needs
+array-read-arrived : tie.Need-array-read-arrived
+array-read-arrived c = search needs
 
 mul-wide : tie.Need-mul-wide
 mul-wide c = search needs
 
-element-copy-out-wide : tie.Need-element-copy-out-wide
-element-copy-out-wide c = search needs
+array-read-wide : tie.Need-array-read-wide
+array-read-wide c = search needs
 
 wide-requires : tie.Need-wide-requires
 wide-requires c κs = search needs
@@ -36,8 +36,8 @@ wide-requires c κs = search needs
 mul-wide-2 : tie.Need-mul-wide-2
 mul-wide-2 c = search needs
 
-element-copy-out-wide-2 : tie.Need-element-copy-out-wide-2
-element-copy-out-wide-2 c = search needs
+array-read-wide-2 : tie.Need-array-read-wide-2
+array-read-wide-2 c = search needs
 
 wide-requires-2 : tie.Need-wide-requires-2
 wide-requires-2 c κs = search needs
@@ -47,14 +47,14 @@ least-requires c κs = search needs
 
 returns : tie.Need-returns
 returns c =
-    let then = c .before .before .before .before .before .before in
-    let r = then .before .before .before .args .t1 in
-    let is : c .least .result ≡ min (share r (r .token)) (at (r .rest) (r .token)) = c .least .ensures ∙ rw (c .before .before .before .wide .ensures .same, c .before .wide2 .ensures .same) in
+    let then = c .before .before .before .before .before in
+    let r = then .before .before .before .before .before .args .r in
+    let is : c .least .result ≡ min (share r (r .token)) (at (r .rest) (r .token)) = c .least .ensures ∙ rw (c .before .before .wide .ensures .same, c .before .wide2 .ensures .same) in
     record { is = is ∙ sym (served r (then .if1 .taken)); allotted = omega arith; rest = omega arith }
 
 returns-2 : tie.Need-returns-2
 returns-2 c =
-    let r = c .before .before .before .args .t1 in
+    let r = c .before .before .before .before .before .args .r in
     record { is = sym (not-served r (c .if1 .left)); allotted = omega arith; rest = omega arith }
 
 pub sync-sent-spec : {M : Type 1} → statement M
@@ -63,14 +63,14 @@ sync-sent-spec =
     (tie.spec
     cast-p
     mul-held
-    element-copy-out-held
+    array-read-held
     mul-arrived
-    element-copy-out-arrived
+    array-read-arrived
     mul-wide
-    element-copy-out-wide
+    array-read-wide
     wide-requires
     mul-wide-2
-    element-copy-out-wide-2
+    array-read-wide-2
     wide-requires-2
     least-requires
     returns
