@@ -15,32 +15,51 @@
 #define MOST_RING_CLOCK 1000002000000u
 #define VISITS_END ((uint64_t)1 << 62)
 
+/* A fault in one of the stations: answered at once, as one writes it; or, with -DFAULTS_GATHERED, gathered and asked for
+ * once behind the loop, so that the compiler can look at several stations at a time. */
+#ifdef FAULTS_GATHERED
+#define FAULT(test) (fault |= (uint32_t)(test))
+#else
+#define FAULT(test)       \
+    do {                  \
+        if (test)         \
+            return 0;     \
+    } while (0)
+#endif
+
 typedef struct olivastrum_set set_t;
 typedef struct olivastrum_alloc alloc_t;
 typedef struct olivastrum_ring ring_t;
 
 /* ---- judging */
 
-/* The set's numbers are in range, N too; *number is 2 or 4 where one is not. */
-static int numbers_fit(const set_t *set, uint8_t *number)
+static int count_fits(const set_t *set)
 {
-    if (set->n < 1 || set->n > OLIVASTRUM_MOST_STATIONS) {
-        *number = OLIVASTRUM_SHEET_WRONG;
-        return 0;
-    }
-    *number = OLIVASTRUM_OUT_OF_RANGE;
+    return set->n >= 1 && set->n <= OLIVASTRUM_MOST_STATIONS;
+}
+
+static int numbers_fit(const set_t *set)
+{
+    uint32_t fault = 0;
     if (set->ttrt < 1 || set->ttrt > MOST_TTRT)
         return 0;
     for (uint32_t i = 0; i < set->n; i++) {
-        if (set->w[i] > MOST_WALK || set->c[i] > MOST_C)
-            return 0;
-        if (set->d[i] < 1 || set->d[i] > MOST_D)
-            return 0;
-        if (set->p[i] < set->d[i] || set->p[i] > MOST_P)
-            return 0;
+        FAULT(set->w[i] > MOST_WALK);
+        FAULT(set->c[i] > MOST_C);
+        FAULT(set->d[i] < 1);
+        FAULT(set->d[i] > MOST_D);
+        FAULT(set->p[i] < set->d[i]);
+        FAULT(set->p[i] > MOST_P);
     }
-    *number = OLIVASTRUM_ACCEPTED;
-    return 1;
+    return fault == 0;
+}
+
+static int shares_fit(const alloc_t *alloc, uint32_t n)
+{
+    uint32_t fault = 0;
+    for (uint32_t i = 0; i < n; i++)
+        FAULT(alloc->s[i] > MOST_S);
+    return fault == 0;
 }
 
 static uint32_t sum(const uint32_t *xs, uint32_t n)
@@ -53,9 +72,10 @@ static uint32_t sum(const uint32_t *xs, uint32_t n)
 
 static uint8_t judge(const set_t *set)
 {
-    uint8_t number;
-    if (!numbers_fit(set, &number))
-        return number;
+    if (!count_fits(set))
+        return OLIVASTRUM_SHEET_WRONG;
+    if (!numbers_fit(set))
+        return OLIVASTRUM_OUT_OF_RANGE;
     uint32_t tau = sum(set->w, set->n);
     return tau < 1 || tau > set->ttrt ? OLIVASTRUM_WALK_TIME : OLIVASTRUM_ACCEPTED;
 }
@@ -70,12 +90,10 @@ static uint64_t least_time(uint32_t ttrt, uint32_t d, uint32_t s)
 
 static uint8_t judge_plan(const set_t *set, const alloc_t *alloc)
 {
-    uint8_t number;
-    if (!numbers_fit(set, &number))
-        return number;
-    for (uint32_t i = 0; i < set->n; i++)
-        if (alloc->s[i] > MOST_S)
-            return OLIVASTRUM_OUT_OF_RANGE;
+    if (!count_fits(set))
+        return OLIVASTRUM_SHEET_WRONG;
+    if (!numbers_fit(set) || !shares_fit(alloc, set->n))
+        return OLIVASTRUM_OUT_OF_RANGE;
     uint32_t tau = sum(set->w, set->n);
     if (tau < 1 || tau > set->ttrt)
         return OLIVASTRUM_WALK_TIME;
@@ -254,15 +272,19 @@ static int sound(const ring_t *ring)
         return 0;
     if (ring->token >= ring->set.n || ring->clock > MOST_RING_CLOCK || ring->visits >= VISITS_END)
         return 0;
-    uint32_t unused = 0;
+    uint32_t fault = 0, unused = 0;
     for (uint32_t i = 0; i < ring->set.n; i++) {
-        if (ring->trt[i] > ring->set.ttrt || ring->sent[i] > ring->alloc.s[i])
-            return 0;
-        if (ring->rest[i] > ring->set.c[i] || ring->arrival[i] > MOST_CLOCK)
-            return 0;
+        FAULT(ring->trt[i] > ring->set.ttrt);
+        FAULT(ring->sent[i] > ring->alloc.s[i]);
+        FAULT(ring->rest[i] > ring->set.c[i]);
         unused += ring->alloc.s[i] - ring->sent[i];
+#ifdef FAULTS_GATHERED
     }
-    return ring->unused == unused;
+    for (uint32_t i = 0; i < ring->set.n; i++) { /* these are twice as wide */
+#endif
+        FAULT(ring->arrival[i] > MOST_CLOCK);
+    }
+    return fault == 0 && ring->unused == unused;
 }
 
 void plain_visit(ring_t *ring, uint32_t ask, struct olivastrum_visit_answer *answer)
