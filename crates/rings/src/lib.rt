@@ -128,15 +128,20 @@ impl Ring {
     pub fn visit(mut self, ask: u32) -> Visited
         ensures { λ r. ⌜ r ≡ visited self ask ⌝ }
     {
-        let number = steps::visit_number(self);
-        if number != numbers::ACCEPTED {
-            return steps::refused(self, number);
+        if !sound(self) {
+            return steps::refused(self, numbers::UNSOUND);
+        }
+        if numbers::MOST_CLOCK < self.clock {
+            return steps::refused(self, numbers::CLOCK_TOO_HIGH);
         }
         let sync = steps::sync_sent(self);
         let limit = steps::limit_of(self);
         let asynchronous = units::least(limit, units::wide(ask));
         let record = steps::record_of(self, sync, asynchronous);
-        let answer = VisitAnswer { record, number };
+        let answer = VisitAnswer {
+            record,
+            number: numbers::ACCEPTED,
+        };
         self = steps::moved_on(self, sync, asynchronous);
         Visited { ring: self, answer }
     }
@@ -145,7 +150,10 @@ impl Ring {
     pub fn hand_in(mut self, message: Message) -> Taken
         ensures { λ r. ⌜ r ≡ handedIn self message ⌝ }
     {
-        let number = messages::hand_in_number(self, message);
+        let mut number = numbers::UNSOUND;
+        if sound(self) {
+            number = messages::message_number(self, message);
+        }
         if number == numbers::ACCEPTED {
             self = messages::held(self, message);
         }

@@ -5,7 +5,7 @@ use units::numbers;
 ghost use mathlib.Core.Path.{_≡_};
 ghost use mathlib.Core.Bool.{true};
 ghost use Rattle.rings.specs.Sound.{isSound};
-ghost use Rattle.rings.specs.HandingIn.{arrivalAllowed, messageNumber, handInNumber, holding};
+ghost use Rattle.rings.specs.HandingIn.{arrivalAllowed, messageNumber, holding};
 ghost use Rattle.rings.specs.Bounds.{Addressed, Holdable};
 
 // The arrival time is allowed (12).
@@ -28,7 +28,7 @@ fn arrival_allowed(r: Ring, m: Message) -> bool
 }
 
 // The lowest of 9 to 12 that applies to a sound ring, or 0.
-fn message_number(r: Ring, m: Message) -> u8
+pub(crate) fn message_number(r: Ring, m: Message) -> u8
     requires { ⌜ isSound r ≡ true ⌝ }
     ensures { λ x. ⌜ x ≡ messageNumber r m ⌝ }
 {
@@ -51,16 +51,6 @@ fn message_number(r: Ring, m: Message) -> u8
         return numbers::BAD_ARRIVAL;
     }
     numbers::ACCEPTED
-}
-
-// The lowest of 8 to 12 that applies, or 0.
-pub(crate) fn hand_in_number(r: Ring, m: Message) -> u8
-    ensures { λ x. ⌜ x ≡ handInNumber r m ⌝ }
-{
-    if !super::sound(r) {
-        return numbers::UNSOUND;
-    }
-    message_number(r, m)
 }
 
 // The ring that holds the message.

@@ -6,12 +6,11 @@ use super::Visited;
 use super::places;
 use units::Station;
 use units::Ticks;
-use units::numbers;
 ghost use mathlib.Core.Path.{_≡_};
 ghost use Prim.Native.Nat.{_≤_, _<_, _^_};
 ghost use Rattle.rings.specs.State.{share};
 ghost use lib.IntN.{subℕ};
-ghost use Rattle.rings.specs.Steps.{rise, nextToken, unusedAfter, moved, completes, deadline, recordOf, blankRecord, visitNumber, refusedVisit};
+ghost use Rattle.rings.specs.Steps.{rise, nextToken, unusedAfter, moved, completes, deadline, recordOf, blankRecord, refusedVisit};
 ghost use Rattle.rings.specs.Bounds.{Safe, Sendable, Limit, Sent};
 
 // Step 1: the limit.
@@ -181,19 +180,6 @@ pub(crate) fn blank_record() -> VisitRecord
         margin: 0,
         completed: 0,
     }
-}
-
-// 8 for an unsound ring, 13 for a clock past the last start that is allowed, or 0.
-pub(crate) fn visit_number(r: Ring) -> u8
-    ensures { λ x. ⌜ x ≡ visitNumber r ⌝ }
-{
-    if !super::sound(r) {
-        return numbers::UNSOUND;
-    }
-    if numbers::MOST_CLOCK < r.clock {
-        return numbers::CLOCK_TOO_HIGH;
-    }
-    numbers::ACCEPTED
 }
 
 // A refused visit: the ring as it was, the number, and the blank record.
