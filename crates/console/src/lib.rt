@@ -1,5 +1,6 @@
 // What the program reads and writes, as functions on bytes.
 pub mod commands;
+pub mod composing;
 mod planning;
 pub mod running;
 pub mod scan;
@@ -14,6 +15,7 @@ ghost use Rattle.sheets.specs.Reading.{readRequest};
 ghost use Rattle.sheets.specs.Writing.{refusedWriting};
 ghost use Rattle.console.specs.PlanText.{refusedLine, planPrinted};
 ghost use Rattle.console.specs.PlanSheet.{WrotePlan};
+ghost use Rattle.console.specs.RunText.{unreadLine};
 ghost use Rattle.console.specs.ShowText.{planShown, showPrinted};
 use sheets::Written;
 use units::numbers;
@@ -51,8 +53,18 @@ pub fn refusal_text(number: u8, page: &mut [u8]) -> usize
     planning::put_refused(page, 0, number)
 }
 
+// The line that cannot be read, as text, put at the start of the page.
+pub fn unread_text(line: u64, page: &mut [u8]) -> usize
+    ensures { λ r. ⌜ Printed (unreadLine line) (now (page .entry)) (now (page .exit)) r ⌝ }
+{
+    if page.len() < PAGE_SIZE {
+        return 0;
+    }
+    running::put_unread(page, 0, line)
+}
+
 // Nothing was written, and why.
-fn nothing_written(number: u8) -> Written
+pub(crate) fn nothing_written(number: u8) -> Written
     ensures { λ r. ⌜ r ≡ refusedWriting number ⌝ }
 {
     Written { length: 0, number }

@@ -60,7 +60,7 @@ pub struct Ran {
 
 // ---- the calls
 
-fn is_empty_line(s: Scan) -> bool
+pub(crate) fn is_empty_line(s: Scan) -> bool
     ensures { λ r. ⌜ r ≡ isEmptyLine s ⌝ }
 {
     let readable = !(s.phase == scan::UNREADABLE);
@@ -241,7 +241,7 @@ fn answer_line(page: &mut [u8], at: usize, ring: Ring, s: Scan, line: u64) -> An
 }
 
 // The number of the next line.
-fn next_line(line: u64) -> u64
+pub(crate) fn next_line(line: u64) -> u64
     ensures { λ r. ⌜ r ≡ nextLine line ⌝ }
 {
     if line < LAST_LINE {

@@ -1,4 +1,5 @@
 // The program: it reads, hands the bytes to `console`, and writes what comes back.
+mod composing;
 mod running;
 mod usage;
 
@@ -63,6 +64,7 @@ fn main() {
         1 => plan(),
         2 => plan_sheet(),
         3 => running::run(),
+        4 => composing::compose(),
         5 => show(),
         _ => usage::print(),
     }

@@ -11,6 +11,8 @@ pub(crate) fn print() {
         b"  olivastrum plan < REQUEST         print the plan of a request sheet, or `refused` and a number\n",
     );
     say(b"  olivastrum plan-sheet < REQUEST   write the plan sheet of a request sheet\n");
+    say(b"  olivastrum compose < TEXT         write the request or plan sheet of a text\n");
+    say(b"  olivastrum show < SHEET           print a request or plan sheet as text\n");
     say(
         b"  olivastrum run PLAN < CALLS       open the ring of the plan sheet in the file PLAN, and answer each call\n",
     );
@@ -18,6 +20,7 @@ pub(crate) fn print() {
     say(b"With no command it is `plan`. For example:\n\n");
     say(b"  olivastrum plan < examples/four-stations.request\n");
     say(b"  olivastrum plan-sheet < examples/four-stations.request > four.plan\n");
+    say(b"  olivastrum compose < examples/four-stations.txt > four.request\n");
     say(b"  olivastrum show < four.plan\n");
     say(b"  olivastrum run four.plan < examples/worked-run.calls\n\n");
     say(b"The calls are lines `visit ASK` and `message STATION LENGTH ARRIVAL`.\n");
