@@ -1,13 +1,10 @@
 -- Everything that `specs/Promised.antt` lists, proved.
-use Prim.Native.Nat.{ℕ, zero, suc, _+_, _-_, _*_, _/_, _%_, _<_, _≤_, _^_}
-use mathlib.Core.Path.{_≡_, refl, sym, ap, _∙_}
-use mathlib.Core.List.{List, [], _∷_, _++_, append-assoc}
-use mathlib.Core.Logic.{_≢_, ⊎-elim}
+use Prim.Native.Nat.{ℕ, zero, suc, _-_}
+use mathlib.Core.Path.{_≡_, refl, ap, _∙_}
+use mathlib.Core.List.{List, []}
+use mathlib.Core.Logic.{_≢_}
 use native.Mathlib.Omega.{arith}
-use native.Mathlib.Nat.{pow-suc, div-lt-iff-lt-mul}
-use borrow.Author.Tests.{lt-ltb, le-ltb}
-use Rattle.units.specs.SmallLaws.{below-or-not}
-use Rattle.units.specs.Places.{at, sumBelow, allBelow, fill}
+use Rattle.units.specs.Places.{sumBelow, allBelow, fill}
 use Rattle.units.specs.Judging.{orElse, allHold}
 use Rattle.sets.specs.Rules.{headInRange, stationInRange}
 use Rattle.sets.specs.Judged.{judgedThen, zeros}
@@ -20,46 +17,11 @@ use Rattle.sheets.specs.Reading.{readRequest, stationsIn, allocationsIn, thenNu
 use Rattle.sheets.specs.ReadLaws.{then-none}
 use Rattle.sheets.specs.Writing.{writeAnswer, bufferAfter}
 use Rattle.sheets.specs.declared.Written.{Written}
-use Rattle.console.specs.Text.{digit, newline, decimalWithin, lineOn, line}
-use Rattle.console.specs.PlanText.{textOr, refusedLine, planLines, plannedText, requestText, planPrinted}
-use Rattle.console.specs.PlanTextLaws.{text-accepted, text-refused}
+use Rattle.text.specs.Text.{decimalWithin, lineOn, line, textOr, refusedLine}
+use Rattle.console.specs.PlanText.{planLines, plannedText, requestText, planPrinted}
+use Rattle.text.specs.TextLaws.{text-accepted, text-refused}
 use Rattle.console.specs.PlanSheet.{planningNumber, answerOr, bufferOr}
-use Rattle.console.specs.RunText.{runOn, saidAt, runAfter, saidOver}
-use Rattle.console.specs.RunLaws.{line-ends, answered-visit, answered-message, answered-unread}
-use Rattle.console.specs.Promised.{Promised, valueOn, workedSheet, workedText}
-use Rattle.console.specs.declared.running.Run.{Run}
-
--- ---- the digits of a number write it
-
-value-snoc : (v : ℕ) (ds : List ℕ) (d : ℕ) → valueOn v (ds ++ d ∷ []) ≡ valueOn v ds * 10 + (d - 48)
-unfolding valueOn
-value-snoc v [] d = refl
-value-snoc v (x ∷ ds) d = value-snoc (v * 10 + (x - 48)) ds d
-
-value-within : (k n : ℕ) → n < 10 ^ suc k → valueOn 0 (decimalWithin (suc k) n) ≡ n
-unfolding decimalWithin valueOn
-value-within zero n h = let b : n < 10 = h in rw (lt-ltb n 10 b) (omega arith)
-value-within (suc j) n h =
-    ⊎-elim (λ (b : n < 10). rw (lt-ltb n 10 b) (omega arith))
-    (λ (b : 10 ≤ n).
-    let l : n < 10 ^ suc j * 10 = rw (pow-suc 10 (suc j)) at h in
-    let e : valueOn 0 (decimalWithin (suc j) (n / 10)) ≡ n / 10 = value-within j (n / 10) (div-lt-iff-lt-mul (omega arith) .1 l) in
-    let d : valueOn 0 (decimalWithin (suc j) (n / 10) ++ digit (n % 10) ∷ []) ≡ n / 10 * 10 + (digit (n % 10) - 48) =
-    value-snoc 0 (decimalWithin (suc j) (n / 10)) (digit (n % 10)) ∙ ap (λ (v : ℕ). v * 10 + (digit (n % 10) - 48)) e in
-    rw (le-ltb n 10 b) (d ∙ omega arith))
-    (below-or-not n 10)
-
--- ---- a run in pieces
-
-behind : (u : Run) (first rest : List ℕ) → runAfter u (first ++ rest) ≡ runAfter (runAfter u first) rest
-unfolding runAfter
-behind u [] rest = refl
-behind u (b ∷ first) rest = behind (runOn u b) first rest
-
-said : (u : Run) (first rest : List ℕ) → saidOver u (first ++ rest) ≡ saidOver u first ++ saidOver (runAfter u first) rest
-unfolding runAfter saidOver
-said u [] rest = refl
-said u (b ∷ first) rest = rw (said (runOn u b) first rest) (sym (append-assoc (saidAt u b) (saidOver (runOn u b) first) (saidOver (runAfter (runOn u b) first) rest)))
+use Rattle.console.specs.Promised.{Promised, workedSheet, workedText}
 
 -- ---- the same plan
 
@@ -126,7 +88,6 @@ promised =
     record {
       empty = empty-said;
       worked = worked-said;
-      decimal = λ n h. value-within 19 n (omega arith);
       same-plan = λ sheet out h.
           let refused = or-zero (planningNumber (readRequest sheet)) _ h in
           let none = then-none _ _ (refused .0) in (
@@ -134,18 +95,4 @@ promised =
             rw (refused .0, write-zero _ _ (refused .1)),
           );
       same-refusal = λ sheet out k. (refused-text sheet k, (or-refused (planningNumber (readRequest sheet)) _ k, or-kept (planningNumber (readRequest sheet)) _ out k));
-      pieces-behind = behind;
-      pieces-said = said;
-      visit-answered = λ u e i.
-          let ends = line-ends u newline refl in
-          let both = answered-visit (u .ring) (u .scan) (u .line) _ e i refl in
-          (ends .1 ∙ sym (both .0), ap (λ (x : Run). x .ring) (ends .0) ∙ sym (both .1));
-      message-answered = λ u e i j.
-          let ends = line-ends u newline refl in
-          let both = answered-message (u .ring) (u .scan) (u .line) _ e i j refl in
-          (ends .1 ∙ sym (both .0), ap (λ (x : Run). x .ring) (ends .0) ∙ sym (both .1));
-      unread-named = λ u e i j.
-          let ends = line-ends u newline refl in
-          let both = answered-unread (u .ring) (u .scan) (u .line) e i j in
-          (ends .1 ∙ sym (both .0), ap (λ (x : Run). x .ring) (ends .0) ∙ sym (both .1));
     }

@@ -1,35 +1,20 @@
 -- The laws of what `plan-sheet` writes, for the proofs of this layer. No rule stands here.
 use Prim.Native.Nat.{ℕ, zero, suc, _≤_}
 use mathlib.Core.Path.{_≡_, refl, sym, ap, _∙_}
-use mathlib.Core.Bool.{Bool, true}
+use mathlib.Core.Bool.{true}
 use mathlib.Core.List.{List}
 use mathlib.Core.Logic.{_≢_}
 use native.Mathlib.Omega.{arith}
-use borrow.Author.Tests.{leb-true}
 use lib.ListN.{length}
 use lib.Seq.{length-take-le}
-use Rattle.units.specs.JudgingLaws.{passed}
-use Rattle.sets.specs.declared.Set.{Set}
 use Rattle.plans.specs.Planned.{planned}
-use Rattle.plans.specs.declared.Alloc.{Alloc}
 use Rattle.plans.specs.declared.Planned.{Planned}
-use Rattle.sheets.specs.Layout.{sheetLength}
-use Rattle.sheets.specs.ReadLaws.{then-rest, then-keeps, then-none}
-use Rattle.sheets.specs.Writing.{writeAnswer, refusedWriting, writtenAnswer, writtenBuffer, Wrote}
+use Rattle.sheets.specs.ReadLaws.{then-rest, then-keeps}
+use Rattle.sheets.specs.Writing.{refusedWriting, writtenAnswer, writtenBuffer, Wrote}
+use Rattle.sheets.specs.WriteLaws.{written-fits}
 use Rattle.sheets.specs.declared.ReadRequest.{ReadRequest}
 use Rattle.sheets.specs.declared.Written.{Written}
 use Rattle.console.specs.PlanSheet.{planningNumber, answerOr, bufferOr, WrotePlan}
-
-answer-fits : (k size room : ℕ) → (k ≡ 0 → size ≤ room) → writeAnswer k size .length ≤ room
-unfolding writeAnswer
-answer-fits zero size room h = h refl
-answer-fits (suc k) size room h = omega arith
-
--- a sheet that was written lies inside the buffer
-pub written-fits : (plan : Bool) (t : Set) (a : Alloc) (out : List ℕ) → writtenAnswer plan t a out .length ≤ length out
-written-fits plan t a out =
-    answer-fits _ (sheetLength plan (t .n)) (length out)
-    (λ e. leb-true _ _ (passed _ 14 0 (λ x. absurd (omega arith)) (then-none _ _ e .1) .0))
 
 -- a refused reading or planning
 pub wrote-none : (r : ReadRequest) (before : List ℕ) (k : ℕ) (w : Written) → w ≡ refusedWriting k → planningNumber r ≡ k → k ≢ 0 → WrotePlan r before before w

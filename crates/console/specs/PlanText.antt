@@ -1,5 +1,5 @@
 -- 01, "What the program prints": the plan, or `refused` and the number.
-use Prim.Native.Nat.{ℕ, zero, suc}
+use Prim.Native.Nat.{ℕ}
 use mathlib.Core.List.{List, [], _∷_, _++_}
 use Rattle.units.specs.Places.{at}
 use Rattle.sets.specs.Rules.{tau}
@@ -11,19 +11,11 @@ use Rattle.plans.specs.declared.Planned.{Planned}
 use Rattle.sheets.specs.declared.ReadRequest.{ReadRequest}
 use Rattle.sheets.specs.Rows.{rows}
 use Rattle.sheets.specs.Reading.{readRequest}
-use Rattle.console.specs.Text.{decimalOf, line}
+use Rattle.text.specs.Text.{decimalOf, line, textOr}
 
 -- "plan"
 abbrev pub planWord : List ℕ
 planWord = 112 ∷ 108 ∷ 97 ∷ 110 ∷ []
-
--- "refused"
-abbrev pub refusedWord : List ℕ
-refusedWord = 114 ∷ 101 ∷ 102 ∷ 117 ∷ 115 ∷ 101 ∷ 100 ∷ []
-
--- `refused`, and the number
-abbrev pub refusedLine : ℕ → List ℕ
-refusedLine number = line (refusedWord ∷ decimalOf number ∷ [])
 
 -- the first line: `plan`, N, TTRT, τ, A*
 abbrev pub planLine : ℕ → ℕ → ℕ → ℕ → List ℕ
@@ -38,11 +30,6 @@ unfoldable pub planLines : Set → Alloc → List ℕ
 planLines t a =
     planLine (t .n) (t .head .ttrt) (tau t) (spareTime t (at (a .s)))
     ++ rows (t .n) (λ i. shareLine i (at (a .s) i))
-
--- the text if the number is 0, else the refusal
-unfoldable pub textOr : ℕ → List ℕ → List ℕ
-textOr zero text = text
-textOr (suc k) text = refusedLine (suc k)
 
 -- the plan of a set, or why there is none
 abbrev pub plannedText : Set → Planned → List ℕ

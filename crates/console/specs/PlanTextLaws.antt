@@ -1,8 +1,7 @@
 -- The laws of what `plan` prints, for the proofs of this layer. No rule stands here.
-use Prim.Native.Nat.{ℕ, zero, suc, _≤_}
-use mathlib.Core.Path.{_≡_, refl, sym, ap, _∙_}
+use Prim.Native.Nat.{_≤_}
+use mathlib.Core.Path.{_≡_, sym, ap, _∙_}
 use mathlib.Core.Logic.{_≢_}
-use mathlib.Core.List.{List}
 use native.Mathlib.Omega.{arith}
 use Rattle.sets.specs.SetLaws.{allowed, judged-later}
 use Rattle.sets.specs.declared.Set.{Set}
@@ -10,17 +9,9 @@ use Rattle.plans.specs.Planned.{planned, planNumber, smallestAlloc}
 use Rattle.plans.specs.PlanLaws.{answered-number}
 use Rattle.plans.specs.declared.Planned.{Planned}
 use Rattle.sheets.specs.declared.ReadRequest.{ReadRequest}
-use Rattle.console.specs.PlanText.{textOr, refusedLine, planLines, plannedText, requestText}
-
-pub text-accepted : (k : ℕ) (text : List ℕ) → k ≡ 0 → textOr k text ≡ text
-unfolding textOr
-text-accepted zero text e = refl
-text-accepted (suc k) text e = absurd (omega arith)
-
-pub text-refused : (k : ℕ) (text : List ℕ) → k ≢ 0 → textOr k text ≡ refusedLine k
-unfolding textOr
-text-refused zero text e = absurd (e refl)
-text-refused (suc k) text e = refl
+use Rattle.text.specs.Text.{refusedLine}
+use Rattle.text.specs.TextLaws.{text-accepted, text-refused}
+use Rattle.console.specs.PlanText.{planLines, plannedText, requestText}
 
 -- a refused reading is printed as its number
 pub reading-refused : (r q : ReadRequest) → r ≡ q → r .number ≢ 0 → refusedLine (r .number) ≡ requestText q

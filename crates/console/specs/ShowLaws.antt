@@ -13,8 +13,8 @@ use Rattle.sheets.specs.Reading.{readAnswer, readSheet, readRequest, readPlan}
 use Rattle.sheets.specs.ReadLaws.{few-stations}
 use Rattle.sheets.specs.declared.ReadRequest.{ReadRequest}
 use Rattle.sheets.specs.declared.ReadPlan.{ReadPlan}
-use Rattle.console.specs.PlanText.{refusedLine}
-use Rattle.console.specs.PlanTextLaws.{text-accepted, text-refused}
+use Rattle.text.specs.Text.{refusedLine}
+use Rattle.text.specs.TextLaws.{text-accepted, text-refused}
 use Rattle.console.specs.ShowText.{sheetText, planReadText, requestReadText, planShown, showPrinted}
 
 answer-few : (k : ℕ) (t : Set) (a : Alloc) → t .n ≤ 128 → readAnswer k t a .set .n ≤ 128

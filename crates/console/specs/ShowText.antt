@@ -12,16 +12,8 @@ use Rattle.sheets.specs.Rows.{rows}
 use Rattle.sheets.specs.Reading.{readRequest, readPlan}
 use Rattle.sheets.specs.declared.ReadRequest.{ReadRequest}
 use Rattle.sheets.specs.declared.ReadPlan.{ReadPlan}
-use Rattle.console.specs.Text.{space, decimalOf, line, lineOn}
-use Rattle.console.specs.PlanText.{textOr}
-
--- "ttrt"
-abbrev pub ttrtWord : List ℕ
-ttrtWord = 116 ∷ 116 ∷ 114 ∷ 116 ∷ []
-
--- "station"
-abbrev pub stationWord : List ℕ
-stationWord = 115 ∷ 116 ∷ 97 ∷ 116 ∷ 105 ∷ 111 ∷ 110 ∷ []
+use Rattle.text.specs.Text.{decimalOf, line, textOr}
+use Rattle.drafts.specs.Compose.{ttrtWord, stationWord}
 
 -- `ttrt N`
 abbrev pub ttrtLine : ℕ → List ℕ

@@ -1,27 +1,20 @@
 // What the program reads and writes, as functions on bytes.
 pub mod commands;
-pub mod composing;
 mod planning;
-pub mod running;
-pub mod scan;
 mod showing;
-mod text;
 
 ghost use mathlib.Core.Path.{_≡_};
 ghost use Prim.Native.Nat.{_≤_};
 ghost use lib.ListN.{length};
-ghost use Rattle.console.specs.Text.{PutShort, Printed, pageSize};
+ghost use Rattle.text.specs.Text.{PutShort, Printed, pageSize, refusedLine, unreadLine};
 ghost use Rattle.sheets.specs.Reading.{readRequest};
 ghost use Rattle.sheets.specs.Writing.{refusedWriting};
-ghost use Rattle.console.specs.PlanText.{refusedLine, planPrinted};
+ghost use Rattle.console.specs.PlanText.{planPrinted};
 ghost use Rattle.console.specs.PlanSheet.{WrotePlan};
-ghost use Rattle.console.specs.RunText.{unreadLine};
 ghost use Rattle.console.specs.ShowText.{planShown, showPrinted};
 use sheets::Written;
+use text::PAGE_SIZE;
 use units::numbers;
-
-// How many bytes a page must have, so that every text fits.
-pub const PAGE_SIZE: usize = 65_536;
 
 // What `plan` prints of a request sheet's bytes, put at the start of the page; answers how many bytes it is, 0 for a page that is too small.
 pub fn plan_text(sheet: &[u8], page: &mut [u8]) -> usize
@@ -32,12 +25,12 @@ pub fn plan_text(sheet: &[u8], page: &mut [u8]) -> usize
     }
     let request = sheets::read_request(sheet);
     if request.number != numbers::ACCEPTED {
-        return planning::put_refused(page, 0, request.number);
+        return text::put_refused(page, 0, request.number);
     }
     let set = request.set;
     let planned = plans::plan(set);
     if planned.number != numbers::ACCEPTED {
-        return planning::put_refused(page, 0, planned.number);
+        return text::put_refused(page, 0, planned.number);
     }
     let alloc = planned.alloc;
     planning::put_plan(page, set, alloc)
@@ -50,7 +43,7 @@ pub fn refusal_text(number: u8, page: &mut [u8]) -> usize
     if page.len() < PAGE_SIZE {
         return 0;
     }
-    planning::put_refused(page, 0, number)
+    text::put_refused(page, 0, number)
 }
 
 // The line that cannot be read, as text, put at the start of the page.
@@ -60,7 +53,7 @@ pub fn unread_text(line: u64, page: &mut [u8]) -> usize
     if page.len() < PAGE_SIZE {
         return 0;
     }
-    running::put_unread(page, 0, line)
+    text::put_unread(page, 0, line)
 }
 
 // Nothing was written, and why.
@@ -94,7 +87,7 @@ fn show_plan(sheet: &[u8], page: &mut [u8]) -> usize
 {
     let plan = sheets::read_plan(sheet);
     if plan.number != numbers::ACCEPTED {
-        return planning::put_refused(page, 0, plan.number);
+        return text::put_refused(page, 0, plan.number);
     }
     let set = plan.set;
     let alloc = plan.alloc;
@@ -113,7 +106,7 @@ pub fn show_text(sheet: &[u8], page: &mut [u8]) -> usize
         return show_plan(sheet, page);
     }
     if request.number != numbers::ACCEPTED {
-        return planning::put_refused(page, 0, request.number);
+        return text::put_refused(page, 0, request.number);
     }
     let set = request.set;
     showing::put_sheet(page, false, set, plans::blank_alloc())

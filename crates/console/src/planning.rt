@@ -3,21 +3,10 @@ ghost use Prim.Native.Nat.{_+_, _*_, _≤_};
 ghost use lib.ListN.{length};
 ghost use Rattle.units.specs.Places.{at as placeAt};
 ghost use Rattle.sheets.specs.Rows.{rows};
-ghost use Rattle.console.specs.Text.{PutShort};
-ghost use Rattle.console.specs.PlanText.{refusedLine, planLine, shareLine, planLines};
-use crate::text;
+ghost use Rattle.text.specs.Text.{PutShort, refusedLine};
+ghost use Rattle.console.specs.PlanText.{planLine, shareLine, planLines};
 use plans::Alloc;
 use sets::Set;
-
-// `refused`, and the number.
-pub(crate) fn put_refused(page: &mut [u8], at: usize, number: u8) -> usize
-    requires { ⌜ at + 42 ≤ length (now page) ⌝ }
-    ensures { λ r. ⌜ PutShort 42 (now (page .entry)) at (refusedLine number) (now (page .exit)) r ⌝ }
-{
-    let refused = text::put_short(page, at, b"refused");
-    let numbered = text::put_field(page, refused, number as u64);
-    text::put_end(page, numbered)
-}
 
 // The first line: `plan`, N, TTRT, τ, A*.
 fn put_plan_line(page: &mut [u8], n: u64, ttrt: u64, tau: u64, spare: u64) -> usize

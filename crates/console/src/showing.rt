@@ -3,9 +3,8 @@ ghost use Prim.Native.Nat.{_+_, _*_, _<_, _≤_};
 ghost use lib.ListN.{length};
 ghost use Rattle.units.specs.Places.{at as placeAt};
 ghost use Rattle.sheets.specs.Rows.{rows};
-ghost use Rattle.console.specs.Text.{PutShort, lineOn};
+ghost use Rattle.text.specs.Text.{PutShort, lineOn};
 ghost use Rattle.console.specs.ShowText.{ttrtLine, shareWords, stationLine, sheetText};
-use crate::text;
 use plans::Alloc;
 use sets::Set;
 

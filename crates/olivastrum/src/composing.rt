@@ -1,7 +1,6 @@
 // `compose`: the sheet of the text on standard input.
-use console::composing;
-use console::composing::Composing;
-use console::composing::Draft;
+use drafts::Composing;
+use drafts::Draft;
 use libc::STDERR_FILENO;
 use libc::STDIN_FILENO;
 use libc::STDOUT_FILENO;
@@ -16,7 +15,7 @@ struct Read {
 fn piece(c: Composing) -> Read {
     let mut text = io::buffer();
     let length = io::read_full(STDIN_FILENO, &mut text);
-    let behind = composing::compose_on(c, &text[..length]);
+    let behind = drafts::compose_on(c, &text[..length]);
     Read {
         composing: behind,
         more: length == 4096,
@@ -49,7 +48,7 @@ fn name_line(line: u64) {
 // Writes the sheet, or says why there is none.
 fn write(draft: Draft) {
     let mut out = io::large_buffer();
-    let written = composing::compose_end(draft, &mut out);
+    let written = drafts::compose_end(draft, &mut out);
     let length = written.length;
     let number = written.number;
     if number != 0 {
@@ -60,10 +59,10 @@ fn write(draft: Draft) {
 }
 
 pub(crate) fn compose() {
-    let begun = composing::begin();
+    let begun = drafts::begin();
     let read = all(begun);
     // A last line may lack its newline.
-    let ended = composing::compose_on(read, b"\n");
+    let ended = drafts::compose_on(read, b"\n");
     let draft = ended.draft;
     let line = draft.unread;
     if line != 0 {

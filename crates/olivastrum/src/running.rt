@@ -1,6 +1,5 @@
 // `run PLAN`: the calls on standard input, answered line by line.
-use console::running;
-use console::running::Run;
+use calls::Run;
 use libc::STDIN_FILENO;
 use libc::STDOUT_FILENO;
 
@@ -13,7 +12,7 @@ struct Heard {
 // Answers the lines that end in these bytes.
 fn hear(run: Run, text: &[u8]) -> Run {
     let mut page = io::large_buffer();
-    let ran = running::run_on(run, text, &mut page);
+    let ran = calls::run_on(run, text, &mut page);
     let length = ran.length;
     io::write_all(STDOUT_FILENO, &page[..length]);
     ran.run
@@ -54,7 +53,7 @@ fn hear_all(run: Run) -> Run {
 fn start(file: i32) {
     let mut sheet: [u8; 3_339] = [0; 3_339];
     let read = io::read_full(file, &mut sheet);
-    let opened = running::open_run(&sheet[..read]);
+    let opened = calls::open_run(&sheet[..read]);
     let number = opened.number;
     if number != 0 {
         crate::refuse(STDOUT_FILENO, number);

@@ -6,8 +6,8 @@ use mathlib.Core.List.{List, _++_}
 use mathlib.Core.Logic.{_≢_}
 use native.Mathlib.Omega.{arith}
 use lib.ListN.{length, drop, length-append}
-use borrow.Author.Tests.{le-leb, lt-leb}
-use Rattle.units.specs.JudgingLaws.{held, failed}
+use borrow.Author.Tests.{le-leb, lt-leb, leb-true}
+use Rattle.units.specs.JudgingLaws.{held, failed, passed}
 use Rattle.sets.specs.declared.Head.{Head}
 use Rattle.sets.specs.declared.Set.{Set}
 use Rattle.plans.specs.declared.Alloc.{Alloc}
@@ -16,9 +16,9 @@ use Rattle.sheets.specs.Bytes.{bytesOf}
 use Rattle.sheets.specs.Fields.{allocationsFor}
 use Rattle.sheets.specs.Layout.{headBytes, stationWith, allocationWith, stationBytes, allocationBytes, endBytes, sheetOf, sheetLength}
 use Rattle.sheets.specs.Reading.{judgedSheet}
-use Rattle.sheets.specs.Writing.{writeNumber, writeAnswer, bufferAfter, refusedWriting, Wrote}
+use Rattle.sheets.specs.Writing.{writeNumber, writeAnswer, bufferAfter, refusedWriting, writtenAnswer, Wrote}
 use Rattle.sheets.specs.RowLaws.{rows-length, laid-first, laid-more}
-use Rattle.sheets.specs.ReadLaws.{then-rest, then-keeps}
+use Rattle.sheets.specs.ReadLaws.{then-rest, then-keeps, then-none}
 
 -- ---- lengths
 
@@ -119,3 +119,16 @@ module _ (plan : Bool) (t : Set) (a : Alloc) (out : List ℕ) where
         answer = sym (answer-accepted _ (sheetLength plan (t .n)) (number-none e h));
         buffer = laid-first out (sheetOf plan t a) ∙ sym (buffer-accepted _ (sheetOf plan t a) out (number-none e h));
       }
+
+-- ---- what was written lies inside the buffer
+
+answer-fits : (k size room : ℕ) → (k ≡ 0 → size ≤ room) → writeAnswer k size .length ≤ room
+unfolding writeAnswer
+answer-fits zero size room h = h refl
+answer-fits (suc k) size room h = omega arith
+
+-- a sheet that was written lies inside the buffer
+pub written-fits : (plan : Bool) (t : Set) (a : Alloc) (out : List ℕ) → writtenAnswer plan t a out .length ≤ length out
+written-fits plan t a out =
+    answer-fits _ (sheetLength plan (t .n)) (length out)
+    (λ e. leb-true _ _ (passed _ 14 0 (λ x. absurd (omega arith)) (then-none _ _ e .1) .0))

@@ -1,7 +1,7 @@
 -- `plan_text` is right because it reads, plans, and puts the refusal or the plan that the definition has.
 use mathlib.Core.Path.{_∙_}
 use native.Mathlib.Omega.{arith}
-use Rattle.console.specs.TextLaws.{printed, not-printed}
+use Rattle.text.specs.TextLaws.{printed, not-printed}
 use Rattle.console.specs.PlanTextLaws.{reading-refused, reading-accepted, plan-refused, plan-accepted, planned-few}
 use borrow.Author.Needs.{needs}
 use Rattle.console.proofs.plan_text.Statement.{statement}

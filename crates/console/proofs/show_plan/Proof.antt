@@ -1,7 +1,7 @@
 -- `show_plan` is right because it puts the refusal of reading, or the text of the plan.
 use native.Mathlib.Omega.{arith}
 use Rattle.console.specs.ShowLaws.{plan-few, shown-plan-refused, shown-plan}
-use Rattle.console.specs.TextLaws.{put-as}
+use Rattle.text.specs.TextLaws.{put-as}
 use borrow.Author.Needs.{needs}
 use Rattle.console.proofs.show_plan.Statement.{statement}
 use Rattle.console.proofs.show_plan.Tie as tie

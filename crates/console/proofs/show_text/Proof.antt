@@ -5,7 +5,7 @@ use native.Mathlib.Omega.{arith}
 use Rattle.plans.specs.declared.Alloc.{Alloc}
 use Rattle.console.specs.ShowText.{sheetText}
 use Rattle.console.specs.ShowLaws.{request-few, shown-as-plan, shown-request-refused, shown-request}
-use Rattle.console.specs.TextLaws.{printed, not-printed}
+use Rattle.text.specs.TextLaws.{printed, not-printed}
 use borrow.Author.Needs.{needs}
 use Rattle.console.proofs.show_text.Statement.{statement}
 use Rattle.console.proofs.show_text.Tie as tie

@@ -1,7 +1,7 @@
 -- `unread_text` is right because it puts the line that names the line.
 use mathlib.Core.Path.{refl}
 use native.Mathlib.Omega.{arith}
-use Rattle.console.specs.TextLaws.{printed, not-printed}
+use Rattle.text.specs.TextLaws.{printed, not-printed}
 use borrow.Author.Needs.{needs}
 use Rattle.console.proofs.unread_text.Statement.{statement}
 use Rattle.console.proofs.unread_text.Tie as tie

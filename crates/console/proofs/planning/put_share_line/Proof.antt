@@ -1,6 +1,6 @@
 -- `put_share_line` is right because its words are put one behind another.
 use native.Mathlib.Omega.{arith}
-use Rattle.console.specs.TextLaws.{put-short-then, line-first, line-next, line-end}
+use Rattle.text.specs.TextLaws.{put-short-then, line-first, line-next, line-end}
 use borrow.Author.Needs.{needs}
 use Rattle.console.proofs.planning.put_share_line.Statement.{statement}
 use Rattle.console.proofs.planning.put_share_line.Tie as tie

@@ -6,9 +6,9 @@ use lib.ListN.{length}
 use Rattle.units.specs.Places.{at as placeAt}
 use Rattle.sheets.specs.Rows.{rows}
 use Rattle.sheets.specs.RowLaws.{rows-none, rows-step}
-use Rattle.console.specs.Text.{PutShort}
+use Rattle.text.specs.Text.{PutShort}
 use Rattle.console.specs.PlanText.{shareLine}
-use Rattle.console.specs.TextLaws.{put-none, put-short-then, put-as}
+use Rattle.text.specs.TextLaws.{put-none, put-short-then, put-as}
 use borrow.Author.Needs.{needs}
 use Rattle.console.proofs.planning.put_shares.Statement.{statement}
 use Rattle.console.proofs.planning.put_shares.Tie as tie

@@ -1,8 +1,8 @@
 -- `put_share` is right because a plan's line has S before its end.
 use native.Mathlib.Omega.{arith}
-use Rattle.console.specs.Text.{lineOn}
+use Rattle.text.specs.Text.{lineOn}
 use Rattle.console.specs.ShowText.{shareWords}
-use Rattle.console.specs.TextLaws.{put-short-then, put-as}
+use Rattle.text.specs.TextLaws.{put-short-then, put-as}
 use borrow.Author.Needs.{needs}
 use Rattle.console.proofs.showing.put_share.Statement.{statement}
 use Rattle.console.proofs.showing.put_share.Tie as tie

@@ -1,7 +1,7 @@
 -- `put_sheet` is right because the stations' lines stand behind the header's.
 use native.Mathlib.Omega.{arith}
 use Rattle.console.specs.ShowText.{sheetText}
-use Rattle.console.specs.TextLaws.{put-short-then, put-as}
+use Rattle.text.specs.TextLaws.{put-short-then, put-as}
 use borrow.Author.Needs.{needs}
 use Rattle.console.proofs.showing.put_sheet.Statement.{statement}
 use Rattle.console.proofs.showing.put_sheet.Tie as tie

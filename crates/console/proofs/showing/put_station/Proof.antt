@@ -2,7 +2,7 @@
 use mathlib.Core.Path.{sym}
 use native.Mathlib.Omega.{arith}
 use Rattle.console.specs.ShowText.{stationLine}
-use Rattle.console.specs.TextLaws.{put-short-then, put-as, line-five}
+use Rattle.text.specs.TextLaws.{put-short-then, put-as, line-five}
 use borrow.Author.Needs.{needs}
 use Rattle.console.proofs.showing.put_station.Statement.{statement}
 use Rattle.console.proofs.showing.put_station.Tie as tie

@@ -5,9 +5,9 @@ use native.Mathlib.Omega.{arith}
 use lib.ListN.{length}
 use Rattle.sheets.specs.Rows.{rows}
 use Rattle.sheets.specs.RowLaws.{rows-none, rows-step}
-use Rattle.console.specs.Text.{PutShort}
+use Rattle.text.specs.Text.{PutShort}
 use Rattle.console.specs.ShowText.{stationLine}
-use Rattle.console.specs.TextLaws.{put-none, put-short-then, put-as}
+use Rattle.text.specs.TextLaws.{put-none, put-short-then, put-as}
 use borrow.Author.Needs.{needs}
 use Rattle.console.proofs.showing.put_stations.Statement.{statement}
 use Rattle.console.proofs.showing.put_stations.Tie as tie

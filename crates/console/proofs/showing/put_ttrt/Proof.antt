@@ -1,6 +1,6 @@
 -- `put_ttrt` is right because its words are put one behind another.
 use native.Mathlib.Omega.{arith}
-use Rattle.console.specs.TextLaws.{put-short-then, line-first, line-next, line-end}
+use Rattle.text.specs.TextLaws.{put-short-then, line-first, line-next, line-end}
 use borrow.Author.Needs.{needs}
 use Rattle.console.proofs.showing.put_ttrt.Statement.{statement}
 use Rattle.console.proofs.showing.put_ttrt.Tie as tie

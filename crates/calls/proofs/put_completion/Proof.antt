@@ -1,0 +1,75 @@
+-- `put_completion` is right because its words are put one behind another.
+use mathlib.Core.Path.{ap}
+use mathlib.Core.List.{_∷_}
+use lib.IntN.{ℤ}
+use mir.Syntax.{w64}
+use mir.ValLaws.{toZ-ofZ}
+use native.Mathlib.Omega.{arith}
+use Rattle.text.specs.Text.{lineOn, space}
+use Rattle.calls.specs.RunText.{completion, signedOf}
+use Rattle.calls.specs.RunLaws.{completion-some}
+use Rattle.text.specs.TextLaws.{put-short-then, put-as, line-on-two}
+use borrow.Author.Needs.{needs}
+use Rattle.calls.proofs.put_completion.Statement.{statement}
+use Rattle.calls.proofs.put_completion.Tie as tie
+
+slice-aggregate-put-short : tie.Need-slice-aggregate-put-short
+slice-aggregate-put-short c = search needs
+
+put-short-requires : tie.Need-put-short-requires
+put-short-requires c κs = search needs
+
+put-end-requires : tie.Need-put-end-requires
+put-end-requires c κs = search needs
+
+same-length : tie.Need-same-length
+same-length c = search needs
+
+returns : tie.Need-returns
+unfolding completion lineOn
+returns c =
+    let second = c .before .before in
+    let first = second .before .before .before .before in
+    let none = first .before .before .before in
+    let room = none .before .before .pre in
+    put-as (put-short-then (first .put-short .ensures) (second .put-end .ensures) (omega (arith, room))) (rw (none .if1 .taken)) (omega arith)
+
+put-field-requires : tie.Need-put-field-requires
+put-field-requires c κs = search needs
+
+put-margin-requires : tie.Need-put-margin-requires
+put-margin-requires c κs = search needs
+
+put-end-requires-2 : tie.Need-put-end-requires-2
+put-end-requires-2 c κs = search needs
+
+same-length-2 : tie.Need-same-length-2
+same-length-2 c = search needs
+
+returns-2 : tie.Need-returns-2
+returns-2 c =
+    let third = c .before .before in
+    let second = third .before .before .before .before in
+    let first = second .before .before .before .before in
+    let some = first .before .before in
+    let room = some .before .before .pre in
+    let start = some .before .before in
+    let stored = toZ-ofZ w64 (start .args .margin) (start .fits .margin) in
+    let margin = put-as {more = 40} (second .put-margin .ensures) (ap (λ (z : ℤ). space ∷ signedOf z) stored) (omega arith) in
+    let two = put-short-then (first .put-field .ensures) margin (omega (arith, room)) in
+    rw (completion-some _ _ _ (some .if1 .left), line-on-two) (put-short-then two (third .put-end2 .ensures) (omega (arith, room)))
+
+pub put-completion-spec : {M : Type 1} → statement M
+put-completion-spec =
+    tie.close
+    (tie.spec
+    slice-aggregate-put-short
+    put-short-requires
+    put-end-requires
+    same-length
+    returns
+    put-field-requires
+    put-margin-requires
+    put-end-requires-2
+    same-length-2
+    returns-2)

@@ -1,0 +1,71 @@
+-- `put_margin` is right because the dash stands before a number below 0 and before no other.
+use mathlib.Core.Path.{sym, ap, _∙_}
+use mir.Syntax.{w64}
+use mir.Val.{toZ, ofZ}
+use mir.ValLaws.{toZ-ofZ}
+use Rattle.calls.specs.RunText.{signOf, withoutSign}
+use native.Mathlib.Omega.{arith}
+use Rattle.text.specs.TextLaws.{put-short-then, put-as}
+use Rattle.calls.specs.RunLaws.{sign-late, sign-none}
+use borrow.Author.Needs.{needs}
+use Rattle.calls.proofs.put_margin.Statement.{statement}
+use Rattle.calls.proofs.put_margin.Tie as tie
+
+magnitude-requires : tie.Need-magnitude-requires
+magnitude-requires c κs = search needs
+
+slice-aggregate-put-short : tie.Need-slice-aggregate-put-short
+slice-aggregate-put-short c = search needs
+
+put-short-requires : tie.Need-put-short-requires
+put-short-requires c κs = search needs
+
+put-number-requires : tie.Need-put-number-requires
+put-number-requires c κs = search needs
+
+same-length : tie.Need-same-length
+same-length c = search needs
+
+returns : tie.Need-returns
+returns c =
+    let second = c .before .before in
+    let first = second .before .before .before .before in
+    let late = first .before .before .before in
+    let made = late .before in
+    let start = made .before .before in
+    let stored = toZ-ofZ w64 (start .args .margin) (start .fits .margin) in
+    let sign = sym (ap signOf stored) ∙ sign-late (toZ w64 (ofZ w64 (start .args .margin))) (late .if1 .taken) in
+    let number = made .magnitude .ensures ∙ ap withoutSign stored in
+    put-as (put-short-then (first .put-short .ensures) (second .put-number .ensures) (omega (arith, start .pre)))
+    (rw (sign, ← number)) (omega arith)
+
+put-field-requires : tie.Need-put-field-requires
+put-field-requires c κs = search needs
+
+same-length-2 : tie.Need-same-length-2
+same-length-2 c = search needs
+
+returns-2 : tie.Need-returns-2
+returns-2 c =
+    let called = c .before .before in
+    let good = called .before .before in
+    let made = good .before in
+    let start = made .before .before in
+    let stored = toZ-ofZ w64 (start .args .margin) (start .fits .margin) in
+    let sign = sym (ap signOf stored) ∙ sign-none (toZ w64 (ofZ w64 (start .args .margin))) (good .if1 .left) in
+    let number = made .magnitude .ensures ∙ ap withoutSign stored in
+    put-as (called .put-field .ensures) (rw (sign, ← number)) (omega arith)
+
+pub put-margin-spec : {M : Type 1} → statement M
+put-margin-spec =
+    tie.close
+    (tie.spec
+    magnitude-requires
+    slice-aggregate-put-short
+    put-short-requires
+    put-number-requires
+    same-length
+    returns
+    put-field-requires
+    same-length-2
+    returns-2)

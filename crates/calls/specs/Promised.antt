@@ -1,0 +1,28 @@
+-- What is promised of a run of calls beside the contracts; `proofs/Promised.antt` proves it.
+use Prim.Native.Nat.{ℕ}
+use mathlib.Core.Path.{_≡_}
+use mathlib.Core.Bool.{true, false}
+use mathlib.Core.List.{List, _++_}
+use Rattle.units.specs.Places.{at}
+use Rattle.rings.specs.Steps.{visited}
+use Rattle.rings.specs.HandingIn.{handedIn}
+use Rattle.text.specs.Text.{newline, unreadLine}
+use Rattle.text.specs.Scan.{isEmptyLine}
+use Rattle.calls.specs.RunText.{isVisit, isMessage, messageIn, visitText, takenText, runOn, saidAt, runAfter, saidOver}
+use Rattle.calls.specs.declared.Run.{Run}
+
+pub record Promised : Type 0 where
+  -- a run may be read in pieces of any length: the ring stands where it would, and the same is said
+  pub pieces-behind : (u : Run) (first rest : List ℕ) → runAfter u (first ++ rest) ≡ runAfter (runAfter u first) rest
+  pub pieces-said : (u : Run) (first rest : List ℕ) → saidOver u (first ++ rest) ≡ saidOver u first ++ saidOver (runAfter u first) rest
+  -- the run's lines are the model's answers: a line that is a visit is answered by the ring's visit, and the ring moves
+  pub visit-answered : (u : Run) → isEmptyLine (u .scan) ≡ false → isVisit (u .scan) ≡ true
+      → (saidAt u newline ≡ visitText (visited (u .ring) (at (u .scan .values) 0) .answer))
+      × (runOn u newline .ring ≡ visited (u .ring) (at (u .scan .values) 0) .ring)
+  -- one that is a message by its handing in
+  pub message-answered : (u : Run) → isEmptyLine (u .scan) ≡ false → isVisit (u .scan) ≡ false → isMessage (u .scan) ≡ true
+      → (saidAt u newline ≡ takenText (handedIn (u .ring) (messageIn (u .scan)) .number))
+      × (runOn u newline .ring ≡ handedIn (u .ring) (messageIn (u .scan)) .ring)
+  -- one that cannot be read is named, and the ring is unchanged
+  pub unread-named : (u : Run) → isEmptyLine (u .scan) ≡ false → isVisit (u .scan) ≡ false → isMessage (u .scan) ≡ false
+      → (saidAt u newline ≡ unreadLine (u .line)) × (runOn u newline .ring ≡ u .ring)

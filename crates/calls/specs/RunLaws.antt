@@ -1,0 +1,140 @@
+-- The laws of what `run` prints, for the proofs of this layer. No rule stands here.
+use Prim.Native.Nat.{ℕ, zero, suc, _<_, _≤_, _^_, min}
+use mathlib.Core.Path.{_≡_, refl, sym, ap, _∙_}
+use mathlib.Core.Bool.{true, false, true≢false}
+use mathlib.Core.List.{List, [], _∷_, _++_, append-assoc, append-nil}
+use mathlib.Core.Logic.{_≢_, ⊎-elim}
+use native.Mathlib.Omega.{arith}
+use borrow.Author.Tests.{ltb-true, lt-ltb, le-ltb, eq-eqb, ne-eqb}
+use lib.Dec.{eqb}
+use lib.IntN.{ℤ, pos, negsuc}
+use lib.Signed.{ltZ}
+use lib.ListN.{length, take}
+use lib.Seq.{take-all, take-length}
+use Rattle.units.specs.SmallLaws.{below-or-not}
+use Rattle.units.specs.Places.{at}
+use Rattle.units.specs.JudgingLaws.{and-true}
+use Rattle.sheets.specs.ReadLaws.{then-rest, then-keeps}
+use Rattle.sheets.specs.declared.ReadPlan.{ReadPlan}
+use Rattle.rings.specs.Opening.{opening}
+use Rattle.rings.specs.declared.Opened.{Opened}
+use Rattle.rings.specs.Steps.{visited}
+use Rattle.rings.specs.HandingIn.{handedIn}
+use Rattle.rings.specs.declared.Ring.{Ring}
+use Rattle.rings.specs.declared.Visited.{Visited}
+use Rattle.rings.specs.declared.Taken.{Taken}
+use Rattle.text.specs.Text.{line, lineOn, space, newline, decimalOf, pageSize, unreadLine}
+use Rattle.text.specs.TextLaws.{line-first, line-next, printed, not-printed}
+use Rattle.calls.specs.RunText.{dash, isVisit, isMessage, messageIn, signOf, signedOf, completion, visitText, takenText, answerText, ringAfter, runOn, saidAt, runAfter, saidOver, runFrom, openedRun, pieceSize, pieceOf, RanPiece, RanOn}
+use Rattle.text.specs.Scan.{isReadable, isEmptyLine, nextLine, freshScan, stepped}
+use Rattle.calls.specs.declared.Run.{Run}
+use Rattle.calls.specs.declared.Ran.{Ran}
+use Rattle.text.specs.declared.scan.Scan.{Scan}
+
+-- ---- the words of a visit
+
+four : (x d e f : List ℕ) → ((x ++ d) ++ e) ++ f ≡ x ++ ((d ++ e) ++ f)
+four x d e f = simp append-assoc
+
+pub visit-words : (w a b c d e f : List ℕ) (rest : List (List ℕ)) → line (w ∷ a ∷ b ∷ c ∷ d ∷ e ∷ f ∷ rest) ≡ ((((w ++ (space ∷ a)) ++ (space ∷ b)) ++ (space ∷ c)) ++ (((space ∷ d) ++ (space ∷ e)) ++ (space ∷ f))) ++ lineOn rest
+visit-words w a b c d e f rest =
+    rw (line-first, line-next, line-next, line-next, line-next, line-next, line-next)
+    (ap (λ (front : List ℕ). front ++ lineOn rest) (four (((w ++ (space ∷ a)) ++ (space ∷ b)) ++ (space ∷ c)) (space ∷ d) (space ∷ e) (space ∷ f)))
+
+pub sign-late : (z : ℤ) → ltZ z (pos 0) ≡ true → signOf z ≡ dash ∷ []
+unfolding signOf
+sign-late (pos n) t = absurd (omega (arith, ltb-true n 0 t))
+sign-late (negsuc n) t = refl
+
+pub sign-none : (z : ℤ) → ltZ z (pos 0) ≡ false → signOf z ≡ []
+unfolding signOf
+sign-none (pos n) t = refl
+sign-none (negsuc n) t = absurd (true≢false t)
+
+pub completion-some : (k finish : ℕ) (margin : ℤ) → k ≢ 0 → completion k finish margin ≡ decimalOf finish ∷ signedOf margin ∷ []
+unfolding completion
+completion-some zero finish margin e = absurd (e refl)
+completion-some (suc k) finish margin e = refl
+
+-- ---- one line
+
+module _ (ring : Ring) (s : Scan) (n : ℕ) where
+  pub answered-empty : isEmptyLine s ≡ true → (answerText ring s n ≡ []) × (ringAfter ring s ≡ ring)
+  unfolding answerText ringAfter
+  answered-empty e = (rw e, rw e)
+
+  pub answered-visit : (v : Visited) → isEmptyLine s ≡ false → isVisit s ≡ true → v ≡ visited ring (at (s .values) 0) → (visitText (v .answer) ≡ answerText ring s n) × (v .ring ≡ ringAfter ring s)
+  unfolding answerText ringAfter
+  answered-visit v e i m =
+      (rw (e, i) (ap (λ (x : Visited). visitText (x .answer)) m), rw (e, i) (ap (λ (x : Visited). x .ring) m))
+
+  pub answered-message : (t : Taken) → isEmptyLine s ≡ false → isVisit s ≡ false → isMessage s ≡ true → t ≡ handedIn ring (messageIn s) → (takenText (t .number) ≡ answerText ring s n) × (t .ring ≡ ringAfter ring s)
+  unfolding answerText ringAfter
+  answered-message t e i j m =
+      (rw (e, i, j) (ap (λ (x : Taken). takenText (x .number)) m), rw (e, i, j) (ap (λ (x : Taken). x .ring) m))
+
+  pub answered-unread : isEmptyLine s ≡ false → isVisit s ≡ false → isMessage s ≡ false → (unreadLine n ≡ answerText ring s n) × (ring ≡ ringAfter ring s)
+  unfolding answerText ringAfter
+  answered-unread e i j = (rw (e, i, j), rw (e, i, j))
+
+-- an ask is a 32-bit number
+pub ask-small : (s : Scan) → isVisit s ≡ true → at (s .values) 0 < 2 ^ 32
+ask-small s i =
+    let counted = and-true (isReadable s) _ i .1 in
+    let fits = and-true (eqb (s .count) 1) _ (and-true (eqb (s .word) 508_575_312_244) _ counted .1) .1 in
+    ltb-true _ _ fits
+
+-- ---- the run
+
+pub run-snoc : (u : Run) (bs : List ℕ) (b : ℕ) → runAfter u (bs ++ b ∷ []) ≡ runOn (runAfter u bs) b
+unfolding runAfter
+run-snoc u [] b = refl
+run-snoc u (x ∷ bs) b = run-snoc (runOn u x) bs b
+
+pub said-snoc : (u : Run) (bs : List ℕ) (b : ℕ) → saidOver u (bs ++ b ∷ []) ≡ saidOver u bs ++ saidAt (runAfter u bs) b
+unfolding runAfter saidOver
+said-snoc u [] b = append-nil (saidAt u b)
+said-snoc u (x ∷ bs) b = rw (said-snoc (runOn u x) bs b) (sym (append-assoc (saidAt u x) (saidOver (runOn u x) bs) (saidAt (runAfter (runOn u x) bs) b)))
+
+-- one byte more: the line goes on
+pub goes-on : (u : Run) (b : ℕ) → b ≢ newline → (runOn u b ≡ record { ring = u .ring; scan = stepped (u .scan) b; line = u .line }) × (saidAt u b ≡ [])
+unfolding runOn saidAt
+goes-on u b e = (rw (ne-eqb b newline e), rw (ne-eqb b newline e))
+
+-- one byte more: the line ends
+pub line-ends : (u : Run) (b : ℕ) → b ≡ newline → (runOn u b ≡ record { ring = ringAfter (u .ring) (u .scan); scan = freshScan; line = nextLine (u .line) }) × (saidAt u b ≡ answerText (u .ring) (u .scan) (u .line))
+unfolding runOn saidAt
+line-ends u b e = (rw (eq-eqb b newline e), rw (eq-eqb b newline e))
+
+-- ---- a piece of the text
+
+pub take-piece : (text : List ℕ) (k : ℕ) → take (min (length text) k) text ≡ take k text
+take-piece text k =
+    ⊎-elim (λ (b : length text < k).
+    let e : min (length text) k ≡ length text = omega arith in
+    rw (e, take-length text) (sym (take-all k text (omega arith))))
+    (λ (b : k ≤ length text). let e : min (length text) k ≡ k = omega arith in rw e)
+    (below-or-not (length text) k)
+
+pub ran-none : (u : Run) (text page : List ℕ) → length page < pageSize → RanOn u text page page (record { run = u; length = 0 })
+unfolding pieceOf runAfter
+ran-none u text page small = record { behind = rw (lt-ltb (length page) pageSize small); said = not-printed small }
+
+pub ran-piece : (u : Run) (text : List ℕ) (end : ℕ) (before after : List ℕ) (r : Ran) → end ≡ min (length text) pieceSize → pageSize ≤ length before → RanPiece u text end before after r → RanOn u text before after r
+unfolding pieceOf
+ran-piece u text end before after r e large h =
+    let piece : take end text ≡ take pieceSize text = ap (λ (k : ℕ). take k text) e ∙ take-piece text pieceSize in
+    let whole = le-ltb (length before) pageSize large in
+    record {
+      behind = rw whole (h .behind ∙ ap (runAfter u) piece);
+      said = rw whole (printed (h .said) (ap (saidOver u) piece) large (omega arith));
+    }
+
+-- ---- a run that begins
+
+module _ (p q : ReadPlan) (o : Opened) (u : Run) (same : p ≡ q) (opens : o ≡ opening (p .set) (p .alloc)) (begins : u ≡ runFrom (o .ring)) where
+  pub opened-refused : p .number ≢ 0 → record { run = u; number = p .number } ≡ openedRun q
+  opened-refused k = rw (begins, opens, ← same, then-keeps (p .number) (opening (p .set) (p .alloc) .number) k)
+
+  pub opened-accepted : p .number ≡ 0 → record { run = u; number = o .number } ≡ openedRun q
+  opened-accepted k = rw (begins, opens, ← same, then-rest (p .number) (opening (p .set) (p .alloc) .number) k)

@@ -1,0 +1,187 @@
+-- What `run` prints: the calls are read line by line, and each is answered by the ring.
+use Prim.Native.Nat.{ℕ, zero, suc, _+_, _*_, _^_, _≤_}
+use mathlib.Core.Path.{_≡_}
+use mathlib.Core.Bool.{Bool, cond, _&&_}
+use mathlib.Core.List.{List, [], _∷_, _++_}
+use lib.Dec.{ltb, eqb}
+use lib.IntN.{ℤ, pos, negsuc}
+use lib.ListN.{length, take}
+use Rattle.units.specs.Places.{at}
+use Rattle.sheets.specs.Reading.{thenNumber}
+use Rattle.sheets.specs.declared.ReadPlan.{ReadPlan}
+use Rattle.rings.specs.Opening.{opening}
+use Rattle.rings.specs.Steps.{visited}
+use Rattle.rings.specs.HandingIn.{handedIn}
+use Rattle.rings.specs.declared.Ring.{Ring}
+use Rattle.rings.specs.declared.Message.{Message}
+use Rattle.rings.specs.declared.VisitRecord.{VisitRecord}
+use Rattle.rings.specs.declared.VisitAnswer.{VisitAnswer}
+use Rattle.text.specs.Text.{newline, space, decimalOf, line, PutShort, Printed, pageSize, textOr, unreadLine}
+use Rattle.text.specs.Scan.{freshScan, stepped, codeOf, isReadable, isEmptyLine, nextLine}
+use Rattle.text.specs.declared.scan.Scan.{Scan}
+use Rattle.calls.specs.declared.Run.{Run}
+use Rattle.calls.specs.declared.Answered.{Answered}
+use Rattle.calls.specs.declared.OpenedRun.{OpenedRun}
+use Rattle.calls.specs.declared.Ran.{Ran}
+
+-- ---- words
+
+-- "visit"
+abbrev pub visitWord : List ℕ
+visitWord = 118 ∷ 105 ∷ 115 ∷ 105 ∷ 116 ∷ []
+
+-- "message"
+abbrev pub messageWord : List ℕ
+messageWord = 109 ∷ 101 ∷ 115 ∷ 115 ∷ 97 ∷ 103 ∷ 101 ∷ []
+
+-- "taken"
+abbrev pub takenWord : List ℕ
+takenWord = 116 ∷ 97 ∷ 107 ∷ 101 ∷ 110 ∷ []
+
+-- "-"
+abbrev pub dash : ℕ
+dash = 45
+
+-- ---- the calls
+
+-- `visit ASK`, a 32-bit number
+abbrev pub isVisit : Scan → Bool
+isVisit s = isReadable s && (eqb (s .word) (codeOf visitWord) && (eqb (s .count) 1 && ltb (at (s .values) 0) (2 ^ 32)))
+
+-- `message STATION LENGTH ARRIVAL`, the station a 32-bit number
+abbrev pub isMessage : Scan → Bool
+isMessage s = isReadable s && (eqb (s .word) (codeOf messageWord) && (eqb (s .count) 3 && ltb (at (s .values) 0) (2 ^ 32)))
+
+-- the message that the line hands in
+abbrev pub messageIn : Scan → Message
+messageIn s =
+    record {
+      station = record { 0 = at (s .values) 0 };
+      length = record { 0 = at (s .values) 1 };
+      arrival = record { 0 = at (s .values) 2 };
+    }
+
+-- ---- the answers
+
+-- a number without its sign
+unfoldable pub withoutSign : ℤ → ℕ
+withoutSign (pos n) = n
+withoutSign (negsuc n) = n + 1
+
+-- the sign: a dash, or nothing
+unfoldable pub signOf : ℤ → List ℕ
+signOf (pos n) = []
+signOf (negsuc n) = dash ∷ []
+
+-- a number with its sign
+abbrev pub signedOf : ℤ → List ℕ
+signedOf m = signOf m ++ decimalOf (withoutSign m)
+
+-- finish and margin of a completed message, or two dashes
+unfoldable pub completion : ℕ → ℕ → ℤ → List (List ℕ)
+completion zero finish margin = (dash ∷ []) ∷ (dash ∷ []) ∷ []
+completion (suc k) finish margin = decimalOf finish ∷ signedOf margin ∷ []
+
+-- the words of a visit up to TRT, and the next three, each with the spaces before it
+abbrev pub arrivalWords : VisitRecord → List ℕ
+arrivalWords v =
+    ((visitWord ++ (space ∷ decimalOf (v .station .0))) ++ (space ∷ decimalOf (v .start .0))) ++ (space ∷ decimalOf (v .trt .0))
+
+abbrev pub amountWords : VisitRecord → List ℕ
+amountWords v =
+    ((space ∷ decimalOf (v .limit .0)) ++ (space ∷ decimalOf (v .synchronous .0))) ++ (space ∷ decimalOf (v .asynchronous .0))
+
+-- `visit`, station, start, TRT, limit, synchronous, asynchronous, finish, margin
+unfoldable pub visitLine : VisitRecord → List ℕ
+visitLine v =
+    line
+    (visitWord ∷ decimalOf (v .station .0) ∷ decimalOf (v .start .0) ∷ decimalOf (v .trt .0) ∷ decimalOf (v .limit .0)
+    ∷ decimalOf (v .synchronous .0) ∷ decimalOf (v .asynchronous .0) ∷ completion (v .completed) (v .finish .0) (v .margin))
+
+-- a visit's answer, or the refusal
+abbrev pub visitText : VisitAnswer → List ℕ
+visitText a = textOr (a .number) (visitLine (a .«record»))
+
+-- `taken`, or the refusal
+abbrev pub takenText : ℕ → List ℕ
+takenText number = textOr number (line (takenWord ∷ []))
+
+-- ---- one line: what is answered, and the ring behind it
+
+unfoldable pub answerText : Ring → Scan → ℕ → List ℕ
+answerText ring s n =
+    cond (isEmptyLine s) []
+    (cond (isVisit s) (visitText (visited ring (at (s .values) 0) .answer))
+    (cond (isMessage s) (takenText (handedIn ring (messageIn s) .number)) (unreadLine n)))
+
+unfoldable pub ringAfter : Ring → Scan → Ring
+ringAfter ring s =
+    cond (isEmptyLine s) ring
+    (cond (isVisit s) (visited ring (at (s .values) 0) .ring)
+    (cond (isMessage s) (handedIn ring (messageIn s) .ring) ring))
+
+-- ---- the run: byte after byte, a newline ends a line
+
+-- the run begins on line 1
+abbrev pub runFrom : Ring → Run
+runFrom ring = record { ring = ring; scan = freshScan; line = 1 }
+
+-- the run of a plan that was read: the refusal of reading, or else that of opening
+abbrev pub openedRun : ReadPlan → OpenedRun
+openedRun p =
+    record {
+      run = runFrom (opening (p .set) (p .alloc) .ring);
+      number = thenNumber (p .number) (opening (p .set) (p .alloc) .number);
+    }
+
+-- the run behind one byte
+unfoldable pub runOn : Run → ℕ → Run
+runOn u b =
+    cond (eqb b newline)
+    (record { ring = ringAfter (u .ring) (u .scan); scan = freshScan; line = nextLine (u .line) })
+    (record { ring = u .ring; scan = stepped (u .scan) b; line = u .line })
+
+-- what is printed at that byte
+unfoldable pub saidAt : Run → ℕ → List ℕ
+saidAt u b = cond (eqb b newline) (answerText (u .ring) (u .scan) (u .line)) []
+
+-- the run behind all the bytes
+unfoldable pub runAfter : Run → List ℕ → Run
+runAfter u [] = u
+runAfter u (b ∷ bs) = runAfter (runOn u b) bs
+
+-- and all that is printed: the answers one after another
+unfoldable pub saidOver : Run → List ℕ → List ℕ
+saidOver u [] = []
+saidOver u (b ∷ bs) = saidAt u b ++ saidOver (runOn u b) bs
+
+-- ---- what the functions hand back
+
+-- a line was answered
+pub record Answers (ring : Ring) (s : Scan) (n : ℕ) (before : List ℕ) (a : ℕ) (after : List ℕ) (r : Answered) : Type 0 where
+  pub put : PutShort 240 before a (answerText ring s n) after (r .next)
+  pub behind : r .ring ≡ ringAfter ring s
+
+-- how many bytes are read at once
+abbrev pub pieceSize : ℕ
+pieceSize = 256
+
+-- a piece of the text, and a page with room for its answers
+pub record Piece (text : List ℕ) (end : ℕ) (page : List ℕ) : Type 0 where
+  pub inside : end ≤ length text
+  pub few : end ≤ pieceSize
+  pub large : pageSize ≤ length page
+
+-- the run over the first bytes of the text
+pub record RanPiece (u : Run) (text : List ℕ) (end : ℕ) (before after : List ℕ) (r : Ran) : Type 0 where
+  pub behind : r .run ≡ runAfter u (take end text)
+  pub said : PutShort (240 * pieceSize) before 0 (saidOver u (take end text)) after (r .length)
+
+-- the bytes that are read: the first 256; with a page that is too small, none
+unfoldable pub pieceOf : List ℕ → List ℕ → List ℕ
+pieceOf text page = cond (ltb (length page) pageSize) [] (take pieceSize text)
+
+-- the run goes on over a piece of the text, and what it prints stands on the page
+pub record RanOn (u : Run) (text before after : List ℕ) (r : Ran) : Type 0 where
+  pub behind : r .run ≡ runAfter u (pieceOf text before)
+  pub said : Printed (saidOver u (pieceOf text before)) before after (r .length)

@@ -1,0 +1,312 @@
+// What `run` prints: the calls are read line by line, and each is answered by the ring.
+ghost use mathlib.Core.Path.{_≡_};
+ghost use mathlib.Core.List.{_∷_, []};
+ghost use Prim.Native.Nat.{_+_, _≤_, min};
+ghost use lib.ListN.{length};
+ghost use Rattle.sheets.specs.Reading.{readPlan};
+ghost use Rattle.text.specs.Text.{PutShort, space, lineOn};
+ghost use Rattle.calls.specs.RunText.{isVisit, isMessage, messageIn, withoutSign, signedOf, completion, arrivalWords, amountWords, visitLine, visitText, takenText, runFrom, openedRun, Answers, Piece, RanPiece, RanOn};
+use rings::Message;
+use rings::Ring;
+use rings::VisitAnswer;
+use rings::VisitRecord;
+use text::PAGE_SIZE;
+use text::scan;
+use text::scan::Scan;
+use units::Station;
+use units::Ticks;
+use units::numbers;
+
+// The letters of `visit` and of `message`, each as one number to base 256.
+const VISIT: u64 = 508_575_312_244;
+
+const MESSAGE: u64 = 30_792_318_992_869_221;
+
+// How many bytes are read at once.
+const PIECE_SIZE: usize = 256;
+
+// A run: the ring, what was read of the line, and the line's number.
+#[repr(C)]
+pub struct Run {
+    pub ring: Ring,
+    pub scan: Scan,
+    pub line: u64,
+}
+
+// A line was answered: the ring behind it, and the place behind the answer.
+#[repr(C)]
+pub(crate) struct Answered {
+    ring: Ring,
+    next: usize,
+}
+
+// A run that begins, and 0; or the run of a blank ring, and the refusal.
+#[repr(C)]
+pub struct OpenedRun {
+    pub run: Run,
+    pub number: u8,
+}
+
+// The run goes on: where it stands, and how many bytes of the page are its answers.
+#[repr(C)]
+pub struct Ran {
+    pub run: Run,
+    pub length: usize,
+}
+
+// ---- the calls
+
+fn is_visit(s: Scan) -> bool
+    ensures { λ r. ⌜ r ≡ isVisit s ⌝ }
+{
+    let readable = !(s.phase == scan::UNREADABLE);
+    let values = s.values;
+    let fits = values[0] < 4_294_967_296;
+    readable & ((s.word == VISIT) & ((s.count == 1) & fits))
+}
+
+fn is_message(s: Scan) -> bool
+    ensures { λ r. ⌜ r ≡ isMessage s ⌝ }
+{
+    let readable = !(s.phase == scan::UNREADABLE);
+    let values = s.values;
+    let fits = values[0] < 4_294_967_296;
+    readable & ((s.word == MESSAGE) & ((s.count == 3) & fits))
+}
+
+// The message that the line hands in.
+fn message_in(s: Scan) -> Message
+    ensures { λ r. ⌜ r ≡ messageIn s ⌝ }
+{
+    let values = s.values;
+    let station = values[0];
+    let length = values[1];
+    let arrival = values[2];
+    Message {
+        station: Station(station),
+        length: Ticks(length),
+        arrival: Ticks(arrival),
+    }
+}
+
+// ---- the answers
+
+// The margin without its sign.
+fn magnitude(margin: i64) -> u64
+    ensures { λ r. ⌜ r ≡ withoutSign margin ⌝ }
+{
+    if margin < 0 {
+        let above = margin + 1;
+        let turned = 0 - above;
+        let number = turned as u64;
+        number + 1
+    } else {
+        margin as u64
+    }
+}
+
+// The margin with its sign, a space before it.
+fn put_margin(page: &mut [u8], at: usize, margin: i64) -> usize
+    requires { ⌜ at + 40 ≤ length (now page) ⌝ }
+    ensures { λ r. ⌜ PutShort 40 (now (page .entry)) at (space ∷ signedOf margin) (now (page .exit)) r ⌝ }
+{
+    let number = magnitude(margin);
+    if margin < 0 {
+        let signed = text::put_short(page, at, b" -");
+        return text::put_number(page, signed, number);
+    }
+    text::put_field(page, at, number)
+}
+
+// Finish and margin of a completed message, or two dashes; and the line's end.
+fn put_completion(page: &mut [u8], at: usize, completed: u8, finish: u64, margin: i64) -> usize
+    requires { ⌜ at + 62 ≤ length (now page) ⌝ }
+    ensures { λ r. ⌜ PutShort 62 (now (page .entry)) at (lineOn (completion completed finish margin)) (now (page .exit)) r ⌝ }
+{
+    if completed == 0 {
+        let dashes = text::put_short(page, at, b" - -");
+        return text::put_end(page, dashes);
+    }
+    let finished = text::put_field(page, at, finish);
+    let judged = put_margin(page, finished, margin);
+    text::put_end(page, judged)
+}
+
+// Station, start and TRT of a visit.
+fn put_arrival(page: &mut [u8], at: usize, v: VisitRecord) -> usize
+    requires { ⌜ at + 83 ≤ length (now page) ⌝ }
+    ensures { λ r. ⌜ PutShort 83 (now (page .entry)) at (arrivalWords v) (now (page .exit)) r ⌝ }
+{
+    let named = text::put_short(page, at, b"visit");
+    let stationed = text::put_field(page, named, v.station.0);
+    let started = text::put_field(page, stationed, v.start.0);
+    text::put_field(page, started, v.trt.0)
+}
+
+// Limit, and the two amounts sent.
+fn put_amounts(page: &mut [u8], at: usize, v: VisitRecord) -> usize
+    requires { ⌜ at + 63 ≤ length (now page) ⌝ }
+    ensures { λ r. ⌜ PutShort 63 (now (page .entry)) at (amountWords v) (now (page .exit)) r ⌝ }
+{
+    let limited = text::put_field(page, at, v.limit.0);
+    let synchronous = text::put_field(page, limited, v.synchronous.0);
+    text::put_field(page, synchronous, v.asynchronous.0)
+}
+
+// A visit's line.
+fn put_visit_line(page: &mut [u8], at: usize, v: VisitRecord) -> usize
+    requires { ⌜ at + 240 ≤ length (now page) ⌝ }
+    ensures { λ r. ⌜ PutShort 240 (now (page .entry)) at (visitLine v) (now (page .exit)) r ⌝ }
+{
+    let arrived = put_arrival(page, at, v);
+    let sent = put_amounts(page, arrived, v);
+    put_completion(page, sent, v.completed, v.finish.0, v.margin)
+}
+
+// A visit's answer, or the refusal.
+fn put_visit(page: &mut [u8], at: usize, answer: VisitAnswer) -> usize
+    requires { ⌜ at + 240 ≤ length (now page) ⌝ }
+    ensures { λ r. ⌜ PutShort 240 (now (page .entry)) at (visitText answer) (now (page .exit)) r ⌝ }
+{
+    if answer.number != numbers::ACCEPTED {
+        return text::put_refused(page, at, answer.number);
+    }
+    let v = answer.record;
+    put_visit_line(page, at, v)
+}
+
+// `taken`, or the refusal.
+fn put_taken(page: &mut [u8], at: usize, number: u8) -> usize
+    requires { ⌜ at + 240 ≤ length (now page) ⌝ }
+    ensures { λ r. ⌜ PutShort 240 (now (page .entry)) at (takenText number) (now (page .exit)) r ⌝ }
+{
+    if number != numbers::ACCEPTED {
+        return text::put_refused(page, at, number);
+    }
+    let taken = text::put_short(page, at, b"taken");
+    text::put_end(page, taken)
+}
+
+// ---- one line
+
+// The answer to a line, and the ring behind it.
+fn answer_line(page: &mut [u8], at: usize, ring: Ring, s: Scan, line: u64) -> Answered
+    requires { ⌜ at + 240 ≤ length (now page) ⌝ }
+    ensures { λ r. ⌜ Answers ring s line (now (page .entry)) at (now (page .exit)) r ⌝ }
+{
+    if scan::is_empty_line(s) {
+        return Answered { ring, next: at };
+    }
+    if is_visit(s) {
+        let values = s.values;
+        let asked = values[0];
+        let ask = asked as u32;
+        let visited = ring.visit(ask);
+        let answer = visited.answer;
+        let next = put_visit(page, at, answer);
+        let moved = visited.ring;
+        return Answered { ring: moved, next };
+    }
+    if is_message(s) {
+        let message = message_in(s);
+        let taken = ring.hand_in(message);
+        let next = put_taken(page, at, taken.number);
+        let held = taken.ring;
+        return Answered { ring: held, next };
+    }
+    let next = text::put_unread(page, at, line);
+    Answered { ring, next }
+}
+
+// ---- the run
+
+// A run begins on line 1.
+pub(crate) fn start(ring: Ring) -> Run
+    ensures { λ r. ⌜ r ≡ runFrom ring ⌝ }
+{
+    let s = scan::fresh();
+    Run {
+        ring,
+        scan: s,
+        line: 1,
+    }
+}
+
+// The run of a plan sheet, or the number of the refusal.
+pub fn open_run(sheet: &[u8]) -> OpenedRun
+    ensures { λ r. ⌜ r ≡ openedRun (readPlan (now (sheet .entry))) ⌝ }
+{
+    let plan = sheets::read_plan(sheet);
+    let set = plan.set;
+    let alloc = plan.alloc;
+    let opened = rings::open(set, alloc);
+    let ring = opened.ring;
+    let run = start(ring);
+    if plan.number != numbers::ACCEPTED {
+        return OpenedRun {
+            run,
+            number: plan.number,
+        };
+    }
+    OpenedRun {
+        run,
+        number: opened.number,
+    }
+}
+
+// How many of the bytes are read at once.
+fn piece_length(text: &[u8]) -> usize
+    ensures { λ r. ⌜ r ≡ min (length (now (text .entry))) 256 ⌝ }
+{
+    if text.len() < PIECE_SIZE {
+        text.len()
+    } else {
+        PIECE_SIZE
+    }
+}
+
+// The first bytes of the text, answered line by line.
+fn run_piece(run: Run, text: &[u8], end: usize, page: &mut [u8]) -> Ran
+    requires { ⌜ Piece (now text) end (now page) ⌝ }
+    ensures { λ r. ⌜ RanPiece run (now (text .entry)) end (now (page .entry)) (now (page .exit)) r ⌝ }
+{
+    let mut ring = run.ring;
+    let mut read = run.scan;
+    let mut line = run.line;
+    let mut next: usize = 0;
+    let mut i: usize = 0;
+    while i < end {
+        let byte = text[i];
+        if byte == b'\n' {
+            let answered = answer_line(page, next, ring, read, line);
+            let behind = answered.ring;
+            ring = behind;
+            next = answered.next;
+            read = scan::fresh();
+            line = scan::next_line(line);
+        } else {
+            read = scan::step(read, byte);
+        }
+        i += 1;
+    }
+    let stands = Run {
+        ring,
+        scan: read,
+        line,
+    };
+    Ran {
+        run: stands,
+        length: next,
+    }
+}
+
+// The run goes on over at most 256 bytes of the text: the answers are put at the start of the page. A page that is too small leaves all as it was.
+pub fn run_on(run: Run, text: &[u8], page: &mut [u8]) -> Ran
+    ensures { λ r. ⌜ RanOn run (now (text .entry)) (now (page .entry)) (now (page .exit)) r ⌝ }
+{
+    if page.len() < PAGE_SIZE {
+        return Ran { run, length: 0 };
+    }
+    let end = piece_length(text);
+    run_piece(run, text, end, page)
+}

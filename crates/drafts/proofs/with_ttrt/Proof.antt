@@ -1,0 +1,20 @@
+-- `with_ttrt` is right because TTRT is taken once.
+use borrow.Author.Tests.{eq-eqb, ne-eqb}
+use Rattle.drafts.specs.Compose.{withTtrt}
+use borrow.Author.Needs.{needs}
+use Rattle.drafts.proofs.with_ttrt.Statement.{statement}
+use Rattle.drafts.proofs.with_ttrt.Tie as tie
+
+misplaced-in-requires : tie.Need-misplaced-in-requires
+misplaced-in-requires c κs = search needs
+
+returns : tie.Need-returns
+unfolding withTtrt
+returns c = rw (ne-eqb _ _ (c .before .if1 .taken)) (c .misplaced-in .ensures)
+
+returns-2 : tie.Need-returns-2
+unfolding withTtrt
+returns-2 c = rw (eq-eqb _ _ (c .before .before .if1 .left))
+
+pub with-ttrt-spec : {M : Type 1} → statement M
+with-ttrt-spec = tie.close (tie.spec misplaced-in-requires returns returns-2)

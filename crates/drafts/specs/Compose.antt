@@ -1,0 +1,184 @@
+-- What `compose` makes of a text: a set, for a plan with its allocation, read line by line.
+use Prim.Native.Nat.{ℕ, _+_, _^_, _≤_, _<_}
+use mathlib.Core.Path.{_≡_}
+use mathlib.Core.Bool.{Bool, true, false, cond, _&&_, _||_}
+use mathlib.Core.List.{List, [], _∷_}
+use lib.Dec.{ltb, eqb}
+use lib.ListN.{length, take, set}
+use Rattle.units.specs.Numbers.{wrongShape}
+use Rattle.units.specs.Places.{at}
+use Rattle.sets.specs.Judged.{blankSet}
+use Rattle.sets.specs.declared.Set.{Set}
+use Rattle.plans.specs.Planned.{blankAlloc}
+use Rattle.plans.specs.declared.Alloc.{Alloc}
+use Rattle.sheets.specs.Writing.{refusedWriting, writtenAnswer, writtenBuffer}
+use Rattle.sheets.specs.declared.Written.{Written}
+use Rattle.text.specs.Text.{newline}
+use Rattle.text.specs.Scan.{freshScan, stepped, codeOf, isReadable, isEmptyLine, nextLine}
+use Rattle.text.specs.declared.scan.Scan.{Scan}
+use Rattle.drafts.specs.declared.Draft.{Draft}
+use Rattle.drafts.specs.declared.Composing.{Composing}
+
+-- ---- the lines
+
+-- "ttrt"
+abbrev pub ttrtWord : List ℕ
+ttrtWord = 116 ∷ 116 ∷ 114 ∷ 116 ∷ []
+
+-- "station"
+abbrev pub stationWord : List ℕ
+stationWord = 115 ∷ 116 ∷ 97 ∷ 116 ∷ 105 ∷ 111 ∷ 110 ∷ []
+
+-- every number of the line is a 32-bit one
+abbrev pub allFit : Scan → Bool
+allFit s =
+    ltb (at (s .values) 0) (2 ^ 32)
+    && (ltb (at (s .values) 1) (2 ^ 32) && (ltb (at (s .values) 2) (2 ^ 32) && (ltb (at (s .values) 3) (2 ^ 32) && ltb (at (s .values) 4) (2 ^ 32))))
+
+-- this word, with this many numbers
+abbrev pub isLine : Scan → ℕ → ℕ → Bool
+isLine s code count = isReadable s && (eqb (s .word) code && (eqb (s .count) count && allFit s))
+
+-- `ttrt N`
+abbrev pub isTtrt : Scan → Bool
+isTtrt s = isLine s (codeOf ttrtWord) 1
+
+-- `station W C D P`
+abbrev pub isStation : Scan → Bool
+isStation s = isLine s (codeOf stationWord) 4
+
+-- `station W C D P S`
+abbrev pub isPlanStation : Scan → Bool
+isPlanStation s = isLine s (codeOf stationWord) 5
+
+-- ---- the draft
+
+-- no line was read yet: no TTRT, no station
+abbrev pub blankDraft : Draft
+blankDraft = record { set = blankSet; alloc = blankAlloc; line = 1; unread = 0; head = 0; kind = 0; wrong = 0 }
+
+-- the same, its lines out of place
+abbrev pub misplaced : Draft → Draft
+misplaced d = record { set = d .set; alloc = d .alloc; line = d .line; unread = d .unread; head = d .head; kind = d .kind; wrong = 1 }
+
+-- TTRT stands on the first line, once
+unfoldable pub withTtrt : Draft → ℕ → Draft
+withTtrt d ttrt =
+    cond (eqb (d .head) 0)
+    (record {
+      set = record { head = record { ttrt = ttrt }; n = d .set .n; w = d .set .w; c = d .set .c; d = d .set .d; p = d .set .p };
+      alloc = d .alloc;
+      line = d .line;
+      unread = d .unread;
+      head = 1;
+      kind = d .kind;
+      wrong = d .wrong;
+    })
+    (misplaced d)
+
+-- the next station of the set
+abbrev pub setAnd : Set → Scan → Set
+setAnd t s =
+    record {
+      head = t .head;
+      n = t .n + 1;
+      w = set (t .w) (t .n) (at (s .values) 0);
+      c = set (t .c) (t .n) (at (s .values) 1);
+      d = set (t .d) (t .n) (at (s .values) 2);
+      p = set (t .p) (t .n) (at (s .values) 3);
+    }
+
+-- and its allocation
+abbrev pub allocAnd : Alloc → ℕ → Scan → Alloc
+allocAnd a n s = record { s = set (a .s) n (at (s .values) 4) }
+
+-- every number of the line is below 2 ^ 32
+pub record NumbersFit (s : Scan) : Type 0 where
+  pub first : at (s .values) 0 < 2 ^ 32
+  pub second : at (s .values) 1 < 2 ^ 32
+  pub third : at (s .values) 2 < 2 ^ 32
+  pub fourth : at (s .values) 3 < 2 ^ 32
+  pub fifth : at (s .values) 4 < 2 ^ 32
+
+-- a station stands behind TTRT, is one of at most 128, and all are of one kind: 1 for a request's, 2 for a plan's
+unfoldable pub withStation : Draft → Scan → ℕ → Draft
+withStation d s kind =
+    cond (eqb (d .head) 1 && (ltb (d .set .n) 128 && (eqb (d .kind) 0 || eqb (d .kind) kind)))
+    (record {
+      set = setAnd (d .set) s;
+      alloc = allocAnd (d .alloc) (d .set .n) s;
+      line = d .line;
+      unread = d .unread;
+      head = d .head;
+      kind = kind;
+      wrong = d .wrong;
+    })
+    (misplaced d)
+
+-- the first line that cannot be read is named
+unfoldable pub withUnread : Draft → Draft
+withUnread d =
+    record {
+      set = d .set;
+      alloc = d .alloc;
+      line = d .line;
+      unread = cond (eqb (d .unread) 0) (d .line) (d .unread);
+      head = d .head;
+      kind = d .kind;
+      wrong = d .wrong;
+    }
+
+-- one line
+unfoldable pub lineDrafted : Draft → Scan → Draft
+lineDrafted d s =
+    cond (isEmptyLine s) d
+    (cond (isTtrt s) (withTtrt d (at (s .values) 0))
+    (cond (isStation s) (withStation d s 1) (cond (isPlanStation s) (withStation d s 2) (withUnread d))))
+
+-- the next line
+abbrev pub onNextLine : Draft → Draft
+onNextLine d =
+    record { set = d .set; alloc = d .alloc; line = nextLine (d .line); unread = d .unread; head = d .head; kind = d .kind; wrong = d .wrong }
+
+-- ---- the text, byte after byte
+
+abbrev pub composeStart : Composing
+composeStart = record { draft = blankDraft; scan = freshScan }
+
+unfoldable pub composeOn : Composing → ℕ → Composing
+composeOn c b =
+    cond (eqb b newline)
+    (record { draft = onNextLine (lineDrafted (c .draft) (c .scan)); scan = freshScan })
+    (record { draft = c .draft; scan = stepped (c .scan) b })
+
+unfoldable pub composeAfter : Composing → List ℕ → Composing
+composeAfter c [] = c
+composeAfter c (b ∷ bs) = composeAfter (composeOn c b) bs
+
+-- ---- the sheet
+
+-- a sheet can be made: every line was read, each in its place, and TTRT is there
+abbrev pub isWhole : Draft → Bool
+isWhole d = eqb (d .unread) 0 && (eqb (d .wrong) 0 && eqb (d .head) 1)
+
+-- 2 if none can; else what writing answers, a plan's where the stations are a plan's
+unfoldable pub composedAnswer : Draft → List ℕ → Written
+composedAnswer d out =
+    cond (isWhole d)
+    (cond (eqb (d .kind) 2) (writtenAnswer true (d .set) (d .alloc) out) (writtenAnswer false (d .set) blankAlloc out))
+    (refusedWriting wrongShape)
+
+-- the sheet in front, all behind it as it was; refused, no byte has changed
+unfoldable pub composedBuffer : Draft → List ℕ → List ℕ
+composedBuffer d out =
+    cond (isWhole d)
+    (cond (eqb (d .kind) 2) (writtenBuffer true (d .set) (d .alloc) out) (writtenBuffer false (d .set) blankAlloc out))
+    out
+
+-- the draft was written
+pub record WroteDraft (d : Draft) (before after : List ℕ) (w : Written) : Type 0 where
+  pub answer : w ≡ composedAnswer d before
+  pub buffer : after ≡ composedBuffer d before
+  -- the sheet lies inside the buffer; both lines say so, for whoever lends its bytes
+  pub fits : w .length ≤ length after
+  pub counts : w .length ≡ length (take (w .length) after)

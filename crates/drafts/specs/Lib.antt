@@ -1,0 +1,6 @@
+-- What `compose` makes of a text, line by line.
+--     Compose      the lines, the draft, and the sheet
+-- and the laws of these, for the proofs; a reader of the rules need not look into them:
+--     ComposeLaws
+pub mod Compose
+pub mod ComposeLaws

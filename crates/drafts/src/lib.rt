@@ -1,0 +1,290 @@
+// What `compose` makes of a text: a set, for a plan with its allocation, read line by line.
+ghost use mathlib.Core.Path.{_≡_};
+ghost use Prim.Native.Nat.{_<_, _^_};
+ghost use Rattle.drafts.specs.Compose.{allFit, isLine, isTtrt, isStation, isPlanStation, blankDraft, misplaced, withTtrt, NumbersFit, setAnd, allocAnd, withStation, withUnread, lineDrafted, onNextLine, composeStart, composeAfter, WroteDraft};
+use plans::Alloc;
+use sets::Head;
+use sets::Set;
+use sheets::Written;
+use text::scan;
+use text::scan::Scan;
+use units::numbers;
+
+// The letters of `ttrt` and of `station`, each as one number to base 256.
+const TTRT: u64 = 1_953_788_532;
+
+const STATION: u64 = 32_497_584_235_442_030;
+
+// What was read of a text, line by line.
+#[repr(C)]
+pub struct Draft {
+    pub set: Set,
+    pub alloc: Alloc,
+    // The number of the line that is being read.
+    pub line: u64,
+    // The first line that cannot be read; 0: none.
+    pub unread: u64,
+    // 1: TTRT was read.
+    pub head: u8,
+    // The stations are a request's, 1, or a plan's, 2; 0: none was read.
+    pub kind: u8,
+    // 1: a line stood out of place.
+    pub wrong: u8,
+}
+
+// A text that is being read: the draft, and what was read of the line.
+#[repr(C)]
+pub struct Composing {
+    pub draft: Draft,
+    pub scan: Scan,
+}
+
+fn all_fit(s: Scan) -> bool
+    ensures { λ r. ⌜ r ≡ allFit s ⌝ }
+{
+    let values = s.values;
+    let a = values[0] < 4_294_967_296;
+    let b = values[1] < 4_294_967_296;
+    let c = values[2] < 4_294_967_296;
+    let d = values[3] < 4_294_967_296;
+    let e = values[4] < 4_294_967_296;
+    a & (b & (c & (d & e)))
+}
+
+// This word, with this many numbers.
+fn is_line(s: Scan, code: u64, count: usize) -> bool
+    ensures { λ r. ⌜ r ≡ isLine s code count ⌝ }
+{
+    let readable = !(s.phase == scan::UNREADABLE);
+    readable & ((s.word == code) & ((s.count == count) & all_fit(s)))
+}
+
+// The same, its lines out of place.
+fn misplaced_in(d: Draft) -> Draft
+    ensures { λ r. ⌜ r ≡ misplaced d ⌝ }
+{
+    let set = d.set;
+    let alloc = d.alloc;
+    Draft {
+        set,
+        alloc,
+        line: d.line,
+        unread: d.unread,
+        head: d.head,
+        kind: d.kind,
+        wrong: 1,
+    }
+}
+
+// TTRT stands on the first line, once.
+fn with_ttrt(d: Draft, ttrt: u32) -> Draft
+    ensures { λ r. ⌜ r ≡ withTtrt d ttrt ⌝ }
+{
+    if d.head != 0 {
+        return misplaced_in(d);
+    }
+    let mut set = d.set;
+    let head = Head { ttrt };
+    set.head = head;
+    let alloc = d.alloc;
+    Draft {
+        set,
+        alloc,
+        line: d.line,
+        unread: d.unread,
+        head: 1,
+        kind: d.kind,
+        wrong: d.wrong,
+    }
+}
+
+// A number that fits 32 bits.
+fn narrow(x: u64) -> u32
+    requires { ⌜ x < 2 ^ 32 ⌝ }
+    ensures { λ r. ⌜ r ≡ x ⌝ }
+{
+    x as u32
+}
+
+// The next station of the set.
+fn set_and(t: Set, s: Scan) -> Set
+    requires { ⌜ (t .n < 128) × NumbersFit s ⌝ }
+    ensures { λ r. ⌜ r ≡ setAnd t s ⌝ }
+{
+    let n = t.n as usize;
+    let values = s.values;
+    let mut w = t.w;
+    let walk = narrow(values[0]);
+    w[n] = walk;
+    let mut c = t.c;
+    let longest = narrow(values[1]);
+    c[n] = longest;
+    let mut d = t.d;
+    let deadline = narrow(values[2]);
+    d[n] = deadline;
+    let mut p = t.p;
+    let gap = narrow(values[3]);
+    p[n] = gap;
+    let head = t.head;
+    Set {
+        head,
+        n: t.n + 1,
+        w,
+        c,
+        d,
+        p,
+    }
+}
+
+// The allocation of the next station.
+fn alloc_and(a: Alloc, n: u32, s: Scan) -> Alloc
+    requires { ⌜ (n < 128) × NumbersFit s ⌝ }
+    ensures { λ r. ⌜ r ≡ allocAnd a n s ⌝ }
+{
+    let at = n as usize;
+    let values = s.values;
+    let mut shares = a.s;
+    let share = narrow(values[4]);
+    shares[at] = share;
+    Alloc { s: shares }
+}
+
+// A station behind TTRT, one of at most 128, all of one kind.
+fn with_station(d: Draft, s: Scan, kind: u8) -> Draft
+    requires { ⌜ NumbersFit s ⌝ }
+    ensures { λ r. ⌜ r ≡ withStation d s kind ⌝ }
+{
+    let told = d.set;
+    let same = (d.kind == 0) | (d.kind == kind);
+    let placed = (d.head == 1) & ((told.n < 128) & same);
+    if !placed {
+        return misplaced_in(d);
+    }
+    let set = set_and(told, s);
+    let shares = d.alloc;
+    let alloc = alloc_and(shares, told.n, s);
+    Draft {
+        set,
+        alloc,
+        line: d.line,
+        unread: d.unread,
+        head: d.head,
+        kind,
+        wrong: d.wrong,
+    }
+}
+
+// The first line that cannot be read is named.
+fn with_unread(d: Draft) -> Draft
+    ensures { λ r. ⌜ r ≡ withUnread d ⌝ }
+{
+    let set = d.set;
+    let alloc = d.alloc;
+    let unread = if d.unread == 0 { d.line } else { d.unread };
+    Draft {
+        set,
+        alloc,
+        line: d.line,
+        unread,
+        head: d.head,
+        kind: d.kind,
+        wrong: d.wrong,
+    }
+}
+
+// One line.
+fn line_drafted(d: Draft, s: Scan) -> Draft
+    ensures { λ r. ⌜ r ≡ lineDrafted d s ⌝ }
+{
+    if scan::is_empty_line(s) {
+        return d;
+    }
+    if is_line(s, TTRT, 1) {
+        let values = s.values;
+        let ttrt = narrow(values[0]);
+        return with_ttrt(d, ttrt);
+    }
+    if is_line(s, STATION, 4) {
+        return with_station(d, s, 1);
+    }
+    if is_line(s, STATION, 5) {
+        return with_station(d, s, 2);
+    }
+    with_unread(d)
+}
+
+// The next line.
+fn on_next_line(d: Draft) -> Draft
+    ensures { λ r. ⌜ r ≡ onNextLine d ⌝ }
+{
+    let set = d.set;
+    let alloc = d.alloc;
+    Draft {
+        set,
+        alloc,
+        line: scan::next_line(d.line),
+        unread: d.unread,
+        head: d.head,
+        kind: d.kind,
+        wrong: d.wrong,
+    }
+}
+
+// No line was read yet.
+pub fn begin() -> Composing
+    ensures { λ r. ⌜ r ≡ composeStart ⌝ }
+{
+    let set = sets::blank_set();
+    let alloc = plans::blank_alloc();
+    let draft = Draft {
+        set,
+        alloc,
+        line: 1,
+        unread: 0,
+        head: 0,
+        kind: 0,
+        wrong: 0,
+    };
+    let fresh = scan::fresh();
+    Composing { draft, scan: fresh }
+}
+
+// The text goes on.
+pub fn compose_on(c: Composing, text: &[u8]) -> Composing
+    ensures { λ r. ⌜ r ≡ composeAfter c (now (text .entry)) ⌝ }
+{
+    let mut draft = c.draft;
+    let mut read = c.scan;
+    let mut i: usize = 0;
+    while i < text.len() {
+        let byte = text[i];
+        if byte == b'\n' {
+            let drafted = line_drafted(draft, read);
+            draft = on_next_line(drafted);
+            read = scan::fresh();
+        } else {
+            read = scan::step(read, byte);
+        }
+        i += 1;
+    }
+    Composing { draft, scan: read }
+}
+
+// The sheet of the text that was read, put at the start of the buffer; refused, no byte of it changes.
+pub fn compose_end(d: Draft, out: &mut [u8]) -> Written
+    ensures { λ r. ⌜ WroteDraft d (now (out .entry)) (now (out .exit)) r ⌝ }
+{
+    let whole = (d.unread == 0) & ((d.wrong == 0) & (d.head == 1));
+    if !whole {
+        return Written {
+            length: 0,
+            number: numbers::WRONG_SHAPE,
+        };
+    }
+    let set = d.set;
+    let alloc = d.alloc;
+    if d.kind == 2 {
+        return sheets::write_plan(set, alloc, out);
+    }
+    sheets::write_request(set, out)
+}

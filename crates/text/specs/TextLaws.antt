@@ -1,0 +1,150 @@
+-- The laws of decimal numbers, lines and text put into a page, for the proofs of this layer. No rule stands here.
+use Prim.Native.Nat.{ℕ, zero, suc, _+_, _*_, _^_, _/_, _%_, _≤_, _<_}
+use mathlib.Core.Path.{_≡_, refl, sym, ap, _∙_}
+use mathlib.Core.Bool.{cond}
+use mathlib.Core.List.{List, [], _∷_, _++_, append-assoc}
+use mathlib.Core.Logic.{_≢_, ⊎-elim}
+use native.Mathlib.Nat.{mul-zero, mul-suc, pow-suc, div-lt-iff-lt-mul}
+use native.Mathlib.Omega.{arith}
+use lib.Dec.{ltb}
+use borrow.Author.Tests.{lt-ltb, le-ltb}
+use lib.ListN.{length, set, length-append}
+use lib.Seq.{sets-eq, length-take-le}
+use Rattle.units.specs.SmallLaws.{below-or-not}
+use Rattle.sheets.specs.Rows.{laid, rows}
+use Rattle.sheets.specs.RowLaws.{laid-none, laid-length, laid-then, laid-first}
+use Rattle.text.specs.Text.{digit, decimalWithin, decimalOf, lineOn, line, newline, space, Put, PutShort, Printed, pageSize, pageWith, lengthOn, textOr, refusedLine}
+
+-- ---- text put into a page
+
+pub put-none : (before : List ℕ) (a : ℕ) → Put before a [] before a
+put-none before a = record { page = sym (laid-none before a); next = omega arith }
+
+pub put-one : (before : List ℕ) (a x : ℕ) → a + 1 ≤ length before → Put before a (x ∷ []) (set before a x) (a + 1)
+unfolding laid
+put-one before a x h = record { page = sets-eq (x ∷ []) before a h; next = refl }
+
+-- what is put behind a segment makes one segment with it
+pub put-then : {before middle after s t : List ℕ} {a r q : ℕ} → Put before a s middle r → Put middle r t after q → a + length s + length t ≤ length before → Put before a (s ++ t) after q
+put-then {before} {middle} {after} {s} {t} {a} {r} {q} p k fits =
+    record {
+      page = k .page ∙ rw (p .page, p .next) (laid-then before a s t fits);
+      next = omega (arith, p .next, k .next, length-append s t);
+    }
+
+pub put-length : {before after s : List ℕ} {a r : ℕ} → Put before a s after r → a + length s ≤ length before → length after ≡ length before
+put-length {before} {after} {s} {a} p fits = ap length (p .page) ∙ laid-length before a s fits
+
+pub put-short-then : {before middle after s t : List ℕ} {a r q most more : ℕ} → PutShort most before a s middle r → PutShort more middle r t after q → a + most + more ≤ length before → PutShort (most + more) before a (s ++ t) after q
+put-short-then {before} {middle} {after} {s} {t} {a} {r} {q} p k fits =
+    record {
+      put = put-then (p .put) (k .put) (omega (arith, p .short, k .short));
+      short = omega (arith, p .short, k .short, length-append s t);
+    }
+
+-- the same segment, and a larger bound
+pub put-as : {before after s t : List ℕ} {a r most more : ℕ} → PutShort most before a s after r → s ≡ t → most ≤ more → PutShort more before a t after r
+put-as {before} {after} {s} {t} {a} {r} p e l = rw (← e) (record { put = p .put; short = omega (arith, p .short) })
+
+-- a text at the start of a page
+pub printed : {text segment before after : List ℕ} {r most : ℕ} → PutShort most before 0 segment after r → segment ≡ text → pageSize ≤ length before → most ≤ pageSize → Printed text before after r
+unfolding pageWith lengthOn
+printed {text} {segment} {before} {after} {r} p same large few =
+    let e = le-ltb (length before) pageSize large in
+    let inside : r ≤ length after = omega (arith, p .put .next, p .short, put-length (p .put) (omega (arith, p .short))) in
+    rw (← same)
+    (record {
+      page = rw e (p .put .page ∙ laid-first before segment);
+      size = rw e (omega (arith, p .put .next));
+      fits = inside;
+      counts = sym (length-take-le r after inside);
+    })
+
+pub not-printed : {text before : List ℕ} → length before < pageSize → Printed text before before 0
+unfolding pageWith lengthOn
+not-printed {text} {before} small =
+    let e = lt-ltb (length before) pageSize small in
+    record { page = rw e; size = rw e; fits = omega arith; counts = refl }
+
+-- ---- rows of lines
+
+pub rows-short : (n step : ℕ) (f : ℕ → List ℕ) → ((i : ℕ) → length (f i) ≤ step) → length (rows n f) ≤ step * n
+unfolding rows
+rows-short zero step f h = omega (arith, mul-zero step)
+rows-short (suc n) step f h = omega (arith, length-append (rows n f) (f n), rows-short n step f h, h n, mul-suc step n)
+
+-- ---- decimal numbers
+
+pub decimal-short : (k n : ℕ) → length (decimalWithin k n) ≤ k
+unfolding decimalWithin
+decimal-short zero n = omega arith
+decimal-short (suc k) n =
+    ⊎-elim (λ (b : n < 10). rw (lt-ltb n 10 b) (omega arith))
+    (λ (b : 10 ≤ n).
+    rw (le-ltb n 10 b)
+    (omega (arith, length-append (decimalWithin k (n / 10)) (digit (n % 10) ∷ []), decimal-short k (n / 10))))
+    (below-or-not n 10)
+
+-- more places than are needed change nothing
+pub decimal-more : (k n : ℕ) → n < 10 ^ suc k → decimalWithin (suc (suc k)) n ≡ decimalWithin (suc k) n
+unfolding decimalWithin
+decimal-more zero n h = let b : n < 10 = h in rw (lt-ltb n 10 b)
+decimal-more (suc k) n h =
+    ⊎-elim (λ (b : n < 10). rw (lt-ltb n 10 b))
+    (λ (b : 10 ≤ n).
+    let l : n < 10 ^ suc k * 10 = rw (pow-suc 10 (suc k)) at h in
+    let e : decimalWithin (suc (suc k)) (n / 10) ≡ decimalWithin (suc k) (n / 10) = decimal-more k (n / 10) (div-lt-iff-lt-mul (omega arith) .1 l) in
+    ap (λ (front : List ℕ). cond (ltb n 10) (digit n ∷ []) (front ++ digit (n % 10) ∷ [])) e)
+    (below-or-not n 10)
+
+pub decimal-digit : (n : ℕ) → n < 10 → decimalOf n ≡ digit n ∷ []
+unfolding decimalWithin
+decimal-digit n b = rw (lt-ltb n 10 b)
+
+-- the last digit stands behind those of a tenth
+pub decimal-last : (n : ℕ) → n < 2 ^ 64 → 10 ≤ n → decimalOf n ≡ decimalOf (n / 10) ++ digit (n % 10) ∷ []
+unfolding decimalWithin
+decimal-last n h b =
+    let l : n / 10 < 10 ^ 19 = div-lt-iff-lt-mul {k = 10} {x = n} {y = 10 ^ 19} (omega arith) .1 (omega arith) in
+    rw (le-ltb n 10 b) (ap (λ (front : List ℕ). front ++ digit (n % 10) ∷ []) (sym (decimal-more 18 (n / 10) l)))
+
+-- ---- lines
+
+pub line-first : (word : List ℕ) (words : List (List ℕ)) → line (word ∷ words) ≡ word ++ lineOn words
+unfolding line
+line-first word words = refl
+
+pub line-next : (front word : List ℕ) (words : List (List ℕ)) → front ++ lineOn (word ∷ words) ≡ (front ++ (space ∷ word)) ++ lineOn words
+unfolding lineOn
+line-next front word words = sym (append-assoc front (space ∷ word) (lineOn words))
+
+pub line-end : (front : List ℕ) → front ++ lineOn [] ≡ front ++ (newline ∷ [])
+unfolding lineOn
+line-end front = refl
+
+pub line-one : (word : List ℕ) → line (word ∷ []) ≡ word ++ (newline ∷ [])
+line-one word = line-first word [] ∙ line-end word
+
+-- a line whose last word has two parts
+pub line-parts : (word part rest : List ℕ) → line (word ∷ (part ++ rest) ∷ []) ≡ ((word ++ (space ∷ part)) ++ rest) ++ (newline ∷ [])
+line-parts word part rest = rw (line-first, line-next, line-end) (simp append-assoc)
+
+pub line-on-two : (v w : List ℕ) → lineOn (v ∷ w ∷ []) ≡ ((space ∷ v) ++ (space ∷ w)) ++ (newline ∷ [])
+unfolding lineOn
+line-on-two v w = simp append-assoc
+
+-- a line of five words and more
+pub line-five : (v a b c d : List ℕ) (rest : List (List ℕ)) → line (v ∷ a ∷ b ∷ c ∷ d ∷ rest) ≡ ((((v ++ (space ∷ a)) ++ (space ∷ b)) ++ (space ∷ c)) ++ (space ∷ d)) ++ lineOn rest
+line-five v a b c d rest = rw (line-first, line-next, line-next, line-next, line-next)
+
+-- ---- a text, or the refusal
+
+pub text-accepted : (k : ℕ) (text : List ℕ) → k ≡ 0 → textOr k text ≡ text
+unfolding textOr
+text-accepted zero text e = refl
+text-accepted (suc k) text e = absurd (omega arith)
+
+pub text-refused : (k : ℕ) (text : List ℕ) → k ≢ 0 → textOr k text ≡ refusedLine k
+unfolding textOr
+text-refused zero text e = absurd (e refl)
+text-refused (suc k) text e = refl

@@ -1,0 +1,108 @@
+// Text: put into a page, and read line by line (`scan`). Each function here puts a text into the page from a place on, and answers the place behind it; it asks for room, and whoever hands out the page sees to that once.
+pub mod scan;
+
+ghost use mathlib.Core.List.{List, [], _∷_};
+ghost use Prim.Native.Nat.{_+_, _<_, _≤_};
+ghost use lib.ListN.{length};
+ghost use Rattle.text.specs.Text.{Put, PutShort, Room, digit, decimalOf, space, newline, refusedLine, unreadLine};
+
+// How many bytes a page must have, so that every text of the program fits.
+pub const PAGE_SIZE: usize = 65_536;
+
+// One byte.
+fn put_byte(page: &mut [u8], at: usize, byte: u8) -> usize
+    requires { ⌜ Room (now page) at (byte ∷ []) ⌝ }
+    ensures { λ r. ⌜ Put (now (page .entry)) at (byte ∷ []) (now (page .exit)) r ⌝ }
+{
+    page[at] = byte;
+    at + 1
+}
+
+// The bytes of a word.
+fn put_word(page: &mut [u8], at: usize, word: &[u8]) -> usize
+    requires { ⌜ Room (now page) at (now word) ⌝ }
+    ensures { λ r. ⌜ Put (now (page .entry)) at (now (word .entry)) (now (page .exit)) r ⌝ }
+{
+    let mut next = at;
+    let mut i: usize = 0;
+    while i < word.len() {
+        next = put_byte(page, next, word[i]);
+        i += 1;
+    }
+    next
+}
+
+// A number below 10.
+fn put_digit(page: &mut [u8], at: usize, d: u64) -> usize
+    requires { ⌜ (d < 10) × Room (now page) at (digit d ∷ []) ⌝ }
+    ensures { λ r. ⌜ Put (now (page .entry)) at (digit d ∷ []) (now (page .exit)) r ⌝ }
+{
+    let small = d as u8;
+    put_byte(page, at, 48 + small)
+}
+
+// A number in decimal.
+fn put_decimal(page: &mut [u8], at: usize, n: u64) -> usize
+    requires { ⌜ Room (now page) at (decimalOf n) ⌝ }
+    ensures { λ r. ⌜ Put (now (page .entry)) at (decimalOf n) (now (page .exit)) r ⌝ }
+{
+    if n < 10 {
+        return put_digit(page, at, n);
+    }
+    let next = put_decimal(page, at, n / 10);
+    put_digit(page, next, n % 10)
+}
+
+// A word of at most 20 bytes.
+pub fn put_short(page: &mut [u8], at: usize, word: &[u8]) -> usize
+    requires { ⌜ (length (now word) ≤ 20) × (at + 20 ≤ length (now page)) ⌝ }
+    ensures { λ r. ⌜ PutShort 20 (now (page .entry)) at (now (word .entry)) (now (page .exit)) r ⌝ }
+{
+    put_word(page, at, word)
+}
+
+// A number at the start of a line.
+pub fn put_number(page: &mut [u8], at: usize, n: u64) -> usize
+    requires { ⌜ at + 20 ≤ length (now page) ⌝ }
+    ensures { λ r. ⌜ PutShort 20 (now (page .entry)) at (decimalOf n) (now (page .exit)) r ⌝ }
+{
+    put_decimal(page, at, n)
+}
+
+// A space, and a number.
+pub fn put_field(page: &mut [u8], at: usize, n: u64) -> usize
+    requires { ⌜ at + 21 ≤ length (now page) ⌝ }
+    ensures { λ r. ⌜ PutShort 21 (now (page .entry)) at (space ∷ decimalOf n) (now (page .exit)) r ⌝ }
+{
+    let next = put_byte(page, at, b' ');
+    put_number(page, next, n)
+}
+
+// The end of a line.
+pub fn put_end(page: &mut [u8], at: usize) -> usize
+    requires { ⌜ at + 1 ≤ length (now page) ⌝ }
+    ensures { λ r. ⌜ PutShort 1 (now (page .entry)) at (newline ∷ []) (now (page .exit)) r ⌝ }
+{
+    put_byte(page, at, b'\n')
+}
+
+// `refused`, and the number.
+pub fn put_refused(page: &mut [u8], at: usize, number: u8) -> usize
+    requires { ⌜ at + 42 ≤ length (now page) ⌝ }
+    ensures { λ r. ⌜ PutShort 42 (now (page .entry)) at (refusedLine number) (now (page .exit)) r ⌝ }
+{
+    let refused = put_short(page, at, b"refused");
+    let numbered = put_field(page, refused, number as u64);
+    put_end(page, numbered)
+}
+
+// `line N: cannot be read`.
+pub fn put_unread(page: &mut [u8], at: usize, line: u64) -> usize
+    requires { ⌜ at + 240 ≤ length (now page) ⌝ }
+    ensures { λ r. ⌜ PutShort 240 (now (page .entry)) at (unreadLine line) (now (page .exit)) r ⌝ }
+{
+    let named = put_short(page, at, b"line");
+    let numbered = put_field(page, named, line);
+    let told = put_short(page, numbered, b": cannot be read");
+    put_end(page, told)
+}
