@@ -6,7 +6,7 @@ use std::str::FromStr;
 
 use crate::lines::{Line, Lines};
 use crate::ring::{Message, StationNumber, Visit};
-use crate::rules::{Plan, Refusal, Request, Station, MOST_STATIONS};
+use crate::rules::{require, Plan, Refusal, Request, Station, MOST_STATIONS};
 use crate::sheet::{write_plan, write_request, Sheet, PLAN_READ, REQUEST_READ};
 
 /// Why a text has no sheet.
@@ -128,20 +128,25 @@ struct Draft {
     ttrt: Option<u32>,
     stations: Vec<Station>,
     allocation: Vec<u32>,
+    misplaced: bool,
 }
 
 impl Draft {
-    /// Takes one line's words; `None` if they cannot be read here.
+    /// Takes one line's words; `None` if they cannot be read.
     fn take(&mut self, words: &[&[u8]]) -> Option<()> {
         match *words {
             [] => Some(()),
-            [b"ttrt", ttrt] if self.ttrt.is_none() => {
-                self.ttrt = Some(number(ttrt)?);
-                Some(())
-            }
-            [b"station", ref numbers @ ..] if self.ttrt.is_some() => self.take_station(numbers),
+            [b"ttrt", ttrt] => self.take_ttrt(number(ttrt)?),
+            [b"station", ref numbers @ ..] => self.take_station(numbers),
             _ => None,
         }
+    }
+
+    /// `ttrt` stands once, before every station.
+    fn take_ttrt(&mut self, ttrt: u32) -> Option<()> {
+        self.misplaced |= self.ttrt.is_some() || !self.stations.is_empty();
+        self.ttrt = Some(ttrt);
+        Some(())
     }
 
     fn take_station(&mut self, words: &[&[u8]]) -> Option<()> {
@@ -160,9 +165,10 @@ impl Draft {
         Some(())
     }
 
-    /// A text without stations has no `ttrt` to miss: it is refused for their count.
+    /// Lines of both kinds leave fewer allocations than stations: they are refused for their count.
     fn write(self) -> Result<Vec<u8>, Refusal> {
-        let ttrt = self.ttrt.unwrap_or(0);
+        require(!self.misplaced, Refusal::WrongField)?;
+        let ttrt = self.ttrt.ok_or(Refusal::WrongField)?;
         let request = Request { ttrt, stations: self.stations };
         if self.allocation.is_empty() {
             return write_request(&request, REQUEST_READ);

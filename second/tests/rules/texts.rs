@@ -42,8 +42,8 @@ fn blanks_and_comments() {
 
 #[test]
 fn lines_that_cannot_be_read() {
-    assert_eq!(unreadable("station 1 1 1 1\n"), 1);
-    assert_eq!(unreadable("ttrt 100\nttrt 100\n"), 2);
+    assert_eq!(unreadable("ttrt 100\nttrt\n"), 2);
+    assert_eq!(unreadable("station 1 1 1 1\nttrt 100\nttrt 100\nttrt x\nstop\n"), 4);
     assert_eq!(unreadable("ttrt 100 1\n"), 1);
     assert_eq!(unreadable("ttrt 4294967296\n"), 1);
     assert_eq!(unreadable("ttrt -1\n"), 1);
@@ -66,6 +66,18 @@ fn texts_that_are_refused() {
     assert_eq!(refused("ttrt 4294967295\nstation 1 0 1 1\n"), 4);
     assert_eq!(refused("ttrt 1\nstation 2 0 1 1\n"), 5);
     assert_eq!(refused("ttrt 100\nstation 1 20 100 100 19\n"), 7);
+}
+
+#[test]
+fn ttrt_stands_once_and_first() {
+    assert_eq!(refused("station 1 0 100 100\n"), 2);
+    assert_eq!(refused("station 1 0 100 100\nttrt 100\n"), 2);
+    assert_eq!(refused("station 1 0 100 100\nttrt 100\nstation 1 0 100 100\n"), 2);
+    assert_eq!(refused("ttrt 100\nttrt 100\n"), 2);
+    assert_eq!(refused("ttrt 100\nttrt 100\nstation 1 0 100 100\n"), 2);
+    assert_eq!(refused("ttrt 100\nstation 1 0 100 100\nttrt 100\n"), 2);
+    assert_eq!(refused("ttrt 0\nstation 9 9 9 1\nttrt 0\n"), 2);
+    assert_eq!(refused(&("station 1 0 1 1\n".repeat(200) + "ttrt 500\n")), 2);
 }
 
 #[test]
