@@ -48,14 +48,27 @@ fn show() {
     io::write_all(STDOUT_FILENO, &page[..length]);
 }
 
-// The command that the first argument names; with none, `plan`.
+// How many words a command takes, the program's name and its own among them.
+fn words_of(command: u8) -> usize {
+    if command == commands::RUN {
+        return 3;
+    }
+    2
+}
+
+// The command that the arguments ask for: with none, `plan`; with a word too many or too few, `help`.
 fn command() -> u8 {
-    if os::arg_count() < 2 {
+    let given = os::arg_count();
+    if given < 2 {
         return commands::PLAN;
     }
     let mut word = io::buffer();
     let length = os::arg(1, &mut word);
-    commands::command_of(&word[..length])
+    let named = commands::command_of(&word[..length]);
+    if given != words_of(named) {
+        return commands::HELP;
+    }
+    named
 }
 
 fn main() {

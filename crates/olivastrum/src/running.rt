@@ -1,5 +1,6 @@
 // `run PLAN`: the calls on standard input, answered line by line.
 use calls::Run;
+use libc::STDERR_FILENO;
 use libc::STDIN_FILENO;
 use libc::STDOUT_FILENO;
 
@@ -49,11 +50,9 @@ fn hear_all(run: Run) -> Run {
     stands
 }
 
-// The plan sheet in a file: a plan of 128 stations has 3,338 bytes; one more tells that a byte follows it.
-fn start(file: i32) {
-    let mut sheet: [u8; 3_339] = [0; 3_339];
-    let read = io::read_full(file, &mut sheet);
-    let opened = calls::open_run(&sheet[..read]);
+// Opens the ring of a plan sheet, and answers the calls.
+fn start(sheet: &[u8]) {
+    let opened = calls::open_run(sheet);
     let number = opened.number;
     if number != 0 {
         crate::refuse(STDOUT_FILENO, number);
@@ -65,18 +64,38 @@ fn start(file: i32) {
     hear(behind, b"\n");
 }
 
+// Names the path, and what the system says of it.
+fn fail(path: &[u8]) {
+    io::write_all(STDERR_FILENO, b"run: ");
+    os::fail(path);
+}
+
+// Reads the plan sheet in an open file: one of 128 stations has 3,338 bytes; one more tells that a byte follows it.
+fn read_plan(file: i32, path: &[u8]) {
+    let mut sheet: [u8; 3_339] = [0; 3_339];
+    let read = io::read_full(file, &mut sheet);
+    // Where the file has ended, a further read gives 0; where it cannot be read, as a folder, it fails again.
+    let mut further: [u8; 1] = [0; 1];
+    let got = libc::read(file, &mut further);
+    if got < 0 {
+        fail(path);
+        return;
+    }
+    start(&sheet[..read]);
+}
+
 pub(crate) fn run() {
     let mut path = io::buffer();
     let length = os::arg(2, &mut path);
     if os::errno() != 0 {
-        os::fail(b"run: the file of the plan");
+        fail(b"the path of the plan");
         return;
     }
     let file = os::open_read(&path[..length]);
     if file < 0 {
-        os::fail(&path[..length]);
+        fail(&path[..length]);
         return;
     }
-    start(file);
+    read_plan(file, &path[..length]);
     libc::close(file);
 }
