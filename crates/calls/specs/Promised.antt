@@ -1,15 +1,22 @@
 -- What is promised of a run of calls beside the contracts; `proofs/Promised.antt` proves it.
-use Prim.Native.Nat.{ℕ}
+use Prim.Native.Nat.{ℕ, _<_, _^_}
 use mathlib.Core.Path.{_≡_}
 use mathlib.Core.Bool.{true, false}
-use mathlib.Core.List.{List, _++_}
+use mathlib.Core.List.{List, [], _∷_, _++_}
 use Rattle.units.specs.Places.{at}
 use Rattle.rings.specs.Steps.{visited}
 use Rattle.rings.specs.HandingIn.{handedIn}
-use Rattle.text.specs.Text.{newline, unreadLine}
-use Rattle.text.specs.Scan.{isEmptyLine}
-use Rattle.calls.specs.RunText.{isVisit, isMessage, messageIn, visitText, takenText, runOn, saidAt, runAfter, saidOver}
+use Rattle.rings.specs.declared.Ring.{Ring}
+use Rattle.rings.specs.declared.Message.{Message}
+use Rattle.text.specs.Text.{newline, decimalOf, line, unreadLine}
+use Rattle.text.specs.Scan.{freshScan, isEmptyLine, nextLine}
+use Rattle.calls.specs.RunText.{visitWord, messageWord, isVisit, isMessage, messageIn, visitText, takenText, runOn, saidAt, runAfter, saidOver}
 use Rattle.calls.specs.declared.Run.{Run}
+
+-- at this line of text the run says this, and the ring behind it is this one; the run stands at the start of the next line
+pub record Says (u : Run) (text said : List ℕ) (ring : Ring) : Type 0 where
+  pub says : saidOver u text ≡ said
+  pub behind : runAfter u text ≡ record { ring = ring; scan = freshScan; line = nextLine (u .line) }
 
 pub record Promised : Type 0 where
   -- a run may be read in pieces of any length: the ring stands where it would, and the same is said
@@ -26,3 +33,10 @@ pub record Promised : Type 0 where
   -- one that cannot be read is named, and the ring is unchanged
   pub unread-named : (u : Run) → isEmptyLine (u .scan) ≡ false → isVisit (u .scan) ≡ false → isMessage (u .scan) ≡ false
       → (saidAt u newline ≡ unreadLine (u .line)) × (runOn u newline .ring ≡ u .ring)
+  -- the text of a call is that call: `visit ASK` is the ring's visit with that ask
+  pub visit-typed : (u : Run) (ask : ℕ) → u .scan ≡ freshScan → ask < 2 ^ 32
+      → Says u (line (visitWord ∷ decimalOf ask ∷ [])) (visitText (visited (u .ring) ask .answer)) (visited (u .ring) ask .ring)
+  -- `message STATION LENGTH ARRIVAL` is the handing in of that message
+  pub message-typed : (u : Run) (m : Message) → u .scan ≡ freshScan → m .station .0 < 2 ^ 32 → m .length .0 < 2 ^ 64 → m .arrival .0 < 2 ^ 64
+      → Says u (line (messageWord ∷ decimalOf (m .station .0) ∷ decimalOf (m .length .0) ∷ decimalOf (m .arrival .0) ∷ []))
+      (takenText (handedIn (u .ring) m .number)) (handedIn (u .ring) m .ring)

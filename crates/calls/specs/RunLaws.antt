@@ -26,6 +26,7 @@ use Rattle.rings.specs.declared.Taken.{Taken}
 use Rattle.text.specs.Text.{line, lineOn, space, newline, decimalOf, pageSize, unreadLine}
 use Rattle.text.specs.TextLaws.{line-first, line-next, printed, not-printed}
 use Rattle.calls.specs.RunText.{dash, isVisit, isMessage, messageIn, signOf, signedOf, completion, visitText, takenText, answerText, ringAfter, runOn, saidAt, runAfter, saidOver, runFrom, openedRun, pieceSize, pieceOf, RanPiece, RanOn}
+use Rattle.text.specs.ScanLaws.{steppedOver, hasNoEnd, first-and-rest}
 use Rattle.text.specs.Scan.{isReadable, isEmptyLine, nextLine, freshScan, stepped}
 use Rattle.calls.specs.declared.Run.{Run}
 use Rattle.calls.specs.declared.Ran.{Ran}
@@ -105,6 +106,27 @@ goes-on u b e = (rw (ne-eqb b newline e), rw (ne-eqb b newline e))
 pub line-ends : (u : Run) (b : ℕ) → b ≡ newline → (runOn u b ≡ record { ring = ringAfter (u .ring) (u .scan); scan = freshScan; line = nextLine (u .line) }) × (saidAt u b ≡ answerText (u .ring) (u .scan) (u .line))
 unfolding runOn saidAt
 line-ends u b e = (rw (eq-eqb b newline e), rw (eq-eqb b newline e))
+
+-- ---- a whole line
+
+-- a line is answered by what was scanned of it
+pub run-line : (u : Run) (bs : List ℕ) → hasNoEnd bs ≡ true
+    → runAfter u (bs ++ (newline ∷ [])) ≡ record { ring = ringAfter (u .ring) (steppedOver (u .scan) bs); scan = freshScan; line = nextLine (u .line) }
+unfolding runAfter steppedOver
+run-line u [] h = line-ends u newline refl .0
+run-line u (b ∷ bs) h =
+    let inside = first-and-rest b bs h in
+    ap (λ (x : Run). runAfter x (bs ++ (newline ∷ []))) (goes-on u b (inside .0) .0)
+    ∙ run-line (record { ring = u .ring; scan = stepped (u .scan) b; line = u .line }) bs (inside .1)
+
+pub said-line : (u : Run) (bs : List ℕ) → hasNoEnd bs ≡ true → saidOver u (bs ++ (newline ∷ [])) ≡ answerText (u .ring) (steppedOver (u .scan) bs) (u .line)
+unfolding saidOver steppedOver
+said-line u [] h = append-nil (saidAt u newline) ∙ line-ends u newline refl .1
+said-line u (b ∷ bs) h =
+    let inside = first-and-rest b bs h in
+    let on = goes-on u b (inside .0) in
+    rw (on .1) (ap (λ (x : Run). saidOver x (bs ++ (newline ∷ []))) (on .0))
+    ∙ said-line (record { ring = u .ring; scan = stepped (u .scan) b; line = u .line }) bs (inside .1)
 
 -- ---- a piece of the text
 

@@ -2,9 +2,9 @@
 use Prim.Native.Nat.{ℕ, _+_, _^_, _≤_, _<_}
 use mathlib.Core.Path.{_≡_}
 use mathlib.Core.Bool.{Bool, true, false, cond, _&&_, _||_}
-use mathlib.Core.List.{List, [], _∷_}
+use mathlib.Core.List.{List, [], _∷_, _++_}
 use lib.Dec.{ltb, eqb}
-use lib.ListN.{length, take, set}
+use lib.ListN.{length, take, drop, set}
 use Rattle.units.specs.Numbers.{wrongShape}
 use Rattle.units.specs.Places.{at}
 use Rattle.sets.specs.Judged.{blankSet}
@@ -182,3 +182,15 @@ pub record WroteDraft (d : Draft) (before after : List ℕ) (w : Written) : Type
   -- the sheet lies inside the buffer; both lines say so, for whoever lends its bytes
   pub fits : w .length ≤ length after
   pub counts : w .length ≡ length (take (w .length) after)
+
+-- ---- a whole text
+
+-- the draft of a whole text, whose last line may lack its newline
+abbrev pub draftOf : List ℕ → Draft
+draftOf text = composeAfter composeStart (text ++ (newline ∷ [])) .draft
+
+-- `compose` makes this sheet of the text: every line can be read, and the sheet stands in front of any buffer with room for it, all behind it as it was
+pub record Composes (text sheet : List ℕ) : Type 0 where
+  pub readable : draftOf text .unread ≡ 0
+  pub answer : (out : List ℕ) → length sheet ≤ length out → composedAnswer (draftOf text) out ≡ record { length = length sheet; number = 0 }
+  pub buffer : (out : List ℕ) → length sheet ≤ length out → composedBuffer (draftOf text) out ≡ sheet ++ drop (length sheet) out

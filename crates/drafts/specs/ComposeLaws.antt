@@ -1,6 +1,6 @@
 -- The laws of what `compose` makes of a text, for the proofs of this layer. No rule stands here.
 use Prim.Native.Nat.{ℕ, _≤_, _^_}
-use mathlib.Core.Path.{_≡_, refl, sym, ap}
+use mathlib.Core.Path.{_≡_, refl, sym, ap, _∙_}
 use mathlib.Core.Bool.{true, false}
 use mathlib.Core.List.{List, [], _∷_, _++_}
 use mathlib.Core.Logic.{_≢_}
@@ -15,6 +15,7 @@ use Rattle.plans.specs.Planned.{blankAlloc}
 use Rattle.sheets.specs.Writing.{refusedWriting, Wrote}
 use Rattle.sheets.specs.declared.Written.{Written}
 use Rattle.text.specs.Text.{newline}
+use Rattle.text.specs.ScanLaws.{steppedOver, hasNoEnd, first-and-rest}
 use Rattle.text.specs.Scan.{freshScan, stepped, isReadable}
 use Rattle.sheets.specs.WriteLaws.{written-fits}
 use Rattle.drafts.specs.Compose.{allFit, isLine, NumbersFit, lineDrafted, onNextLine, composeOn, composeAfter, isWhole, composedAnswer, composedBuffer, WroteDraft}
@@ -58,6 +59,31 @@ text-goes-on c b e = rw (ne-eqb b newline e)
 pub text-line-ends : (c : Composing) (b : ℕ) → b ≡ newline → composeOn c b ≡ record { draft = onNextLine (lineDrafted (c .draft) (c .scan)); scan = freshScan }
 unfolding composeOn
 text-line-ends c b e = rw (eq-eqb b newline e)
+
+-- it may be read in pieces
+pub compose-append : (c : Composing) (first rest : List ℕ) → composeAfter c (first ++ rest) ≡ composeAfter (composeAfter c first) rest
+unfolding composeAfter
+compose-append c [] rest = refl
+compose-append c (b ∷ first) rest = compose-append (composeOn c b) first rest
+
+-- a line is drafted by what was scanned of it
+pub compose-line : (c : Composing) (bs : List ℕ) → hasNoEnd bs ≡ true
+    → composeAfter c (bs ++ (newline ∷ [])) ≡ record { draft = onNextLine (lineDrafted (c .draft) (steppedOver (c .scan) bs)); scan = freshScan }
+unfolding composeAfter steppedOver
+compose-line c [] h = text-line-ends c newline refl
+compose-line c (b ∷ bs) h =
+    let inside = first-and-rest b bs h in
+    ap (λ (x : Composing). composeAfter x (bs ++ (newline ∷ []))) (text-goes-on c b (inside .0))
+    ∙ compose-line (record { draft = c .draft; scan = stepped (c .scan) b }) bs (inside .1)
+
+-- between two lines
+abbrev pub atRest : Draft → Composing
+atRest d = record { draft = d; scan = freshScan }
+
+-- one newline more between two lines counts a line, and changes nothing else
+pub newline-more : (d : Draft) → composeAfter (atRest d) (newline ∷ []) ≡ atRest (onNextLine d)
+unfolding lineDrafted hasNoEnd steppedOver
+newline-more d = compose-line (atRest d) [] refl
 
 -- ---- the sheet
 

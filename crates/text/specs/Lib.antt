@@ -3,8 +3,9 @@
 --     Scan       how a line of text is read
 --     Promised   what is promised beside the contracts
 -- and the laws of these, for the proofs of this layer and those above; a reader of the rules need not look into them:
---     TextLaws
+--     TextLaws, ScanLaws
 pub mod Text
 pub mod Scan
 pub mod Promised
 pub mod TextLaws
+pub mod ScanLaws

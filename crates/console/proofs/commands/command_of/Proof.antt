@@ -1,5 +1,5 @@
 -- `command_of` is right because it compares the word with each command in turn.
-use mathlib.Core.Path.{sym, _∙_}
+use mathlib.Core.Path.{refl, sym, _∙_}
 use Rattle.console.specs.Commands.{commandOf}
 use borrow.Author.Needs.{needs}
 use Rattle.console.proofs.commands.command_of.Statement.{statement}
@@ -30,6 +30,7 @@ returns-2 c =
       sym (c .before .before .before .before .same-bytes .ensures) ∙ c .before .before .before .if1 .left,
       sym (c .before .same-bytes2 .ensures) ∙ c .if2 .taken,
     )
+    refl
 
 slice-aggregate-same-bytes-3 : tie.Need-slice-aggregate-same-bytes-3
 slice-aggregate-same-bytes-3 c = search needs
@@ -45,6 +46,7 @@ returns-3 c =
       sym (c .before .before .before .before .same-bytes2 .ensures) ∙ c .before .before .before .if2 .left,
       sym (c .before .same-bytes3 .ensures) ∙ c .if3 .taken,
     )
+    refl
 
 slice-aggregate-same-bytes-4 : tie.Need-slice-aggregate-same-bytes-4
 slice-aggregate-same-bytes-4 c = search needs
@@ -61,6 +63,7 @@ returns-4 c =
       sym (c .before .before .before .before .same-bytes3 .ensures) ∙ c .before .before .before .if3 .left,
       sym (c .before .same-bytes4 .ensures) ∙ c .if4 .taken,
     )
+    refl
 
 slice-aggregate-same-bytes-5 : tie.Need-slice-aggregate-same-bytes-5
 slice-aggregate-same-bytes-5 c = search needs
@@ -78,6 +81,7 @@ returns-5 c =
       sym (c .before .before .before .before .same-bytes4 .ensures) ∙ c .before .before .before .if4 .left,
       sym (c .before .same-bytes5 .ensures) ∙ c .if5 .taken,
     )
+    refl
 
 returns-6 : tie.Need-returns-6
 unfolding commandOf
@@ -89,6 +93,7 @@ returns-6 c =
       sym (c .before .before .before .before .same-bytes4 .ensures) ∙ c .before .before .before .if4 .left,
       sym (c .before .same-bytes5 .ensures) ∙ c .if5 .left,
     )
+    refl
 
 pub command-of-spec : {M : Type 1} → statement M
 command-of-spec =

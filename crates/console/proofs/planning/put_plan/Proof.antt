@@ -1,4 +1,5 @@
 -- `put_plan` is right because the stations' lines stand behind the first line.
+use mathlib.Core.Path.{refl}
 use native.Mathlib.Omega.{arith}
 use Rattle.console.specs.PlanText.{planLines}
 use Rattle.text.specs.TextLaws.{put-short-then, put-as}
@@ -38,7 +39,7 @@ returns c =
     let counted = rotated .before in
     let start = counted .before .before in
     put-as (put-short-then (first .put-plan-line .ensures) (second .put-shares .ensures) (omega (arith, start .pre)))
-    (rw (counted .wide .ensures .same, rotated .wide2 .ensures .same, walked .walk-time .ensures .sum, spared .spare .ensures))
+    (rw (counted .wide .ensures .same, rotated .wide2 .ensures .same, walked .walk-time .ensures .sum, spared .spare .ensures) refl)
     (omega arith)
 
 pub put-plan-spec : {M : Type 1} → statement M

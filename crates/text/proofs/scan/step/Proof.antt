@@ -1,14 +1,22 @@
 -- `step` is right because it asks in turn whether the line is over, a comment begins, or a blank parts its words.
-use mathlib.Core.Path.{sym, _∙_}
+use Prim.Native.Nat.{ℕ}
+use mathlib.Core.Path.{_≡_, sym, _∙_}
+use mathlib.Core.Bool.{true, _||_}
+use lib.Dec.{eqb}
 use borrow.Author.Tests.{eq-eqb, ne-eqb}
-use Rattle.text.specs.Scan.{stepped}
+use Rattle.text.specs.Scan.{inComment, unreadable, stepped}
+use Rattle.text.specs.declared.scan.Scan.{Scan}
 use borrow.Author.Needs.{needs}
 use Rattle.text.proofs.scan.step.Statement.{statement}
 use Rattle.text.proofs.scan.step.Tie as tie
 
-returns : tie.Need-returns
+-- behind a comment's start or a fault nothing changes
+stays : (s : Scan) (b : ℕ) → (eqb (s .phase) inComment || eqb (s .phase) unreadable) ≡ true → s ≡ stepped s b
 unfolding stepped
-returns c = rw (c .if1 .taken)
+stays s b over = rw over
+
+returns : tie.Need-returns
+returns c = stays _ _ (c .if1 .taken)
 
 in-phase-requires : tie.Need-in-phase-requires
 in-phase-requires c κs = search needs
