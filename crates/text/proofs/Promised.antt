@@ -1,13 +1,14 @@
 -- Everything that `specs/Promised.antt` lists, proved.
 use Prim.Native.Nat.{ℕ, zero, suc, _+_, _-_, _*_, _/_, _%_, _<_, _≤_, _^_}
-use mathlib.Core.Path.{_≡_, refl, ap, _∙_}
+use mathlib.Core.Path.{_≡_, refl, sym, ap, _∙_}
 use mathlib.Core.List.{List, [], _∷_, _++_}
 use mathlib.Core.Logic.{⊎-elim}
 use native.Mathlib.Omega.{arith}
 use native.Mathlib.Nat.{pow-suc, div-lt-iff-lt-mul}
 use borrow.Author.Tests.{lt-ltb, le-ltb}
 use Rattle.units.specs.SmallLaws.{below-or-not}
-use Rattle.text.specs.Text.{digit, decimalWithin}
+use lib.ListN.{length}
+use Rattle.text.specs.Text.{PutWithin, digit, decimalWithin}
 use Rattle.text.specs.Promised.{Promised, valueOn}
 
 -- ---- the digits of a number write it
@@ -30,5 +31,20 @@ value-within (suc j) n h =
     rw (le-ltb n 10 b) (d ∙ omega arith))
     (below-or-not n 10)
 
+-- ---- what is put is decided
+
+put-decided : (most : ℕ) (before : List ℕ) (a : ℕ) (segment : List ℕ) (after after' : List ℕ) (r r' : ℕ)
+    → PutWithin most before a segment after r → PutWithin most before a segment after' r' → (after ≡ after') × (r ≡ r')
+put-decided most before a segment after after' r r' p q =
+    ⊎-elim (λ (b : length before < a + most). (p .full b .0 ∙ sym (q .full b .0), p .full b .1 ∙ sym (q .full b .1)))
+    (λ (b : a + most ≤ length before).
+    ⊎-elim (λ (l : most < length segment). (p .long l .0 ∙ sym (q .long l .0), p .long l .1 ∙ sym (q .long l .1)))
+    (λ (l : length segment ≤ most).
+    let u = p .put b l .put in
+    let v = q .put b l .put in
+    (u .page ∙ sym (v .page), u .next ∙ sym (v .next)))
+    (below-or-not most (length segment)))
+    (below-or-not (length before) (a + most))
+
 pub promised : Promised
-promised = record { decimal = λ n h. value-within 19 n (omega arith) }
+promised = record { decimal = λ n h. value-within 19 n (omega arith); put-decided = put-decided }

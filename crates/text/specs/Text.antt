@@ -1,5 +1,5 @@
 -- Text as bytes: decimal numbers, and lines of words.
-use Prim.Native.Nat.{ℕ, zero, suc, _+_, _/_, _%_, _≤_}
+use Prim.Native.Nat.{ℕ, zero, suc, _+_, _/_, _%_, _≤_, _<_}
 use mathlib.Core.Path.{_≡_}
 use mathlib.Core.Bool.{cond}
 use mathlib.Core.List.{List, [], _∷_, _++_}
@@ -85,6 +85,14 @@ Room page a segment = a + length segment ≤ length page
 pub record PutShort (most : ℕ) (before : List ℕ) (a : ℕ) (segment after : List ℕ) (r : ℕ) : Type 0 where
   pub put : Put before a segment after r
   pub short : length segment ≤ most
+
+-- the segment was put, if it has at most so many bytes and the page has room for as many from the place a on; else the page is as it was, and r is the place itself
+pub record PutWithin (most : ℕ) (before : List ℕ) (a : ℕ) (segment after : List ℕ) (r : ℕ) : Type 0 where
+  pub put : a + most ≤ length before → length segment ≤ most → PutShort most before a segment after r
+  pub full : length before < a + most → (after ≡ before) × (r ≡ a)
+  pub long : most < length segment → (after ≡ before) × (r ≡ a)
+  -- how far the place moves at most, for whoever puts more behind it
+  pub reach : r ≤ a + most
 
 -- ---- a page that is handed out
 

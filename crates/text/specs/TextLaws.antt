@@ -13,7 +13,7 @@ use lib.Seq.{sets-eq, length-take-le}
 use Rattle.units.specs.SmallLaws.{below-or-not}
 use Rattle.sheets.specs.Rows.{laid, rows}
 use Rattle.sheets.specs.RowLaws.{laid-none, laid-length, laid-then, laid-first}
-use Rattle.text.specs.Text.{digit, decimalWithin, decimalOf, lineOn, line, newline, space, Put, PutShort, Printed, pageSize, pageWith, lengthOn, textOr, refusedLine}
+use Rattle.text.specs.Text.{digit, decimalWithin, decimalOf, lineOn, line, newline, space, Put, PutShort, PutWithin, Printed, pageSize, pageWith, lengthOn, textOr, refusedWord, refusedLine, lineWord, cannotBeRead, unreadLine}
 
 -- ---- text put into a page
 
@@ -46,7 +46,42 @@ put-short-then {before} {middle} {after} {s} {t} {a} {r} {q} p k fits =
 pub put-as : {before after s t : List ℕ} {a r most more : ℕ} → PutShort most before a s after r → s ≡ t → most ≤ more → PutShort more before a t after r
 put-as {before} {after} {s} {t} {a} {r} p e l = rw (← e) (record { put = p .put; short = omega (arith, p .short) })
 
--- a text at the start of a page
+-- ---- a segment put if there is room
+
+pub within-put : {before after s : List ℕ} {a r most : ℕ} → a + most ≤ length before → PutShort most before a s after r → PutWithin most before a s after r
+within-put room p =
+    record {
+      put = λ h few. p;
+      full = λ h. absurd (omega arith);
+      long = λ h. absurd (omega (arith, p .short));
+      reach = omega (arith, p .put .next, p .short);
+    }
+
+pub within-full : {before s : List ℕ} {a most : ℕ} → length before < a + most → PutWithin most before a s before a
+within-full small =
+    record {
+      put = λ h few. absurd (omega arith);
+      full = λ h. (refl, refl);
+      long = λ h. (refl, refl);
+      reach = omega arith;
+    }
+
+pub within-long : {before s : List ℕ} {a most : ℕ} → most < length s → PutWithin most before a s before a
+within-long large =
+    record {
+      put = λ h few. absurd (omega arith);
+      full = λ h. (refl, refl);
+      long = λ h. (refl, refl);
+      reach = omega arith;
+    }
+
+-- what is put behind a segment, with room for both
+pub within-then : {before middle after s t : List ℕ} {a r q most more : ℕ} → PutShort most before a s middle r → PutWithin more middle r t after q → length t ≤ more → a + most + more ≤ length before → PutShort (most + more) before a (s ++ t) after q
+within-then p k few fits =
+    put-short-then p (k .put (omega (arith, p .put .next, p .short, put-length (p .put) (omega (arith, p .short)))) few) fits
+
+-- ---- a text at the start of a page
+
 pub printed : {text segment before after : List ℕ} {r most : ℕ} → PutShort most before 0 segment after r → segment ≡ text → pageSize ≤ length before → most ≤ pageSize → Printed text before after r
 unfolding pageWith lengthOn
 printed {text} {segment} {before} {after} {r} p same large few =
@@ -84,6 +119,16 @@ decimal-short (suc k) n =
     rw (le-ltb n 10 b)
     (omega (arith, length-append (decimalWithin k (n / 10)) (digit (n % 10) ∷ []), decimal-short k (n / 10))))
     (below-or-not n 10)
+
+pub field-short : (n : ℕ) → length (space ∷ decimalOf n) ≤ 21
+field-short n = omega (arith, decimal-short 20 n)
+
+-- a number's field, or the line's end, put behind a segment
+pub field-then : {before middle after s : List ℕ} {a r q most : ℕ} (n : ℕ) → PutShort most before a s middle r → PutWithin 21 middle r (space ∷ decimalOf n) after q → a + most + 21 ≤ length before → PutShort (most + 21) before a (s ++ (space ∷ decimalOf n)) after q
+field-then n p k fits = within-then p k (field-short n) fits
+
+pub end-then : {before middle after s : List ℕ} {a r q most : ℕ} → PutShort most before a s middle r → PutWithin 1 middle r (newline ∷ []) after q → a + most + 1 ≤ length before → PutShort (most + 1) before a (s ++ (newline ∷ [])) after q
+end-then p k fits = within-then p k (omega arith) fits
 
 -- more places than are needed change nothing
 pub decimal-more : (k n : ℕ) → n < 10 ^ suc k → decimalWithin (suc (suc k)) n ≡ decimalWithin (suc k) n
@@ -132,6 +177,21 @@ line-parts word part rest = rw (line-first, line-next, line-end) (simp append-as
 pub line-on-two : (v w : List ℕ) → lineOn (v ∷ w ∷ []) ≡ ((space ∷ v) ++ (space ∷ w)) ++ (newline ∷ [])
 unfolding lineOn
 line-on-two v w = simp append-assoc
+
+pub line-two : (v w : List ℕ) → line (v ∷ w ∷ []) ≡ (v ++ (space ∷ w)) ++ (newline ∷ [])
+line-two v w = rw (line-first, line-next, line-end)
+
+line-two-length : (v w : List ℕ) → length (line (v ∷ w ∷ [])) ≡ length v + length w + 2
+line-two-length v w =
+    rw (line-two v w)
+    (omega (arith, length-append v (space ∷ w), length-append (v ++ (space ∷ w)) (newline ∷ [])))
+
+-- the two lines that say why there is no answer have at most 42 bytes
+pub refused-short : (n : ℕ) → length (refusedLine n) ≤ 42
+refused-short n = omega (arith, line-two-length refusedWord (decimalOf n), decimal-short 20 n)
+
+pub unread-short : (n : ℕ) → length (unreadLine n) ≤ 42
+unread-short n = omega (arith, line-two-length lineWord (decimalOf n ++ cannotBeRead), length-append (decimalOf n) cannotBeRead, decimal-short 20 n)
 
 -- a line of five words and more
 pub line-five : (v a b c d : List ℕ) (rest : List (List ℕ)) → line (v ∷ a ∷ b ∷ c ∷ d ∷ rest) ≡ ((((v ++ (space ∷ a)) ++ (space ∷ b)) ++ (space ∷ c)) ++ (space ∷ d)) ++ lineOn rest

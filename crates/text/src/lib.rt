@@ -1,10 +1,11 @@
-// Text: put into a page, and read line by line (`scan`). Each function here puts a text into the page from a place on, and answers the place behind it; it asks for room, and whoever hands out the page sees to that once.
+// Text: put into a page, and read line by line (`scan`). Each public function here puts a text into the page from a place on, and answers the place behind it. If the page has no room for the most bytes that it may put, the page stays as it was and the answer is the place itself.
 pub mod scan;
 
+ghost use mathlib.Core.Path.{_≡_};
 ghost use mathlib.Core.List.{List, [], _∷_};
-ghost use Prim.Native.Nat.{_+_, _<_, _≤_};
+ghost use Prim.Native.Nat.{_+_, _-_, _<_, _≤_};
 ghost use lib.ListN.{length};
-ghost use Rattle.text.specs.Text.{Put, PutShort, Room, digit, decimalOf, space, newline, refusedLine, unreadLine};
+ghost use Rattle.text.specs.Text.{Put, PutShort, PutWithin, Room, digit, decimalOf, space, newline, refusedLine, unreadLine};
 
 // How many bytes a page must have, so that every text of the program fits.
 pub const PAGE_SIZE: usize = 65_536;
@@ -53,56 +54,89 @@ fn put_decimal(page: &mut [u8], at: usize, n: u64) -> usize
     put_digit(page, next, n % 10)
 }
 
+// A space, and a number.
+fn put_spaced(page: &mut [u8], at: usize, n: u64) -> usize
+    requires { ⌜ at + 21 ≤ length (now page) ⌝ }
+    ensures { λ r. ⌜ PutShort 21 (now (page .entry)) at (space ∷ decimalOf n) (now (page .exit)) r ⌝ }
+{
+    let next = put_byte(page, at, b' ');
+    put_decimal(page, next, n)
+}
+
+// How many bytes a page of this size has from the place on.
+fn left(size: usize, at: usize) -> usize
+    ensures { λ r. ⌜ r ≡ size - at ⌝ }
+{
+    if size < at {
+        return 0;
+    }
+    size - at
+}
+
 // A word of at most 20 bytes.
 pub fn put_short(page: &mut [u8], at: usize, word: &[u8]) -> usize
-    requires { ⌜ (length (now word) ≤ 20) × (at + 20 ≤ length (now page)) ⌝ }
-    ensures { λ r. ⌜ PutShort 20 (now (page .entry)) at (now (word .entry)) (now (page .exit)) r ⌝ }
+    ensures { λ r. ⌜ PutWithin 20 (now (page .entry)) at (now (word .entry)) (now (page .exit)) r ⌝ }
 {
+    if word.len() > 20 {
+        return at;
+    }
+    if left(page.len(), at) < 20 {
+        return at;
+    }
     put_word(page, at, word)
 }
 
 // A number at the start of a line.
 pub fn put_number(page: &mut [u8], at: usize, n: u64) -> usize
-    requires { ⌜ at + 20 ≤ length (now page) ⌝ }
-    ensures { λ r. ⌜ PutShort 20 (now (page .entry)) at (decimalOf n) (now (page .exit)) r ⌝ }
+    ensures { λ r. ⌜ PutWithin 20 (now (page .entry)) at (decimalOf n) (now (page .exit)) r ⌝ }
 {
+    if left(page.len(), at) < 20 {
+        return at;
+    }
     put_decimal(page, at, n)
 }
 
 // A space, and a number.
 pub fn put_field(page: &mut [u8], at: usize, n: u64) -> usize
-    requires { ⌜ at + 21 ≤ length (now page) ⌝ }
-    ensures { λ r. ⌜ PutShort 21 (now (page .entry)) at (space ∷ decimalOf n) (now (page .exit)) r ⌝ }
+    ensures { λ r. ⌜ PutWithin 21 (now (page .entry)) at (space ∷ decimalOf n) (now (page .exit)) r ⌝ }
 {
-    let next = put_byte(page, at, b' ');
-    put_number(page, next, n)
+    if left(page.len(), at) < 21 {
+        return at;
+    }
+    put_spaced(page, at, n)
 }
 
 // The end of a line.
 pub fn put_end(page: &mut [u8], at: usize) -> usize
-    requires { ⌜ at + 1 ≤ length (now page) ⌝ }
-    ensures { λ r. ⌜ PutShort 1 (now (page .entry)) at (newline ∷ []) (now (page .exit)) r ⌝ }
+    ensures { λ r. ⌜ PutWithin 1 (now (page .entry)) at (newline ∷ []) (now (page .exit)) r ⌝ }
 {
+    if left(page.len(), at) < 1 {
+        return at;
+    }
     put_byte(page, at, b'\n')
 }
 
 // `refused`, and the number.
 pub fn put_refused(page: &mut [u8], at: usize, number: u8) -> usize
-    requires { ⌜ at + 42 ≤ length (now page) ⌝ }
-    ensures { λ r. ⌜ PutShort 42 (now (page .entry)) at (refusedLine number) (now (page .exit)) r ⌝ }
+    ensures { λ r. ⌜ PutWithin 42 (now (page .entry)) at (refusedLine number) (now (page .exit)) r ⌝ }
 {
-    let refused = put_short(page, at, b"refused");
-    let numbered = put_field(page, refused, number as u64);
-    put_end(page, numbered)
+    if left(page.len(), at) < 42 {
+        return at;
+    }
+    let refused = put_word(page, at, b"refused");
+    let numbered = put_spaced(page, refused, number as u64);
+    put_byte(page, numbered, b'\n')
 }
 
 // `line N: cannot be read`.
 pub fn put_unread(page: &mut [u8], at: usize, line: u64) -> usize
-    requires { ⌜ at + 240 ≤ length (now page) ⌝ }
-    ensures { λ r. ⌜ PutShort 240 (now (page .entry)) at (unreadLine line) (now (page .exit)) r ⌝ }
+    ensures { λ r. ⌜ PutWithin 42 (now (page .entry)) at (unreadLine line) (now (page .exit)) r ⌝ }
 {
-    let named = put_short(page, at, b"line");
-    let numbered = put_field(page, named, line);
-    let told = put_short(page, numbered, b": cannot be read");
-    put_end(page, told)
+    if left(page.len(), at) < 42 {
+        return at;
+    }
+    let named = put_word(page, at, b"line");
+    let numbered = put_spaced(page, named, line);
+    let told = put_word(page, numbered, b": cannot be read");
+    put_byte(page, told, b'\n')
 }

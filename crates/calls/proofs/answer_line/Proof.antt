@@ -2,7 +2,7 @@
 use mathlib.Core.Path.{sym, _∙_}
 use native.Mathlib.Omega.{arith}
 use Rattle.calls.specs.RunLaws.{answered-empty, answered-visit, answered-message, answered-unread, ask-small}
-use Rattle.text.specs.TextLaws.{put-none, put-as}
+use Rattle.text.specs.TextLaws.{unread-short, put-none, put-as}
 use borrow.Author.Needs.{needs}
 use Rattle.calls.proofs.answer_line.Statement.{statement}
 use Rattle.calls.proofs.answer_line.Tie as tie
@@ -90,7 +90,7 @@ returns-4 c =
     let start = filled .before .before .before in
     let both = answered-unread (start .args .ring) (start .args .s) (start .args .line) (sym (filled .before .is-empty-line .ensures) ∙ filled .if1 .left)
     (sym (other .before .is-visit .ensures) ∙ other .if2 .left) (sym (nothing .before .is-message .ensures) ∙ nothing .if3 .left) in
-    record { put = put-as (called .put-unread .ensures) (both .0) (omega arith); behind = both .1 }
+    record { put = put-as (called .put-unread .ensures .put (omega (arith, start .pre)) (unread-short _)) (both .0) (omega arith); behind = both .1 }
 
 pub answer-line-spec : {M : Type 1} → statement M
 answer-line-spec =

@@ -1,6 +1,6 @@
 -- `put_amounts` is right because its words are put one behind another.
 use native.Mathlib.Omega.{arith}
-use Rattle.text.specs.TextLaws.{put-short-then}
+use Rattle.text.specs.TextLaws.{field-short, field-then}
 use borrow.Author.Needs.{needs}
 use Rattle.calls.proofs.put_amounts.Statement.{statement}
 use Rattle.calls.proofs.put_amounts.Tie as tie
@@ -23,8 +23,9 @@ returns c =
     let second = third .before .before .before .before in
     let first = second .before .before .before .before in
     let room = first .before .before .before .pre in
-    let two = put-short-then (first .put-field .ensures) (second .put-field2 .ensures) (omega (arith, room)) in
-    put-short-then two (third .put-field3 .ensures) (omega (arith, room))
+    let one = first .put-field .ensures .put (omega (arith, room)) (field-short _) in
+    let two = field-then _ one (second .put-field2 .ensures) (omega (arith, room)) in
+    field-then _ two (third .put-field3 .ensures) (omega (arith, room))
 
 pub put-amounts-spec : {M : Type 1} → statement M
 put-amounts-spec =

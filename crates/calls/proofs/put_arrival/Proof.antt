@@ -1,6 +1,6 @@
 -- `put_arrival` is right because its words are put one behind another.
 use native.Mathlib.Omega.{arith}
-use Rattle.text.specs.TextLaws.{put-short-then}
+use Rattle.text.specs.TextLaws.{field-then}
 use borrow.Author.Needs.{needs}
 use Rattle.calls.proofs.put_arrival.Statement.{statement}
 use Rattle.calls.proofs.put_arrival.Tie as tie
@@ -30,9 +30,10 @@ returns c =
     let second = third .before .before .before .before in
     let first = second .before .before .before .before in
     let room = first .before .before .before .before .pre in
-    let two = put-short-then (first .put-short .ensures) (second .put-field .ensures) (omega (arith, room)) in
-    let three = put-short-then two (third .put-field2 .ensures) (omega (arith, room)) in
-    put-short-then three (fourth .put-field3 .ensures) (omega (arith, room))
+    let one = first .put-short .ensures .put (omega (arith, room)) (omega arith) in
+    let two = field-then _ one (second .put-field .ensures) (omega (arith, room)) in
+    let three = field-then _ two (third .put-field2 .ensures) (omega (arith, room)) in
+    field-then _ three (fourth .put-field3 .ensures) (omega (arith, room))
 
 pub put-arrival-spec : {M : Type 1} → statement M
 put-arrival-spec =

@@ -8,7 +8,7 @@ use native.Mathlib.Omega.{arith}
 use Rattle.text.specs.Text.{lineOn, space}
 use Rattle.calls.specs.RunText.{completion, signedOf}
 use Rattle.calls.specs.RunLaws.{completion-some}
-use Rattle.text.specs.TextLaws.{put-short-then, put-as, line-on-two}
+use Rattle.text.specs.TextLaws.{put-short-then, field-short, end-then, put-as, line-on-two}
 use borrow.Author.Needs.{needs}
 use Rattle.calls.proofs.put_completion.Statement.{statement}
 use Rattle.calls.proofs.put_completion.Tie as tie
@@ -32,7 +32,8 @@ returns c =
     let first = second .before .before .before .before in
     let none = first .before .before .before in
     let room = none .before .before .pre in
-    put-as (put-short-then (first .put-short .ensures) (second .put-end .ensures) (omega (arith, room))) (rw (none .if1 .taken)) (omega arith)
+    let one = first .put-short .ensures .put (omega (arith, room)) (omega arith) in
+    put-as (end-then one (second .put-end .ensures) (omega (arith, room))) (rw (none .if1 .taken)) (omega arith)
 
 put-field-requires : tie.Need-put-field-requires
 put-field-requires c κs = search needs
@@ -56,8 +57,9 @@ returns-2 c =
     let start = some .before .before in
     let stored = toZ-ofZ w64 (start .args .margin) (start .fits .margin) in
     let margin = put-as {more = 40} (second .put-margin .ensures) (ap (λ (z : ℤ). space ∷ signedOf z) stored) (omega arith) in
-    let two = put-short-then (first .put-field .ensures) margin (omega (arith, room)) in
-    rw (completion-some _ _ _ (some .if1 .left), line-on-two) (put-short-then two (third .put-end2 .ensures) (omega (arith, room)))
+    let one = first .put-field .ensures .put (omega (arith, room)) (field-short _) in
+    let two = put-short-then one margin (omega (arith, room)) in
+    rw (completion-some _ _ _ (some .if1 .left), line-on-two) (end-then two (third .put-end2 .ensures) (omega (arith, room)))
 
 pub put-completion-spec : {M : Type 1} → statement M
 put-completion-spec =

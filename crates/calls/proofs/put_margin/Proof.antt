@@ -5,7 +5,7 @@ use mir.Val.{toZ, ofZ}
 use mir.ValLaws.{toZ-ofZ}
 use Rattle.calls.specs.RunText.{signOf, withoutSign}
 use native.Mathlib.Omega.{arith}
-use Rattle.text.specs.TextLaws.{put-short-then, put-as}
+use Rattle.text.specs.TextLaws.{decimal-short, field-short, within-then, put-as}
 use Rattle.calls.specs.RunLaws.{sign-late, sign-none}
 use borrow.Author.Needs.{needs}
 use Rattle.calls.proofs.put_margin.Statement.{statement}
@@ -36,7 +36,8 @@ returns c =
     let stored = toZ-ofZ w64 (start .args .margin) (start .fits .margin) in
     let sign = sym (ap signOf stored) ∙ sign-late (toZ w64 (ofZ w64 (start .args .margin))) (late .if1 .taken) in
     let number = made .magnitude .ensures ∙ ap withoutSign stored in
-    put-as (put-short-then (first .put-short .ensures) (second .put-number .ensures) (omega (arith, start .pre)))
+    let one = first .put-short .ensures .put (omega (arith, start .pre)) (omega arith) in
+    put-as (within-then one (second .put-number .ensures) (decimal-short 20 _) (omega (arith, start .pre)))
     (rw (sign, ← number)) (omega arith)
 
 put-field-requires : tie.Need-put-field-requires
@@ -54,7 +55,7 @@ returns-2 c =
     let stored = toZ-ofZ w64 (start .args .margin) (start .fits .margin) in
     let sign = sym (ap signOf stored) ∙ sign-none (toZ w64 (ofZ w64 (start .args .margin))) (good .if1 .left) in
     let number = made .magnitude .ensures ∙ ap withoutSign stored in
-    put-as (called .put-field .ensures) (rw (sign, ← number)) (omega arith)
+    put-as (called .put-field .ensures .put (omega (arith, start .pre)) (field-short _)) (rw (sign, ← number)) (omega arith)
 
 pub put-margin-spec : {M : Type 1} → statement M
 put-margin-spec =

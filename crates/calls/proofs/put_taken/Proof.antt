@@ -1,7 +1,7 @@
 -- `put_taken` is right because it puts the refusal, or that the message was taken.
 use mathlib.Core.Path.{sym, _∙_}
 use native.Mathlib.Omega.{arith}
-use Rattle.text.specs.TextLaws.{text-accepted, text-refused, put-short-then, put-as, line-one}
+use Rattle.text.specs.TextLaws.{text-accepted, text-refused, refused-short, end-then, put-as, line-one}
 use borrow.Author.Needs.{needs}
 use Rattle.calls.proofs.put_taken.Statement.{statement}
 use Rattle.calls.proofs.put_taken.Tie as tie
@@ -15,7 +15,7 @@ same-length c = search needs
 returns : tie.Need-returns
 returns c =
     let called = c .before .before in
-    put-as (called .put-refused .ensures) (sym (text-refused _ _ (called .before .before .if1 .taken))) (omega arith)
+    put-as (called .put-refused .ensures .put (omega arith) (refused-short _)) (sym (text-refused _ _ (called .before .before .if1 .taken))) (omega arith)
 
 slice-aggregate-put-short : tie.Need-slice-aggregate-put-short
 slice-aggregate-put-short c = search needs
@@ -35,7 +35,8 @@ returns-2 c =
     let first = second .before .before .before .before in
     let kept = first .before .before .before in
     let room = kept .before .before .pre in
-    put-as (put-short-then (first .put-short .ensures) (second .put-end .ensures) (omega (arith, room)))
+    let one = first .put-short .ensures .put (omega (arith, room)) (omega arith) in
+    put-as (end-then one (second .put-end .ensures) (omega (arith, room)))
     (sym (line-one _) ∙ sym (text-accepted _ _ (kept .if1 .left))) (omega arith)
 
 pub put-taken-spec : {M : Type 1} → statement M

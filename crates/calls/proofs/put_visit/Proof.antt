@@ -1,7 +1,7 @@
 -- `put_visit` is right because it puts the refusal, or the visit's line.
 use mathlib.Core.Path.{sym}
 use native.Mathlib.Omega.{arith}
-use Rattle.text.specs.TextLaws.{text-accepted, text-refused, put-as}
+use Rattle.text.specs.TextLaws.{text-accepted, text-refused, refused-short, put-as}
 use borrow.Author.Needs.{needs}
 use Rattle.calls.proofs.put_visit.Statement.{statement}
 use Rattle.calls.proofs.put_visit.Tie as tie
@@ -15,7 +15,7 @@ same-length c = search needs
 returns : tie.Need-returns
 returns c =
     let called = c .before .before in
-    put-as (called .put-refused .ensures) (sym (text-refused _ _ (called .before .before .if1 .taken))) (omega arith)
+    put-as (called .put-refused .ensures .put (omega arith) (refused-short _)) (sym (text-refused _ _ (called .before .before .if1 .taken))) (omega arith)
 
 put-visit-line-requires : tie.Need-put-visit-line-requires
 put-visit-line-requires c κs = search needs

@@ -1,7 +1,7 @@
 -- `plan_text` is right because it reads, plans, and puts the refusal or the plan that the definition has.
 use mathlib.Core.Path.{_∙_}
 use native.Mathlib.Omega.{arith}
-use Rattle.text.specs.TextLaws.{printed, not-printed}
+use Rattle.text.specs.TextLaws.{refused-short, printed, not-printed}
 use Rattle.console.specs.PlanTextLaws.{reading-refused, reading-accepted, plan-refused, plan-accepted, planned-few}
 use borrow.Author.Needs.{needs}
 use Rattle.console.proofs.plan_text.Statement.{statement}
@@ -24,7 +24,7 @@ returns-2 c =
     let called = c .before .before in
     let refused = called .before .before in
     let read = refused .before .before in
-    printed (called .put-refused .ensures) (reading-refused _ _ (read .read-request .ensures) (refused .if2 .taken))
+    printed (called .put-refused .ensures .put (omega arith) (refused-short _)) (reading-refused _ _ (read .read-request .ensures) (refused .if2 .taken))
     (read .before .if1 .left) (omega arith)
 
 plan-requires : tie.Need-plan-requires
@@ -43,7 +43,7 @@ returns-3 c =
     let made = refused .before .before in
     let accepted = made .before .before in
     let read = accepted .before .before in
-    printed (called .put-refused2 .ensures)
+    printed (called .put-refused2 .ensures .put (omega arith) (refused-short _))
     (plan-refused _ _ _ (made .plan .ensures) (refused .if3 .taken) ∙ reading-accepted _ _ (read .read-request .ensures) (accepted .if2 .left))
     (read .before .if1 .left) (omega arith)
 

@@ -1,7 +1,7 @@
 -- `show_plan` is right because it puts the refusal of reading, or the text of the plan.
 use native.Mathlib.Omega.{arith}
 use Rattle.console.specs.ShowLaws.{plan-few, shown-plan-refused, shown-plan}
-use Rattle.text.specs.TextLaws.{put-as}
+use Rattle.text.specs.TextLaws.{refused-short, put-as}
 use borrow.Author.Needs.{needs}
 use Rattle.console.proofs.show_plan.Statement.{statement}
 use Rattle.console.proofs.show_plan.Tie as tie
@@ -19,7 +19,7 @@ returns : tie.Need-returns
 returns c =
     let called = c .before .before in
     let refused = called .before .before in
-    put-as (called .put-refused .ensures) (shown-plan-refused _ _ (refused .before .before .read-plan .ensures) (refused .if1 .taken)) (omega arith)
+    put-as (called .put-refused .ensures .put (omega arith) (refused-short _)) (shown-plan-refused _ _ (refused .before .before .read-plan .ensures) (refused .if1 .taken)) (omega arith)
 
 put-sheet-requires : tie.Need-put-sheet-requires
 put-sheet-requires c κs =

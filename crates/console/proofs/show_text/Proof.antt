@@ -5,7 +5,7 @@ use native.Mathlib.Omega.{arith}
 use Rattle.plans.specs.declared.Alloc.{Alloc}
 use Rattle.console.specs.ShowText.{sheetText}
 use Rattle.console.specs.ShowLaws.{request-few, shown-as-plan, shown-request-refused, shown-request}
-use Rattle.text.specs.TextLaws.{printed, not-printed}
+use Rattle.text.specs.TextLaws.{refused-short, printed, not-printed}
 use borrow.Author.Needs.{needs}
 use Rattle.console.proofs.show_text.Statement.{statement}
 use Rattle.console.proofs.show_text.Tie as tie
@@ -41,7 +41,7 @@ returns-3 c =
     let refused = called .before .before in
     let shaped = refused .before .before in
     let read = shaped .before .before in
-    printed (called .put-refused .ensures) (shown-request-refused _ _ (read .read-request .ensures) (shaped .if2 .left) (refused .if3 .taken)) (read .before .if1 .left) (omega arith)
+    printed (called .put-refused .ensures .put (omega arith) (refused-short _)) (shown-request-refused _ _ (read .read-request .ensures) (shaped .if2 .left) (refused .if3 .taken)) (read .before .if1 .left) (omega arith)
 
 blank-alloc-requires : tie.Need-blank-alloc-requires
 blank-alloc-requires c κs = search needs

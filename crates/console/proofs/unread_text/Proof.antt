@@ -1,7 +1,7 @@
 -- `unread_text` is right because it puts the line that names the line.
 use mathlib.Core.Path.{refl}
 use native.Mathlib.Omega.{arith}
-use Rattle.text.specs.TextLaws.{printed, not-printed}
+use Rattle.text.specs.TextLaws.{unread-short, printed, not-printed}
 use borrow.Author.Needs.{needs}
 use Rattle.console.proofs.unread_text.Statement.{statement}
 use Rattle.console.proofs.unread_text.Tie as tie
@@ -18,7 +18,7 @@ same-length c = search needs
 returns-2 : tie.Need-returns-2
 returns-2 c =
     let called = c .before .before in
-    printed (called .put-unread .ensures) refl (called .before .before .if1 .left) (omega arith)
+    printed (called .put-unread .ensures .put (omega arith) (unread-short _)) refl (called .before .before .if1 .left) (omega arith)
 
 pub unread-text-spec : {M : Type 1} → statement M
 unread-text-spec = tie.close (tie.spec returns put-unread-requires same-length returns-2)

@@ -1,8 +1,17 @@
--- `put_end` is right because it puts the one byte that ends a line.
+-- `put_end` is right because it puts the one byte that ends a line, if there is room for one.
 use native.Mathlib.Omega.{arith}
+use mathlib.Core.List.{[], _∷_}
+use Rattle.text.specs.Text.{Put, newline}
+use Rattle.text.specs.TextLaws.{within-put, within-full}
 use borrow.Author.Needs.{needs}
 use Rattle.text.proofs.put_end.Statement.{statement}
 use Rattle.text.proofs.put_end.Tie as tie
+
+left-requires : tie.Need-left-requires
+left-requires c κs = search needs
+
+returns : tie.Need-returns
+returns c = within-full (omega arith)
 
 put-byte-requires : tie.Need-put-byte-requires
 put-byte-requires c κs = search needs
@@ -10,8 +19,17 @@ put-byte-requires c κs = search needs
 same-length : tie.Need-same-length
 same-length c = search needs
 
-returns : tie.Need-returns
-returns c = record { put = c .before .before .put-byte .ensures; short = omega arith }
+returns-2 : tie.Need-returns-2
+returns-2 c =
+    let end : Put _ _ (newline ∷ []) _ _ = c .before .before .put-byte .ensures in
+    within-put (omega arith) (record { put = end; short = omega arith })
 
 pub put-end-spec : {M : Type 1} → statement M
-put-end-spec = tie.close (tie.spec put-byte-requires same-length returns)
+put-end-spec =
+    tie.close
+    (tie.spec
+    left-requires
+    returns
+    put-byte-requires
+    same-length
+    returns-2)

@@ -1,53 +1,67 @@
 -- `put_unread` is right because its words are put one behind another.
 use mathlib.Core.Path.{sym}
-use Rattle.text.specs.Text.{decimalOf, lineWord, cannotBeRead}
+use mathlib.Core.List.{[], _∷_}
 use native.Mathlib.Omega.{arith}
-use Rattle.text.specs.TextLaws.{put-short-then, put-as, line-parts}
+use Rattle.text.specs.Text.{PutShort, space, newline, decimalOf, lineWord, cannotBeRead}
+use Rattle.text.specs.TextLaws.{within-put, within-full, put-short-then, put-as, line-parts}
 use borrow.Author.Needs.{needs}
 use Rattle.text.proofs.put_unread.Statement.{statement}
 use Rattle.text.proofs.put_unread.Tie as tie
 
-slice-aggregate-put-short : tie.Need-slice-aggregate-put-short
-slice-aggregate-put-short c = search needs
+left-requires : tie.Need-left-requires
+left-requires c κs = search needs
 
-put-short-requires : tie.Need-put-short-requires
-put-short-requires c κs = search needs
+returns : tie.Need-returns
+returns c = within-full (omega arith)
 
-put-field-requires : tie.Need-put-field-requires
-put-field-requires c κs = search needs
+slice-aggregate-put-word : tie.Need-slice-aggregate-put-word
+slice-aggregate-put-word c = search needs
 
-slice-aggregate-put-short-2 : tie.Need-slice-aggregate-put-short-2
-slice-aggregate-put-short-2 c = search needs
+put-word-requires : tie.Need-put-word-requires
+put-word-requires c κs = search needs
 
-put-short-requires-2 : tie.Need-put-short-requires-2
-put-short-requires-2 c κs = search needs
+put-spaced-requires : tie.Need-put-spaced-requires
+put-spaced-requires c κs = search needs
 
-put-end-requires : tie.Need-put-end-requires
-put-end-requires c κs = search needs
+slice-aggregate-put-word-2 : tie.Need-slice-aggregate-put-word-2
+slice-aggregate-put-word-2 c = search needs
+
+put-word-requires-2 : tie.Need-put-word-requires-2
+put-word-requires-2 c κs = search needs
+
+put-byte-requires : tie.Need-put-byte-requires
+put-byte-requires c κs = search needs
 
 same-length : tie.Need-same-length
 same-length c = search needs
 
-returns : tie.Need-returns
-returns c =
+returns-2 : tie.Need-returns-2
+returns-2 c =
     let fourth = c .before .before in
     let third = fourth .before .before .before .before in
     let second = third .before .before .before .before .before in
     let first = second .before .before .before .before in
-    let room = first .before .before .before .before .pre in
-    let two = put-short-then (first .put-short .ensures) (second .put-field .ensures) (omega (arith, room)) in
-    let three = put-short-then two (third .put-short2 .ensures) (omega (arith, room)) in
-    put-as (put-short-then three (fourth .put-end .ensures) (omega (arith, room))) (sym (line-parts lineWord (decimalOf (first .before .before .before .before .args .line)) cannotBeRead)) (omega arith)
+    let n = first .before .before .before .before .before .before .args .line in
+    let word : PutShort 4 _ _ lineWord _ _ = record { put = first .put-word .ensures; short = omega arith } in
+    let number : PutShort 21 _ _ (space ∷ decimalOf n) _ _ = second .put-spaced .ensures in
+    let told : PutShort 16 _ _ cannotBeRead _ _ = record { put = third .put-word2 .ensures; short = omega arith } in
+    let end : PutShort 1 _ _ (newline ∷ []) _ _ = record { put = fourth .put-byte .ensures; short = omega arith } in
+    let two = put-short-then word number (omega arith) in
+    let three = put-short-then two told (omega arith) in
+    let four = put-short-then three end (omega arith) in
+    within-put (omega arith) (put-as four (sym (line-parts lineWord (decimalOf n) cannotBeRead)) (omega arith))
 
 pub put-unread-spec : {M : Type 1} → statement M
 put-unread-spec =
     tie.close
     (tie.spec
-    slice-aggregate-put-short
-    put-short-requires
-    put-field-requires
-    slice-aggregate-put-short-2
-    put-short-requires-2
-    put-end-requires
+    left-requires
+    returns
+    slice-aggregate-put-word
+    put-word-requires
+    put-spaced-requires
+    slice-aggregate-put-word-2
+    put-word-requires-2
+    put-byte-requires
     same-length
-    returns)
+    returns-2)

@@ -1,6 +1,6 @@
 -- `put_plan_line` is right because its words are put one behind another.
 use native.Mathlib.Omega.{arith}
-use Rattle.text.specs.TextLaws.{put-short-then, line-first, line-next, line-end}
+use Rattle.text.specs.TextLaws.{field-then, end-then, line-first, line-next, line-end}
 use borrow.Author.Needs.{needs}
 use Rattle.console.proofs.planning.put_plan_line.Statement.{statement}
 use Rattle.console.proofs.planning.put_plan_line.Tie as tie
@@ -38,12 +38,13 @@ returns c =
     let second = third .before .before .before .before in
     let first = second .before .before .before .before in
     let room = first .before .before .before .before .pre in
-    let two = put-short-then (first .put-short .ensures) (second .put-field .ensures) (omega (arith, room)) in
-    let three = put-short-then two (third .put-field2 .ensures) (omega (arith, room)) in
-    let four = put-short-then three (fourth .put-field3 .ensures) (omega (arith, room)) in
-    let five = put-short-then four (fifth .put-field4 .ensures) (omega (arith, room)) in
+    let one = first .put-short .ensures .put (omega (arith, room)) (omega arith) in
+    let two = field-then _ one (second .put-field .ensures) (omega (arith, room)) in
+    let three = field-then _ two (third .put-field2 .ensures) (omega (arith, room)) in
+    let four = field-then _ three (fourth .put-field3 .ensures) (omega (arith, room)) in
+    let five = field-then _ four (fifth .put-field4 .ensures) (omega (arith, room)) in
     rw (line-first, line-next, line-next, line-next, line-next, line-end)
-    (put-short-then five (sixth .put-end .ensures) (omega (arith, room)))
+    (end-then five (sixth .put-end .ensures) (omega (arith, room)))
 
 pub put-plan-line-spec : {M : Type 1} → statement M
 put-plan-line-spec =

@@ -1,6 +1,6 @@
 -- `put_share_line` is right because its words are put one behind another.
 use native.Mathlib.Omega.{arith}
-use Rattle.text.specs.TextLaws.{put-short-then, line-first, line-next, line-end}
+use Rattle.text.specs.TextLaws.{decimal-short, field-then, end-then, line-first, line-next, line-end}
 use borrow.Author.Needs.{needs}
 use Rattle.console.proofs.planning.put_share_line.Statement.{statement}
 use Rattle.console.proofs.planning.put_share_line.Tie as tie
@@ -23,8 +23,9 @@ returns c =
     let second = third .before .before .before .before in
     let first = second .before .before .before .before in
     let start = first .before .before .before in
-    let two = put-short-then (first .put-number .ensures) (second .put-field .ensures) (omega (arith, start .pre)) in
-    rw (line-first, line-next, line-end) (put-short-then two (third .put-end .ensures) (omega (arith, start .pre)))
+    let one = first .put-number .ensures .put (omega (arith, start .pre)) (decimal-short 20 _) in
+    let two = field-then _ one (second .put-field .ensures) (omega (arith, start .pre)) in
+    rw (line-first, line-next, line-end) (end-then two (third .put-end .ensures) (omega (arith, start .pre)))
 
 pub put-share-line-spec : {M : Type 1} → statement M
 put-share-line-spec =

@@ -2,7 +2,7 @@
 use native.Mathlib.Omega.{arith}
 use Rattle.text.specs.Text.{lineOn}
 use Rattle.console.specs.ShowText.{shareWords}
-use Rattle.text.specs.TextLaws.{put-short-then, put-as}
+use Rattle.text.specs.TextLaws.{field-short, end-then, put-as}
 use borrow.Author.Needs.{needs}
 use Rattle.console.proofs.showing.put_share.Statement.{statement}
 use Rattle.console.proofs.showing.put_share.Tie as tie
@@ -22,7 +22,9 @@ returns c =
     let second = c .before .before in
     let first = second .before .before .before .before in
     let planned = first .before .before in
-    put-as (put-short-then (first .put-field .ensures) (second .put-end .ensures) (omega (arith, planned .before .before .pre))) (rw (planned .if1 .taken)) (omega arith)
+    let room = planned .before .before .pre in
+    let one = first .put-field .ensures .put (omega (arith, room)) (field-short _) in
+    put-as (end-then one (second .put-end .ensures) (omega (arith, room))) (rw (planned .if1 .taken)) (omega arith)
 
 put-end-requires-2 : tie.Need-put-end-requires-2
 put-end-requires-2 c κs = search needs
@@ -34,7 +36,7 @@ returns-2 : tie.Need-returns-2
 unfolding shareWords lineOn
 returns-2 c =
     let called = c .before .before in
-    put-as (called .put-end2 .ensures) (rw (called .before .before .if1 .left)) (omega arith)
+    put-as (called .put-end2 .ensures .put (omega arith) (omega arith)) (rw (called .before .before .if1 .left)) (omega arith)
 
 pub put-share-spec : {M : Type 1} → statement M
 put-share-spec =

@@ -2,7 +2,7 @@
 use mathlib.Core.Path.{sym}
 use native.Mathlib.Omega.{arith}
 use Rattle.console.specs.ShowText.{stationLine}
-use Rattle.text.specs.TextLaws.{put-short-then, put-as, line-five}
+use Rattle.text.specs.TextLaws.{put-short-then, field-then, put-as, line-five}
 use borrow.Author.Needs.{needs}
 use Rattle.console.proofs.showing.put_station.Statement.{statement}
 use Rattle.console.proofs.showing.put_station.Tie as tie
@@ -81,20 +81,15 @@ put-share-requires c κs =
     omega (
       arith,
       start .pre,
-      first .put-short .ensures .put .next,
-      first .put-short .ensures .short,
+      first .put-short .ensures .reach,
       first .put-short .kept .0,
-      second .put-field .ensures .put .next,
-      second .put-field .ensures .short,
+      second .put-field .ensures .reach,
       second .put-field .kept .0,
-      third .put-field2 .ensures .put .next,
-      third .put-field2 .ensures .short,
+      third .put-field2 .ensures .reach,
       third .put-field2 .kept .0,
-      fourth .put-field3 .ensures .put .next,
-      fourth .put-field3 .ensures .short,
+      fourth .put-field3 .ensures .reach,
       fourth .put-field3 .kept .0,
-      fifth .put-field4 .ensures .put .next,
-      fifth .put-field4 .ensures .short,
+      fifth .put-field4 .ensures .reach,
       fifth .put-field4 .kept .0,
     )
 
@@ -112,10 +107,11 @@ returns c =
     let first = second .before .before .before .before .before .before in
     let start = first .before .before .before .before in
     let room = start .pre .1 in
-    let two = put-short-then (first .put-short .ensures) (second .put-field .ensures) (omega (arith, room)) in
-    let three = put-short-then two (third .put-field2 .ensures) (omega (arith, room)) in
-    let four = put-short-then three (fourth .put-field3 .ensures) (omega (arith, room)) in
-    let five = put-short-then four (fifth .put-field4 .ensures) (omega (arith, room)) in
+    let one = first .put-short .ensures .put (omega (arith, room)) (omega arith) in
+    let two = field-then _ one (second .put-field .ensures) (omega (arith, room)) in
+    let three = field-then _ two (third .put-field2 .ensures) (omega (arith, room)) in
+    let four = field-then _ three (fourth .put-field3 .ensures) (omega (arith, room)) in
+    let five = field-then _ four (fifth .put-field4 .ensures) (omega (arith, room)) in
     put-as (put-short-then five (sixth .put-share .ensures) (omega (arith, room)))
     (rw
     (second .before .wide .ensures .same, third .before .wide2 .ensures .same, fourth .before .wide3 .ensures .same, fifth .before .wide4 .ensures .same, sixth .before .wide5 .ensures .same)

@@ -1,6 +1,6 @@
 -- `put_ttrt` is right because its words are put one behind another.
 use native.Mathlib.Omega.{arith}
-use Rattle.text.specs.TextLaws.{put-short-then, line-first, line-next, line-end}
+use Rattle.text.specs.TextLaws.{field-then, end-then, line-first, line-next, line-end}
 use borrow.Author.Needs.{needs}
 use Rattle.console.proofs.showing.put_ttrt.Statement.{statement}
 use Rattle.console.proofs.showing.put_ttrt.Tie as tie
@@ -26,8 +26,9 @@ returns c =
     let second = third .before .before .before .before in
     let first = second .before .before .before .before in
     let start = first .before .before .before .before in
-    let two = put-short-then (first .put-short .ensures) (second .put-field .ensures) (omega (arith, start .pre)) in
-    rw (line-first, line-next, line-end) (put-short-then two (third .put-end .ensures) (omega (arith, start .pre)))
+    let one = first .put-short .ensures .put (omega (arith, start .pre)) (omega arith) in
+    let two = field-then _ one (second .put-field .ensures) (omega (arith, start .pre)) in
+    rw (line-first, line-next, line-end) (end-then two (third .put-end .ensures) (omega (arith, start .pre)))
 
 pub put-ttrt-spec : {M : Type 1} → statement M
 put-ttrt-spec =
