@@ -79,7 +79,7 @@ module _ (r : Ring) (ask : ℕ) (L : Shaped r) (s : Sound r) where
   -- what remains of the held message
   rest-here : at (moved r (syncSent r) (asyncSent r ask) .rest) (r .token) ≡ at (r .rest) (r .token) - syncSent r
   unfolding moved
-  rest-here = getD-set-same (r .rest) (r .token) _ 0 (omega (arith, inside, L .rest))
+  rest-here = getD-set-same (r .rest) (r .token) (at (r .rest) (r .token) - syncSent r) 0 (omega (arith, inside, L .rest))
 
   changed : Moved r (moved r (syncSent r) (asyncSent r ask)) (recordOf r (syncSent r) (asyncSent r ask))
   unfolding moved recordOf

@@ -20,7 +20,8 @@ pub(crate) fn limit_of(r: Ring) -> u64
 {
     let p = r.token as usize;
     let times = r.trt;
-    let left = units::room(units::wide(r.set.head.ttrt), units::wide(r.unused));
+    let whole = units::wide(r.set.head.ttrt);
+    let left = units::room(whole, units::wide(r.unused));
     units::room(left, units::wide(times[p]))
 }
 
@@ -72,7 +73,8 @@ fn rise_of(r: Ring, sync: u64, asynchronous: u64) -> u64
     let p = r.token as usize;
     let set = r.set;
     let walks = set.w;
-    sync + asynchronous + units::wide(walks[p])
+    let walk = units::wide(walks[p]);
+    sync + asynchronous + walk
 }
 
 // The ring after a visit that sent these two amounts.

@@ -1,12 +1,15 @@
 -- `visit` is right because it asks the definition's two tests in the definition's order, and then moves by the definition's two amounts.
+use Prim.Native.Nat.{ℕ}
 use mathlib.Core.Path.{_≡_, sym, _∙_}
 use mathlib.Core.Bool.{true}
 use native.Mathlib.Omega.{arith}
 use borrow.Author.Tests.{not-true, not-false}
 use Rattle.rings.specs.Sound.{isSound}
-use Rattle.rings.specs.Steps.{visitNumber}
+use Rattle.rings.specs.Steps.{syncSent, asyncSent, moved, recordOf, visitNumber, refusedVisit, visited}
 use Rattle.rings.specs.Bounds.{Safe, Sendable}
 use Rattle.rings.specs.RingLaws.{visit-8, visit-13, visit-0, visit-refused, visit-accepted, visit-safe}
+use Rattle.rings.specs.declared.Ring.{Ring}
+use Rattle.rings.specs.declared.VisitRecord.{VisitRecord}
 use borrow.Author.Needs.{needs}
 use Rattle.rings.proofs.Ring.visit.Statement.{statement}
 use Rattle.rings.proofs.Ring.visit.Tie as tie
@@ -25,6 +28,10 @@ sendable c =
     let sync = c .before .before .before .sync-sent .ensures in
     record { allotted = sync .allotted; rest = sync .rest; spare = omega arith }
 
+-- the moved ring with the record of the same two amounts is the visit
+done : (r : Ring) (ask sync async : ℕ) (x : Ring) (v : VisitRecord) → visitNumber r ≡ 0 → sync ≡ syncSent r → async ≡ asyncSent r ask → x ≡ moved r sync async → v ≡ recordOf r sync async → record { ring = x; answer = record { «record» = v; number = 0 } } ≡ visited r ask
+done r ask sync async x v zero s a moves records = rw (moves, records, s, a) (sym (visit-accepted _ r ask zero))
+
 sound-requires : tie.Need-sound-requires
 sound-requires c κs = search needs
 
@@ -33,8 +40,10 @@ refused-requires c κs = search needs
 
 returns : tie.Need-returns
 returns c =
-    let eight : visitNumber (c .before .before .before .args .self) ≡ 8 = visit-8 _ (sym (c .before .before .sound .ensures) ∙ not-true _ (c .before .if1 .taken)) in
-    c .refused .ensures ∙ rw eight (sym (visit-refused 8 _ _ (λ e. omega arith)))
+    let self = c .before .before .before .args .self in
+    let said : c .refused .result ≡ refusedVisit self 8 = c .refused .ensures in
+    let eight : visitNumber self ≡ 8 = visit-8 _ (sym (c .before .before .sound .ensures) ∙ not-true _ (c .before .if1 .taken)) in
+    said ∙ rw eight (sym (visit-refused 8 _ _ (λ e. omega arith)))
 
 refused-requires-2 : tie.Need-refused-requires-2
 refused-requires-2 c κs = search needs
@@ -42,8 +51,10 @@ refused-requires-2 c κs = search needs
 returns-2 : tie.Need-returns-2
 returns-2 c =
     let else = c .before .before .before in
-    let thirteen : visitNumber (else .before .before .args .self) ≡ 13 = visit-13 _ (is-sound else) (c .before .if2 .taken) in
-    c .refused2 .ensures ∙ rw thirteen (sym (visit-refused 13 _ _ (λ e. omega arith)))
+    let self = else .before .before .args .self in
+    let said : c .refused2 .result ≡ refusedVisit self 13 = c .refused2 .ensures in
+    let thirteen : visitNumber self ≡ 13 = visit-13 _ (is-sound else) (c .before .if2 .taken) in
+    said ∙ rw thirteen (sym (visit-refused 13 _ _ (λ e. omega arith)))
 
 sync-sent-requires : tie.Need-sync-sent-requires
 sync-sent-requires c κs =
@@ -70,8 +81,10 @@ moved-on-requires c κs = (safe (c .before .before .before .before .before), sen
 returns-3 : tie.Need-returns-3
 returns-3 c =
     let sent = c .before .before in
-    rw (c .moved-on .ensures, c .before .record-of .ensures, sent .least .ensures, sent .before .wide .ensures .same, sent .before .before .limit-of .ensures .is, sent .before .before .before .sync-sent .ensures .is)
-    (sym (visit-accepted _ _ _ (passed (sent .before .before .before .before))))
+    let start = sent .before .before .before .before .before .before .before .before .args in
+    let sync : sent .before .before .before .sync-sent .result ≡ syncSent (start .self) = sent .before .before .before .sync-sent .ensures .is in
+    let async : sent .least .result ≡ asyncSent (start .self) (start .ask) = sent .least .ensures ∙ rw (sent .before .before .limit-of .ensures .is, sent .before .wide .ensures .same) in
+    done (start .self) (start .ask) _ _ _ _ (passed (sent .before .before .before .before)) sync async (c .moved-on .ensures) (c .before .record-of .ensures)
 
 pub visit-spec : {M : Type 1} → statement M
 visit-spec =

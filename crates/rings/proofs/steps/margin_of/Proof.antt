@@ -1,9 +1,9 @@
 -- `margin_of` is right because both numbers are below 2^62, so that neither they nor their difference leave the signed range.
-use mathlib.Core.Path.{_≡_}
+use mathlib.Core.Path.{_≡_, ap, subst, sym, _∙_}
 use native.Mathlib.Omega.{arith}
 use lib.IntN.{subℕ, _-ℤ_}
 use mir.Syntax.{w64}
-use mir.Val.{toZ}
+use mir.Val.{toZ, ofZ, SFits}
 use mir.ValLaws.{toZ-pos, toZ-ofZ}
 use Rattle.rings.specs.RingLaws.{difference, difference-fits}
 use borrow.Author.Needs.{needs}
@@ -15,6 +15,9 @@ said c =
     rw (toZ-pos w64 (c .args .deadline) (omega arith), toZ-pos w64 (c .args .finish) (omega arith))
     (difference (c .args .deadline) (c .args .finish))
 
+returns : tie.Need-returns
+returns c = ap (λ m. toZ w64 (ofZ w64 m)) (said c) ∙ toZ-ofZ w64 _ (difference-fits _ _ (c .pre .0) (c .pre .1))
+
 cast-due : tie.Need-cast-due
 cast-due c = search needs
 
@@ -22,10 +25,7 @@ cast-done : tie.Need-cast-done
 cast-done c = search needs
 
 sub-result : tie.Need-sub-result
-sub-result c = rw (said c) (difference-fits _ _ (c .pre .0) (c .pre .1))
-
-returns : tie.Need-returns
-returns c = rw (said c) (toZ-ofZ w64 _ (difference-fits _ _ (c .pre .0) (c .pre .1)))
+sub-result c = subst (SFits w64) (sym (said c)) (difference-fits _ _ (c .pre .0) (c .pre .1))
 
 pub margin-of-spec : {M : Type 1} → statement M
 margin-of-spec = tie.close (tie.spec cast-due cast-done sub-result returns)

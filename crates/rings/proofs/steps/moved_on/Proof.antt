@@ -1,10 +1,26 @@
 -- `moved_on` is right because its stores are the definition's; a safe ring's numbers leave room for every sum.
+use Prim.Native.Nat.{ℕ, _+_, _-_}
+use mathlib.Core.Path.{_≡_, refl, _∙_}
+use lib.ListN.{set}
+use Rattle.units.specs.Places.{at, raise}
+use Rattle.rings.specs.State.{count}
 use native.Mathlib.Omega.{arith}
-use Rattle.rings.specs.Steps.{moved}
+use Rattle.rings.specs.declared.Ring.{Ring}
+use Rattle.rings.specs.Steps.{rise, nextToken, unusedAfter, moved}
 use Rattle.units.specs.PlaceLaws.{set-zero}
 use borrow.Author.Needs.{needs}
 use Rattle.rings.proofs.steps.moved_on.Statement.{statement}
 use Rattle.rings.proofs.steps.moved_on.Tie as tie
+
+-- a ring is the moved one if its fields are: what is stored first, and then the four that are called for
+stored : (r : Ring) (sync async by : ℕ) (x : Ring) → x .visits ≡ r .visits + 1 → x .clock ≡ r .clock + by → x .last ≡ set (r .last) (r .token) (r .clock) → x .sent ≡ set (r .sent) (r .token) sync → x .rest ≡ set (r .rest) (r .token) (at (r .rest) (r .token) - sync) → x .set ≡ r .set → x .alloc ≡ r .alloc → x .arrival ≡ r .arrival → x .had ≡ r .had → by ≡ rise r sync async → x .trt ≡ raise (count r) by (set (r .trt) (r .token) 0) → x .token ≡ nextToken r → x .unused ≡ unusedAfter r sync → x ≡ moved r sync async
+unfolding moved
+stored r sync async by x visits clock last sent rest kept alloc arrival had rises trt token unused =
+    (λ i. record { set = kept i; alloc = alloc i; trt = trt i; sent = sent i; rest = rest i; arrival = arrival i; had = had i; last = last i; clock = clock i; visits = visits i; token = token i; unused = unused i }) ∙ rw rises
+
+returns : tie.Need-returns
+returns c =
+    stored _ _ _ _ _ (omega arith) refl refl refl refl refl refl refl refl (search) (search) (search) (search)
 
 cast-p : tie.Need-cast-p
 cast-p c = search needs
@@ -72,12 +88,6 @@ add-r c = search needs
 
 add-r-2 : tie.Need-add-r-2
 add-r-2 c = search needs
-
-returns : tie.Need-returns
-unfolding moved
-returns c =
-    let next = c .before .before .before in
-    rw (c .raised .ensures, next .next-token .ensures, next .before .unused-after .ensures, next .before .before .rise-of .ensures)
 
 pub moved-on-spec : {M : Type 1} → statement M
 moved-on-spec =

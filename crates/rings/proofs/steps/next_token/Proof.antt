@@ -1,4 +1,6 @@
 -- `next_token` is right because its branch is the definition's own.
+use Prim.Native.Nat.{_+_, _<_}
+use Rattle.rings.specs.State.{count}
 use Rattle.rings.specs.Steps.{nextToken}
 use borrow.Author.Tests.{lt-ltb, le-ltb}
 use borrow.Author.Needs.{needs}
@@ -10,7 +12,10 @@ add-next c = search needs
 
 returns : tie.Need-returns
 unfolding nextToken
-returns c = rw (lt-ltb _ _ (c .if1 .taken))
+returns c =
+    let r = c .before .before .before .args .r in
+    let inside : r .token + 1 < count r = c .if1 .taken in
+    rw (lt-ltb _ _ inside)
 
 returns-2 : tie.Need-returns-2
 unfolding nextToken
