@@ -15,8 +15,7 @@ fn arrival_allowed(r: Ring, m: Message) -> bool
 {
     let i = m.station.0 as usize;
     let a = m.arrival.0;
-    let set = r.set;
-    let gaps = set.p;
+    let gaps = r.set.p;
     let starts = r.last;
     let arrivals = r.arrival;
     let marks = r.had;
@@ -36,8 +35,7 @@ pub(crate) fn message_number(r: Ring, m: Message) -> u8
         return numbers::NO_SUCH_STATION;
     }
     let i = m.station.0 as usize;
-    let set = r.set;
-    let longest = set.c;
+    let longest = r.set.c;
     let rests = r.rest;
     let held = 0 < rests[i];
     let fits = (1 <= m.length.0) & (m.length.0 <= units::wide(longest[i]));

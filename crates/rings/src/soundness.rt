@@ -35,8 +35,7 @@ fn shares_sound(r: Ring) -> bool
     ensures { λ b. ⌜ b ≡ (allBelow (r .set .n) (sentSoundAt r) && unusedSound r) ⌝ }
 {
     let n = r.set.n;
-    let alloc = r.alloc;
-    let share = alloc.s;
+    let share = r.alloc.s;
     let sent = r.sent;
     let within = places::each_within(sent, share, n);
     let sum = places::unused(share, sent, n);
@@ -49,8 +48,7 @@ fn messages_sound(r: Ring) -> bool
     ensures { λ b. ⌜ b ≡ (allBelow (r .set .n) (restSoundAt r) && allBelow (r .set .n) (arrivalSoundAt r)) ⌝ }
 {
     let n = r.set.n;
-    let set = r.set;
-    let longest = set.c;
+    let longest = r.set.c;
     let rest = r.rest;
     let arrival = r.arrival;
     let within = places::each_within(rest, longest, n);

@@ -36,8 +36,7 @@ pub(crate) fn sync_sent(r: Ring) -> u64
     let held = 0 < rests[p];
     let arrived = arrivals[p] <= r.clock;
     if held & arrived {
-        let alloc = r.alloc;
-        let shares = alloc.s;
+        let shares = r.alloc.s;
         return units::least(units::wide(shares[p]), units::wide(rests[p]));
     }
     0
@@ -49,8 +48,8 @@ fn unused_after(r: Ring, sync: u32) -> u32
     ensures { λ x. ⌜ x ≡ unusedAfter r sync ⌝ }
 {
     let p = r.token as usize;
-    let alloc = r.alloc;
-    let share = alloc.s[p];
+    let shares = r.alloc.s;
+    let share = shares[p];
     let amounts = r.sent;
     let fallen = r.unused - (share - amounts[p]);
     fallen + (share - sync)
@@ -71,8 +70,7 @@ fn rise_of(r: Ring, sync: u64, asynchronous: u64) -> u64
     ensures { λ x. ⌜ x ≡ rise r sync asynchronous ⌝ }
 {
     let p = r.token as usize;
-    let set = r.set;
-    let walks = set.w;
+    let walks = r.set.w;
     let walk = units::wide(walks[p]);
     sync + asynchronous + walk
 }
@@ -119,8 +117,9 @@ fn completes_with(r: Ring, sync: u64) -> bool
 {
     let p = r.token as usize;
     let rests = r.rest;
-    let held = 0 < rests[p];
-    let left = units::room(units::wide(rests[p]), sync);
+    let rest = units::wide(rests[p]);
+    let held = 0 < rest;
+    let left = units::room(rest, sync);
     held & (left == 0)
 }
 
@@ -130,8 +129,7 @@ fn deadline_of(r: Ring) -> u64
     ensures { λ x. ⌜ x ≡ deadline r ⌝ }
 {
     let p = r.token as usize;
-    let set = r.set;
-    let deadlines = set.d;
+    let deadlines = r.set.d;
     let arrivals = r.arrival;
     arrivals[p] + units::wide(deadlines[p])
 }

@@ -26,22 +26,22 @@ known : (c : tie.Else1) → stationKnown (c .before .before .before .args .r) (c
 known c = lt-ltb _ _ (below c)
 
 -- the length's test is the definition's
-length-said : (c : tie.After-wide2) → (leb 1 (c .before .before .before .before .before .before .before .before .args .m .length .0) && leb (c .before .before .before .before .before .before .before .before .args .m .length .0) (c .wide2 .result)) ≡ lengthAllowed (c .before .before .before .before .before .before .before .before .args .r) (c .before .before .before .before .before .before .before .before .args .m)
+length-said : (c : tie.After-wide2) → (leb 1 (c .before .before .before .before .before .before .before .args .m .length .0) && leb (c .before .before .before .before .before .before .before .args .m .length .0) (c .wide2 .result)) ≡ lengthAllowed (c .before .before .before .before .before .before .before .args .r) (c .before .before .before .before .before .before .before .args .m)
 length-said c = rw (c .wide2 .ensures .same)
 
-allowed : (c : tie.Else2) → lengthAllowed (c .before .before .before .before .before .before .before .before .before .before .args .r) (c .before .before .before .before .before .before .before .before .before .before .args .m) ≡ true
+allowed : (c : tie.Else2) → lengthAllowed (c .before .before .before .before .before .before .before .before .before .args .r) (c .before .before .before .before .before .before .before .before .before .args .m) ≡ true
 allowed c = sym (length-said (c .before .before)) ∙ not-false _ (c .if2 .left)
 
 -- something of a message remains, or nothing does
-held : (c : tie.Then3) → nothingHeld (c .before .before .before .before .before .before .before .before .before .before .before .args .r) (c .before .before .before .before .before .before .before .before .before .before .before .args .m) ≡ false
+held : (c : tie.Then3) → nothingHeld (c .before .before .before .before .before .before .before .before .before .before .args .r) (c .before .before .before .before .before .before .before .before .before .before .args .m) ≡ false
 held c =
-    let some : 0 < at (c .before .before .before .before .before .before .before .before .before .before .before .args .r .rest) (c .before .before .before .before .before .before .before .before .before .before .before .args .m .station .0) = ltb-true 0 _ (c .if3 .taken) in
-    ne-eqb (at (c .before .before .before .before .before .before .before .before .before .before .before .args .r .rest) (c .before .before .before .before .before .before .before .before .before .before .before .args .m .station .0)) 0 (omega arith)
+    let some : 0 < at (c .before .before .before .before .before .before .before .before .before .before .args .r .rest) (c .before .before .before .before .before .before .before .before .before .before .args .m .station .0) = ltb-true 0 _ (c .if3 .taken) in
+    ne-eqb (at (c .before .before .before .before .before .before .before .before .before .before .args .r .rest) (c .before .before .before .before .before .before .before .before .before .before .args .m .station .0)) 0 (omega arith)
 
-free : (c : tie.Else3) → nothingHeld (c .before .before .before .before .before .before .before .before .before .before .before .args .r) (c .before .before .before .before .before .before .before .before .before .before .before .args .m) ≡ true
+free : (c : tie.Else3) → nothingHeld (c .before .before .before .before .before .before .before .before .before .before .args .r) (c .before .before .before .before .before .before .before .before .before .before .args .m) ≡ true
 free c =
-    let none : at (c .before .before .before .before .before .before .before .before .before .before .before .args .r .rest) (c .before .before .before .before .before .before .before .before .before .before .before .args .m .station .0) ≤ 0 = ltb-false 0 _ (c .if3 .left) in
-    eq-eqb (at (c .before .before .before .before .before .before .before .before .before .before .before .args .r .rest) (c .before .before .before .before .before .before .before .before .before .before .before .args .m .station .0)) 0 (omega arith)
+    let none : at (c .before .before .before .before .before .before .before .before .before .before .args .r .rest) (c .before .before .before .before .before .before .before .before .before .before .args .m .station .0) ≤ 0 = ltb-false 0 _ (c .if3 .left) in
+    eq-eqb (at (c .before .before .before .before .before .before .before .before .before .before .args .r .rest) (c .before .before .before .before .before .before .before .before .before .before .args .m .station .0)) 0 (omega arith)
 
 wide-requires : tie.Need-wide-requires
 wide-requires c κs = search needs
@@ -55,32 +55,32 @@ mul-held : tie.Need-mul-held
 mul-held c = search needs
 
 array-read-held : tie.Need-array-read-held
-array-read-held c = inside (c .before .before .before)
+array-read-held c = inside (c .before .before)
 
 mul-wide : tie.Need-mul-wide
 mul-wide c = search needs
 
 array-read-wide : tie.Need-array-read-wide
-array-read-wide c = inside (c .before .before .before .before)
+array-read-wide c = inside (c .before .before .before)
 
 wide-requires-2 : tie.Need-wide-requires-2
 wide-requires-2 c κs = search needs
 
 returns-2 : tie.Need-returns-2
 returns-2 c =
-    let else = c .before .before .before .before .before .before .before in
+    let else = c .before .before .before .before .before .before in
     let args = else .before .before .before .args in
     sym (message-10 (args .r) (args .m) (known else) (sym (length-said (c .before .before)) ∙ not-true _ (c .if2 .taken)))
 
 returns-3 : tie.Need-returns-3
 returns-3 c =
-    let else = c .before .before .before .before .before .before .before .before in
+    let else = c .before .before .before .before .before .before .before in
     let args = else .before .before .before .args in
     sym (message-11 (args .r) (args .m) (known else) (allowed (c .before)) (held c))
 
 arrival-allowed-requires : tie.Need-arrival-allowed-requires
 arrival-allowed-requires c κs =
-    let else = c .before .before .before .before .before .before .before .before in
+    let else = c .before .before .before .before .before .before .before in
     let args = else .before .before .before .args in
     let sound = sound-sentences (args .r) (else .before .before .before .pre) in
     record { inside = inside else; arrival = sound .arrivals (args .m .station .0) (below else) }
@@ -88,14 +88,14 @@ arrival-allowed-requires c κs =
 returns-4 : tie.Need-returns-4
 returns-4 c =
     let else3 = c .before .before in
-    let else = else3 .before .before .before .before .before .before .before .before in
+    let else = else3 .before .before .before .before .before .before .before in
     let args = else .before .before .before .args in
     sym (message-12 (args .r) (args .m) (known else) (allowed (else3 .before)) (free else3) (sym (c .before .arrival-allowed .ensures) ∙ not-true _ (c .if4 .taken)))
 
 returns-5 : tie.Need-returns-5
 returns-5 c =
     let else3 = c .before .before in
-    let else = else3 .before .before .before .before .before .before .before .before in
+    let else = else3 .before .before .before .before .before .before .before in
     let args = else .before .before .before .args in
     sym (message-0 (args .r) (args .m) (known else) (allowed (else3 .before)) (free else3) (sym (c .before .arrival-allowed .ensures) ∙ not-false _ (c .if4 .left)))
 

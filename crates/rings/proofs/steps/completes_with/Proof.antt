@@ -6,12 +6,6 @@ use Rattle.rings.proofs.steps.completes_with.Tie as tie
 cast-p : tie.Need-cast-p
 cast-p c = search needs
 
-mul-held : tie.Need-mul-held
-mul-held c = search needs
-
-array-read-held : tie.Need-array-read-held
-array-read-held c = search needs
-
 mul-wide : tie.Need-mul-wide
 mul-wide c = search needs
 
@@ -32,8 +26,6 @@ completes-with-spec =
     tie.close
     (tie.spec
     cast-p
-    mul-held
-    array-read-held
     mul-wide
     array-read-wide
     wide-requires

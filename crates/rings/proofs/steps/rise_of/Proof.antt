@@ -25,7 +25,7 @@ add-result-2 c = search needs
 
 returns : tie.Need-returns
 returns c =
-    let args = c .before .before .before .before .args in
+    let args = c .before .before .before .args in
     ap (λ walk. args .sync + args .asynchronous + walk) (c .wide .ensures .same)
 
 pub rise-of-spec : {M : Type 1} → statement M

@@ -47,7 +47,7 @@ least-requires c κs = search needs
 
 returns : tie.Need-returns
 returns c =
-    let then = c .before .before .before .before .before in
+    let then = c .before .before .before .before in
     let r = then .before .before .before .before .before .args .r in
     let is : c .least .result ≡ min (share r (r .token)) (at (r .rest) (r .token)) = c .least .ensures ∙ rw (c .before .before .wide .ensures .same, c .before .wide2 .ensures .same) in
     record { is = is ∙ sym (served r (then .if1 .taken)); allotted = omega arith; rest = omega arith }

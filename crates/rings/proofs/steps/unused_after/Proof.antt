@@ -10,8 +10,8 @@ cast-p c = search needs
 mul-share : tie.Need-mul-share
 mul-share c = search needs
 
-element-copy-out-share : tie.Need-element-copy-out-share
-element-copy-out-share c = search needs
+array-read-share : tie.Need-array-read-share
+array-read-share c = search needs
 
 mul-fallen : tie.Need-mul-fallen
 mul-fallen c = search needs
@@ -40,7 +40,7 @@ unused-after-spec =
     (tie.spec
     cast-p
     mul-share
-    element-copy-out-share
+    array-read-share
     mul-fallen
     array-read-fallen
     sub-fallen
