@@ -76,7 +76,7 @@ fn rise_of(r: Ring, sync: u64, asynchronous: u64) -> u64
 }
 
 // The ring after a visit that sent these two amounts.
-pub(crate) fn moved_on(mut r: Ring, sync: u64, asynchronous: u64) -> Ring
+pub(crate) fn moved_on(r: Ring, sync: u64, asynchronous: u64) -> Ring
     requires { ⌜ Safe r × Sendable r sync asynchronous ⌝ }
     ensures { λ x. ⌜ x ≡ moved r sync asynchronous ⌝ }
 {
@@ -85,19 +85,19 @@ pub(crate) fn moved_on(mut r: Ring, sync: u64, asynchronous: u64) -> Ring
     let sent = sync as u32;
     let unused = unused_after(r, sent);
     let token = next_token(r);
-    let rest = r.rest[p] - sent;
     let mut trt = r.trt;
     trt[p] = 0;
     let raised = places::raised(trt, r.set.n, rise as u32);
-    r.trt = raised;
-    r.sent[p] = sent;
-    r.rest[p] = rest;
-    r.last[p] = r.clock;
-    r.clock += rise;
-    r.visits += 1;
-    r.token = token;
-    r.unused = unused;
-    r
+    let mut next = r;
+    next.trt = raised;
+    next.sent[p] = sent;
+    next.rest[p] -= sent;
+    next.last[p] = r.clock;
+    next.clock = r.clock + rise;
+    next.visits = r.visits + 1;
+    next.token = token;
+    next.unused = unused;
+    next
 }
 
 // The deadline less the finish, negative when late.

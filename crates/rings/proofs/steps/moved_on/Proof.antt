@@ -26,25 +26,18 @@ cast-p : tie.Need-cast-p
 cast-p c = search needs
 
 rise-of-requires : tie.Need-rise-of-requires
-rise-of-requires c κs = search needs
+rise-of-requires c κs = c .before .pre
 
 cast-sent : tie.Need-cast-sent
 cast-sent c = search needs
 
 unused-after-requires : tie.Need-unused-after-requires
-unused-after-requires c κs = search needs
+unused-after-requires c κs =
+    let pre = c .before .before .pre in
+    (pre .0, pre .1 .allotted)
 
 next-token-requires : tie.Need-next-token-requires
-next-token-requires c κs = search needs
-
-mul-rest : tie.Need-mul-rest
-mul-rest c = search needs
-
-element-copy-out-rest : tie.Need-element-copy-out-rest
-element-copy-out-rest c = search needs
-
-sub-rest : tie.Need-sub-rest
-sub-rest c = search needs
+next-token-requires c κs = c .before .before .before .pre .0
 
 mul-trt : tie.Need-mul-trt
 mul-trt c = search needs
@@ -58,36 +51,42 @@ cast-raised c = search needs
 raised-requires : tie.Need-raised-requires
 raised-requires c κs =
     let start = c .before .before .before .before .before in
-    let r = start .args .t1 in
+    let r = start .args .r in
     record {
       few = start .pre .0 .few;
       each = λ i l. omega (arith, set-zero (r .trt) (r .token) i, start .pre .0 .trts i l);
       small = omega arith;
     }
 
-mul-r : tie.Need-mul-r
-mul-r c = search needs
+mul-next : tie.Need-mul-next
+mul-next c = search needs
 
-element-write-r : tie.Need-element-write-r
-element-write-r c = search needs
+element-write-next : tie.Need-element-write-next
+element-write-next c = search needs
 
-mul-r-2 : tie.Need-mul-r-2
-mul-r-2 c = search needs
+mul-next-2 : tie.Need-mul-next-2
+mul-next-2 c = search needs
 
-element-write-r-2 : tie.Need-element-write-r-2
-element-write-r-2 c = search needs
+element-copy-out-next : tie.Need-element-copy-out-next
+element-copy-out-next c = search needs
 
-mul-r-3 : tie.Need-mul-r-3
-mul-r-3 c = search needs
+sub-next : tie.Need-sub-next
+sub-next c = search needs
 
-element-write-r-3 : tie.Need-element-write-r-3
-element-write-r-3 c = search needs
+element-write-next-2 : tie.Need-element-write-next-2
+element-write-next-2 c = search needs
 
-add-r : tie.Need-add-r
-add-r c = search needs
+mul-next-3 : tie.Need-mul-next-3
+mul-next-3 c = search needs
 
-add-r-2 : tie.Need-add-r-2
-add-r-2 c = search needs
+element-write-next-3 : tie.Need-element-write-next-3
+element-write-next-3 c = search needs
+
+add-next : tie.Need-add-next
+add-next c = search needs
+
+add-next-2 : tie.Need-add-next-2
+add-next-2 c = search needs
 
 pub moved-on-spec : {M : Type 1} → statement M
 moved-on-spec =
@@ -98,19 +97,18 @@ moved-on-spec =
     cast-sent
     unused-after-requires
     next-token-requires
-    mul-rest
-    element-copy-out-rest
-    sub-rest
     mul-trt
     array-write-trt
     cast-raised
     raised-requires
-    mul-r
-    element-write-r
-    mul-r-2
-    element-write-r-2
-    mul-r-3
-    element-write-r-3
-    add-r
-    add-r-2
+    mul-next
+    element-write-next
+    mul-next-2
+    element-copy-out-next
+    sub-next
+    element-write-next-2
+    mul-next-3
+    element-write-next-3
+    add-next
+    add-next-2
     returns)
