@@ -11,13 +11,13 @@ use Rattle.rings.specs.Steps.{visited}
 use Rattle.rings.specs.HandingIn.{handedIn}
 use Rattle.rings.specs.declared.Message.{Message}
 use Rattle.text.specs.Text.{newline, decimalOf, line}
-use Rattle.text.specs.Scan.{freshScan, letterRead, characterRead, stepped, codeOf}
-use Rattle.text.specs.ScanLaws.{steppedOver, withNumbers, wordScan, typed, AllSmall, small-none, small-and, typed-read, line-typed, hasNoEnd, no-end-typed}
+use Rattle.lines.specs.Scan.{freshScan, letterRead, characterRead, stepped, codeOf}
+use Rattle.lines.specs.ScanLaws.{steppedOver, withNumbers, wordScan, typed, AllSmall, small-none, small-and, typed-read, line-typed, hasNoEnd, no-end-typed}
 use Rattle.calls.specs.RunText.{visitWord, messageWord, visitText, takenText, answerText, ringAfter}
 use Rattle.calls.specs.RunLaws.{answered-visit, answered-message, run-line, said-line}
 use Rattle.calls.specs.Promised.{Says}
 use Rattle.calls.specs.declared.Run.{Run}
-use Rattle.text.specs.declared.scan.Scan.{Scan}
+use Rattle.lines.specs.declared.Scan.{Scan}
 
 -- ---- the words
 

@@ -9,7 +9,7 @@ use Rattle.rings.specs.HandingIn.{handedIn}
 use Rattle.rings.specs.declared.Ring.{Ring}
 use Rattle.rings.specs.declared.Message.{Message}
 use Rattle.text.specs.Text.{newline, decimalOf, line, unreadLine}
-use Rattle.text.specs.Scan.{freshScan, isEmptyLine, nextLine}
+use Rattle.lines.specs.Scan.{freshScan, isEmptyLine, nextLine}
 use Rattle.calls.specs.RunText.{visitWord, messageWord, isVisit, isMessage, messageIn, visitText, takenText, runOn, saidAt, runAfter, saidOver}
 use Rattle.calls.specs.declared.Run.{Run}
 

@@ -26,11 +26,11 @@ use Rattle.rings.specs.declared.Taken.{Taken}
 use Rattle.text.specs.Text.{line, lineOn, space, newline, decimalOf, pageSize, unreadLine}
 use Rattle.text.specs.TextLaws.{line-first, line-next, printed, not-printed}
 use Rattle.calls.specs.RunText.{dash, isVisit, isMessage, messageIn, signOf, signedOf, completion, visitText, takenText, answerText, ringAfter, runOn, saidAt, runAfter, saidOver, runFrom, openedRun, pieceSize, pieceOf, RanPiece, RanOn}
-use Rattle.text.specs.ScanLaws.{steppedOver, hasNoEnd, first-and-rest}
-use Rattle.text.specs.Scan.{isReadable, isEmptyLine, nextLine, freshScan, stepped}
+use Rattle.lines.specs.ScanLaws.{steppedOver, hasNoEnd, first-and-rest}
+use Rattle.lines.specs.Scan.{isReadable, isEmptyLine, nextLine, freshScan, stepped}
 use Rattle.calls.specs.declared.Run.{Run}
 use Rattle.calls.specs.declared.Ran.{Ran}
-use Rattle.text.specs.declared.scan.Scan.{Scan}
+use Rattle.lines.specs.declared.Scan.{Scan}
 
 -- ---- the words of a visit
 

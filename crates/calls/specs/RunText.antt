@@ -17,8 +17,8 @@ use Rattle.rings.specs.declared.Message.{Message}
 use Rattle.rings.specs.declared.VisitRecord.{VisitRecord}
 use Rattle.rings.specs.declared.VisitAnswer.{VisitAnswer}
 use Rattle.text.specs.Text.{newline, space, decimalOf, line, PutShort, Printed, pageSize, textOr, unreadLine}
-use Rattle.text.specs.Scan.{freshScan, stepped, codeOf, isReadable, isEmptyLine, nextLine}
-use Rattle.text.specs.declared.scan.Scan.{Scan}
+use Rattle.lines.specs.Scan.{freshScan, stepped, codeOf, isReadable, isEmptyLine, nextLine}
+use Rattle.lines.specs.declared.Scan.{Scan}
 use Rattle.calls.specs.declared.Run.{Run}
 use Rattle.calls.specs.declared.Answered.{Answered}
 use Rattle.calls.specs.declared.OpenedRun.{OpenedRun}

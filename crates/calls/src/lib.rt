@@ -6,13 +6,12 @@ ghost use lib.ListN.{length};
 ghost use Rattle.sheets.specs.Reading.{readPlan};
 ghost use Rattle.text.specs.Text.{PutShort, space, lineOn};
 ghost use Rattle.calls.specs.RunText.{isVisit, isMessage, messageIn, withoutSign, signedOf, completion, arrivalWords, amountWords, visitLine, visitText, takenText, runFrom, openedRun, Answers, Piece, RanPiece, RanOn};
+use lines::Scan;
 use rings::Message;
 use rings::Ring;
 use rings::VisitAnswer;
 use rings::VisitRecord;
 use text::PAGE_SIZE;
-use text::scan;
-use text::scan::Scan;
 use units::Station;
 use units::Ticks;
 use units::numbers;
@@ -59,7 +58,7 @@ pub struct Ran {
 fn is_visit(s: Scan) -> bool
     ensures { λ r. ⌜ r ≡ isVisit s ⌝ }
 {
-    let readable = !(s.phase == scan::UNREADABLE);
+    let readable = !(s.phase == lines::UNREADABLE);
     let values = s.values;
     let fits = values[0] < 4_294_967_296;
     readable & ((s.word == VISIT) & ((s.count == 1) & fits))
@@ -68,7 +67,7 @@ fn is_visit(s: Scan) -> bool
 fn is_message(s: Scan) -> bool
     ensures { λ r. ⌜ r ≡ isMessage s ⌝ }
 {
-    let readable = !(s.phase == scan::UNREADABLE);
+    let readable = !(s.phase == lines::UNREADABLE);
     let values = s.values;
     let fits = values[0] < 4_294_967_296;
     readable & ((s.word == MESSAGE) & ((s.count == 3) & fits))
@@ -194,7 +193,7 @@ fn answer_line(page: &mut [u8], at: usize, ring: Ring, s: Scan, line: u64) -> An
     requires { ⌜ at + 240 ≤ length (now page) ⌝ }
     ensures { λ r. ⌜ Answers ring s line (now (page .entry)) at (now (page .exit)) r ⌝ }
 {
-    if scan::is_empty_line(s) {
+    if lines::is_empty_line(s) {
         return Answered { ring, next: at };
     }
     if is_visit(s) {
@@ -224,7 +223,7 @@ fn answer_line(page: &mut [u8], at: usize, ring: Ring, s: Scan, line: u64) -> An
 pub(crate) fn start(ring: Ring) -> Run
     ensures { λ r. ⌜ r ≡ runFrom ring ⌝ }
 {
-    let s = scan::fresh();
+    let s = lines::fresh();
     Run {
         ring,
         scan: s,
@@ -282,10 +281,10 @@ fn run_piece(run: Run, text: &[u8], end: usize, page: &mut [u8]) -> Ran
             let behind = answered.ring;
             ring = behind;
             next = answered.next;
-            read = scan::fresh();
-            line = scan::next_line(line);
+            read = lines::fresh();
+            line = lines::next_line(line);
         } else {
-            read = scan::step(read, byte);
+            read = lines::step(read, byte);
         }
         i += 1;
     }

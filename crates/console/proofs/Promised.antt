@@ -22,7 +22,6 @@ use Rattle.console.specs.PlanText.{planLines, plannedText, requestText, 
 use Rattle.text.specs.TextLaws.{text-accepted, text-refused}
 use Rattle.console.specs.PlanSheet.{planningNumber, answerOr, bufferOr}
 use Rattle.console.specs.Promised.{Promised, workedSheet, workedText}
-use Rattle.console.proofs.ShownLaws.{shown-composed}
 
 -- ---- the same plan
 
@@ -96,5 +95,4 @@ promised =
             rw (refused .0, write-zero _ _ (refused .1)),
           );
       same-refusal = λ sheet out k. (refused-text sheet k, (or-refused (planningNumber (readRequest sheet)) _ k, or-kept (planningNumber (readRequest sheet)) _ out k));
-      show-compose = shown-composed;
     }

@@ -2,15 +2,12 @@
 --     PlanText   what `plan` prints
 --     PlanSheet  what `plan-sheet` writes
 --     Commands   the commands by their names
---     ShowText   what `show` prints
 --     Promised   what is promised beside the contracts
 -- and the laws of these, for the proofs; a reader of the rules need not look into them:
---     PlanTextLaws, PlanSheetLaws, ShowLaws
+--     PlanTextLaws, PlanSheetLaws
 pub mod PlanText
 pub mod PlanSheet
 pub mod Commands
-pub mod ShowText
 pub mod Promised
 pub mod PlanTextLaws
 pub mod PlanSheetLaws
-pub mod ShowLaws

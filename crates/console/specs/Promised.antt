@@ -6,14 +6,10 @@ use mathlib.Core.Logic.{_≢_}
 use lib.ListN.{length, drop}
 use Rattle.plans.specs.Planned.{planned}
 use Rattle.sheets.specs.Layout.{planSheet}
-use Rattle.sheets.specs.Reading.{readSheet, readRequest}
+use Rattle.sheets.specs.Reading.{readRequest}
 use Rattle.text.specs.Text.{refusedLine}
 use Rattle.console.specs.PlanText.{planLines, planPrinted}
 use Rattle.console.specs.PlanSheet.{planningNumber, planSheetAnswer, planSheetBuffer}
-use Rattle.console.specs.ShowText.{showPrinted}
-use Rattle.drafts.specs.Compose.{Composes}
-use Rattle.sheets.specs.Bytes.{AllBytes}
-use mathlib.Core.Bool.{Bool}
 
 -- ★ the request sheet of the worked ring, and what 01 prints for it
 abbrev pub workedSheet : List ℕ
@@ -43,5 +39,3 @@ pub record Promised : Type 0 where
   pub same-refusal : (sheet out : List ℕ) → planningNumber (readRequest sheet) ≢ 0
       → (planPrinted sheet ≡ refusedLine (planningNumber (readRequest sheet)))
       × ((planSheetAnswer (readRequest sheet) out .number ≡ planningNumber (readRequest sheet)) × (planSheetBuffer (readRequest sheet) out ≡ out))
-  -- `show`, then `compose`, is the identity on accepted sheets: of the text that is shown of a request or a plan, its very bytes are made again
-  pub show-compose : (plan : Bool) (sheet : List ℕ) → AllBytes sheet → readSheet plan sheet .number ≡ 0 → Composes (showPrinted sheet) sheet

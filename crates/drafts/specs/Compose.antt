@@ -14,8 +14,8 @@ use Rattle.plans.specs.declared.Alloc.{Alloc}
 use Rattle.sheets.specs.Writing.{refusedWriting, writtenAnswer, writtenBuffer}
 use Rattle.sheets.specs.declared.Written.{Written}
 use Rattle.text.specs.Text.{newline}
-use Rattle.text.specs.Scan.{freshScan, stepped, codeOf, isReadable, isEmptyLine, nextLine}
-use Rattle.text.specs.declared.scan.Scan.{Scan}
+use Rattle.lines.specs.Scan.{freshScan, stepped, codeOf, isReadable, isEmptyLine, nextLine}
+use Rattle.lines.specs.declared.Scan.{Scan}
 use Rattle.drafts.specs.declared.Draft.{Draft}
 use Rattle.drafts.specs.declared.Composing.{Composing}
 

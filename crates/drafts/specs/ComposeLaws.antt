@@ -15,11 +15,11 @@ use Rattle.plans.specs.Planned.{blankAlloc}
 use Rattle.sheets.specs.Writing.{refusedWriting, Wrote}
 use Rattle.sheets.specs.declared.Written.{Written}
 use Rattle.text.specs.Text.{newline}
-use Rattle.text.specs.ScanLaws.{steppedOver, hasNoEnd, first-and-rest}
-use Rattle.text.specs.Scan.{freshScan, stepped, isReadable}
+use Rattle.lines.specs.ScanLaws.{steppedOver, hasNoEnd, first-and-rest}
+use Rattle.lines.specs.Scan.{freshScan, stepped, isReadable}
 use Rattle.sheets.specs.WriteLaws.{written-fits}
 use Rattle.drafts.specs.Compose.{allFit, isLine, NumbersFit, lineDrafted, onNextLine, composeOn, composeAfter, isWhole, composedAnswer, composedBuffer, WroteDraft}
-use Rattle.text.specs.declared.scan.Scan.{Scan}
+use Rattle.lines.specs.declared.Scan.{Scan}
 use Rattle.drafts.specs.declared.Draft.{Draft}
 use Rattle.drafts.specs.declared.Composing.{Composing}
 

@@ -2,12 +2,11 @@
 ghost use mathlib.Core.Path.{_≡_};
 ghost use Prim.Native.Nat.{_<_, _^_};
 ghost use Rattle.drafts.specs.Compose.{allFit, isLine, isTtrt, isStation, isPlanStation, blankDraft, misplaced, withTtrt, NumbersFit, setAnd, allocAnd, withStation, withUnread, lineDrafted, onNextLine, composeStart, composeAfter, WroteDraft};
+use lines::Scan;
 use plans::Alloc;
 use sets::Head;
 use sets::Set;
 use sheets::Written;
-use text::scan;
-use text::scan::Scan;
 use units::numbers;
 
 // The letters of `ttrt` and of `station`, each as one number to base 256.
@@ -55,7 +54,7 @@ fn all_fit(s: Scan) -> bool
 fn is_line(s: Scan, code: u64, count: usize) -> bool
     ensures { λ r. ⌜ r ≡ isLine s code count ⌝ }
 {
-    let readable = !(s.phase == scan::UNREADABLE);
+    let readable = !(s.phase == lines::UNREADABLE);
     readable & ((s.word == code) & ((s.count == count) & all_fit(s)))
 }
 
@@ -196,7 +195,7 @@ fn with_unread(d: Draft) -> Draft
 fn line_drafted(d: Draft, s: Scan) -> Draft
     ensures { λ r. ⌜ r ≡ lineDrafted d s ⌝ }
 {
-    if scan::is_empty_line(s) {
+    if lines::is_empty_line(s) {
         return d;
     }
     if is_line(s, TTRT, 1) {
@@ -222,7 +221,7 @@ fn on_next_line(d: Draft) -> Draft
     Draft {
         set,
         alloc,
-        line: scan::next_line(d.line),
+        line: lines::next_line(d.line),
         unread: d.unread,
         head: d.head,
         kind: d.kind,
@@ -245,7 +244,7 @@ pub fn begin() -> Composing
         kind: 0,
         wrong: 0,
     };
-    let fresh = scan::fresh();
+    let fresh = lines::fresh();
     Composing { draft, scan: fresh }
 }
 
@@ -261,9 +260,9 @@ pub fn compose_on(c: Composing, text: &[u8]) -> Composing
         if byte == b'\n' {
             let drafted = line_drafted(draft, read);
             draft = on_next_line(drafted);
-            read = scan::fresh();
+            read = lines::fresh();
         } else {
-            read = scan::step(read, byte);
+            read = lines::step(read, byte);
         }
         i += 1;
     }

@@ -44,7 +44,7 @@ fn show() {
     let mut sheet: [u8; 3_339] = [0; 3_339];
     let read = io::read_full(STDIN_FILENO, &mut sheet);
     let mut page = io::large_buffer();
-    let length = console::show_text(&sheet[..read], &mut page);
+    let length = shows::show_text(&sheet[..read], &mut page);
     io::write_all(STDOUT_FILENO, &page[..length]);
 }
 

@@ -1,6 +1,4 @@
-// Text: put into a page, and read line by line (`scan`). Each public function here puts a text into the page from a place on, and answers the place behind it. If the page has no room for the most bytes that it may put, the page stays as it was and the answer is the place itself.
-pub mod scan;
-
+// Text put into a page. Each public function puts a text into the page from a place on, and answers the place behind it. If the page has no room for the most bytes that it may put, the page stays as it was and the answer is the place itself.
 ghost use mathlib.Core.Path.{_≡_};
 ghost use mathlib.Core.List.{List, [], _∷_};
 ghost use Prim.Native.Nat.{_+_, _-_, _<_, _≤_};

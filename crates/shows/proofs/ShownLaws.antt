@@ -1,0 +1,168 @@
+-- `show`, then `compose`, is the identity on accepted sheets: what is drafted of the text is the set that was read, and writing that gives its bytes again.
+use Prim.Native.Nat.{ℕ, zero, suc, _≤_, _<_}
+use mathlib.Core.Path.{_≡_, refl, sym, ap, _∙_}
+use mathlib.Core.Bool.{Bool, true, false, false≢true}
+use mathlib.Core.List.{List, [], _∷_, _++_}
+use native.Mathlib.Omega.{arith}
+use lib.ListN.{length, drop}
+use Rattle.sets.specs.declared.Set.{Set}
+use Rattle.plans.specs.Planned.{blankAlloc}
+use Rattle.plans.specs.declared.Alloc.{Alloc}
+use Rattle.sheets.specs.Rows.{lead}
+use Rattle.sheets.specs.Bytes.{AllBytes}
+use Rattle.sheets.specs.Fields.{allowedNext, tagAt, sizeAt, Whole}
+use Rattle.sheets.specs.Reading.{stationsIn, allocationsIn, headNumber, endNumber, shapeNumber, goesOnAt, passedAll, setIn, allocIn, readSheet, readRequest, readPlan}
+use Rattle.sheets.specs.FirstFault.{WellFormed, MayStand, a-head, a-station, an-allocation, an-end, not-allowed}
+use Rattle.sheets.specs.Writing.{writtenAnswer, writtenBuffer}
+use Rattle.sheets.specs.Promised.{firstPlaces, firstAllocations}
+use Rattle.sheets.specs.ReadLaws.{then-none, read-number, whole-says, end-says, sheet-accepted}
+use Rattle.sheets.specs.SheetLaws.{Kept, judged-kept}
+use Rattle.sheets.specs.AllowedLaws.{allocation-next}
+use Rattle.sheets.specs.AgainLaws.{Ended, stop-is-end, allocations-hold}
+use Rattle.sheets.specs.FaultLaws.{all-passed}
+use Rattle.sheets.proofs.Promised.{promised}
+use Rattle.text.specs.Text.{newline}
+use Rattle.shows.specs.ShowText.{sheetText, showPrinted}
+use Rattle.shows.specs.ShowLaws.{shown-request, shown-plan, shown-as-plan}
+use Rattle.drafts.specs.Compose.{onNextLine, composeStart, composeAfter, composedAnswer, composedBuffer, draftOf, Composes}
+use Rattle.drafts.specs.ComposeLaws.{compose-append, newline-more}
+use Rattle.drafts.specs.declared.Draft.{Draft}
+use Rattle.drafts.specs.declared.Composing.{Composing}
+use Rattle.shows.proofs.DraftLaws.{SmallAt, kindOf, shareOf, kindBehind, draftBehind, text-drafted}
+
+-- ---- a plan is no request: where a request would end, its first allocation stands
+
+module _ (sheet : List ℕ) (h : readPlan sheet .number ≡ 0) where
+  stations : ℕ
+  stations = stationsIn sheet
+
+  shape : (headNumber true sheet ≡ 0) × (endNumber true sheet stations (allocationsIn true sheet stations) ≡ 0)
+  unfolding readSheet shapeNumber stations
+  shape = then-none _ _ (then-none _ _ (sym (read-number _ _ _) ∙ h) .0)
+
+  ended : Ended true sheet stations (allocationsIn true sheet stations)
+  unfolding stations
+  ended = stop-is-end true sheet _ _ refl refl (end-says true sheet _ _ (shape .1) .0)
+
+  first-allocation : Whole sheet (goesOnAt stations 0) 3 4
+  first-allocation = whole-says sheet (goesOnAt stations 0) 3 4 (allocations-hold sheet true stations 0 (omega (arith, ended .some, ended .all)))
+
+  counted : WellFormed false sheet (passedAll stations 0) (goesOnAt stations 0)
+  unfolding allowedNext allocationsIn lead stations
+  counted = all-passed false sheet (shape .0)
+
+  not-in-a-request : ¬ MayStand (allowedNext false (passedAll stations 0)) (tagAt sheet (goesOnAt stations 0)) (sizeAt sheet (goesOnAt stations 0))
+  not-in-a-request (a-head p q r) = absurd (omega (arith, first-allocation .has-tag))
+  not-in-a-request (a-station p q r) = absurd (omega (arith, first-allocation .has-tag))
+  not-in-a-request (an-allocation p q r) = absurd (omega (arith, allocation-next false (passedAll stations 0) .0 p .1))
+  not-in-a-request (an-end p q r) = absurd (omega (arith, first-allocation .has-tag))
+
+  plan-as-request : readRequest sheet .number ≡ 2
+  plan-as-request =
+      promised .request-fault sheet 2 (omega arith) (omega arith) .1
+      (record {
+        passed = passedAll stations 0;
+        place = goesOnAt stations 0;
+        before = counted;
+        fault = not-allowed (omega (arith, first-allocation .inside)) not-in-a-request;
+      })
+
+-- ---- the text that is shown of an accepted sheet
+
+request-shown : (sheet : List ℕ) → readRequest sheet .number ≡ 0 → showPrinted sheet ≡ sheetText false (readRequest sheet .set) blankAlloc
+request-shown sheet h = sym (shown-request (readRequest sheet) sheet refl (omega arith) h)
+
+plan-shown : (sheet : List ℕ) → readPlan sheet .number ≡ 0 → showPrinted sheet ≡ sheetText true (readPlan sheet .set) (readPlan sheet .alloc)
+plan-shown sheet h = sym (shown-plan (readPlan sheet) (readPlan sheet) refl h ∙ shown-as-plan (readRequest sheet) sheet refl (plan-as-request sheet h))
+
+-- ---- what was read is in its ranges, so each number has 32 bits
+
+read-kept : (plan : Bool) (sheet : List ℕ) → readSheet plan sheet .number ≡ 0 → Kept plan (readSheet plan sheet .set) (readSheet plan sheet .alloc)
+unfolding readSheet
+read-kept plan sheet h =
+    let both = then-none _ _ (sym (read-number _ _ _) ∙ h) in
+    rw (sheet-accepted plan sheet (both .0) (both .1)) (judged-kept plan (setIn sheet) (allocIn plan sheet) (both .1))
+
+module _ (plan : Bool) (t : Set) (a : Alloc) (k : Kept plan t a) where
+  small-at : (i : ℕ) → i < t .n → SmallAt plan t a i
+  small-at i l =
+      let range = k .numbers .stations i l in
+      record {
+        walk = omega (arith, range .walk);
+        longest = omega (arith, range .longest);
+        deadline = omega (arith, range .deadline);
+        gap = omega (arith, range .gap);
+        share = λ e. omega (arith, k .allocations e i l);
+      }
+
+  -- the draft of its text
+  shown-draft : (text : List ℕ) → text ≡ sheetText plan t a → draftOf text ≡ onNextLine (draftBehind plan t a (t .n))
+  shown-draft text e =
+      let drafted = text-drafted t a plan (omega (arith, k .numbers .header)) (omega (arith, k .count)) small-at in
+      ap (λ (c : Composing). c .draft)
+      (ap (λ (x : List ℕ). composeAfter composeStart (x ++ (newline ∷ []))) e
+      ∙ compose-append composeStart (sheetText plan t a) (newline ∷ [])
+      ∙ ap (λ (c : Composing). composeAfter c (newline ∷ [])) drafted
+      ∙ newline-more (draftBehind plan t a (t .n)))
+
+-- ---- and the sheet that is written of that draft
+
+kind-some : (plan : Bool) (n : ℕ) → 1 ≤ n → kindBehind plan n ≡ kindOf plan
+unfolding kindBehind
+kind-some plan zero l = absurd (omega arith)
+kind-some plan (suc n) l = refl
+
+module _ (t : Set) (a : Alloc) (some : 1 ≤ t .n) (out : List ℕ) where
+  request-written : (composedAnswer (onNextLine (draftBehind false t a (t .n))) out ≡ writtenAnswer false (firstPlaces t) blankAlloc out)
+      × (composedBuffer (onNextLine (draftBehind false t a (t .n))) out ≡ writtenBuffer false (firstPlaces t) blankAlloc out)
+  unfolding composedAnswer composedBuffer draftBehind
+  request-written = (rw (kind-some false (t .n) some), rw (kind-some false (t .n) some))
+
+  plan-written : (composedAnswer (onNextLine (draftBehind true t a (t .n))) out ≡ writtenAnswer true (firstPlaces t) (firstAllocations (t .n) a) out)
+      × (composedBuffer (onNextLine (draftBehind true t a (t .n))) out ≡ writtenBuffer true (firstPlaces t) (firstAllocations (t .n) a) out)
+  unfolding composedAnswer composedBuffer draftBehind shareOf
+  plan-written = (rw (kind-some true (t .n) some), rw (kind-some true (t .n) some))
+
+-- ---- the same bytes again
+
+composed-again : (plan : Bool) (t : Set) (a : Alloc) (sheet : List ℕ) → Kept plan t a → showPrinted sheet ≡ sheetText plan t a
+    → ((out : List ℕ) → length sheet ≤ length out
+    → (composedAnswer (onNextLine (draftBehind plan t a (t .n))) out ≡ record { length = length sheet; number = 0 })
+    × (composedBuffer (onNextLine (draftBehind plan t a (t .n))) out ≡ sheet ++ drop (length sheet) out))
+    → Composes (showPrinted sheet) sheet
+unfolding draftBehind
+composed-again plan t a sheet kept shown written =
+    let drafted = shown-draft plan t a kept (showPrinted sheet) shown in
+    record {
+      readable = ap (λ (d : Draft). d .unread) drafted;
+      answer = λ out fits. ap (λ (d : Draft). composedAnswer d out) drafted ∙ written out fits .0;
+      buffer = λ out fits. ap (λ (d : Draft). composedBuffer d out) drafted ∙ written out fits .1;
+    }
+
+request-composed : (sheet : List ℕ) → AllBytes sheet → readRequest sheet .number ≡ 0 → Composes (showPrinted sheet) sheet
+request-composed sheet bytes h =
+    let t = readRequest sheet .set in
+    let kept = read-kept false sheet h in
+    composed-again false (readRequest sheet .set) blankAlloc sheet (record { count = kept .count; numbers = kept .numbers; allocations = λ e. absurd (false≢true e) }) (request-shown sheet h)
+    (λ out fits.
+    let written = request-written t blankAlloc (kept .count .0) out in
+    let first = promised .request-first-places t (firstPlaces t) out (promised .back-same t (kept .count .1)) in
+    let again = promised .request-again sheet out bytes h fits in
+    (written .0 ∙ sym (first .0) ∙ again .0, written .1 ∙ sym (first .1) ∙ again .1))
+
+plan-composed : (sheet : List ℕ) → AllBytes sheet → readPlan sheet .number ≡ 0 → Composes (showPrinted sheet) sheet
+plan-composed sheet bytes h =
+    let t = readPlan sheet .set in
+    let a = readPlan sheet .alloc in
+    let kept = read-kept true sheet h in
+    composed-again true (readPlan sheet .set) (readPlan sheet .alloc) sheet kept (plan-shown sheet h)
+    (λ out fits.
+    let few = kept .count .1 in
+    let written = plan-written t a (kept .count .0) out in
+    let first = promised .plan-first-places t (firstPlaces t) a (firstAllocations (t .n) a) out (promised .back-same t few) (promised .back-allocations (t .n) a few) in
+    let again = promised .plan-again sheet out bytes h fits in
+    (written .0 ∙ sym (first .0) ∙ again .0, written .1 ∙ sym (first .1) ∙ again .1))
+
+pub shown-composed : (plan : Bool) (sheet : List ℕ) → AllBytes sheet → readSheet plan sheet .number ≡ 0 → Composes (showPrinted sheet) sheet
+shown-composed true = plan-composed
+shown-composed false = request-composed

@@ -1,0 +1,58 @@
+-- The laws of what `show` prints, for the proofs of this layer. No rule stands here.
+use Prim.Native.Nat.{ℕ, zero, suc, _≤_}
+use mathlib.Core.Path.{_≡_, sym, ap, _∙_}
+use mathlib.Core.Bool.{Bool, true, false}
+use mathlib.Core.List.{List}
+use mathlib.Core.Logic.{_≢_}
+use native.Mathlib.Omega.{arith}
+use borrow.Author.Tests.{eq-eqb, ne-eqb}
+use Rattle.sets.specs.declared.Set.{Set}
+use Rattle.plans.specs.Planned.{blankAlloc}
+use Rattle.plans.specs.declared.Alloc.{Alloc}
+use Rattle.sheets.specs.Reading.{readAnswer, readSheet, readRequest, readPlan}
+use Rattle.sheets.specs.ReadLaws.{few-stations}
+use Rattle.sheets.specs.declared.ReadRequest.{ReadRequest}
+use Rattle.sheets.specs.declared.ReadPlan.{ReadPlan}
+use Rattle.text.specs.Text.{refusedLine}
+use Rattle.text.specs.TextLaws.{text-accepted, text-refused}
+use Rattle.shows.specs.ShowText.{sheetText, planReadText, requestReadText, planShown, showPrinted}
+
+answer-few : (k : ℕ) (t : Set) (a : Alloc) → t .n ≤ 128 → readAnswer k t a .set .n ≤ 128
+unfolding readAnswer
+answer-few zero t a h = h
+answer-few (suc k) t a h = omega arith
+
+-- what is read has at most 128 stations
+pub read-few : (plan : Bool) (bs : List ℕ) → readSheet plan bs .set .n ≤ 128
+unfolding readSheet
+read-few plan bs = answer-few _ _ _ (few-stations plan bs)
+
+pub request-few : (r : ReadRequest) (bs : List ℕ) → r ≡ readRequest bs → r .set .n ≤ 128
+request-few r bs e = rw e (read-few false bs)
+
+pub plan-few : (p : ReadPlan) (bs : List ℕ) → p ≡ readPlan bs → p .set .n ≤ 128
+plan-few p bs e = rw e (read-few true bs)
+
+pub shown-plan-refused : (p q : ReadPlan) → p ≡ q → p .number ≢ 0 → refusedLine (p .number) ≡ planReadText q
+shown-plan-refused p q e k = sym (text-refused (p .number) _ k) ∙ ap planReadText e
+
+pub shown-plan : (p q : ReadPlan) → p ≡ q → p .number ≡ 0 → sheetText true (p .set) (p .alloc) ≡ planReadText q
+shown-plan p q e k = sym (text-accepted (p .number) _ k) ∙ ap planReadText e
+
+module _ (r : ReadRequest) (sheet : List ℕ) (e : r ≡ readRequest sheet) where
+  number : r .number ≡ readRequest sheet .number
+  number = ap (λ (x : ReadRequest). x .number) e
+
+  pub shown-as-plan : r .number ≡ 2 → planShown sheet ≡ showPrinted sheet
+  unfolding showPrinted
+  shown-as-plan k = rw (eq-eqb (readRequest sheet .number) 2 (sym number ∙ k))
+
+  shown-as-request : r .number ≢ 2 → requestReadText r ≡ showPrinted sheet
+  unfolding showPrinted
+  shown-as-request k = rw (ne-eqb (readRequest sheet .number) 2 (λ z. k (number ∙ z))) (ap requestReadText e)
+
+  pub shown-request-refused : r .number ≢ 2 → r .number ≢ 0 → refusedLine (r .number) ≡ showPrinted sheet
+  shown-request-refused k z = sym (text-refused (r .number) _ z) ∙ shown-as-request k
+
+  pub shown-request : r .number ≢ 2 → r .number ≡ 0 → sheetText false (r .set) blankAlloc ≡ showPrinted sheet
+  shown-request k z = sym (text-accepted (r .number) _ z) ∙ shown-as-request k

@@ -1,0 +1,68 @@
+// What `show` prints: a request or plan sheet as text.
+ghost use Prim.Native.Nat.{_+_, _*_, _<_, _≤_};
+ghost use lib.ListN.{length};
+ghost use Rattle.units.specs.Places.{at as placeAt};
+ghost use Rattle.sheets.specs.Rows.{rows};
+ghost use Rattle.text.specs.Text.{PutShort, lineOn};
+ghost use Rattle.shows.specs.ShowText.{ttrtLine, shareWords, stationLine, sheetText};
+use plans::Alloc;
+use sets::Set;
+
+// `ttrt N`.
+fn put_ttrt(page: &mut [u8], ttrt: u64) -> usize
+    requires { ⌜ 42 ≤ length (now page) ⌝ }
+    ensures { λ r. ⌜ PutShort 42 (now (page .entry)) 0 (ttrtLine ttrt) (now (page .exit)) r ⌝ }
+{
+    let named = text::put_short(page, 0, b"ttrt");
+    let numbered = text::put_field(page, named, ttrt);
+    text::put_end(page, numbered)
+}
+
+// S, in a plan; and the line's end.
+fn put_share(page: &mut [u8], at: usize, plan: bool, s: u64) -> usize
+    requires { ⌜ at + 22 ≤ length (now page) ⌝ }
+    ensures { λ r. ⌜ PutShort 22 (now (page .entry)) at (lineOn (shareWords plan s)) (now (page .exit)) r ⌝ }
+{
+    if plan {
+        let shared = text::put_field(page, at, s);
+        return text::put_end(page, shared);
+    }
+    text::put_end(page, at)
+}
+
+// The line of station i.
+fn put_station(page: &mut [u8], at: usize, plan: bool, t: Set, a: Alloc, i: usize) -> usize
+    requires { ⌜ (i < 128) × (at + 126 ≤ length (now page)) ⌝ }
+    ensures { λ r. ⌜ PutShort 126 (now (page .entry)) at (stationLine plan t a i) (now (page .exit)) r ⌝ }
+{
+    let named = text::put_short(page, at, b"station");
+    let walk = text::put_field(page, named, units::wide(t.w[i]));
+    let longest = text::put_field(page, walk, units::wide(t.c[i]));
+    let deadline = text::put_field(page, longest, units::wide(t.d[i]));
+    let gap = text::put_field(page, deadline, units::wide(t.p[i]));
+    put_share(page, gap, plan, units::wide(a.s[i]))
+}
+
+// A line for each station.
+fn put_stations(page: &mut [u8], at: usize, plan: bool, t: Set, a: Alloc) -> usize
+    requires { ⌜ (t .n ≤ 128) × (at + 126 * 128 ≤ length (now page)) ⌝ }
+    ensures { λ r. ⌜ PutShort (126 * 128) (now (page .entry)) at (rows (t .n) (stationLine plan t a)) (now (page .exit)) r ⌝ }
+{
+    let end = units::places(t.n);
+    let mut next = at;
+    let mut i: usize = 0;
+    while i < end {
+        next = put_station(page, next, plan, t, a, i);
+        i += 1;
+    }
+    next
+}
+
+// The header's line, then the stations.
+pub(crate) fn put_sheet(page: &mut [u8], plan: bool, t: Set, a: Alloc) -> usize
+    requires { ⌜ (t .n ≤ 128) × (20_000 ≤ length (now page)) ⌝ }
+    ensures { λ r. ⌜ PutShort 20_000 (now (page .entry)) 0 (sheetText plan t a) (now (page .exit)) r ⌝ }
+{
+    let first = put_ttrt(page, units::wide(t.head.ttrt));
+    put_stations(page, first, plan, t, a)
+}
