@@ -10,9 +10,9 @@ use Rattle.sets.specs.Rules.{headInRange, stationInRange}
 use Rattle.sets.specs.Judged.{judgedThen, zeros}
 use Rattle.sets.specs.declared.Set.{Set}
 use Rattle.plans.specs.Planned.{planned, smallestWith, answered}
-use Rattle.sheets.specs.Rows.{rows, lead}
-use Rattle.sheets.specs.Bytes.{shortAt, numberAt}
-use Rattle.sheets.specs.Fields.{allowedNext, isAllowed, fieldNumber, wholeAt}
+use Rattle.fields.specs.Rows.{rows, lead}
+use Rattle.fields.specs.Bytes.{shortAt, numberAt}
+use Rattle.fields.specs.Fields.{allowedNext, isAllowed, fieldNumber, wholeAt}
 use Rattle.sheets.specs.Reading.{readRequest, stationsIn, allocationsIn, thenNumber, endNumber, shapeNumber, judgedSheet, readAnswer, readSheet}
 use Rattle.sheets.specs.ReadLaws.{then-none}
 use Rattle.sheets.specs.Writing.{writeAnswer, bufferAfter}

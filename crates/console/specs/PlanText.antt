@@ -9,7 +9,7 @@ use Rattle.plans.specs.Planned.{planned}
 use Rattle.plans.specs.declared.Alloc.{Alloc}
 use Rattle.plans.specs.declared.Planned.{Planned}
 use Rattle.sheets.specs.declared.ReadRequest.{ReadRequest}
-use Rattle.sheets.specs.Rows.{rows}
+use Rattle.fields.specs.Rows.{rows}
 use Rattle.sheets.specs.Reading.{readRequest}
 use Rattle.text.specs.Text.{decimalOf, line, textOr}
 

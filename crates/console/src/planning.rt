@@ -2,7 +2,7 @@
 ghost use Prim.Native.Nat.{_+_, _*_, _≤_};
 ghost use lib.ListN.{length};
 ghost use Rattle.units.specs.Places.{at as placeAt};
-ghost use Rattle.sheets.specs.Rows.{rows};
+ghost use Rattle.fields.specs.Rows.{rows};
 ghost use Rattle.text.specs.Text.{PutShort, refusedLine};
 ghost use Rattle.console.specs.PlanText.{planLine, shareLine, planLines};
 use plans::Alloc;

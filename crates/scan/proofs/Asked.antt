@@ -1,4 +1,4 @@
--- `sheets::fields::field_at`, as the walks of this crate ask it: what it is passed, what it asks for, and what is known of its answer.
+-- `fields::field_at`, as the walks of this crate ask it: what it is passed, what it asks for, and what is known of its answer.
 -- It asks for what the lent bytes own and for their lifetime's token; the place and what is allowed there are plain data, so what they own is made anew.
 -- A reader is Copy: what it owns is had twice, one copy is kept, and of the other what its bytes own goes to `field_at`.
 use mathlib.Core.Path.{_≡_, refl}
@@ -29,11 +29,11 @@ use denote.Triple.Statement.{Contract}
 use denote.Triple.Entry.{Vals}
 use denote.Triple.Spec.{tripleOf}
 use denote.Triple.Clauses.{ensured, lasts}
-use Rattle.sheets.specs.declared.fields.Allowed.{Allowed}
-use Rattle.sheets.specs.declared.fields.Field.{Field}
-use Rattle.sheets.proofs.fields.Allowed as allowed-type
-use Rattle.sheets.proofs.fields.Allowed.Laws as allowed-laws
-use Rattle.sheets.proofs.fields.field_at as field-at
+use Rattle.fields.specs.declared.Allowed.{Allowed}
+use Rattle.fields.specs.declared.Field.{Field}
+use Rattle.fields.proofs.Allowed as allowed-type
+use Rattle.fields.proofs.Allowed.Laws as allowed-laws
+use Rattle.fields.proofs.field_at as field-at
 use Rattle.scan.specs.Cursor.{fieldOf}
 use Rattle.scan.specs.declared.Reader.{Reader}
 use Rattle.scan.proofs.Reader as T

@@ -28,9 +28,9 @@ use denote.Struct.Laws as LL
 use denote.Struct.Steps.{spelt}
 use denote.Triple.Statement.{Contract}
 use denote.Triple.Spec.{tripleOf}
-use Rattle.sheets.specs.declared.fields.Allowed.{Allowed}
-use Rattle.sheets.proofs.fields.Allowed as allowed-type
-use Rattle.sheets.proofs.fields.Allowed.Laws as allowed-laws
+use Rattle.fields.specs.declared.Allowed.{Allowed}
+use Rattle.fields.proofs.Allowed as allowed-type
+use Rattle.fields.proofs.Allowed.Laws as allowed-laws
 use Rattle.scan.specs.declared.Reader.{Reader}
 use Rattle.scan.proofs.Reader as T
 use Rattle.scan.proofs.Reader.Laws as T′

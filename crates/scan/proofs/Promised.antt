@@ -10,8 +10,8 @@ use lib.ListN.{length}
 use denote.Ref.{now}
 use borrow.Author.Tests.{leb-true, leb-false}
 use Rattle.units.specs.JudgingLaws.{true-or-false, held, failed}
-use Rattle.sheets.specs.Fields.{left, tagAt, sizeAt, allocationsFor, allowedNext, fieldNumber, Whole}
-use Rattle.sheets.specs.FieldLaws.{field-says, handed-number, handed-whole}
+use Rattle.fields.specs.Fields.{left, tagAt, sizeAt, allocationsFor, allowedNext, fieldNumber, Whole}
+use Rattle.fields.specs.FieldLaws.{field-says, handed-number, handed-whole}
 use Rattle.sheets.specs.Reading.{nothingPassed, goesOnAt, allocationsIn, shapeNumber, stationsIn, judgedSheet, setIn, allocIn, readSheet}
 use Rattle.sheets.specs.ReadLaws.{then-none, end-says, then-rest, then-keeps, read-number, sheet-misshapen}
 use Rattle.sheets.specs.FirstFault.{WellFormed, start, head, station, allocation, MayStand, a-head, a-station, an-allocation, an-end, Fault, follows, FirstFault}
@@ -19,9 +19,9 @@ use Rattle.sheets.specs.AllowedLaws.{decides-allowed, end-next}
 use Rattle.sheets.specs.AgainLaws.{stop-is-end}
 use Rattle.sheets.specs.FaultLaws.{zero-or-not, Through, through, fault-of, fault-shape, whole-shape, shape-fault}
 use Rattle.sheets.specs.declared.ReadPlan.{ReadPlan}
-use Rattle.sheets.specs.declared.fields.Allowed.{Allowed}
-use Rattle.sheets.specs.declared.fields.Field.{Field}
-use Rattle.sheets.specs.declared.fields.Passed.{Passed}
+use Rattle.fields.specs.declared.Allowed.{Allowed}
+use Rattle.fields.specs.declared.Field.{Field}
+use Rattle.fields.specs.declared.Passed.{Passed}
 use Rattle.scan.specs.Cursor.{cursorAfter, fieldOf}
 use Rattle.scan.specs.CursorLaws.{stays, moves}
 use Rattle.scan.specs.Scanned.{nextField, stopNumber, withField, scanFrom, scanned}

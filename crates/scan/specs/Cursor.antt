@@ -5,9 +5,9 @@ use mathlib.Core.Bool.{cond}
 use lib.Dec.{eqb}
 use mathlib.Core.List.{List}
 use denote.Ref.{now}
-use Rattle.sheets.specs.Fields.{fieldAt}
-use Rattle.sheets.specs.declared.fields.Allowed.{Allowed}
-use Rattle.sheets.specs.declared.fields.Field.{Field}
+use Rattle.fields.specs.Fields.{fieldAt}
+use Rattle.fields.specs.declared.Allowed.{Allowed}
+use Rattle.fields.specs.declared.Field.{Field}
 use Rattle.scan.specs.declared.Reader.{Reader}
 use Rattle.scan.specs.declared.Step.{Step}
 

@@ -3,7 +3,7 @@ use Prim.Native.Nat.{ℕ}
 use mathlib.Core.Path.{_≡_, refl}
 use mathlib.Core.Logic.{_≢_}
 use borrow.Author.Tests.{ne-eqb}
-use Rattle.sheets.specs.declared.fields.Field.{Field}
+use Rattle.fields.specs.declared.Field.{Field}
 use Rattle.scan.specs.Cursor.{cursorAfter}
 
 -- a refused field leaves the cursor

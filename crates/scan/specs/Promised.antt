@@ -6,10 +6,10 @@ use mathlib.Core.List.{List}
 use mathlib.Core.Logic.{_↔_, _≢_}
 use lib.ListN.{length}
 use denote.Ref.{now}
-use Rattle.sheets.specs.Fields.{endTag, endSize, allocationsFor, allowedNext, isAllowed, tagAt, sizeAt, Whole}
+use Rattle.fields.specs.Fields.{endTag, endSize, allocationsFor, allowedNext, isAllowed, tagAt, sizeAt, Whole}
 use Rattle.sheets.specs.Reading.{shapeNumber, judgedSheet, setIn, allocIn, readSheet}
 use Rattle.sheets.specs.FirstFault.{WellFormed, Fault, FirstFault}
-use Rattle.sheets.specs.declared.fields.Allowed.{Allowed}
+use Rattle.fields.specs.declared.Allowed.{Allowed}
 use Rattle.scan.specs.Cursor.{cursorAfter, fieldOf}
 use Rattle.scan.specs.Scanned.{scanned}
 use Rattle.scan.specs.declared.Reader.{Reader}

@@ -9,10 +9,10 @@ use lib.Dec.{eqb}
 use lib.ListN.{length}
 use borrow.Author.Tests.{eq-eqb, ne-eqb, eqb-true, eqb-false}
 use Rattle.units.specs.JudgingLaws.{true-or-false}
-use Rattle.sheets.specs.Fields.{left, tagAt, sizeAt, allowedNext, fieldNumber}
-use Rattle.sheets.specs.FieldLaws.{field-says, handed-whole, handed-number}
-use Rattle.sheets.specs.declared.fields.Field.{Field}
-use Rattle.sheets.specs.declared.fields.Passed.{Passed}
+use Rattle.fields.specs.Fields.{left, tagAt, sizeAt, allowedNext, fieldNumber}
+use Rattle.fields.specs.FieldLaws.{field-says, handed-whole, handed-number}
+use Rattle.fields.specs.declared.Field.{Field}
+use Rattle.fields.specs.declared.Passed.{Passed}
 use Rattle.scan.specs.Cursor.{cursorAfter}
 use Rattle.scan.specs.CursorLaws.{moves}
 use Rattle.scan.specs.declared.Scanned.{Scanned}

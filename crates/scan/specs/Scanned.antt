@@ -6,10 +6,10 @@ use lib.Dec.{leb, eqb}
 use lib.ListN.{length}
 use Rattle.units.specs.Numbers.{accepted, cutShort, runsOn}
 use Rattle.units.specs.Judging.{orElse}
-use Rattle.sheets.specs.Fields.{headTag, stationTag, endTag, allowedNext, fieldAt}
+use Rattle.fields.specs.Fields.{headTag, stationTag, endTag, allowedNext, fieldAt}
 use Rattle.sheets.specs.Reading.{nothingPassed, thenNumber}
-use Rattle.sheets.specs.declared.fields.Field.{Field}
-use Rattle.sheets.specs.declared.fields.Passed.{Passed}
+use Rattle.fields.specs.declared.Field.{Field}
+use Rattle.fields.specs.declared.Passed.{Passed}
 use Rattle.scan.specs.Cursor.{cursorAfter}
 use Rattle.scan.specs.declared.Scanned.{Scanned}
 

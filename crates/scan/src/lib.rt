@@ -1,14 +1,13 @@
 // The fields of a sheet, handed out one after another from the lent bytes. A reader holds the bytes and a cursor; nothing is copied.
-// The functions over the struct are thin: all choices stand in `sheets::fields::field_at` and in `after`.
+// The functions over the struct are thin: all choices stand in `fields::field_at` and in `after`.
 ghost use mathlib.Core.Path.{_≡_};
 ghost use Prim.Native.Nat.{_+_, _<_, _^_};
-ghost use Rattle.sheets.specs.Fields.{fieldAt};
+ghost use Rattle.fields.specs.Fields.{fieldAt};
 ghost use Rattle.scan.specs.Cursor.{cursorAfter, fieldOf, stepOf, Advanced};
 ghost use Rattle.scan.specs.Scanned.{stopsAt, stopNumber, withField, scanned};
-use sheets::fields;
-use sheets::fields::Allowed;
-use sheets::fields::Field;
-use sheets::fields::Passed;
+use fields::Allowed;
+use fields::Field;
+use fields::Passed;
 use units::numbers;
 
 // The lent bytes of a sheet, and where the next field begins.

@@ -19,22 +19,22 @@ use Rattle.sets.specs.declared.Set.{Set}
 use Rattle.plans.specs.Planned.{judgedPlan, blankAlloc}
 use Rattle.plans.specs.PlanLaws.{judged-plan-same}
 use Rattle.plans.specs.declared.Alloc.{Alloc}
-use Rattle.sheets.specs.Rows.{rows}
-use Rattle.sheets.specs.Bytes.{bytesOf, AllBytes}
-use Rattle.sheets.specs.Fields.{allocationsFor}
+use Rattle.fields.specs.Rows.{rows}
+use Rattle.fields.specs.Bytes.{bytesOf, AllBytes}
+use Rattle.fields.specs.Fields.{allocationsFor}
 use Rattle.sheets.specs.Layout.{headBytes, stationWith, stationBytes, allocationBytes, sheetOf, requestSheet, planSheet, sheetLength}
 use Rattle.sheets.specs.Reading.{thenNumber, stationsIn, allocationsIn, shapeNumber, setIn, allocIn, judgedSheet, readSheet, readRequest, readPlan}
 use Rattle.sheets.specs.Writing.{writtenAnswer, writtenBuffer}
 use Rattle.sheets.specs.FirstFault.{Fault, no-start, not-allowed, cut-body, follows, FirstFault, WholeSheet}
 use Rattle.sheets.specs.Promised.{Promised, ZeroPast, GivenRequest, GivenPlan, firstPlaces, firstAllocations, smallSet}
-use Rattle.sheets.specs.RowLaws.{rows-same}
-use Rattle.sheets.specs.FieldLaws.{passed}
+use Rattle.fields.specs.RowLaws.{rows-same}
+use Rattle.fields.specs.FieldLaws.{passed}
 use Rattle.sheets.specs.ReadLaws.{then-rest, then-keeps, then-none, read-refused, read-accepted, read-number, end-says, few-stations, few-allocations, sheet-accepted}
 use Rattle.sheets.specs.WriteLaws.{sheet-long, answer-accepted, answer-number, buffer-accepted, buffer-refused, number-none}
 use Rattle.sheets.specs.BackLaws.{read-back, first-same, first-allocations}
 use Rattle.sheets.specs.AgainLaws.{stop-is-end, read-again}
 use Rattle.sheets.specs.FaultLaws.{zero-or-not, fault-shape, shape-fault, whole-shape, shape-whole, one-fault}
-use Rattle.sheets.specs.declared.fields.Allowed.{Allowed}
+use Rattle.fields.specs.declared.Allowed.{Allowed}
 use Rattle.sheets.specs.declared.ReadPlan.{ReadPlan}
 use Rattle.sheets.specs.declared.Written.{Written}
 

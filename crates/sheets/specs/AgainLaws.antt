@@ -7,15 +7,15 @@ use native.Mathlib.Omega.{arith}
 use Rattle.units.specs.Places.{at}
 use Rattle.units.specs.PlaceLaws.{fill-inside}
 use Rattle.sets.specs.Judged.{zeros}
-use Rattle.sheets.specs.Rows.{rows, Stands}
-use Rattle.sheets.specs.Bytes.{numberAt, bytesOf, AllBytes}
-use Rattle.sheets.specs.Fields.{tagAt, sizeAt, allocationsFor, allowedNext, wholeAt, Whole}
+use Rattle.fields.specs.Rows.{rows, Stands}
+use Rattle.fields.specs.Bytes.{numberAt, bytesOf, AllBytes}
+use Rattle.fields.specs.Fields.{tagAt, sizeAt, allocationsFor, allowedNext, wholeAt, Whole}
 use Rattle.sheets.specs.Layout.{mark, headBytes, allocationBytes, sheetOf}
 use Rattle.sheets.specs.Reading.{nothingPassed, passedAll, allocationsFrom, goesOnAt, wholeFrom, stationsIn, allocationsIn, headNumber, endNumber, shapeNumber, headIn, setIn, allocIn, judgedSheet, readSheet}
 use Rattle.sheets.specs.FirstFault.{MayStand, a-head, a-station, an-allocation, an-end}
-use Rattle.sheets.specs.RowLaws.{lead-holds, lead-stops, stands-join}
-use Rattle.sheets.specs.ByteLaws.{number-stands}
-use Rattle.sheets.specs.FieldLaws.{FieldWhole, field-says}
+use Rattle.fields.specs.RowLaws.{lead-holds, lead-stops, stands-join}
+use Rattle.fields.specs.ByteLaws.{number-stands}
+use Rattle.fields.specs.FieldLaws.{FieldWhole, field-says}
 use Rattle.sheets.specs.ReadLaws.{then-none, whole-is, read-number, end-says, few-stations, few-allocations}
 use Rattle.sheets.specs.AllowedLaws.{decides-allowed, head-next, station-next, allocation-next, end-next}
 use Rattle.sheets.specs.StandLaws.{mark-stands, StationNumbers, stations-stand, allocations-stand}

@@ -6,10 +6,10 @@ use mathlib.Core.Logic.{_⊎_, inl, inr, ⊎-elim}
 use lib.Dec.{eqb}
 use borrow.Author.Tests.{ltb-true, lt-ltb, leb-true, le-leb, eqb-true, eq-eqb}
 use Rattle.units.specs.JudgingLaws.{and-true, true-and, Decides}
-use Rattle.sheets.specs.Fields.{isAllowed, allowedNext, allocationsFor}
+use Rattle.fields.specs.Fields.{isAllowed, allowedNext, allocationsFor}
 use Rattle.sheets.specs.FirstFault.{MayStand, a-head, a-station, an-allocation, an-end}
-use Rattle.sheets.specs.declared.fields.Allowed.{Allowed}
-use Rattle.sheets.specs.declared.fields.Passed.{Passed}
+use Rattle.fields.specs.declared.Allowed.{Allowed}
+use Rattle.fields.specs.declared.Passed.{Passed}
 
 -- ---- one of several
 

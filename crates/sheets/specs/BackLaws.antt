@@ -17,16 +17,16 @@ use Rattle.sets.specs.SetLaws.{judged-same}
 use Rattle.sets.specs.declared.Set.{Set}
 use Rattle.plans.specs.PlanLaws.{judged-plan-same}
 use Rattle.plans.specs.declared.Alloc.{Alloc}
-use Rattle.sheets.specs.Rows.{rows, Stands}
-use Rattle.sheets.specs.Bytes.{numberAt, bytesOf}
-use Rattle.sheets.specs.Fields.{tagAt, sizeAt, allocationsFor, allowedNext}
+use Rattle.fields.specs.Rows.{rows, Stands}
+use Rattle.fields.specs.Bytes.{numberAt, bytesOf}
+use Rattle.fields.specs.Fields.{tagAt, sizeAt, allocationsFor, allowedNext}
 use Rattle.sheets.specs.Layout.{mark, headBytes, stationBytes, allocationBytes, endBytes, sheetOf}
 use Rattle.sheets.specs.Reading.{nothingPassed, passedAll, allocationsFrom, goesOnAt, wholeFrom, stationsIn, allocationsIn, headNumber, endNumber, shapeNumber, setWith, allocWith, setIn, allocIn, judgedSheet, readSheet}
 use Rattle.sheets.specs.FirstFault.{a-head, an-end}
 use Rattle.sheets.specs.Promised.{firstPlaces, firstAllocations}
-use Rattle.sheets.specs.RowLaws.{lead-is, stands-itself, stands-whole, stands-left, stands-right, stands-join}
-use Rattle.sheets.specs.ByteLaws.{number-read}
-use Rattle.sheets.specs.FieldLaws.{field-is}
+use Rattle.fields.specs.RowLaws.{lead-is, stands-itself, stands-whole, stands-left, stands-right, stands-join}
+use Rattle.fields.specs.ByteLaws.{number-read}
+use Rattle.fields.specs.FieldLaws.{field-is}
 use Rattle.sheets.specs.ReadLaws.{then-rest, sheet-accepted}
 use Rattle.sheets.specs.WriteLaws.{head-length, stations-length, allocations-length, sheet-long}
 use Rattle.sheets.specs.AllowedLaws.{decides-allowed, end-next}

@@ -1,22 +1,11 @@
--- What the small functions on bytes hand out, with the bounds that their callers need.
+-- What the small functions hand out, with the bounds that their callers need.
 use Prim.Native.Nat.{ℕ, _+_, _*_, _≤_, _<_}
 use mathlib.Core.Path.{_≡_}
 use mathlib.Core.Bool.{Bool}
 use mathlib.Core.List.{List}
 use lib.ListN.{length}
-use Rattle.sheets.specs.Bytes.{shortAt}
 use Rattle.sheets.specs.Reading.{stationsIn, allocationsIn, shapeNumber}
 use Rattle.sheets.specs.declared.reading.Shape.{Shape}
-
--- r is the byte b
-pub record Byte (b r : ℕ) : Type 0 where
-  pub same : r ≡ b
-  pub small : r < 256
-
--- r is the number in two bytes
-pub record Short (bs : List ℕ) (a r : ℕ) : Type 0 where
-  pub is : r ≡ shortAt bs a
-  pub small : r < 65_536
 
 -- r is the shape of the sheet: its number and, where it is 0, how many stations and allocations it has
 pub record Shaped (plan : Bool) (bs : List ℕ) (r : Shape) : Type 0 where

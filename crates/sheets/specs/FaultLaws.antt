@@ -13,17 +13,17 @@ use borrow.Author.Tests.{lt-leb, le-leb, leb-false}
 use Rattle.units.specs.Judging.{orElse}
 use Rattle.units.specs.JudgingLaws.{true-or-false, held, failed, decides-not}
 use Rattle.units.specs.SmallLaws.{below-or-not}
-use Rattle.sheets.specs.Fields.{left, tagAt, sizeAt, allocationsFor, allowedNext, isAllowed, fieldNumber, wholeAt, Whole}
+use Rattle.fields.specs.Fields.{left, tagAt, sizeAt, allocationsFor, allowedNext, isAllowed, fieldNumber, wholeAt, Whole}
 use Rattle.sheets.specs.Reading.{nothingPassed, passedAll, allocationsFrom, goesOnAt, wholeFrom, stationsIn, allocationsIn, headNumber, endNumber, shapeNumber}
 use Rattle.sheets.specs.FirstFault.{WellFormed, start, head, station, allocation, MayStand, a-head, a-station, an-allocation, an-end, Fault, no-start, not-allowed, cut-body, follows, FirstFault, WholeSheet}
-use Rattle.sheets.specs.RowLaws.{lead-is}
-use Rattle.sheets.specs.FieldLaws.{field-short, field-wrong, field-cut, field-whole, field-is, field-says}
+use Rattle.fields.specs.RowLaws.{lead-is}
+use Rattle.fields.specs.FieldLaws.{field-short, field-wrong, field-cut, field-whole, field-is, field-says}
 use Rattle.sheets.specs.ReadLaws.{then-rest, then-keeps, then-none, whole-is, whole-says, few-stations, allocations-most, end-says}
 use Rattle.sheets.specs.AllowedLaws.{decides-allowed, head-next, station-next, allocation-next, end-next}
 use Rattle.sheets.specs.StandLaws.{other-tag}
 use Rattle.sheets.specs.AgainLaws.{stations-hold, allocations-hold, head-whole, stop-is-end}
-use Rattle.sheets.specs.declared.fields.Allowed.{Allowed}
-use Rattle.sheets.specs.declared.fields.Passed.{Passed}
+use Rattle.fields.specs.declared.Allowed.{Allowed}
+use Rattle.fields.specs.declared.Passed.{Passed}
 
 pub zero-or-not : (k : ℕ) → (k ≡ 0) ⊎ (k ≢ 0)
 zero-or-not zero = inl refl

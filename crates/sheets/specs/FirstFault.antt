@@ -5,10 +5,10 @@ use mathlib.Core.Path.{_≡_}
 use mathlib.Core.Bool.{Bool, true}
 use mathlib.Core.List.{List}
 use lib.ListN.{length}
-use Rattle.sheets.specs.Fields.{headTag, headSize, stationTag, stationSize, allocationTag, allocationSize, endTag, endSize, allowedNext, left, tagAt, sizeAt, Whole}
+use Rattle.fields.specs.Fields.{headTag, headSize, stationTag, stationSize, allocationTag, allocationSize, endTag, endSize, allowedNext, left, tagAt, sizeAt, Whole}
 use Rattle.sheets.specs.Reading.{nothingPassed}
-use Rattle.sheets.specs.declared.fields.Allowed.{Allowed}
-use Rattle.sheets.specs.declared.fields.Passed.{Passed}
+use Rattle.fields.specs.declared.Allowed.{Allowed}
+use Rattle.fields.specs.declared.Passed.{Passed}
 
 -- the fields from the start of the sheet up to the place are all whole, and each was allowed at its place; `Passed` says which they are
 pub data WellFormed (plan : Bool) (bs : List ℕ) : Passed → ℕ → Type 0 where

@@ -7,9 +7,9 @@ use Rattle.sets.specs.declared.Head.{Head}
 use Rattle.sets.specs.declared.Set.{Set}
 use Rattle.plans.specs.Planned.{blankAlloc}
 use Rattle.plans.specs.declared.Alloc.{Alloc}
-use Rattle.sheets.specs.Rows.{rows}
-use Rattle.sheets.specs.Bytes.{bytesOf}
-use Rattle.sheets.specs.Fields.{headTag, headSize, stationTag, stationSize, allocationTag, allocationSize, endTag, endSize, allocationsFor}
+use Rattle.fields.specs.Rows.{rows}
+use Rattle.fields.specs.Bytes.{bytesOf}
+use Rattle.fields.specs.Fields.{headTag, headSize, stationTag, stationSize, allocationTag, allocationSize, endTag, endSize, allocationsFor}
 
 -- the start of a field: one tag byte, two length bytes; no length here is above 255
 abbrev pub mark : ℕ → ℕ → List ℕ

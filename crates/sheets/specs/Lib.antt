@@ -1,27 +1,18 @@
 -- Request and plan sheets: their layout, what reading and writing answer, and what is promised of them.
 --     Layout      the bytes of a request and of a plan
---     Fields      what is allowed at a place, and what is found there
 --     Reading     what reading answers, for any bytes
 --     Writing     what writing answers, and what the buffer then holds
 --     FirstFault  1, 2 and 3 by the first fault from the left, field after field
 --     Promised    what is promised beside the contracts
---     Bytes       numbers in bytes
---     Rows        lists of bytes put together
 --     Bounds      what the small functions hand out, with their bounds
 -- and, for the proofs of this layer and those above:
---     RowLaws, ByteLaws, FieldLaws, ReadLaws, WriteLaws, AllowedLaws, SheetLaws, StandLaws, BackLaws, AgainLaws, FaultLaws
-pub mod Rows
-pub mod Bytes
-pub mod Fields
+--     ReadLaws, WriteLaws, AllowedLaws, SheetLaws, StandLaws, BackLaws, AgainLaws, FaultLaws
 pub mod Layout
 pub mod Reading
 pub mod Writing
 pub mod FirstFault
 pub mod Promised
 pub mod Bounds
-pub mod RowLaws
-pub mod ByteLaws
-pub mod FieldLaws
 pub mod ReadLaws
 pub mod WriteLaws
 pub mod AllowedLaws

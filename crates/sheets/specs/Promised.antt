@@ -11,7 +11,7 @@ use Rattle.sets.specs.Judged.{judged, blankSet, zeros}
 use Rattle.sets.specs.declared.Set.{Set}
 use Rattle.plans.specs.Planned.{judgedPlan, blankAlloc}
 use Rattle.plans.specs.declared.Alloc.{Alloc}
-use Rattle.sheets.specs.Bytes.{AllBytes}
+use Rattle.fields.specs.Bytes.{AllBytes}
 use Rattle.sheets.specs.Layout.{requestSheet, planSheet}
 use Rattle.sheets.specs.Reading.{setIn, allocIn, readRequest, readPlan}
 use Rattle.sheets.specs.Writing.{writtenAnswer, writtenBuffer}

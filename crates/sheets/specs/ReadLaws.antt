@@ -12,10 +12,10 @@ use Rattle.sets.specs.Judged.{blankSet}
 use Rattle.sets.specs.declared.Set.{Set}
 use Rattle.plans.specs.Planned.{blankAlloc}
 use Rattle.plans.specs.declared.Alloc.{Alloc}
-use Rattle.sheets.specs.Fields.{Whole, left, wholeAt, allowedNext, allocationsFor}
+use Rattle.fields.specs.Fields.{Whole, left, wholeAt, allowedNext, allocationsFor}
 use Rattle.sheets.specs.Reading.{thenNumber, readAnswer, readSheet, setIn, allocIn, judgedSheet, stationsIn, allocationsIn, allocationsFrom, wholeFrom, goesOnAt, passedAll, endNumber, shapeNumber}
-use Rattle.sheets.specs.RowLaws.{lead-most}
-use Rattle.sheets.specs.FieldLaws.{FieldWhole, field-says, passed, allocations-few}
+use Rattle.fields.specs.RowLaws.{lead-most}
+use Rattle.fields.specs.FieldLaws.{FieldWhole, field-says, passed, allocations-few}
 
 -- ---- one number after another
 

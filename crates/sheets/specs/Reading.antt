@@ -14,10 +14,10 @@ use Rattle.sets.specs.declared.Head.{Head}
 use Rattle.sets.specs.declared.Set.{Set}
 use Rattle.plans.specs.Planned.{judgedPlan, blankAlloc}
 use Rattle.plans.specs.declared.Alloc.{Alloc}
-use Rattle.sheets.specs.Rows.{lead}
-use Rattle.sheets.specs.Bytes.{numberAt}
-use Rattle.sheets.specs.Fields.{stationTag, stationSize, allocationTag, allocationSize, allocationsFor, allowedNext, fieldNumber, wholeAt}
-use Rattle.sheets.specs.declared.fields.Passed.{Passed}
+use Rattle.fields.specs.Rows.{lead}
+use Rattle.fields.specs.Bytes.{numberAt}
+use Rattle.fields.specs.Fields.{stationTag, stationSize, allocationTag, allocationSize, allocationsFor, allowedNext, fieldNumber, wholeAt}
+use Rattle.fields.specs.declared.Passed.{Passed}
 use Rattle.sheets.specs.declared.ReadRequest.{ReadRequest}
 use Rattle.sheets.specs.declared.ReadPlan.{ReadPlan}
 

@@ -12,7 +12,7 @@ use Rattle.plans.specs.Planned.{judgedPlan}
 use Rattle.plans.specs.PlanLaws.{decides-alloc}
 use Rattle.plans.specs.declared.Alloc.{Alloc}
 use Rattle.sheets.specs.Reading.{judgedSheet}
-use Rattle.sheets.specs.FieldLaws.{passed}
+use Rattle.fields.specs.FieldLaws.{passed}
 
 -- what a sheet that is judged 0 keeps
 pub record Kept (plan : Bool) (t : Set) (a : Alloc) : Type 0 where

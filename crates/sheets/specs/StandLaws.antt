@@ -11,13 +11,13 @@ use Rattle.units.specs.JudgingLaws.{true-or-false}
 use Rattle.units.specs.Places.{at}
 use Rattle.sets.specs.declared.Set.{Set}
 use Rattle.plans.specs.declared.Alloc.{Alloc}
-use Rattle.sheets.specs.Rows.{rows, Stands}
-use Rattle.sheets.specs.Bytes.{shortAt, numberAt, bytesOf, AllBytes}
-use Rattle.sheets.specs.Fields.{tagAt, sizeAt, wholeAt}
+use Rattle.fields.specs.Rows.{rows, Stands}
+use Rattle.fields.specs.Bytes.{shortAt, numberAt, bytesOf, AllBytes}
+use Rattle.fields.specs.Fields.{tagAt, sizeAt, wholeAt}
 use Rattle.sheets.specs.Layout.{mark, stationWith, allocationWith, stationBytes, allocationBytes}
 use Rattle.sheets.specs.Reading.{wholeFrom}
-use Rattle.sheets.specs.RowLaws.{stands-left, stands-right, stands-join, stands-row, rows-stand}
-use Rattle.sheets.specs.ByteLaws.{number-read, number-stands, stands-three}
+use Rattle.fields.specs.RowLaws.{stands-left, stands-right, stands-join, stands-row, rows-stand}
+use Rattle.fields.specs.ByteLaws.{number-read, number-stands, stands-three}
 use Rattle.sheets.specs.ReadLaws.{whole-is, whole-says}
 use Rattle.sheets.specs.WriteLaws.{station-length, allocation-length}
 

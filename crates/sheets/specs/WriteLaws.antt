@@ -11,13 +11,13 @@ use Rattle.units.specs.JudgingLaws.{held, failed, passed}
 use Rattle.sets.specs.declared.Head.{Head}
 use Rattle.sets.specs.declared.Set.{Set}
 use Rattle.plans.specs.declared.Alloc.{Alloc}
-use Rattle.sheets.specs.Rows.{rows, laid}
-use Rattle.sheets.specs.Bytes.{bytesOf}
-use Rattle.sheets.specs.Fields.{allocationsFor}
+use Rattle.fields.specs.Rows.{rows, laid}
+use Rattle.fields.specs.Bytes.{bytesOf}
+use Rattle.fields.specs.Fields.{allocationsFor}
 use Rattle.sheets.specs.Layout.{headBytes, stationWith, allocationWith, stationBytes, allocationBytes, endBytes, sheetOf, sheetLength}
 use Rattle.sheets.specs.Reading.{judgedSheet}
 use Rattle.sheets.specs.Writing.{writeNumber, writeAnswer, bufferAfter, refusedWriting, writtenAnswer, Wrote}
-use Rattle.sheets.specs.RowLaws.{rows-length, laid-first, laid-more}
+use Rattle.fields.specs.RowLaws.{rows-length, laid-first, laid-more}
 use Rattle.sheets.specs.ReadLaws.{then-rest, then-keeps, then-none}
 
 -- ---- lengths

@@ -3,36 +3,19 @@ ghost use mathlib.Core.Path.{_≡_};
 ghost use mathlib.Core.List.{[], _∷_};
 ghost use Prim.Native.Nat.{_+_, _≤_, _%_};
 ghost use lib.ListN.{length};
-ghost use Rattle.sheets.specs.Rows.{laid};
-ghost use Rattle.sheets.specs.Bytes.{shortAt, numberAt, bytesOf};
-ghost use Rattle.sheets.specs.Bounds.{Byte, Short};
-
-// The same byte, with room to put numbers together.
-fn wide(b: u8) -> u32
-    ensures { λ r. ⌜ Byte b r ⌝ }
-{
-    b as u32
-}
-
-// The number in two bytes.
-pub(crate) fn short_at(bs: &[u8], at: usize) -> usize
-    requires { ⌜ at + 2 ≤ length (now bs) ⌝ }
-    ensures { λ r. ⌜ Short (now (bs .entry)) at r ⌝ }
-{
-    let number = wide(bs[at]) * 256 + wide(bs[at + 1]);
-    let short = number as usize;
-    short
-}
+ghost use Rattle.fields.specs.Rows.{laid};
+ghost use Rattle.fields.specs.Bytes.{numberAt, bytesOf};
+use fields::bytes;
 
 // The number in four bytes.
 pub(crate) fn number_at(bs: &[u8], at: usize) -> u32
     requires { ⌜ at + 4 ≤ length (now bs) ⌝ }
     ensures { λ r. ⌜ r ≡ numberAt (now (bs .entry)) at ⌝ }
 {
-    wide(bs[at]) * 16_777_216
-        + wide(bs[at + 1]) * 65_536
-        + wide(bs[at + 2]) * 256
-        + wide(bs[at + 3])
+    bytes::wide(bs[at]) * 16_777_216
+        + bytes::wide(bs[at + 1]) * 65_536
+        + bytes::wide(bs[at + 2]) * 256
+        + bytes::wide(bs[at + 3])
 }
 
 // The lowest byte of a number.

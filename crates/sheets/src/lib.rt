@@ -1,6 +1,5 @@
 // Request and plan sheets: read from lent bytes, and written into them.
 mod bytes;
-pub mod fields;
 mod reading;
 mod writing;
 

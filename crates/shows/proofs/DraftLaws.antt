@@ -13,7 +13,7 @@ use Rattle.units.specs.Places.{at, fill}
 use Rattle.sets.specs.Judged.{zeros}
 use Rattle.sets.specs.declared.Set.{Set}
 use Rattle.plans.specs.declared.Alloc.{Alloc}
-use Rattle.sheets.specs.Rows.{rows}
+use Rattle.fields.specs.Rows.{rows}
 use Rattle.text.specs.Text.{newline}
 use Rattle.lines.specs.Scan.{freshScan, letterRead, characterRead, stepped, codeOf, nextLine}
 use Rattle.lines.specs.ScanLaws.{steppedOver, withNumbers, wordScan, typed, AllSmall, small-none, small-and, typed-read, line-typed, hasNoEnd, no-end-typed}

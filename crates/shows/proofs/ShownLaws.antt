@@ -8,9 +8,9 @@ use lib.ListN.{length, drop}
 use Rattle.sets.specs.declared.Set.{Set}
 use Rattle.plans.specs.Planned.{blankAlloc}
 use Rattle.plans.specs.declared.Alloc.{Alloc}
-use Rattle.sheets.specs.Rows.{lead}
-use Rattle.sheets.specs.Bytes.{AllBytes}
-use Rattle.sheets.specs.Fields.{allowedNext, tagAt, sizeAt, Whole}
+use Rattle.fields.specs.Rows.{lead}
+use Rattle.fields.specs.Bytes.{AllBytes}
+use Rattle.fields.specs.Fields.{allowedNext, tagAt, sizeAt, Whole}
 use Rattle.sheets.specs.Reading.{stationsIn, allocationsIn, headNumber, endNumber, shapeNumber, goesOnAt, passedAll, setIn, allocIn, readSheet, readRequest, readPlan}
 use Rattle.sheets.specs.FirstFault.{WellFormed, MayStand, a-head, a-station, an-allocation, an-end, not-allowed}
 use Rattle.sheets.specs.Writing.{writtenAnswer, writtenBuffer}

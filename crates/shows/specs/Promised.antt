@@ -3,7 +3,7 @@ use Prim.Native.Nat.{ℕ}
 use mathlib.Core.Path.{_≡_}
 use mathlib.Core.Bool.{Bool}
 use mathlib.Core.List.{List}
-use Rattle.sheets.specs.Bytes.{AllBytes}
+use Rattle.fields.specs.Bytes.{AllBytes}
 use Rattle.sheets.specs.Reading.{readSheet}
 use Rattle.drafts.specs.Compose.{Composes}
 use Rattle.shows.specs.ShowText.{showPrinted}

@@ -5,7 +5,7 @@ use mathlib.Core.Bool.{cond}
 use mathlib.Core.List.{List, [], _∷_, _++_}
 use lib.Dec.{ltb}
 use lib.ListN.{length, take, drop}
-use Rattle.sheets.specs.Rows.{laid}
+use Rattle.fields.specs.Rows.{laid}
 
 -- ---- characters
 

@@ -11,8 +11,8 @@ use borrow.Author.Tests.{lt-ltb, le-ltb}
 use lib.ListN.{length, set, length-append}
 use lib.Seq.{sets-eq, length-take-le}
 use Rattle.units.specs.SmallLaws.{below-or-not}
-use Rattle.sheets.specs.Rows.{laid, rows}
-use Rattle.sheets.specs.RowLaws.{laid-none, laid-length, laid-then, laid-first}
+use Rattle.fields.specs.Rows.{laid, rows}
+use Rattle.fields.specs.RowLaws.{laid-none, laid-length, laid-then, laid-first}
 use Rattle.text.specs.Text.{digit, decimalWithin, decimalOf, lineOn, line, newline, space, Put, PutShort, PutWithin, Printed, pageSize, pageWith, lengthOn, textOr, refusedWord, refusedLine, lineWord, cannotBeRead, unreadLine}
 
 -- ---- text put into a page

@@ -41,16 +41,16 @@ use denote.Triple.Table.{entered, cited}
 use denote.Triple.Walked.{says, Stays, stay-ref, stay-none, walkOf, goes-none, goes-ref, Walks, ends-at, walked, walk-meets}
 use denote.Exit.{yes}
 use denote.Triple.Clauses.{ensured, lasts}
-use Rattle.sheets.specs.declared.fields.Allowed.{Allowed}
-use Rattle.sheets.specs.declared.fields.Field.{Field}
-use Rattle.sheets.proofs.fields.Allowed as allowed-type
-use Rattle.sheets.proofs.fields.Allowed.Laws as allowed-laws
-use Rattle.sheets.proofs.fields.Field as field-type
-use Rattle.sheets.proofs.fields.Field.Laws as field-laws
-use Rattle.sheets.proofs.fields.field_at as field-at
-use Rattle.sheets.proofs.fields.field_at.Symbol as field-at-def
-use Rattle.sheets.proofs.fields.field_at.Symbol.{name as #sheets·fields·field-at}
-use Rattle.sheets.proofs.fields.field_at.Met as field-at-thm
+use Rattle.fields.specs.declared.Allowed.{Allowed}
+use Rattle.fields.specs.declared.Field.{Field}
+use Rattle.fields.proofs.Allowed as allowed-type
+use Rattle.fields.proofs.Allowed.Laws as allowed-laws
+use Rattle.fields.proofs.Field as field-type
+use Rattle.fields.proofs.Field.Laws as field-laws
+use Rattle.fields.proofs.field_at as field-at
+use Rattle.fields.proofs.field_at.Symbol as field-at-def
+use Rattle.fields.proofs.field_at.Symbol.{name as #fields·field-at}
+use Rattle.fields.proofs.field_at.Met as field-at-thm
 use Rattle.scan.specs.Cursor.{cursorAfter, fieldOf, Advanced}
 use Rattle.scan.specs.declared.Reader.{Reader}
 use Rattle.scan.proofs.Reader as T
@@ -134,7 +134,7 @@ module _ {M : Type 1} (𝓤 : URA M) (H : Heap 𝓤) (A : Atoms 𝓤) (W : Given
       move ! (2 ∷ 4 ∷ []) $ join ! $ frame ! $ feqI ! (List Val) (vptr b o ∷ []) (vptr b o ∷ []) refl $ fjoin3 ! $
       nothing ! $ owned ! allowed-type.the-row (Is allowed-type.the-row) (LL.makes allowed-type.the-type allowed-laws.the-plain 𝓤 H A) allowed _ is-allowed $ fjoin ! $ move ! (1 ∷ 0 ∷ []) $ fjoin ! $ done !
 
-  module _ (C : Calls 𝓤 H) (Λ : Loops 𝓤 H) (fm : FmC 𝓤 H (W .laws) C) (known-field : Triple 𝓤 (C #sheets·fields·field-at) (FieldAt 𝓤 H A at-mem run)) (known-after : Triple 𝓤 (C #scan·after) (After 𝓤 H A at-mem run)) where
+  module _ (C : Calls 𝓤 H) (Λ : Loops 𝓤 H) (fm : FmC 𝓤 H (W .laws) C) (known-field : Triple 𝓤 (C #fields·field-at) (FieldAt 𝓤 H A at-mem run)) (known-after : Triple 𝓤 (C #scan·after) (After 𝓤 H A at-mem run)) where
     walk : ent 𝓤 (onEntry 𝓤 H A next.signature (κ, (κ′, tt)) (q, (q′, tt)) x at) (WpFn 𝓤 H C Λ code.function (vptr b o ∷ at .1 .0) Post)
     walk =
         qed W ((‵ (flft κ q) ⊛ ‵ (flft κ′ q′) ⊛ ‵ ftrue) ∷ ‵ (owns (MutRef (named 0) κ (B κ′) ∷ allowed-type.the-row ∷ []) x at) ∷ []) ∵ enter ! C Λ code.function (vptr b o ∷ at .1 .0) _ $
@@ -175,14 +175,14 @@ module _ {M : Type 1} (𝓤 : URA M) (H : Heap 𝓤) (A : Atoms 𝓤) (W : Given
         keep ! (0 ∷ 1 ∷ 2 ∷ 4 ∷ 5 ∷ []) $ by ! (exits m r u (record { handed = e; cursor = e′ ∙ ap (cursorAfter (h .at)) e; bytes = refl })))))))))))))))))))
 
 module _ {M : Type 1} (𝓤 : URA M) (H : Heap 𝓤) (A : Atoms 𝓤) (W : Given 𝓤 H A) (mem : Memory → SProp 𝓤) (run : Routine → Fun 𝓤) where
-  next-walks : (C : Calls 𝓤 H) (Λ : Loops 𝓤 H) → FmC 𝓤 H (W .laws) C → Triple 𝓤 (C #sheets·fields·field-at) (FieldAt 𝓤 H A mem run) → Triple 𝓤 (C #scan·after) (After 𝓤 H A mem run)
+  next-walks : (C : Calls 𝓤 H) (Λ : Loops 𝓤 H) → FmC 𝓤 H (W .laws) C → Triple 𝓤 (C #fields·field-at) (FieldAt 𝓤 H A mem run) → Triple 𝓤 (C #scan·after) (After 𝓤 H A mem run)
       → Walks 𝓤 H A next.ended stayed (WpFn 𝓤 H C Λ code.function) (next.clauses 𝓤 H A mem run)
   next-walks C Λ fm known-field known-after = walked 𝓤 H A next.ended stayed (next.clauses 𝓤 H A mem run) (WpFn 𝓤 H C Λ code.function)
       (λ κs. (ptr-vals, (LL.vals allowed-type.the-type allowed-laws.the-laws, tt))) (λ κs. (mut-tells (named 0) (κs .0) (B (κs .1 .0)), (LL.tells allowed-type.the-type allowed-laws.the-laws, tt)))
       (λ κs qs bounds a g are. via 𝓤 _ (fst∗ 𝓤 _ (emp 𝓤)) (walk 𝓤 H A W mem run (κs .0) (κs .1 .0) (qs .0) (qs .1 .0) bounds (a .0 .ptr .0) (a .0 .ptr .1) (a .0 .name) (a .0 .now) (a .1 .0) (are .1 .0) C Λ fm known-field known-after))
 
 next-meets : {M : Type 1} (𝓤 : URA M) (H : Heap 𝓤) (A : Atoms 𝓤) (W : Given 𝓤 H A) (mem : Memory → SProp 𝓤) (run : Routine → Fun 𝓤) (𝓣 : Tables 𝓤 H)
-    → Triple 𝓤 (𝓣 .C #sheets·fields·field-at) (FieldAt 𝓤 H A mem run) → Triple 𝓤 (𝓣 .C #scan·after) (After 𝓤 H A mem run)
+    → Triple 𝓤 (𝓣 .C #fields·field-at) (FieldAt 𝓤 H A mem run) → Triple 𝓤 (𝓣 .C #scan·after) (After 𝓤 H A mem run)
     → Meets 𝓤 H A next.signature (WpFn 𝓤 H (𝓣 .C) (𝓣 .Λ) code.function) (next.spec 𝓤 H A mem run)
 next-meets 𝓤 H A W mem run 𝓣 known-field known-after = walk-meets 𝓤 H A next.ended stayed W (goes-ref 𝓤 H A W 2 0 tt behind, (goes-none 𝓤 H A W 2 (λ _. allowed-type.the-row) yes (λ κs x f. refl), tt)) (next.clauses 𝓤 H A mem run) (WpFn 𝓤 H (𝓣 .C) (𝓣 .Λ) code.function) (WpFn-mono 𝓤 H (W .laws) 𝓣 code.function)
     (next-walks 𝓤 H A W mem run (𝓣 .C) (𝓣 .Λ) (fmOf 𝓤 H (W .laws) 𝓣) known-field known-after)
@@ -193,5 +193,5 @@ next-spec 𝓤 H 𝓜 𝓖 𝓡 =
     entered 𝓤 H (tripleOf 𝓤 H (𝓖 .A) next.signature (next.spec 𝓤 H (𝓖 .A) (𝓜 .mem) (𝓡 .run)))
     (tables 𝓤 H 𝓜 𝓡 code.env .C) (tables 𝓤 H 𝓜 𝓡 code.env .Λ) #scan·next code.function (code.unfolded 𝓤 H 𝓜 𝓡)
     (next-meets 𝓤 H (𝓖 .A) (givenOf 𝓤 H 𝓜 𝓖) (𝓜 .mem) (𝓡 .run) (tablesOf 𝓤 H 𝓜 (tables 𝓤 H 𝓜 𝓡 code.env))
-    (cited 𝓤 H (FieldAt 𝓤 H (𝓖 .A) (𝓜 .mem) (𝓡 .run)) 𝓜 𝓡 code.env #sheets·fields·field-at field-at-def.routine code.calls-sheets·fields·field-at (field-at-thm.met 𝓤 H 𝓜 𝓖 𝓡))
+    (cited 𝓤 H (FieldAt 𝓤 H (𝓖 .A) (𝓜 .mem) (𝓡 .run)) 𝓜 𝓡 code.env #fields·field-at field-at-def.routine code.calls-fields·field-at (field-at-thm.met 𝓤 H 𝓜 𝓖 𝓡))
     (cited 𝓤 H (After 𝓤 H (𝓖 .A) (𝓜 .mem) (𝓡 .run)) 𝓜 𝓡 code.env #scan·after after-def.routine code.calls-scan·after (after-thm.met 𝓤 H 𝓜 𝓖 𝓡)))

@@ -32,16 +32,16 @@ use denote.Triple.Table.{entered, cited}
 use denote.Triple.Walked.{says, Stays, stay-none, walkOf, goes-none, Walks, ends-at, walked, walk-meets}
 use denote.Exit.{yes}
 use denote.Triple.Clauses.{ensured}
-use Rattle.sheets.specs.declared.fields.Allowed.{Allowed}
-use Rattle.sheets.specs.declared.fields.Field.{Field}
-use Rattle.sheets.proofs.fields.Allowed as allowed-type
-use Rattle.sheets.proofs.fields.Allowed.Laws as allowed-laws
-use Rattle.sheets.proofs.fields.Field as field-type
-use Rattle.sheets.proofs.fields.Field.Laws as field-laws
-use Rattle.sheets.proofs.fields.field_at as field-at
-use Rattle.sheets.proofs.fields.field_at.Symbol as field-at-def
-use Rattle.sheets.proofs.fields.field_at.Symbol.{name as #sheets·fields·field-at}
-use Rattle.sheets.proofs.fields.field_at.Met as field-at-thm
+use Rattle.fields.specs.declared.Allowed.{Allowed}
+use Rattle.fields.specs.declared.Field.{Field}
+use Rattle.fields.proofs.Allowed as allowed-type
+use Rattle.fields.proofs.Allowed.Laws as allowed-laws
+use Rattle.fields.proofs.Field as field-type
+use Rattle.fields.proofs.Field.Laws as field-laws
+use Rattle.fields.proofs.field_at as field-at
+use Rattle.fields.proofs.field_at.Symbol as field-at-def
+use Rattle.fields.proofs.field_at.Symbol.{name as #fields·field-at}
+use Rattle.fields.proofs.field_at.Met as field-at-thm
 use Rattle.scan.specs.Cursor.{fieldOf}
 use Rattle.scan.specs.declared.Reader.{Reader}
 use Rattle.scan.proofs.Reader as T
@@ -88,7 +88,7 @@ module _ {M : Type 1} (𝓤 : URA M) (H : Heap 𝓤) (A : Atoms 𝓤) (W : Given
       suffices ! _ (ends-at 𝓤 H A peek.ended stayed (peek.clauses 𝓤 H A mem run) W (((κ, tt), (q, tt), tt, (d, (allowed, tt)), at), tt) u r (tt, (tt, tt)) (tt, (tt, tt))) $ says ! e $
       move ! (1 ∷ []) $ frame ! $ move ! (1 ∷ 2 ∷ []) $ fjoin ! $ frame ! $ done !
 
-  module _ (C : Calls 𝓤 H) (Λ : Loops 𝓤 H) (fm : FmC 𝓤 H (W .laws) C) (known : Triple 𝓤 (C #sheets·fields·field-at) (FieldAt 𝓤 H A mem run)) where
+  module _ (C : Calls 𝓤 H) (Λ : Loops 𝓤 H) (fm : FmC 𝓤 H (W .laws) C) (known : Triple 𝓤 (C #fields·field-at) (FieldAt 𝓤 H A mem run)) where
     walk : Holds (hasTy (T′.mir (named 0)) mach) × WT mach → Is allowed-type.the-row allowed (at .1 .0)
         → ent 𝓤 (onEntry 𝓤 H A peek.signature (κ, tt) (q, tt) (d, (allowed, tt)) at) (WpFn 𝓤 H C Λ code.function (mach ∷ at .1 .0) Post)
     walk wt is-allowed =
@@ -108,7 +108,7 @@ module _ {M : Type 1} (𝓤 : URA M) (H : Heap 𝓤) (A : Atoms 𝓤) (W : Given
         move ! (12 ∷ 13 ∷ []) $ free1 ! $ move ! (10 ∷ 11 ∷ []) $ free1 ! $ move ! (8 ∷ 9 ∷ []) $ free1 ! $ move ! (6 ∷ 7 ∷ []) $ free1 ! $ move ! (4 ∷ 5 ∷ []) $ free1 ! $ free0 ! $ by ! (exits r u e))))))))))
 
 module _ {M : Type 1} (𝓤 : URA M) (H : Heap 𝓤) (A : Atoms 𝓤) (W : Given 𝓤 H A) (mem : Memory → SProp 𝓤) (run : Routine → Fun 𝓤) where
-  peek-walks : (C : Calls 𝓤 H) (Λ : Loops 𝓤 H) → FmC 𝓤 H (W .laws) C → Triple 𝓤 (C #sheets·fields·field-at) (FieldAt 𝓤 H A mem run)
+  peek-walks : (C : Calls 𝓤 H) (Λ : Loops 𝓤 H) → FmC 𝓤 H (W .laws) C → Triple 𝓤 (C #fields·field-at) (FieldAt 𝓤 H A mem run)
       → Walks 𝓤 H A peek.ended stayed (WpFn 𝓤 H C Λ code.function) (peek.clauses 𝓤 H A mem run)
   peek-walks C Λ fm known = walked 𝓤 H A peek.ended stayed (peek.clauses 𝓤 H A mem run) (WpFn 𝓤 H C Λ code.function)
       (λ κs. (LL.vals (T.the-type (namedLft 1 0 tt κs)) (T′.the-laws (namedLft 1 0 tt κs)), (LL.vals allowed-type.the-type allowed-laws.the-laws, tt)))
@@ -116,7 +116,7 @@ module _ {M : Type 1} (𝓤 : URA M) (H : Heap 𝓤) (A : Atoms 𝓤) (W : Given
       (λ κs qs bounds a g are. via 𝓤 _ (fst∗ 𝓤 _ (emp 𝓤)) (walk 𝓤 H A W mem run (κs .0) (qs .0) (a .0) (a .1 .0) C Λ fm known (LL.lawful (T.the-type (namedLft 1 0 tt κs)) (T′.the-laws (namedLft 1 0 tt κs)) 𝓤 H A W .typed (a .0) _ (are .0) .0) (are .1 .0)))
 
 peek-meets : {M : Type 1} (𝓤 : URA M) (H : Heap 𝓤) (A : Atoms 𝓤) (W : Given 𝓤 H A) (mem : Memory → SProp 𝓤) (run : Routine → Fun 𝓤) (𝓣 : Tables 𝓤 H)
-    → Triple 𝓤 (𝓣 .C #sheets·fields·field-at) (FieldAt 𝓤 H A mem run)
+    → Triple 𝓤 (𝓣 .C #fields·field-at) (FieldAt 𝓤 H A mem run)
     → Meets 𝓤 H A peek.signature (WpFn 𝓤 H (𝓣 .C) (𝓣 .Λ) code.function) (peek.spec 𝓤 H A mem run)
 peek-meets 𝓤 H A W mem run 𝓣 known = walk-meets 𝓤 H A peek.ended stayed W (goes-none 𝓤 H A W 1 B yes (λ κs x f. refl), (goes-none 𝓤 H A W 1 (λ _. allowed-type.the-row) yes (λ κs x f. refl), tt)) (peek.clauses 𝓤 H A mem run) (WpFn 𝓤 H (𝓣 .C) (𝓣 .Λ) code.function) (WpFn-mono 𝓤 H (W .laws) 𝓣 code.function)
     (peek-walks 𝓤 H A W mem run (𝓣 .C) (𝓣 .Λ) (fmOf 𝓤 H (W .laws) 𝓣) known)
@@ -127,4 +127,4 @@ peek-spec 𝓤 H 𝓜 𝓖 𝓡 =
     entered 𝓤 H (tripleOf 𝓤 H (𝓖 .A) peek.signature (peek.spec 𝓤 H (𝓖 .A) (𝓜 .mem) (𝓡 .run)))
     (tables 𝓤 H 𝓜 𝓡 code.env .C) (tables 𝓤 H 𝓜 𝓡 code.env .Λ) #scan·peek code.function (code.unfolded 𝓤 H 𝓜 𝓡)
     (peek-meets 𝓤 H (𝓖 .A) (givenOf 𝓤 H 𝓜 𝓖) (𝓜 .mem) (𝓡 .run) (tablesOf 𝓤 H 𝓜 (tables 𝓤 H 𝓜 𝓡 code.env))
-    (cited 𝓤 H (FieldAt 𝓤 H (𝓖 .A) (𝓜 .mem) (𝓡 .run)) 𝓜 𝓡 code.env #sheets·fields·field-at field-at-def.routine code.calls-sheets·fields·field-at (field-at-thm.met 𝓤 H 𝓜 𝓖 𝓡)))
+    (cited 𝓤 H (FieldAt 𝓤 H (𝓖 .A) (𝓜 .mem) (𝓡 .run)) 𝓜 𝓡 code.env #fields·field-at field-at-def.routine code.calls-fields·field-at (field-at-thm.met 𝓤 H 𝓜 𝓖 𝓡)))

@@ -6,9 +6,9 @@ use mathlib.Core.List.{List}
 use native.Mathlib.Omega.{arith}
 use borrow.Author.Tests.{not-true, not-false}
 use lib.ListN.{length}
-use Rattle.sheets.specs.Fields.{left, allowedNext}
-use Rattle.sheets.specs.declared.fields.Field.{Field}
-use Rattle.sheets.specs.declared.fields.Passed.{Passed}
+use Rattle.fields.specs.Fields.{left, allowedNext}
+use Rattle.fields.specs.declared.Field.{Field}
+use Rattle.fields.specs.declared.Passed.{Passed}
 use Rattle.scan.specs.Cursor.{cursorAfter, stepOf}
 use Rattle.scan.specs.declared.Step.{Step}
 use Rattle.scan.specs.Scanned.{nextField, stopsAt, stopNumber, withField, scanFrom, scanned}

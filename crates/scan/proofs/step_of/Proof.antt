@@ -37,13 +37,13 @@ use denote.Triple.Table.{entered, cited}
 use denote.Triple.Walked.{says, Stays, stay-none, stay-none-slice, walkOf, goes-none, goes-none-slice, Walks, ends-at, walked, walk-meets}
 use denote.Exit.{yes}
 use denote.Triple.Clauses.{ensured, lasts}
-use Rattle.sheets.specs.Fields.{fieldAt}
-use Rattle.sheets.specs.declared.fields.Allowed.{Allowed}
-use Rattle.sheets.specs.declared.fields.Field.{Field}
-use Rattle.sheets.proofs.fields.Allowed as allowed-type
-use Rattle.sheets.proofs.fields.Allowed.Laws as allowed-laws
-use Rattle.sheets.proofs.fields.Field as field-type
-use Rattle.sheets.proofs.fields.Field.Laws as field-laws
+use Rattle.fields.specs.Fields.{fieldAt}
+use Rattle.fields.specs.declared.Allowed.{Allowed}
+use Rattle.fields.specs.declared.Field.{Field}
+use Rattle.fields.proofs.Allowed as allowed-type
+use Rattle.fields.proofs.Allowed.Laws as allowed-laws
+use Rattle.fields.proofs.Field as field-type
+use Rattle.fields.proofs.Field.Laws as field-laws
 use Rattle.scan.specs.Cursor.{stepOf, Advanced}
 use Rattle.scan.specs.declared.Reader.{Reader}
 use Rattle.scan.proofs.Reader as T

@@ -4,8 +4,8 @@ use mathlib.Core.Path.{_≡_, refl, _∙_}
 use native.Mathlib.Omega.{arith}
 use lib.ListN.{length}
 use Rattle.units.specs.Places.{at as placeAt}
-use Rattle.sheets.specs.Rows.{rows}
-use Rattle.sheets.specs.RowLaws.{rows-none, rows-step}
+use Rattle.fields.specs.Rows.{rows}
+use Rattle.fields.specs.RowLaws.{rows-none, rows-step}
 use Rattle.text.specs.Text.{PutShort}
 use Rattle.console.specs.PlanText.{shareLine}
 use Rattle.text.specs.TextLaws.{put-none, put-short-then, put-as}

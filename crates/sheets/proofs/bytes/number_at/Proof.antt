@@ -1,5 +1,5 @@
 -- `number_at` is right because its body is the definition; four bytes stay below 2^32.
-use Rattle.sheets.specs.Bytes.{numberAt}
+use Rattle.fields.specs.Bytes.{numberAt}
 use borrow.Author.Needs.{needs}
 use Rattle.sheets.proofs.bytes.number_at.Statement.{statement}
 use Rattle.sheets.proofs.bytes.number_at.Tie as tie

@@ -1,8 +1,8 @@
 -- `put_number` is right because four stores in a row lay a segment of four bytes.
 use native.Mathlib.Omega.{arith}
 use lib.ListN.{length-set}
-use Rattle.sheets.specs.Bytes.{bytesOf}
-use Rattle.sheets.specs.RowLaws.{laid-four}
+use Rattle.fields.specs.Bytes.{bytesOf}
+use Rattle.fields.specs.RowLaws.{laid-four}
 use borrow.Author.Needs.{needs}
 use Rattle.sheets.proofs.bytes.put_number.Statement.{statement}
 use Rattle.sheets.proofs.bytes.put_number.Tie as tie

@@ -7,9 +7,9 @@ use native.Mathlib.Numerals.{add-one}
 use native.Mathlib.Omega.{arith}
 use borrow.Author.Count.{below-more}
 use borrow.Author.Tests.{not-true, not-false}
-use Rattle.sheets.specs.Fields.{wholeAt}
+use Rattle.fields.specs.Fields.{wholeAt}
 use Rattle.sheets.specs.Reading.{wholeFrom}
-use Rattle.sheets.specs.RowLaws.{lead-is}
+use Rattle.fields.specs.RowLaws.{lead-is}
 use Rattle.sheets.specs.ReadLaws.{whole-says}
 use borrow.Author.Needs.{needs}
 use Rattle.sheets.proofs.reading.count_whole.Statement.{statement}

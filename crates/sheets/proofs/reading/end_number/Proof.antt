@@ -5,11 +5,11 @@ use native.Mathlib.Omega.{arith}
 use borrow.Author.Tests.{le-leb, lt-leb}
 use lib.ListN.{length}
 use Rattle.units.specs.JudgingLaws.{held, failed}
-use Rattle.sheets.specs.Fields.{allowedNext, fieldNumber}
+use Rattle.fields.specs.Fields.{allowedNext, fieldNumber}
 use Rattle.sheets.specs.Reading.{passedAll, goesOnAt, endNumber}
-use Rattle.sheets.specs.FieldLaws.{handed-number}
+use Rattle.fields.specs.FieldLaws.{handed-number}
 use Rattle.sheets.specs.ReadLaws.{then-rest, then-keeps}
-use Rattle.sheets.specs.declared.fields.Field.{Field}
+use Rattle.fields.specs.declared.Field.{Field}
 use borrow.Author.Needs.{needs}
 use Rattle.sheets.proofs.reading.end_number.Statement.{statement}
 use Rattle.sheets.proofs.reading.end_number.Tie as tie

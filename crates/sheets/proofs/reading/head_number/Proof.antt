@@ -1,8 +1,8 @@
 -- `head_number` is right because it hands on the number of the first field.
 use mathlib.Core.Path.{ap, _∙_}
-use Rattle.sheets.specs.FieldLaws.{handed-number}
-use Rattle.sheets.specs.Fields.{fieldNumber}
-use Rattle.sheets.specs.declared.fields.Field.{Field}
+use Rattle.fields.specs.FieldLaws.{handed-number}
+use Rattle.fields.specs.Fields.{fieldNumber}
+use Rattle.fields.specs.declared.Field.{Field}
 use borrow.Author.Needs.{needs}
 use Rattle.sheets.proofs.reading.head_number.Statement.{statement}
 use Rattle.sheets.proofs.reading.head_number.Tie as tie

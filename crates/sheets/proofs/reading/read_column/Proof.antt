@@ -7,7 +7,7 @@ use native.Mathlib.Omega.{arith}
 use Rattle.units.specs.Places.{fill}
 use Rattle.units.specs.PlaceLaws.{fill-step, fill-none}
 use Rattle.sets.specs.Judged.{zeros}
-use Rattle.sheets.specs.Bytes.{numberAt}
+use Rattle.fields.specs.Bytes.{numberAt}
 use borrow.Author.Needs.{needs}
 use Rattle.sheets.proofs.reading.read_column.Statement.{statement}
 use Rattle.sheets.proofs.reading.read_column.Tie as tie

@@ -2,10 +2,10 @@
 use Prim.Native.Nat.{ℕ, _≤_}
 use mathlib.Core.Path.{_≡_, sym, ap, _∙_}
 use native.Mathlib.Omega.{arith}
-use Rattle.sheets.specs.Rows.{lead}
+use Rattle.fields.specs.Rows.{lead}
 use Rattle.sheets.specs.Reading.{stationsIn, allocationsIn, shapeNumber, wholeFrom, allocationsFrom}
-use Rattle.sheets.specs.RowLaws.{lead-most}
-use Rattle.sheets.specs.FieldLaws.{allocations-few}
+use Rattle.fields.specs.RowLaws.{lead-most}
+use Rattle.fields.specs.FieldLaws.{allocations-few}
 use Rattle.sheets.specs.ReadLaws.{then-rest, then-keeps}
 use borrow.Author.Needs.{needs}
 use Rattle.sheets.proofs.reading.shape_of.Statement.{statement}

@@ -1,9 +1,9 @@
 -- `put_allocation` is right because the start of the field and its number are laid one behind the other.
 use mathlib.Core.Path.{refl}
 use native.Mathlib.Omega.{arith}
-use Rattle.sheets.specs.Bytes.{bytesOf}
+use Rattle.fields.specs.Bytes.{bytesOf}
 use Rattle.sheets.specs.Layout.{allocationWith}
-use Rattle.sheets.specs.RowLaws.{laid-more}
+use Rattle.fields.specs.RowLaws.{laid-more}
 use borrow.Author.Needs.{needs}
 use Rattle.sheets.proofs.writing.put_allocation.Statement.{statement}
 use Rattle.sheets.proofs.writing.put_allocation.Tie as tie

@@ -1,8 +1,8 @@
 -- `put_head` is right because the start of the field and its number are laid one behind the other.
 use mathlib.Core.Path.{refl}
-use Rattle.sheets.specs.Bytes.{bytesOf}
+use Rattle.fields.specs.Bytes.{bytesOf}
 use Rattle.sheets.specs.Layout.{headBytes}
-use Rattle.sheets.specs.RowLaws.{laid-more}
+use Rattle.fields.specs.RowLaws.{laid-more}
 use borrow.Author.Needs.{needs}
 use Rattle.sheets.proofs.writing.put_head.Statement.{statement}
 use Rattle.sheets.proofs.writing.put_head.Tie as tie

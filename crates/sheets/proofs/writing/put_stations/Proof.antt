@@ -3,9 +3,9 @@ use Prim.Native.Nat.{_+_, _-_, _*_, _≤_}
 use mathlib.Core.Path.{_≡_, sym, refl, _∙_}
 use native.Mathlib.Omega.{arith}
 use lib.ListN.{length}
-use Rattle.sheets.specs.Rows.{rows, laid}
+use Rattle.fields.specs.Rows.{rows, laid}
 use Rattle.sheets.specs.Layout.{stationBytes}
-use Rattle.sheets.specs.RowLaws.{rows-none, rows-then, laid-none}
+use Rattle.fields.specs.RowLaws.{rows-none, rows-then, laid-none}
 use Rattle.sheets.specs.WriteLaws.{station-length}
 use borrow.Author.Needs.{needs}
 use Rattle.sheets.proofs.writing.put_stations.Statement.{statement}

@@ -3,8 +3,8 @@ use Prim.Native.Nat.{_*_, _-_, _≤_}
 use mathlib.Core.Path.{_≡_, refl, _∙_}
 use native.Mathlib.Omega.{arith}
 use lib.ListN.{length}
-use Rattle.sheets.specs.Rows.{rows}
-use Rattle.sheets.specs.RowLaws.{rows-none, rows-step}
+use Rattle.fields.specs.Rows.{rows}
+use Rattle.fields.specs.RowLaws.{rows-none, rows-step}
 use Rattle.text.specs.Text.{PutShort}
 use Rattle.shows.specs.ShowText.{stationLine}
 use Rattle.text.specs.TextLaws.{put-none, put-short-then, put-as}

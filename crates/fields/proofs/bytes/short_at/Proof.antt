@@ -1,9 +1,9 @@
 -- `short_at` is right because its body is the definition; two bytes stay below 65,536.
 use native.Mathlib.Omega.{arith}
-use Rattle.sheets.specs.Bytes.{shortAt}
+use Rattle.fields.specs.Bytes.{shortAt}
 use borrow.Author.Needs.{needs}
-use Rattle.sheets.proofs.bytes.short_at.Statement.{statement}
-use Rattle.sheets.proofs.bytes.short_at.Tie as tie
+use Rattle.fields.proofs.bytes.short_at.Statement.{statement}
+use Rattle.fields.proofs.bytes.short_at.Tie as tie
 
 shared-slice-read-wide : tie.Need-shared-slice-read-wide
 shared-slice-read-wide c = search needs

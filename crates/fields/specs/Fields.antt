@@ -8,10 +8,10 @@ use lib.ListN.{length}
 use Rattle.units.specs.Numbers.{accepted, cutShort, wrongShape, mostStations}
 use Rattle.units.specs.Places.{at}
 use Rattle.units.specs.Judging.{orElse}
-use Rattle.sheets.specs.Bytes.{shortAt}
-use Rattle.sheets.specs.declared.fields.Allowed.{Allowed}
-use Rattle.sheets.specs.declared.fields.Passed.{Passed}
-use Rattle.sheets.specs.declared.fields.Field.{Field}
+use Rattle.fields.specs.Bytes.{shortAt}
+use Rattle.fields.specs.declared.Allowed.{Allowed}
+use Rattle.fields.specs.declared.Passed.{Passed}
+use Rattle.fields.specs.declared.Field.{Field}
 
 -- ---- the tags, each with its one length
 

@@ -1,9 +1,10 @@
 // The fields of a sheet, one at a place: a tag byte, two length bytes, then the body.
+pub mod bytes;
+
 ghost use mathlib.Core.Path.{_≡_};
 ghost use Prim.Native.Nat.{_+_, _-_, _≤_};
 ghost use lib.ListN.{length};
-ghost use Rattle.sheets.specs.Fields.{left, allowedNext, isAllowed, allocationsFor, fieldAt, wholeAt};
-use crate::bytes;
+ghost use Rattle.fields.specs.Fields.{left, allowedNext, isAllowed, allocationsFor, fieldAt, wholeAt};
 use units::numbers;
 
 // ---- the tags, each with its one length
@@ -48,7 +49,7 @@ pub struct Field {
 }
 
 // How many allocations a sheet with n stations has.
-pub(crate) fn allocations_for(plan: bool, n: usize) -> usize
+pub fn allocations_for(plan: bool, n: usize) -> usize
     ensures { λ r. ⌜ r ≡ allocationsFor plan n ⌝ }
 {
     if plan { n } else { 0 }
@@ -125,11 +126,14 @@ pub fn field_at(bs: &[u8], at: usize, allowed: Allowed) -> Field
 }
 
 // A whole field with this tag and this length stands at a place.
-pub(crate) fn whole_at(bs: &[u8], at: usize, tag: u8, size: usize) -> bool
-    requires { ⌜ size ≤ 16 ⌝ }
+pub fn whole_at(bs: &[u8], at: usize, tag: u8, size: usize) -> bool
     ensures { λ r. ⌜ r ≡ wholeAt (now (bs .entry)) at tag size ⌝ }
 {
-    if left_from(bs, at) < 3 + size {
+    let left = left_from(bs, at);
+    if left < 3 {
+        return false;
+    }
+    if left - 3 < size {
         return false;
     }
     let same_tag = bs[at] == tag;

@@ -9,8 +9,8 @@ use lib.ListN.{length}
 use borrow.Author.Tests.{le-leb, lt-leb, leb-true}
 use Rattle.units.specs.Judging.{orElse}
 use Rattle.units.specs.JudgingLaws.{held, failed}
-use Rattle.sheets.specs.Fields.{left, tagAt, sizeAt, isAllowed, fieldNumber, handedOut, fieldAt, allocationsFor}
-use Rattle.sheets.specs.declared.fields.Allowed.{Allowed}
+use Rattle.fields.specs.Fields.{left, tagAt, sizeAt, isAllowed, fieldNumber, handedOut, fieldAt, allocationsFor}
+use Rattle.fields.specs.declared.Allowed.{Allowed}
 
 -- a judgement of 0 passed its first test, and the rest is 0 too
 pub passed : (t : Bool) (k rest : ℕ) → k ≢ 0 → orElse t k rest ≡ 0 → (t ≡ true) × (rest ≡ 0)

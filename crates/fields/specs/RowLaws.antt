@@ -13,7 +13,7 @@ use Rattle.units.specs.Places.{at, allBelow}
 use Rattle.units.specs.SmallLaws.{below-or-not}
 use Rattle.units.specs.JudgingLaws.{true-or-false, true-and}
 use Rattle.units.specs.PlaceLaws.{all-at, all-of}
-use Rattle.sheets.specs.Rows.{rows, laid, Stands, lead}
+use Rattle.fields.specs.Rows.{rows, laid, Stands, lead}
 
 -- ---- rows
 

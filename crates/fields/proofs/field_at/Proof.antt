@@ -4,11 +4,11 @@ use borrow.Author.Tests.{not-true, not-false}
 use native.Mathlib.Omega.{arith}
 use Prim.Native.Nat.{_+_, _≤_, _<_}
 use mathlib.Core.Bool.{true, false}
-use Rattle.sheets.specs.Fields.{left, tagAt, sizeAt, isAllowed}
-use Rattle.sheets.specs.FieldLaws.{field-refused, field-short, field-wrong, field-cut, field-whole, handed-whole}
+use Rattle.fields.specs.Fields.{left, tagAt, sizeAt, isAllowed}
+use Rattle.fields.specs.FieldLaws.{field-refused, field-short, field-wrong, field-cut, field-whole, handed-whole}
 use borrow.Author.Needs.{needs}
-use Rattle.sheets.proofs.fields.field_at.Statement.{statement}
-use Rattle.sheets.proofs.fields.field_at.Tie as tie
+use Rattle.fields.proofs.field_at.Statement.{statement}
+use Rattle.fields.proofs.field_at.Tie as tie
 
 -- three bytes are left
 three-left : (c : tie.Else1) → 3 ≤ left (c .before .before .before .args .bs .now) (c .before .before .before .args .at)

@@ -1,8 +1,8 @@
 -- `is_allowed` is right because its body is the definition.
 use mathlib.Core.Path.{refl}
-use Rattle.sheets.specs.Fields.{isAllowed}
-use Rattle.sheets.proofs.fields.is_allowed.Statement.{statement}
-use Rattle.sheets.proofs.fields.is_allowed.Tie as tie
+use Rattle.fields.specs.Fields.{isAllowed}
+use Rattle.fields.proofs.is_allowed.Statement.{statement}
+use Rattle.fields.proofs.is_allowed.Tie as tie
 
 returns : tie.Need-returns
 unfolding isAllowed
