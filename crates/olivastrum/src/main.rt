@@ -1,4 +1,4 @@
-// The program: it reads, hands the bytes to `console`, and writes what comes back.
+// The program: it reads, hands the bytes to the crates below, and writes what comes back.
 mod composing;
 mod running;
 mod usage;
