@@ -57,19 +57,11 @@ within-put room p =
       reach = omega (arith, p .put .next, p .short);
     }
 
-pub within-full : {before s : List ℕ} {a most : ℕ} → length before < a + most → PutWithin most before a s before a
-within-full small =
+-- no room, or a segment that is too long: nothing is put
+pub within-none : {before s : List ℕ} {a most : ℕ} → ¬ ((a + most ≤ length before) × (length s ≤ most)) → PutWithin most before a s before a
+within-none not-both =
     record {
-      put = λ h few. absurd (omega arith);
-      full = λ h. (refl, refl);
-      long = λ h. (refl, refl);
-      reach = omega arith;
-    }
-
-pub within-long : {before s : List ℕ} {a most : ℕ} → most < length s → PutWithin most before a s before a
-within-long large =
-    record {
-      put = λ h few. absurd (omega arith);
+      put = λ h few. absurd (not-both (h, few));
       full = λ h. (refl, refl);
       long = λ h. (refl, refl);
       reach = omega arith;

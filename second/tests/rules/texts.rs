@@ -70,13 +70,18 @@ fn texts_that_are_refused() {
 
 #[test]
 fn ttrt_stands_once_and_first() {
-    assert_eq!(refused("station 1 0 100 100\n"), 2);
-    assert_eq!(refused("station 1 0 100 100\nttrt 100\n"), 2);
-    assert_eq!(refused("station 1 0 100 100\nttrt 100\nstation 1 0 100 100\n"), 2);
-    assert_eq!(refused("ttrt 100\nttrt 100\n"), 2);
-    assert_eq!(refused("ttrt 100\nttrt 100\nstation 1 0 100 100\n"), 2);
-    assert_eq!(refused("ttrt 100\nstation 1 0 100 100\nttrt 100\n"), 2);
-    assert_eq!(refused("ttrt 0\nstation 9 9 9 1\nttrt 0\n"), 2);
+    let misplaced = [
+        "station 1 0 100 100\n",
+        "station 1 0 100 100\nttrt 100\n",
+        "station 1 0 100 100\nttrt 100\nstation 1 0 100 100\n",
+        "ttrt 100\nttrt 100\n",
+        "ttrt 100\nttrt 100\nstation 1 0 100 100\n",
+        "ttrt 100\nstation 1 0 100 100\nttrt 100\n",
+        "ttrt 0\nstation 9 9 9 1\nttrt 0\n",
+    ];
+    for text in misplaced {
+        assert_eq!(refused(text), 2, "{text}");
+    }
     assert_eq!(refused(&("station 1 0 1 1\n".repeat(200) + "ttrt 500\n")), 2);
 }
 

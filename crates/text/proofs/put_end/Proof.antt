@@ -2,7 +2,7 @@
 use native.Mathlib.Omega.{arith}
 use mathlib.Core.List.{[], _∷_}
 use Rattle.text.specs.Text.{Put, newline}
-use Rattle.text.specs.TextLaws.{within-put, within-full}
+use Rattle.text.specs.TextLaws.{within-put, within-none}
 use borrow.Author.Needs.{needs}
 use Rattle.text.proofs.put_end.Statement.{statement}
 use Rattle.text.proofs.put_end.Tie as tie
@@ -11,7 +11,7 @@ left-requires : tie.Need-left-requires
 left-requires c κs = search needs
 
 returns : tie.Need-returns
-returns c = within-full (omega arith)
+returns c = within-none (λ both. omega (arith, both .0))
 
 put-byte-requires : tie.Need-put-byte-requires
 put-byte-requires c κs = search needs

@@ -1,6 +1,6 @@
 -- `put_field` is right because a space and a number have at most 21 bytes.
 use native.Mathlib.Omega.{arith}
-use Rattle.text.specs.TextLaws.{within-put, within-full}
+use Rattle.text.specs.TextLaws.{within-put, within-none}
 use borrow.Author.Needs.{needs}
 use Rattle.text.proofs.put_field.Statement.{statement}
 use Rattle.text.proofs.put_field.Tie as tie
@@ -9,7 +9,7 @@ left-requires : tie.Need-left-requires
 left-requires c κs = search needs
 
 returns : tie.Need-returns
-returns c = within-full (omega arith)
+returns c = within-none (λ both. omega (arith, both .0))
 
 put-spaced-requires : tie.Need-put-spaced-requires
 put-spaced-requires c κs = omega arith

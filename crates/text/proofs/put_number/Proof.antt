@@ -1,6 +1,6 @@
 -- `put_number` is right because a number has at most 20 digits.
 use native.Mathlib.Omega.{arith}
-use Rattle.text.specs.TextLaws.{within-put, within-full, decimal-short}
+use Rattle.text.specs.TextLaws.{within-put, within-none, decimal-short}
 use borrow.Author.Needs.{needs}
 use Rattle.text.proofs.put_number.Statement.{statement}
 use Rattle.text.proofs.put_number.Tie as tie
@@ -9,7 +9,7 @@ left-requires : tie.Need-left-requires
 left-requires c κs = search needs
 
 returns : tie.Need-returns
-returns c = within-full (omega arith)
+returns c = within-none (λ both. omega (arith, both .0))
 
 put-decimal-requires : tie.Need-put-decimal-requires
 put-decimal-requires c κs = omega (arith, decimal-short 20 (c .before .before .before .before .args .n))

@@ -3,7 +3,7 @@ use mathlib.Core.Path.{sym}
 use mathlib.Core.List.{[], _∷_}
 use native.Mathlib.Omega.{arith}
 use Rattle.text.specs.Text.{PutShort, refusedWord, decimalOf, space, newline}
-use Rattle.text.specs.TextLaws.{within-put, within-full, put-short-then, put-as, line-two}
+use Rattle.text.specs.TextLaws.{within-put, within-none, put-short-then, put-as, line-two}
 use borrow.Author.Needs.{needs}
 use Rattle.text.proofs.put_refused.Statement.{statement}
 use Rattle.text.proofs.put_refused.Tie as tie
@@ -12,7 +12,7 @@ left-requires : tie.Need-left-requires
 left-requires c κs = search needs
 
 returns : tie.Need-returns
-returns c = within-full (omega arith)
+returns c = within-none (λ both. omega (arith, both .0))
 
 slice-aggregate-put-word : tie.Need-slice-aggregate-put-word
 slice-aggregate-put-word c = search needs

@@ -1,18 +1,18 @@
 -- `put_short` is right because the word is put if it is short and the page has room for the longest.
 use native.Mathlib.Omega.{arith}
-use Rattle.text.specs.TextLaws.{within-put, within-full, within-long}
+use Rattle.text.specs.TextLaws.{within-put, within-none}
 use borrow.Author.Needs.{needs}
 use Rattle.text.proofs.put_short.Statement.{statement}
 use Rattle.text.proofs.put_short.Tie as tie
 
 returns : tie.Need-returns
-returns c = within-long (omega arith)
+returns c = within-none (λ both. omega (arith, both .1))
 
 left-requires : tie.Need-left-requires
 left-requires c κs = search needs
 
 returns-2 : tie.Need-returns-2
-returns-2 c = within-full (omega arith)
+returns-2 c = within-none (λ both. omega (arith, both .0))
 
 put-word-requires : tie.Need-put-word-requires
 put-word-requires c κs = omega arith

@@ -3,7 +3,7 @@ use mathlib.Core.Path.{sym}
 use mathlib.Core.List.{[], _∷_}
 use native.Mathlib.Omega.{arith}
 use Rattle.text.specs.Text.{PutShort, space, newline, decimalOf, lineWord, cannotBeRead}
-use Rattle.text.specs.TextLaws.{within-put, within-full, put-short-then, put-as, line-parts}
+use Rattle.text.specs.TextLaws.{within-put, within-none, put-short-then, put-as, line-parts}
 use borrow.Author.Needs.{needs}
 use Rattle.text.proofs.put_unread.Statement.{statement}
 use Rattle.text.proofs.put_unread.Tie as tie
@@ -12,7 +12,7 @@ left-requires : tie.Need-left-requires
 left-requires c κs = search needs
 
 returns : tie.Need-returns
-returns c = within-full (omega arith)
+returns c = within-none (λ both. omega (arith, both .0))
 
 slice-aggregate-put-word : tie.Need-slice-aggregate-put-word
 slice-aggregate-put-word c = search needs
