@@ -1,25 +1,25 @@
--- A message that was handed in is followed call by call: a visit of its own station takes what it sent off the remainder, or completes it; no other call touches it.
+-- A message that was handed in is followed call by call: a visit of its own station takes what it sent off the remainder, or completes it; no other call touches it. What is to hold while it waits, and of the record that completes it, is a parameter: it has to follow from what the runs keep.
 use Prim.Native.Nat.{ℕ, _+_, _≤_, _<_}
 use mathlib.Core.Path.{_≡_, refl, sym, ap, _∙_}
 use mathlib.Core.List.{List, [], _∷_}
 use mathlib.Core.Logic.{_⊎_, inl, inr, _≢_, ⊎-elim}
 use native.Mathlib.Omega.{arith}
 use borrow.Author.Tests.{eq-eqb, ne-eqb}
+use lib.IntN.{subℕ}
 use Rattle.units.specs.Numbers.{mostClock}
 use Rattle.units.specs.Places.{at}
 use Rattle.sets.specs.declared.Set.{Set}
 use Rattle.plans.specs.declared.Alloc.{Alloc}
-use Rattle.rings.specs.Steps.{syncSent, asyncSent, recordOf}
 use Rattle.rings.specs.HandingIn.{handInNumber}
+use Rattle.rings.specs.declared.Ring.{Ring}
 use Rattle.rings.specs.declared.Message.{Message}
 use Rattle.rings.specs.declared.VisitRecord.{VisitRecord}
-use Rattle.promises.specs.Run.{Call, visit, message, Run, after, run}
-use Rattle.promises.specs.History.{sentBy, Somewhere}
-use Rattle.promises.specs.Facts.{VisitTiming, VisitMessages, Completing, Leaving, Accepting}
-use Rattle.promises.specs.Promised.{StillHeld, CompletedBy, Followed, dueBy}
-use Rattle.promises.proofs.Timing.{Plan, same-or-not}
-use Rattle.promises.proofs.Messages.{deadlineAt, clock-ahead, completed-in-time}
-use Rattle.promises.proofs.Runs.{Kept, movedRun, heldRun, visit-facts, visit-parts, message-facts, after-visit, after-message, after-held, kept-after, margin-made}
+use Rattle.promises.specs.Run.{Ask, Call, visit, message, Run, after, run}
+use Rattle.promises.specs.History.{syncStartOf, sentBy, Somewhere}
+use Rattle.promises.specs.Facts.{Completing, Leaving, Accepting}
+use Rattle.promises.specs.Valid.{StillHeld, CompletedBy, Followed, dueBy}
+use Rattle.promises.proofs.Course.{Plan, same-or-not}
+use Rattle.promises.proofs.Runs.{made, movedRun, heldRun, course-facts, message-parts, message-facts, after-visit, after-message, after-held, Steady, steady-after}
 
 -- ---- what a station sent, with one visit more
 
@@ -35,136 +35,166 @@ sent-none : (i : ℕ) → sentBy i [] ≡ 0
 unfolding sentBy
 sent-none i = refl
 
-module _ (t : Set) (a : Alloc) (P : Plan t a) (m : Message) (known : m .station .0 < t .n) where
-  -- a held message's deadline is ahead of the clock, whatever the ring
-  still-held : (s : Run) → Kept t a s → (since : List VisitRecord) → 0 < at (s .ring .rest) (m .station .0) → at (s .ring .arrival) (m .station .0) ≡ m .arrival .0 → at (s .ring .rest) (m .station .0) + sentBy (m .station .0) since ≡ m .length .0 → StillHeld t m (s .ring) since
-  still-held s K since held arrival parts =
-      record {
-        held = held;
-        arrival = arrival;
-        parts = omega arith;
-        ahead = omega (arith, clock-ahead t a (s .ring) (s .records) P (K .timed) (m .station .0) known (K .messaged (m .station .0) known) held);
-      }
+-- what has to follow from what the runs keep: of a ring that holds the message, and of a record that completes it
+pub record Follows (t : Set) (m : Message) (K : Run → Type 0) (Waiting : Ring → Type 0) (Finished : VisitRecord → Type 0) : Type 0 where
+  pub waits : (s : Run) → K s → 0 < at (s .ring .rest) (m .station .0) → at (s .ring .arrival) (m .station .0) ≡ m .arrival .0 → Waiting (s .ring)
+  pub ends : (s : Run) → K s → (ask : Ask) → m .station .0 ≡ s .ring .token → at (s .ring .arrival) (m .station .0) ≡ m .arrival .0 → Completing t (s .ring) (movedRun s ask .ring) (syncStartOf t (made s ask)) (made s ask) → Finished (made s ask)
 
-  module _ (s : Run) (K : Kept t a s) (since : List VisitRecord) (H : StillHeld t m (s .ring) since) where
+module _ (t : Set) (a : Alloc) (P : Plan t a) (K : Run → Type 0) (S : Steady t a K) (m : Message) (known : m .station .0 < t .n) (Waiting : Ring → Type 0) (Finished : VisitRecord → Type 0) (L : Follows t m K Waiting Finished) where
+  -- the message completed, and as it is to be then
+  abbrev Done : VisitRecord → List VisitRecord → Type 0
+  Done v before = CompletedBy t m v before × Finished v
+
+  abbrev Held : Ring → List VisitRecord → Type 0
+  Held r since = StillHeld m r since × Waiting r
+
+  still-held : (s : Run) → K s → (since : List VisitRecord) → StillHeld m (s .ring) since → Held (s .ring) since
+  still-held s k since H = (H, L .waits s k (H .held) (H .arrival))
+
+  module _ (s : Run) (k : K s) (since : List VisitRecord) (H : StillHeld m (s .ring) since) where
     -- ---- a visit more
 
-    module _ (q : Run) (v : VisitRecord) (N : Kept t a q) (F : VisitTiming t a (s .ring) (q .ring) v) (G : VisitMessages t a (s .ring) (q .ring) v) where
-      -- of another station
-      other-visit : m .station .0 ≢ s .ring .token → StillHeld t m (q .ring) (v ∷ since)
-      other-visit b =
-          still-held q N (v ∷ since) (rw (G .rest-there (m .station .0) b) (H .held)) (rw (G .arrival) (H .arrival))
-          (omega (arith, G .rest-there (m .station .0) b, H .parts, sent-there (m .station .0) v since (λ e. b (sym e ∙ F .station))))
+    module _ (ask : Ask) where
+      abbrev v : VisitRecord
+      v = made s ask
 
-      -- of its own station: completed
-      own-completed : m .station .0 ≡ s .ring .token → Completing t (s .ring) (q .ring) v → CompletedBy t m v since
-      own-completed b c =
-          let i = s .ring .token in
-          let M = K .messaged (s .ring .token) (K .timed .token) in
-          let rest : at (s .ring .rest) (m .station .0) ≡ at (s .ring .rest) (s .ring .token) = ap (at (s .ring .rest)) b in
-          let deadline : dueBy t m ≡ deadlineAt t (s .ring) (s .ring .token) = omega (arith, H .arrival, ap (at (s .ring .arrival)) b, ap (at (t .d)) b) in
+      abbrev q : Ring
+      q = movedRun s ask .ring
+
+      -- of another station
+      other-visit : m .station .0 ≢ s .ring .token → StillHeld m q (v ∷ since)
+      other-visit b =
+          let F = course-facts t a P s (S .common s k) ask in
+          let G = message-parts t a P s (S .common s k) ask in
           record {
-            station = F .station ∙ sym b;
-            flag = c .flag;
-            whole = omega (arith, sent-here (m .station .0) v since (F .station ∙ sym b), H .parts, G .rest-here, c .over);
-            finish = omega (arith, c .finish, F .start);
-            in-time = omega (arith, c .finish, completed-in-time t a (s .ring) (q .ring) v (s .records) P (K .timed) F G M c);
-            margin =
-                margin-made t a (s .ring) (q .ring) v (s .records) P (K .timed) F G M c ∙
-                rw (deadline, c .finish);
+            held = rw (G .rest-there (m .station .0) b) (H .held);
+            arrival = rw (G .arrival) (H .arrival);
+            parts = omega (arith, G .rest-there (m .station .0) b, H .parts, sent-there (m .station .0) v since (λ e. b (sym e ∙ F .station)));
           }
 
+      -- of its own station: completed
+      own-completed : m .station .0 ≡ s .ring .token → Completing t (s .ring) q (syncStartOf t v) v → Done v since
+      own-completed b c =
+          let F = course-facts t a P s (S .common s k) ask in
+          let G = message-parts t a P s (S .common s k) ask in
+          let rest : at (s .ring .rest) (m .station .0) ≡ at (s .ring .rest) (s .ring .token) = ap (at (s .ring .rest)) b in
+          let deadline : at (s .ring .arrival) (s .ring .token) + at (t .d) (s .ring .token) ≡ dueBy t m = omega (arith, H .arrival, ap (at (s .ring .arrival)) b, ap (at (t .d)) b) in (
+            record {
+              station = F .station ∙ sym b;
+              flag = c .flag;
+              whole = omega (arith, sent-here (m .station .0) v since (F .station ∙ sym b), H .parts, G .rest-here, c .over);
+              finish = c .finish;
+              margin = c .margin ∙ ap (λ (x : ℕ). subℕ x (v .finish .0)) deadline;
+            },
+            L .ends s k ask b (H .arrival) c,
+          )
+
       -- of its own station: something remains
-      own-left : m .station .0 ≡ s .ring .token → 0 < at (q .ring .rest) (s .ring .token) → StillHeld t m (q .ring) (v ∷ since)
+      own-left : m .station .0 ≡ s .ring .token → 0 < at (q .rest) (s .ring .token) → StillHeld m q (v ∷ since)
       own-left b left =
+          let F = course-facts t a P s (S .common s k) ask in
+          let G = message-parts t a P s (S .common s k) ask in
           let before : at (s .ring .rest) (m .station .0) ≡ at (s .ring .rest) (s .ring .token) = ap (at (s .ring .rest)) b in
-          let now : at (q .ring .rest) (m .station .0) ≡ at (q .ring .rest) (s .ring .token) = ap (at (q .ring .rest)) b in
-          still-held q N (v ∷ since) (omega arith) (rw (G .arrival) (H .arrival))
-          (omega (arith, sent-here (m .station .0) v since (F .station ∙ sym b), H .parts, G .rest-here))
+          let now : at (q .rest) (m .station .0) ≡ at (q .rest) (s .ring .token) = ap (at (q .rest)) b in
+          record {
+            held = omega arith;
+            arrival = rw (G .arrival) (H .arrival);
+            parts = omega (arith, sent-here (m .station .0) v since (F .station ∙ sym b), H .parts, G .rest-here);
+          }
 
-      own-visit : m .station .0 ≡ s .ring .token → StillHeld t m (q .ring) (v ∷ since) ⊎ Somewhere (CompletedBy t m) (v ∷ since)
+      own-visit : m .station .0 ≡ s .ring .token → StillHeld m q (v ∷ since) ⊎ Done v since
       own-visit b =
-          ⊎-elim (λ (c : Completing t (s .ring) (q .ring) v). inr (inl (own-completed b c)))
-          (λ (c : Leaving (s .ring) (q .ring) v).
+          ⊎-elim (λ (c : Completing t (s .ring) q (syncStartOf t v) v). inr (own-completed b c))
+          (λ (c : Leaving (s .ring) q v).
           ⊎-elim (λ (z : at (s .ring .rest) (s .ring .token) ≡ 0). absurd (omega (arith, H .held, ap (at (s .ring .rest)) b)))
-          (λ (z : 0 < at (q .ring .rest) (s .ring .token)). inl (own-left b z))
+          (λ (z : 0 < at (q .rest) (s .ring .token)). inl (own-left b z))
           (c .left))
-          (G .completing)
+          (message-parts t a P s (S .common s k) ask .completing)
 
-      visit-more : StillHeld t m (q .ring) (v ∷ since) ⊎ Somewhere (CompletedBy t m) (v ∷ since)
+      visit-more : StillHeld m q (v ∷ since) ⊎ Done v since
       visit-more =
           ⊎-elim own-visit (λ (b : m .station .0 ≢ s .ring .token). inl (other-visit b)) (same-or-not (m .station .0) (s .ring .token))
 
     -- ---- another message more: not at this station, which still holds one
 
-    message-more : (q : Run) (o : Message) → Kept t a q → Accepting t (s .ring) (q .ring) o → StillHeld t m (q .ring) since
-    message-more q o N A =
+    message-more : (o : Message) → handInNumber (s .ring) o ≡ 0 → StillHeld m (heldRun s o .ring) since
+    message-more o h =
+        let A = message-facts t a P s (S .common s k) o h in
         let other : m .station .0 ≢ o .station .0 = λ e. absurd (omega (arith, H .held, A .free, ap (at (s .ring .rest)) e)) in
-        still-held q N since (rw (A .rest-there (m .station .0) other) (H .held)) (A .arrival-there (m .station .0) other ∙ H .arrival)
-        (omega (arith, A .rest-there (m .station .0) other, H .parts))
+        record {
+          held = rw (A .rest-there (m .station .0) other) (H .held);
+          arrival = A .arrival-there (m .station .0) other ∙ H .arrival;
+          parts = omega (arith, A .rest-there (m .station .0) other, H .parts);
+        }
 
   -- ---- one call more
 
-  follow-visit : (then s : Run) (K : Kept t a s) (ask : ℕ) → Kept t a (movedRun t a P s K ask) → Followed t m then s → Followed t m then (movedRun t a P s K ask)
-  follow-visit then s K ask N W =
-      let v = recordOf (s .ring) (syncSent (s .ring)) (asyncSent (s .ring) ask) in
+  abbrev Follow : Run → Run → Type 0
+  Follow then now = Followed t m Waiting Finished then now
+
+  follow-visit : (then s : Run) (k : K s) (ask : Ask) → K (movedRun s ask) → Follow then s → Follow then (movedRun s ask)
+  follow-visit then s k ask n W =
       record {
-        since = v ∷ W .since;
-        visits = ap (λ (l : List VisitRecord). v ∷ l) (W .visits);
+        since = made s ask ∷ W .since;
+        visits = ap (λ (l : List VisitRecord). made s ask ∷ l) (W .visits);
         either =
-            ⊎-elim (λ (H : StillHeld t m (s .ring) (W .since)).
-            visit-more s K (W .since) H (movedRun t a P s K ask) v N (visit-facts t a P s K ask) (visit-parts t a P s K ask))
-            (λ (x : Somewhere (CompletedBy t m) (W .since)). inr (inr x))
+            ⊎-elim (λ (H : Held (s .ring) (W .since)).
+            ⊎-elim (λ (x : StillHeld m (movedRun s ask .ring) (made s ask ∷ W .since)). inl (still-held (movedRun s ask) n (made s ask ∷ W .since) x))
+            (λ (x : Done (made s ask) (W .since)). inr (inl x))
+            (visit-more s k (W .since) (H .0) ask))
+            (λ (x : Somewhere Done (W .since)). inr (inr x))
             (W .either);
       }
 
-  follow-message : (then s : Run) (K : Kept t a s) (o : Message) → handInNumber (s .ring) o ≡ 0 → Kept t a (heldRun t a P s K o) → Followed t m then s → Followed t m then (heldRun t a P s K o)
-  follow-message then s K o h N W =
+  follow-message : (then s : Run) (k : K s) (o : Message) → handInNumber (s .ring) o ≡ 0 → K (heldRun s o) → Follow then s → Follow then (heldRun s o)
+  follow-message then s k o h n W =
       record {
         since = W .since;
         visits = W .visits;
         either =
-            ⊎-elim (λ (H : StillHeld t m (s .ring) (W .since)).
-            inl (message-more s K (W .since) H (heldRun t a P s K o) o N (message-facts t a P s K o h)))
-            (λ (x : Somewhere (CompletedBy t m) (W .since)). inr x)
+            ⊎-elim (λ (H : Held (s .ring) (W .since)). inl (still-held (heldRun s o) n (W .since) (message-more s k (W .since) (H .0) o h)))
+            (λ (x : Somewhere Done (W .since)). inr x)
             (W .either);
       }
 
-  follow-after : (then s : Run) → Kept t a s → (c : Call) → Followed t m then s → Followed t m then (after s c)
-  follow-after then s K (visit ask) W =
-      ⊎-elim (λ (h : (s .ring .clock ≤ mostClock) × (after s (visit ask) ≡ movedRun t a P s K ask)).
-      rw (h .1) (follow-visit then s K ask (rw (h .1) at (kept-after t a P s K (visit ask))) W))
+  follow-after : (then s : Run) → K s → (c : Call) → Follow then s → Follow then (after s c)
+  follow-after then s k (visit ask) W =
+      ⊎-elim (λ (h : (s .ring .clock ≤ mostClock) × (after s (visit ask) ≡ movedRun s ask)).
+      rw (h .1) (follow-visit then s k ask (S .moves s k ask (h .0)) W))
       (λ (e : after s (visit ask) ≡ s). rw e W)
-      (after-visit t a P s K ask)
-  follow-after then s K (message o) W =
-      ⊎-elim (λ (h : (handInNumber (s .ring) o ≡ 0) × (after s (message o) ≡ heldRun t a P s K o)).
-      rw (h .1) (follow-message then s K o (h .0) (rw (h .1) at (kept-after t a P s K (message o))) W))
+      (after-visit t a P s (S .common s k) ask)
+  follow-after then s k (message o) W =
+      ⊎-elim (λ (h : (handInNumber (s .ring) o ≡ 0) × (after s (message o) ≡ heldRun s o)).
+      rw (h .1) (follow-message then s k o (h .0) (S .takes s k o (h .0)) W))
       (λ (e : after s (message o) ≡ s). rw e W)
-      (after-message t a P s K o)
+      (after-message t a P s (S .common s k) o)
 
-  follow-run : (then s : Run) → Kept t a s → (calls : List Call) → Followed t m then s → Followed t m then (run s calls)
+  follow-run : (then s : Run) → K s → (calls : List Call) → Follow then s → Follow then (run s calls)
   unfolding run
-  follow-run then s K [] W = W
-  follow-run then s K (c ∷ cs) W = follow-run then (after s c) (kept-after t a P s K c) cs (follow-after then s K c W)
+  follow-run then s k [] W = W
+  follow-run then s k (c ∷ cs) W = follow-run then (after s c) (steady-after t a P K S s k c) cs (follow-after then s k c W)
 
 -- ---- from the handing in on
 
-module _ (t : Set) (a : Alloc) (P : Plan t a) (s : Run) (K : Kept t a s) (m : Message) (taken : handInNumber (s .ring) m ≡ 0) where
-  followed-held : Kept t a (heldRun t a P s K m) → Followed t m s (heldRun t a P s K m)
-  followed-held N =
-      let A = message-facts t a P s K m taken in
+module _ (t : Set) (a : Alloc) (P : Plan t a) (K : Run → Type 0) (S : Steady t a K) (m : Message) (Waiting : Ring → Type 0) (Finished : VisitRecord → Type 0) (L : Follows t m K Waiting Finished) (s : Run) (k : K s) (taken : handInNumber (s .ring) m ≡ 0) where
+  followed-held : Followed t m Waiting Finished s (heldRun s m)
+  followed-held =
+      let A = message-facts t a P s (S .common s k) m taken in
       record {
         since = [];
         visits = refl;
         either =
             inl
-            (still-held t a P m (A .known) (heldRun t a P s K m) N [] (rw (A .rest-here) (A .length .0)) (A .arrival-here)
-            (omega (arith, A .rest-here, sent-none (m .station .0))));
+            (still-held t a P K S m (A .known) Waiting Finished L (heldRun s m) (S .takes s k m taken) []
+            (record {
+              held = rw (A .rest-here) (A .length .0);
+              arrival = A .arrival-here;
+              parts = omega (arith, A .rest-here, sent-none (m .station .0));
+            }));
       }
 
-  pub followed-from : (later : List Call) → Followed t m s (run (after s (message m)) later)
+  pub followed-from : (later : List Call) → Followed t m Waiting Finished s (run (after s (message m)) later)
   followed-from later =
-      let A = message-facts t a P s K m taken in
-      let e = after-held t a P s K m taken in
-      let N = kept-after t a P s K (message m) in
-      follow-run t a P m (A .known) s (after s (message m)) N later (rw e (followed-held (rw e at N)))
+      let A = message-facts t a P s (S .common s k) m taken in
+      let e = after-held t a P s (S .common s k) m taken in
+      follow-run t a P K S m (A .known) Waiting Finished L s (after s (message m)) (steady-after t a P K S s k (message m)) later (rw e followed-held)

@@ -2,24 +2,32 @@
 --     Sums         prefix sums: of one vector, and of two of which one is below the other
 --     Windows      the asynchronous time of the latest visits
 --     Deadlines    the arithmetic of a held message
---     Timing       what every visit keeps of the token's timing, of the visit's timing facts alone
---     Messages     what every visit and handing in keep of the messages, of the facts alone
+--     Course       what every visit keeps, whatever its timers are
+--     Stores       what every call keeps of the stored messages
+--     Timing       what every visit of a timely-token ring keeps of the token's timing
+--     Messages     what every call of a timely-token ring keeps of the deadlines
 --     Steps        the rings' own steps give the facts
 --     Opening      the opened ring keeps all of it
 --     Soundness    a ring that keeps it is sound
 --     Runs         every run keeps it, call by call
+--     Timely       every run of a timely-token ring
 --     Followed     one message, from its handing in on
+--     Common       what every kind of ring promises
+--     Witness      the run in which the promises are called upon
 --     Promised     the promises
---     Witness      the run in which they are called upon
 pub mod Sums
 pub mod Windows
 pub mod Deadlines
+pub mod Course
+pub mod Stores
 pub mod Timing
 pub mod Messages
 pub mod Steps
 pub mod Opening
 pub mod Soundness
 pub mod Runs
+pub mod Timely
 pub mod Followed
-pub mod Promised
+pub mod Common
 pub mod Witness
+pub mod Promised

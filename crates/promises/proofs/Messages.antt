@@ -1,10 +1,9 @@
--- What every visit and every handing in keep of the messages, proved of the facts alone: each held message is in time, and a station that holds none ended its last synchronous part by the deadline of its last message.
+-- What every visit and every handing in keep of the messages of a timely-token ring, proved of the facts alone: each held message is in time, and a station that holds none ended its last synchronous part by the deadline of its last message.
 use Prim.Native.Nat.{ℕ, _+_, _≤_, _<_}
-use mathlib.Core.Path.{_≡_, _∙_}
+use mathlib.Core.Path.{_≡_, ap, _∙_}
 use mathlib.Core.List.{List}
 use mathlib.Core.Logic.{_⊎_, inl, inr, _≢_, ⊎-elim}
 use native.Mathlib.Omega.{arith}
-use Rattle.units.specs.Numbers.{mostClock}
 use Rattle.units.specs.Places.{at}
 use Rattle.units.specs.PlaceLaws.{sum-part}
 use Rattle.units.specs.SmallLaws.{below-or-not}
@@ -13,9 +12,12 @@ use Rattle.plans.specs.declared.Alloc.{Alloc}
 use Rattle.rings.specs.declared.Ring.{Ring}
 use Rattle.rings.specs.declared.Message.{Message}
 use Rattle.rings.specs.declared.VisitRecord.{VisitRecord}
-use Rattle.promises.specs.Facts.{VisitTiming, VisitMessages, Sending, Silent, Completing, Accepting, rises}
+use Rattle.promises.specs.History.{syncStartOf}
+use Rattle.promises.specs.Facts.{Timing, timing, VisitCourse, VisitTimers, VisitMessages, Sending, Silent, Completing, Accepting, rises}
+use Rattle.promises.proofs.Course.{Plan, Unvisited, Since, same-or-not}
+use Rattle.promises.proofs.Stores.{Stored}
 use Rattle.promises.proofs.Deadlines.{InTime, in-time, served-in-time, fresh-in-time, later-in-time}
-use Rattle.promises.proofs.Timing.{Plan, Timed, Unvisited, Since, never-late, same-or-not}
+use Rattle.promises.proofs.Timing.{Timed, never-late}
 
 -- the deadline of the message that station i holds, or held last
 abbrev pub deadlineAt : Set → Ring → ℕ → ℕ
@@ -32,14 +34,12 @@ pub record Waiting (t : Set) (a : Alloc) (r : Ring) (i : ℕ) : Type 0 where
   pub had : at (r .had) i ≢ 0
   pub intime : InTime (t .head .ttrt) (at (a .s) i) (r .clock) (at (r .trt) i) (at (r .sent) i) (at (r .rest) i) (deadlineAt t r i)
 
-pub record Messaged (t : Set) (a : Alloc) (r : Ring) (i : ℕ) : Type 0 where
-  pub small : at (r .rest) i ≤ at (t .c) i
-  pub range : at (r .arrival) i ≤ mostClock
-  pub state : Idle t r i ⊎ Waiting t a r i
+abbrev pub Messaged : Set → Alloc → Ring → ℕ → Type 0
+Messaged t a r i = Idle t r i ⊎ Waiting t a r i
 
 -- ---- while a message is held
 
-module _ (t : Set) (a : Alloc) (r : Ring) (h : List VisitRecord) (P : Plan t a) (T : Timed t a r h) where
+module _ (t : Set) (a : Alloc) (r : Ring) (h : List VisitRecord) (P : Plan t a) (T : Timed t a (timing r) h) where
   -- S is at most TTRT
   pub share-small : (i : ℕ) → i < t .n → at (a .s) i ≤ t .head .ttrt
   share-small i l = omega (arith, sum-part (t .n) (at (a .s)) i l, P .token)
@@ -48,111 +48,118 @@ module _ (t : Set) (a : Alloc) (r : Ring) (h : List VisitRecord) (P : Plan t a) 
   pub still-in-time : (i : ℕ) → i < t .n → Waiting t a r i → r .clock + at (r .rest) i ≤ deadlineAt t r i
   still-in-time i l w =
       omega
-      (arith, in-time (t .head .ttrt) (at (a .s) i) (r .clock) (at (r .trt) i) (at (r .sent) i) (at (r .rest) i) (deadlineAt t r i) (share-small i l) (w .held) 0 (omega (arith, never-late t a r h T i l)) (w .intime))
+      (arith, in-time (t .head .ttrt) (at (a .s) i) (r .clock) (at (r .trt) i) (at (r .sent) i) (at (r .rest) i) (deadlineAt t r i) (share-small i l) (w .held) 0 (omega (arith, never-late t a (timing r) h T i l)) (w .intime))
 
   pub held-in-time : (i : ℕ) → i < t .n → Messaged t a r i → 0 < at (r .rest) i → Waiting t a r i
-  held-in-time i l M held = ⊎-elim (λ (x : Idle t r i). absurd (omega arith)) (λ (w : Waiting t a r i). w) (M .state)
+  held-in-time i l M held = ⊎-elim (λ (x : Idle t r i). absurd (omega arith)) (λ (w : Waiting t a r i). w) M
 
   pub clock-ahead : (i : ℕ) → i < t .n → Messaged t a r i → 0 < at (r .rest) i → r .clock + at (r .rest) i ≤ deadlineAt t r i
   clock-ahead i l M held = still-in-time i l (held-in-time i l M held)
 
 -- ---- one visit more
 
-module _ (t : Set) (a : Alloc) (r q : Ring) (v : VisitRecord) (h : List VisitRecord) (P : Plan t a) (T : Timed t a r h) (F : VisitTiming t a r q v) (G : VisitMessages t a r q v) where
+module _ (t : Set) (a : Alloc) (r q : Ring) (v : VisitRecord) (h : List VisitRecord) (P : Plan t a) (T : Timed t a (timing r) h) (C : VisitCourse t a (timing r) (timing q) v) (F : VisitTimers t (timing r) (timing q) v) (G : VisitMessages t a r q v) where
   -- at another station nothing changes but clock and TRT
   other-kept : (i : ℕ) → i < t .n → i ≢ r .token → Messaged t a r i → Messaged t a q i
   other-kept i l b M =
-      record {
-        small = rw (G .rest-there i b) (M .small);
-        range = rw (G .arrival) (M .range);
-        state =
-            ⊎-elim (λ (x : Idle t r i).
-            inl
-            (record {
-              none = G .rest-there i b ∙ x .none;
-              ended =
-                  ⊎-elim (λ (z : at (r .sent) i ≡ 0). inl (F .sent-there i b ∙ z))
-                  (λ (z : (at (r .had) i ≢ 0) × (r .clock + at (r .sent) i ≤ deadlineAt t r i + at (r .trt) i)).
-                  inr (rw (G .had) (z .0), rw (F .sent-there i b, F .trt-there i l b, G .arrival, F .clock) (omega arith)))
-                  (x .ended);
-            }))
-            (λ (w : Waiting t a r i).
-            inr
-            (record {
-              held = rw (G .rest-there i b) (w .held);
-              had = rw (G .had) (w .had);
-              intime =
-                  rw (F .sent-there i b, F .trt-there i l b, G .rest-there i b, G .arrival, F .clock)
-                  (later-in-time (t .head .ttrt) (at (a .s) i) (r .clock) (at (r .trt) i) (at (r .sent) i) (at (r .rest) i) (deadlineAt t r i) (rises t v) (w .intime));
-            }))
-            (M .state);
-      }
+      ⊎-elim (λ (x : Idle t r i).
+      inl
+      (record {
+        none = G .rest-there i b ∙ x .none;
+        ended =
+            ⊎-elim (λ (z : at (r .sent) i ≡ 0). inl (C .sent-there i b ∙ z))
+            (λ (z : (at (r .had) i ≢ 0) × (r .clock + at (r .sent) i ≤ deadlineAt t r i + at (r .trt) i)).
+            inr (rw (G .had) (z .0), rw (C .sent-there i b, F .trt-there i l b, G .arrival, C .clock) (omega arith)))
+            (x .ended);
+      }))
+      (λ (w : Waiting t a r i).
+      inr
+      (record {
+        held = rw (G .rest-there i b) (w .held);
+        had = rw (G .had) (w .had);
+        intime =
+            rw (C .sent-there i b, F .trt-there i l b, G .rest-there i b, G .arrival, C .clock)
+            (later-in-time (t .head .ttrt) (at (a .s) i) (r .clock) (at (r .trt) i) (at (r .sent) i) (at (r .rest) i) (deadlineAt t r i) (rises t v) (w .intime));
+      }))
+      M
 
   -- the station that is visited sends nothing
-  silent-kept : Messaged t a r (r .token) → Silent r v → Idle t q (r .token) ⊎ Waiting t a q (r .token)
-  silent-kept M s =
+  silent-kept : Stored t r (r .token) → Messaged t a r (r .token) → Silent r (syncStartOf t v) v → Idle t q (r .token) ⊎ Waiting t a q (r .token)
+  silent-kept K M s =
       ⊎-elim (λ (b : 0 < at (r .rest) (r .token)).
-      let w : Waiting t a r (r .token) = held-in-time t a r h P T (r .token) (T .token) M b in
+      let w : Waiting t a r (r .token) = held-in-time t a r h P T (r .token) (T .course .token) M b in
       let same : at (q .rest) (r .token) ≡ at (r .rest) (r .token) = omega (arith, G .rest-here, s .nothing) in
       let ahead : r .clock < at (r .arrival) (r .token) =
-      ⊎-elim (λ (z : at (r .rest) (r .token) ≡ 0). absurd (omega arith)) (λ (z : r .clock < at (r .arrival) (r .token)). z) (s .reason) in
+      ⊎-elim (λ (z : at (r .rest) (r .token) ≡ 0). absurd (omega arith)) (λ (z : syncStartOf t v < at (r .arrival) (r .token)). omega (arith, C .start)) (s .reason) in
       inr
       (record {
         held = rw same b;
         had = rw (G .had) (w .had);
         intime =
-            rw (F .sent-here, s .nothing, F .trt-here, same, G .arrival, F .clock)
-            (fresh-in-time (t .head .ttrt) (at (a .s) (r .token)) (at (t .d) (r .token)) (r .clock + rises t v) (rises t v) 0 (at (r .rest) (r .token)) (at (r .arrival) (r .token)) (omega (arith, M .small, P .deadlines (r .token) (T .token))) (omega arith));
+            rw (C .sent-here, s .nothing, F .trt-here, same, G .arrival, C .clock)
+            (fresh-in-time (t .head .ttrt) (at (a .s) (r .token)) (at (t .d) (r .token)) (r .clock + rises t v) (rises t v) 0 (at (r .rest) (r .token)) (at (r .arrival) (r .token)) (omega (arith, K .small, P .deadlines (r .token) (T .course .token))) (omega arith));
       }))
       (λ (b : at (r .rest) (r .token) ≤ 0).
-      inl (record { none = omega (arith, G .rest-here); ended = inl (F .sent-here ∙ s .nothing) }))
+      inl (record { none = omega (arith, G .rest-here); ended = inl (C .sent-here ∙ s .nothing) }))
       (below-or-not 0 (at (r .rest) (r .token)))
 
   -- it sends of its message
-  sending-kept : Messaged t a r (r .token) → Sending t a r v → Idle t q (r .token) ⊎ Waiting t a q (r .token)
+  sending-kept : Messaged t a r (r .token) → Sending a r (syncStartOf t v) v → Idle t q (r .token) ⊎ Waiting t a q (r .token)
   sending-kept M s =
-      let w : Waiting t a r (r .token) = held-in-time t a r h P T (r .token) (T .token) M (s .held) in
+      let w : Waiting t a r (r .token) = held-in-time t a r h P T (r .token) (T .course .token) M (s .held) in
       ⊎-elim (λ (b : at (a .s) (r .token) < at (r .rest) (r .token)).
       let whole : v .synchronous .0 ≡ at (a .s) (r .token) = omega (arith, s .amount) in
       let parts : at (q .rest) (r .token) + at (a .s) (r .token) ≡ at (r .rest) (r .token) = omega (arith, G .rest-here) in
       let none : r .clock + 0 ≡ r .clock = omega arith in
-      let next = rw none at (served-in-time (t .head .ttrt) (at (a .s) (r .token)) (r .clock) (at (r .trt) (r .token)) (at (r .sent) (r .token)) (at (r .rest) (r .token)) (deadlineAt t r (r .token)) (share-small t a r h P T (r .token) (T .token)) (s .held) 0 (rises t v) (at (q .rest) (r .token)) (omega (arith, never-late t a r h T (r .token) (T .token))) parts (w .intime)) in
+      let next = rw none at (served-in-time (t .head .ttrt) (at (a .s) (r .token)) (r .clock) (at (r .trt) (r .token)) (at (r .sent) (r .token)) (at (r .rest) (r .token)) (deadlineAt t r (r .token)) (share-small t a r h P T (r .token) (T .course .token)) (s .held) 0 (rises t v) (at (q .rest) (r .token)) (omega (arith, never-late t a (timing r) h T (r .token) (T .course .token))) parts (w .intime)) in
       inr
       (record {
         held = omega (arith, G .rest-here);
         had = rw (G .had) (w .had);
-        intime = rw (F .sent-here, whole, F .trt-here, G .arrival, F .clock) next;
+        intime = rw (C .sent-here, whole, F .trt-here, G .arrival, C .clock) next;
       }))
       (λ (b : at (r .rest) (r .token) ≤ at (a .s) (r .token)).
       let whole : v .synchronous .0 ≡ at (r .rest) (r .token) = omega (arith, s .amount) in
       inl
       (record {
         none = omega (arith, G .rest-here);
-        ended = inr (rw (G .had) (w .had), rw (F .sent-here, F .trt-here, G .arrival, F .clock) (omega (arith, still-in-time t a r h P T (r .token) (T .token) w)));
+        ended = inr (rw (G .had) (w .had), rw (C .sent-here, F .trt-here, G .arrival, C .clock) (omega (arith, still-in-time t a r h P T (r .token) (T .course .token) w)));
       }))
       (below-or-not (at (a .s) (r .token)) (at (r .rest) (r .token)))
 
-  here-kept : Messaged t a r (r .token) → Messaged t a q (r .token)
-  here-kept M =
-      record {
-        small = omega (arith, M .small, G .rest-here);
-        range = rw (G .arrival) (M .range);
-        state = ⊎-elim (sending-kept M) (silent-kept M) (G .sending);
-      }
+  here-kept : Stored t r (r .token) → Messaged t a r (r .token) → Messaged t a q (r .token)
+  here-kept K M = ⊎-elim (sending-kept M) (silent-kept K M) (G .sending)
 
-  pub messaged-kept : ((i : ℕ) → i < t .n → Messaged t a r i) → (i : ℕ) → i < t .n → Messaged t a q i
-  messaged-kept M i l =
-      ⊎-elim (λ (b : i ≡ r .token). rw b (here-kept (M (r .token) (T .token))))
+  pub messaged-kept : Stored t r (r .token) → ((i : ℕ) → i < t .n → Messaged t a r i) → (i : ℕ) → i < t .n → Messaged t a q i
+  messaged-kept K M i l =
+      ⊎-elim (λ (b : i ≡ r .token). rw b (here-kept K (M (r .token) (T .course .token))))
       (λ (b : i ≢ r .token). other-kept i l b (M i l))
       (same-or-not i (r .token))
 
   -- a message that this visit completes is finished by its deadline
-  pub completed-in-time : Messaged t a r (r .token) → Completing t r q v → r .clock + v .synchronous .0 ≤ deadlineAt t r (r .token)
-  completed-in-time M c = omega (arith, G .rest-here, c .over, clock-ahead t a r h P T (r .token) (T .token) M (c .held))
+  pub completed-in-time : Messaged t a r (r .token) → Completing t r q (syncStartOf t v) v → v .finish .0 ≤ deadlineAt t r (r .token)
+  completed-in-time M c = omega (arith, C .start, c .finish, G .rest-here, c .over, clock-ahead t a r h P T (r .token) (T .course .token) M (c .held))
 
 -- ---- one handing in more
 
-module _ (t : Set) (a : Alloc) (r q : Ring) (m : Message) (h : List VisitRecord) (P : Plan t a) (T : Timed t a r h) (A : Accepting t r q m) where
+module _ (t : Set) (a : Alloc) (r q : Ring) (m : Message) (h : List VisitRecord) (P : Plan t a) (T : Timed t a (timing r) h) (A : Accepting t r q m) where
+  sent-same : q .sent ≡ r .sent
+  sent-same = ap (λ (x : Timing). x .sent) (A .timing-same)
+
+  trt-same : q .trt ≡ r .trt
+  trt-same = ap (λ (x : Timing). x .trt) (A .timing-same)
+
+  clock-same : q .clock ≡ r .clock
+  clock-same = ap (λ (x : Timing). x .clock) (A .timing-same)
+
+  -- a station that sent nothing at its last visit ended its synchronous part at that visit's start, or before the first visit
+  quiet : at (r .sent) (m .station .0) ≡ 0 → r .clock + at (r .sent) (m .station .0) ≤ m .arrival .0 + at (r .trt) (m .station .0)
+  quiet z =
+      ⊎-elim (λ (u : Unvisited (timing r) h (m .station .0)). omega (arith, T .silent (m .station .0) (A .known) (u .latest)))
+      (λ (u : (w : VisitRecord) × Since t (timing r) h (m .station .0) w).
+      omega (arith, T .since (m .station .0) (A .known) (u .0) (u .1 .latest), u .1 .last, A .later (u .1 .counted)))
+      (T .course .arrived (m .station .0) (A .known))
+
   -- the station's last synchronous part ended by the arrival: at the start of its last visit, or by the deadline of the message before, which is at most P after that one's arrival
   ended-before : Messaged t a r (m .station .0) → r .clock + at (r .sent) (m .station .0) ≤ m .arrival .0 + at (r .trt) (m .station .0)
   ended-before M =
@@ -162,51 +169,35 @@ module _ (t : Set) (a : Alloc) (r q : Ring) (m : Message) (h : List VisitRecord)
       omega (arith, A .gap (z .0), P .gaps (m .station .0) (A .known)))
       (x .ended))
       (λ (w : Waiting t a r (m .station .0)). absurd (omega (arith, A .free, w .held)))
-      (M .state)
-    where
-      quiet : at (r .sent) (m .station .0) ≡ 0 → r .clock + at (r .sent) (m .station .0) ≤ m .arrival .0 + at (r .trt) (m .station .0)
-      quiet z =
-          ⊎-elim (λ (u : Unvisited t r h (m .station .0)). omega (arith, u .silent))
-          (λ (u : (w : VisitRecord) × Since r h (m .station .0) w). omega (arith, u .1 .start, u .1 .last, A .later (u .1 .counted)))
-          (T .arrived (m .station .0) (A .known))
+      M
 
   taken-here : Messaged t a r (m .station .0) → Messaged t a q (m .station .0)
   taken-here M =
-      record {
-        small = rw (A .rest-here) (A .length .1);
-        range = rw (A .arrival-here) (A .range);
-        state =
-            inr
-            (record {
-              held = rw (A .rest-here) (A .length .0);
-              had = A .had-here;
-              intime =
-                  rw (A .timing .sent, A .timing .trt, A .timing .clock, A .rest-here, A .arrival-here)
-                  (fresh-in-time (t .head .ttrt) (at (a .s) (m .station .0)) (at (t .d) (m .station .0)) (r .clock) (at (r .trt) (m .station .0)) (at (r .sent) (m .station .0)) (m .length .0) (m .arrival .0) (omega (arith, A .length .1, P .deadlines (m .station .0) (A .known))) (ended-before M));
-            });
-      }
+      inr
+      (record {
+        held = rw (A .rest-here) (A .length .0);
+        had = A .had-here;
+        intime =
+            rw (sent-same, trt-same, clock-same, A .rest-here, A .arrival-here)
+            (fresh-in-time (t .head .ttrt) (at (a .s) (m .station .0)) (at (t .d) (m .station .0)) (r .clock) (at (r .trt) (m .station .0)) (at (r .sent) (m .station .0)) (m .length .0) (m .arrival .0) (omega (arith, A .length .1, P .deadlines (m .station .0) (A .known))) (ended-before M));
+      })
 
   taken-there : (i : ℕ) → i ≢ m .station .0 → Messaged t a r i → Messaged t a q i
   taken-there i b M =
-      record {
-        small = rw (A .rest-there i b) (M .small);
-        range = rw (A .arrival-there i b) (M .range);
-        state =
-            ⊎-elim (λ (x : Idle t r i).
-            inl
-            (record {
-              none = A .rest-there i b ∙ x .none;
-              ended = rw (A .timing .sent, A .timing .trt, A .timing .clock, A .had-there i b, A .arrival-there i b) (x .ended);
-            }))
-            (λ (w : Waiting t a r i).
-            inr
-            (record {
-              held = rw (A .rest-there i b) (w .held);
-              had = rw (A .had-there i b) (w .had);
-              intime = rw (A .timing .sent, A .timing .trt, A .timing .clock, A .rest-there i b, A .arrival-there i b) (w .intime);
-            }))
-            (M .state);
-      }
+      ⊎-elim (λ (x : Idle t r i).
+      inl
+      (record {
+        none = A .rest-there i b ∙ x .none;
+        ended = rw (sent-same, trt-same, clock-same, A .had-there i b, A .arrival-there i b) (x .ended);
+      }))
+      (λ (w : Waiting t a r i).
+      inr
+      (record {
+        held = rw (A .rest-there i b) (w .held);
+        had = rw (A .had-there i b) (w .had);
+        intime = rw (sent-same, trt-same, clock-same, A .rest-there i b, A .arrival-there i b) (w .intime);
+      }))
+      M
 
   pub messaged-taken : ((i : ℕ) → i < t .n → Messaged t a r i) → (i : ℕ) → i < t .n → Messaged t a q i
   messaged-taken M i l =

@@ -15,26 +15,13 @@ use Rattle.plans.specs.PlanLaws.{given-none}
 use Rattle.plans.specs.declared.Alloc.{Alloc}
 use Rattle.rings.specs.Opening.{silentTrt, openedRing, openedWith, opening}
 use Rattle.rings.specs.declared.Ring.{Ring}
-use Rattle.promises.specs.History.{asyncOf, latestOf, due}
-use Rattle.promises.specs.Promised.{Opens}
-use Rattle.promises.proofs.Timing.{Plan, Timed}
+use Rattle.promises.specs.History.{asyncOf, latest, due}
+use Rattle.promises.specs.Facts.{timing}
+use Rattle.promises.proofs.Course.{Plan, Course}
+use Rattle.promises.proofs.Stores.{Stored, Told}
+use Rattle.promises.proofs.Timing.{Timed}
 use Rattle.promises.proofs.Messages.{Messaged}
 use Rattle.promises.proofs.Steps.{Places}
-
-pub opened-number : (k : ℕ) (r : Ring) → openedWith k r .number ≡ k
-unfolding openedWith
-opened-number zero r = refl
-opened-number (suc k) r = refl
-
-pub opens-judged : (t : Set) (a : Alloc) → Opens t a → judgedPlan t a ≡ 0
-opens-judged t a h = omega (arith, opened-number (judgedPlan t a) (openedRing t a))
-
-pub judged-opens : (t : Set) (a : Alloc) → judgedPlan t a ≡ 0 → Opens t a
-judged-opens t a h = opened-number (judgedPlan t a) (openedRing t a) ∙ h
-
-pub opens-ring : (t : Set) (a : Alloc) → Opens t a → opening t a .ring ≡ openedRing t a
-unfolding openedWith
-opens-ring t a h = rw (opens-judged t a h)
 
 pub plan-of : (t : Set) (a : Alloc) → judgedPlan t a ≡ 0 → Plan t a
 plan-of t a h =
@@ -84,9 +71,9 @@ module _ (t : Set) (a : Alloc) (P : Plan t a) where
   unfolding openedRing
   opened-trt i l = fill-inside (t .n) (silentTrt t) zeros i l (P .few)
 
-  pub opened-timed : Timed t a (openedRing t a) []
-  unfolding openedRing due latestOf
-  opened-timed =
+  pub opened-course : Course t a (timing (openedRing t a)) []
+  unfolding openedRing due latest
+  opened-course =
       record {
         set = refl;
         alloc = refl;
@@ -94,23 +81,35 @@ module _ (t : Set) (a : Alloc) (P : Plan t a) where
         turn = refl;
         counted = refl;
         rounds = (0, record { visits = omega arith; walked = omega (arith, sum-none (at (t .w))) });
+        bounded = omega arith;
         clock = omega arith;
         sents = λ i l. omega (arith, at-zeros i);
+        arrived = λ i l. inl (record { latest = refl; early = omega arith; nothing = at-zeros i });
+      }
+
+  pub opened-timed : Timed t a (timing (openedRing t a)) []
+  unfolding openedRing latest
+  opened-timed =
+      record {
+        course = opened-course;
         unused = omega (arith, sum-zeros (t .n));
         passed = λ i l. absurd (omega arith);
         coming = λ i l b.
             omega
             (arith, opened-trt i l, sum-split (t .n) (at (t .w)) i (omega arith), async-nothing (0 + t .n - i), sum-none (at (t .w)), sum-none (at zeros), sum-zeros i, sum-zeros (t .n));
         window = omega (arith, async-nothing (t .n), P .token);
-        arrived = λ i l.
-            inl (record { latest = refl; early = omega arith; silent = omega (arith, opened-trt i l); nothing = at-zeros i });
+        silent = λ i l _. omega (arith, opened-trt i l);
+        since = λ i l u e. let z : _≡_ {A = ℕ} 0 1 = cc e in absurd (omega arith);
       }
+
+  pub opened-stored : (i : ℕ) → i < t .n → Stored t (openedRing t a) i
+  unfolding openedRing
+  opened-stored i l = record { small = omega (arith, at-zeros i); range = omega (arith, at-zeros i) }
+
+  pub opened-told : (i : ℕ) → Told (openedRing t a) [] i
+  unfolding openedRing latest
+  opened-told i = inl (record { latest = refl; had = at-zeros i })
 
   pub opened-messaged : (i : ℕ) → i < t .n → Messaged t a (openedRing t a) i
   unfolding openedRing
-  opened-messaged i l =
-      record {
-        small = omega (arith, at-zeros i);
-        range = omega (arith, at-zeros i);
-        state = inl (record { none = at-zeros i; ended = inl (at-zeros i) });
-      }
+  opened-messaged i l = inl (record { none = at-zeros i; ended = inl (at-zeros i) })

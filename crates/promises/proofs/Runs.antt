@@ -1,20 +1,15 @@
--- What a run keeps, call by call: every answer is the steps' own or leaves all as it was.
-use Prim.Native.Nat.{ℕ, zero, suc, _+_, _-_, _≤_, _<_}
-use mathlib.Core.Path.{_≡_, refl, sym, ap, _∙_}
+-- What every run keeps, whatever its timers are, call by call: every answer is the steps' own or leaves all as it was. What one kind of ring keeps beside it is kept by every run if an accepted visit and an accepted handing in keep it (`Steady`).
+use Prim.Native.Nat.{ℕ, zero, suc, _+_, _*_, _≤_, _<_}
+use mathlib.Core.Path.{_≡_, refl, ap, _∙_}
 use mathlib.Core.Bool.{true}
 use mathlib.Core.List.{List, [], _∷_}
 use mathlib.Core.Logic.{_⊎_, inl, inr, _≢_, ⊎-elim}
-use mathlib.Core.Option.{none, some}
 use native.Mathlib.Omega.{arith}
-use borrow.Author.Tests.{le-ltb}
-use lib.IntN.{pos}
 use Rattle.units.specs.Numbers.{mostClock}
 use Rattle.units.specs.Places.{at}
-use Rattle.units.specs.JudgingLaws.{held}
 use Rattle.units.specs.SmallLaws.{below-or-not}
 use Rattle.sets.specs.declared.Set.{Set}
 use Rattle.plans.specs.declared.Alloc.{Alloc}
-use Rattle.rings.specs.Opening.{silentTrt}
 use Rattle.rings.specs.Sound.{isSound}
 use Rattle.rings.specs.Steps.{syncSent, asyncSent, moved, recordOf, visitNumber, refusedVisit, acceptedVisit, visited}
 use Rattle.rings.specs.HandingIn.{holding, handInNumber, takenWith, handedIn}
@@ -22,19 +17,17 @@ use Rattle.rings.specs.RingLaws.{visit-0, visit-13, visit-accepted, visit-refus
 use Rattle.rings.specs.declared.Ring.{Ring}
 use Rattle.rings.specs.declared.Message.{Message}
 use Rattle.rings.specs.declared.VisitRecord.{VisitRecord}
-use Rattle.promises.specs.Run.{Call, visit, message, Run, noted, after, run, opened, runOf}
-use Rattle.promises.specs.History.{latestOf, Each}
-use Rattle.promises.specs.Facts.{VisitTiming, VisitOffer, VisitMessages, Completing, Leaving, Accepting}
-use Rattle.promises.specs.Promised.{Opens, InTurn, Timely, ShareKept, ExactLimit, NoneLate}
-use Rattle.promises.proofs.Timing.{Plan, Timed, Unvisited, Since, token-timer, never-late, timed-kept, timed-same, same-or-not}
-use Rattle.promises.proofs.Messages.{Messaged, deadlineAt, messaged-kept, messaged-taken, completed-in-time}
-use Rattle.promises.proofs.Steps.{Places, visit-places, visit-timing, visit-offer, visit-messages, holding-places, message-accepts}
-use Rattle.promises.proofs.Opening.{opens-judged, opens-ring, plan-of, opened-places, opened-timed, opened-messaged}
-use Rattle.promises.proofs.Soundness.{is-sound}
+use Rattle.promises.specs.Run.{Ask, Call, visit, message, Run, noted, after, run}
+use Rattle.promises.specs.History.{Each}
+use Rattle.promises.specs.Facts.{timing, VisitCourse, VisitMessages, Accepting, rises}
+use Rattle.promises.specs.Valid.{InTurn, ShareKept}
+use Rattle.promises.proofs.Course.{Plan, Course, course-kept, same-or-not}
+use Rattle.promises.proofs.Stores.{Stored, Told, stored-kept, told-kept, stored-taken, told-taken}
+use Rattle.promises.proofs.Steps.{Places, visit-places, visit-course, visit-messages, holding-places, message-accepts}
 
 -- ---- the answers
 
-module _ (r : Ring) (ask : ℕ) (sound : isSound r ≡ true) where
+module _ (r : Ring) (ask : Ask) (sound : isSound r ≡ true) where
   pub visit-goes : r .clock ≤ mostClock → visited r ask ≡ acceptedVisit r ask
   visit-goes early = visit-accepted (visitNumber r) r ask (visit-0 r sound early)
 
@@ -50,188 +43,134 @@ module _ (r : Ring) (m : Message) where
   pub message-number : handedIn r m .number ≡ handInNumber r m
   message-number = taken-as (handInNumber r m)
 
--- ---- what a new record keeps
+-- ---- the run after an accepted call
 
--- all that is promised of a record
-pub record VisitKept (t : Set) (a : Alloc) (v : VisitRecord) (before : List VisitRecord) : Type 0 where
-  pub turn : InTurn t v before
-  pub timely : Timely t v before
-  pub share : ShareKept a v before
-  pub limit : ExactLimit t a v before
-  pub none-late : NoneLate v before
+-- the record of an accepted visit
+abbrev pub made : Run → Ask → VisitRecord
+made s ask = recordOf (s .ring) (syncSent (s .ring)) (asyncSent (s .ring) ask)
 
-module _ (t : Set) (a : Alloc) (r q : Ring) (v : VisitRecord) (h : List VisitRecord) (P : Plan t a) (T : Timed t a r h) (F : VisitTiming t a r q v) where
-  -- the timer at the token is the gap since the latest visit
-  gap-since : (u : VisitRecord) → latestOf (v .station .0) h ≡ some u → v .start .0 ≡ u .start .0 + v .trt .0
-  gap-since u e =
-      let here : latestOf (r .token) h ≡ some u = ap (λ (i : ℕ). latestOf i h) (sym (F .station)) ∙ e in
-      ⊎-elim (λ (x : Unvisited t r h (r .token)). let z : _≡_ {A = ℕ} 0 1 = cc (here, x .latest) in absurd (omega arith))
-      (λ (x : (w : VisitRecord) × Since r h (r .token) w).
-      let same : x .0 ≡ u = cc (here, x .1 .latest) in
-      let start : u .start .0 ≡ x .0 .start .0 = ap (λ (w : VisitRecord). w .start .0) (sym same) in
-      omega (arith, x .1 .start, F .start, F .timer))
-      (T .arrived (r .token) (T .token))
+abbrev pub movedRun : Run → Ask → Run
+movedRun s ask =
+    record {
+      ring = moved (s .ring) (syncSent (s .ring)) (asyncSent (s .ring) ask);
+      records = made s ask ∷ s .records;
+      messages = s .messages;
+    }
 
-  first-since : latestOf (v .station .0) h ≡ none → v .trt .0 ≡ silentTrt t (v .station .0) + v .start .0
-  first-since e =
-      let here : latestOf (r .token) h ≡ none = ap (λ (i : ℕ). latestOf i h) (sym (F .station)) ∙ e in
-      ⊎-elim (λ (x : Unvisited t r h (r .token)). rw (F .station) (omega (arith, x .silent, F .start, F .timer)))
-      (λ (x : (w : VisitRecord) × Since r h (r .token) w). let z : _≡_ {A = ℕ} 0 1 = cc (here, x .1 .latest) in absurd (omega arith))
-      (T .arrived (r .token) (T .token))
+abbrev pub heldRun : Run → Message → Run
+heldRun s m = record { ring = holding (s .ring) m; records = s .records; messages = m ∷ s .messages }
 
-  timer-within : v .trt .0 ≤ t .head .ttrt
-  timer-within = omega (arith, F .timer, never-late t a r h T (r .token) (T .token), T .sents (r .token) (T .token))
-
-  pub timely-made : Timely t v h
-  timely-made =
-      record {
-        apart = λ u e. omega (arith, gap-since u e, timer-within);
-        gap = gap-since;
-        first = λ e. omega (arith, first-since e);
-        within = omega (arith, timer-within);
-      }
-
-  -- what the timers leave is what the window leaves of A*, so it is nowhere held at 0
-  pub limit-made : VisitOffer t r v → ExactLimit t a v h
-  limit-made O = record { exact = omega (arith, O .limit, token-timer t a r h T, T .window); kept = omega (arith, O .kept) }
-
-  pub turn-made : InTurn t v h
-  turn-made = record { station = rw (F .station) (T .token); turn = F .station ∙ T .turn }
-
-  pub share-made : ShareKept a v h
-  share-made = omega (arith, F .within, ap (at (a .s)) (F .station))
-
-  module _ (G : VisitMessages t a r q v) (M : Messaged t a r (r .token)) where
-    -- what is left to the deadline
-    pub margin-made : Completing t r q v → v .margin ≡ pos (deadlineAt t r (r .token) - (r .clock + v .synchronous .0))
-    margin-made c =
-        c .margin ∙
-        rw (le-ltb (deadlineAt t r (r .token)) (r .clock + v .synchronous .0) (completed-in-time t a r q v h P T F G M c))
-
-    pub none-late-made : NoneLate v h
-    none-late-made flag =
-        ⊎-elim (λ (c : Completing t r q v). (deadlineAt t r (r .token) - (r .clock + v .synchronous .0), margin-made c))
-        (λ (c : Leaving r q v). absurd (omega (arith, c .flag)))
-        (G .completing)
-
-    pub visit-kept : VisitOffer t r v → VisitKept t a v h
-    visit-kept O =
-        record {
-          turn = turn-made;
-          timely = timely-made;
-          share = share-made;
-          limit = limit-made O;
-          none-late = none-late-made;
-        }
-
--- ---- what a run keeps
+-- ---- what every run keeps
 
 pub record Kept (t : Set) (a : Alloc) (s : Run) : Type 0 where
   pub places : Places (s .ring)
-  pub timed : Timed t a (s .ring) (s .records)
-  pub messaged : (i : ℕ) → i < t .n → Messaged t a (s .ring) i
-  pub each : Each (VisitKept t a) (s .records)
+  pub course : Course t a (timing (s .ring)) (s .records)
+  pub stored : (i : ℕ) → i < t .n → Stored t (s .ring) i
+  pub told : (i : ℕ) → Told (s .ring) (s .messages) i
+  pub turns : Each (InTurn t) (s .records)
+  pub shares : Each (ShareKept a) (s .records)
+  pub sound : isSound (s .ring) ≡ true
 
 module _ (t : Set) (a : Alloc) (P : Plan t a) (s : Run) (K : Kept t a s) where
-  pub kept-sound : isSound (s .ring) ≡ true
-  kept-sound = is-sound t a (s .ring) (s .records) P (K .timed) (K .places) (K .messaged)
+  pub course-facts : (ask : Ask) → VisitCourse t a (timing (s .ring)) (timing (movedRun s ask .ring)) (made s ask)
+  course-facts ask = visit-course t a (s .ring) (s .records) P (K .course) (K .places) ask
 
-  -- the run after an accepted visit
-  abbrev pub movedRun : ℕ → Run
-  movedRun ask =
+  pub message-parts : (ask : Ask) → VisitMessages t a (s .ring) (movedRun s ask .ring) (made s ask)
+  message-parts ask = visit-messages t a (s .ring) (s .records) P (K .course) (K .places) ask
+
+  pub next-places : (ask : Ask) → Places (movedRun s ask .ring)
+  next-places ask = visit-places t a (s .ring) (s .records) P (K .course) (K .places) ask
+
+  pub next-stored : (ask : Ask) (i : ℕ) → i < t .n → Stored t (movedRun s ask .ring) i
+  next-stored ask = stored-kept t a (s .ring) (movedRun s ask .ring) (made s ask) (message-parts ask) (K .stored)
+
+  -- an accepted visit keeps it, if it takes at most two TTRT and leaves the ring sound
+  pub kept-moved : (ask : Ask) → rises t (made s ask) ≤ 2 * t .head .ttrt → s .ring .clock ≤ mostClock → isSound (movedRun s ask .ring) ≡ true → Kept t a (movedRun s ask)
+  kept-moved ask short early sound =
+      let F = course-facts ask in
       record {
-        ring = moved (s .ring) (syncSent (s .ring)) (asyncSent (s .ring) ask);
-        records = recordOf (s .ring) (syncSent (s .ring)) (asyncSent (s .ring) ask) ∷ s .records;
+        places = next-places ask;
+        course = course-kept t a (timing (s .ring)) (timing (movedRun s ask .ring)) (made s ask) (s .records) P (K .course) F short early;
+        stored = next-stored ask;
+        told = λ i. told-kept t a (s .ring) (movedRun s ask .ring) (made s ask) (message-parts ask) (s .messages) i (K .told i);
+        turns = (record { station = rw (F .station) (K .course .token); turn = F .station ∙ K .course .turn }, K .turns);
+        shares = (omega (arith, F .within, ap (at (a .s)) (F .station)), K .shares);
+        sound = sound;
       }
-
-  pub visit-facts : (ask : ℕ) → VisitTiming t a (s .ring) (movedRun ask .ring) (recordOf (s .ring) (syncSent (s .ring)) (asyncSent (s .ring) ask))
-  visit-facts ask = visit-timing t a (s .ring) (s .records) P (K .timed) (K .places) ask
-
-  pub visit-parts : (ask : ℕ) → VisitMessages t a (s .ring) (movedRun ask .ring) (recordOf (s .ring) (syncSent (s .ring)) (asyncSent (s .ring) ask))
-  visit-parts ask = visit-messages t a (s .ring) (s .records) P (K .timed) (K .places) ask
-
-  kept-moved : (ask : ℕ) → s .ring .clock ≤ mostClock → Kept t a (movedRun ask)
-  kept-moved ask early =
-      let v = recordOf (s .ring) (syncSent (s .ring)) (asyncSent (s .ring) ask) in
-      let F = visit-facts ask in
-      let G = visit-parts ask in
-      record {
-        places = visit-places t a (s .ring) (s .records) P (K .timed) (K .places) ask;
-        timed = timed-kept t a (s .ring) (movedRun ask .ring) v (s .records) P (K .timed) F early;
-        messaged = messaged-kept t a (s .ring) (movedRun ask .ring) v (s .records) P (K .timed) F G (K .messaged);
-        each = (visit-kept t a (s .ring) (movedRun ask .ring) v (s .records) P (K .timed) F G (K .messaged (s .ring .token) (K .timed .token)) (visit-offer t a (s .ring) (s .records) P (K .timed) (K .places) ask), K .each);
-      }
-
-  -- the run after an accepted handing in
-  abbrev pub heldRun : Message → Run
-  heldRun m = record { ring = holding (s .ring) m; records = s .records }
 
   pub message-facts : (m : Message) → handInNumber (s .ring) m ≡ 0 → Accepting t (s .ring) (holding (s .ring) m) m
-  message-facts m e =
-      message-accepts t a (s .ring) (s .records) m P (K .timed) (K .places) e
+  message-facts m e = message-accepts t a (s .ring) (s .records) m P (K .course) (K .places) e
 
-  kept-held : (m : Message) → handInNumber (s .ring) m ≡ 0 → Kept t a (heldRun m)
-  kept-held m e =
+  pub held-places : (m : Message) → Places (heldRun s m .ring)
+  held-places m = holding-places (s .ring) m (K .places)
+
+  pub held-stored : (m : Message) → handInNumber (s .ring) m ≡ 0 → (i : ℕ) → i < t .n → Stored t (heldRun s m .ring) i
+  held-stored m e = stored-taken t (s .ring) (holding (s .ring) m) m (message-facts m e) (K .stored)
+
+  -- and an accepted handing in, if it leaves the ring sound
+  pub kept-held : (m : Message) → handInNumber (s .ring) m ≡ 0 → isSound (heldRun s m .ring) ≡ true → Kept t a (heldRun s m)
+  kept-held m e sound =
       let A = message-facts m e in
       record {
-        places = holding-places (s .ring) m (K .places);
-        timed = timed-same t a (s .ring) (holding (s .ring) m) (s .records) (A .timing) (K .timed);
-        messaged = messaged-taken t a (s .ring) (holding (s .ring) m) m (s .records) P (K .timed) A (K .messaged);
-        each = K .each;
+        places = held-places m;
+        course = rw (A .timing-same) (K .course);
+        stored = held-stored m e;
+        told = λ i. told-taken t (s .ring) (holding (s .ring) m) m A (s .messages) i (K .told i);
+        turns = K .turns;
+        shares = K .shares;
+        sound = sound;
       }
 
   -- ---- what one call more makes of the run
 
   -- a visit: moved, or as it was
-  pub after-visit : (ask : ℕ) → ((s .ring .clock ≤ mostClock) × (after s (visit ask) ≡ movedRun ask)) ⊎ (after s (visit ask) ≡ s)
+  pub after-visit : (ask : Ask) → ((s .ring .clock ≤ mostClock) × (after s (visit ask) ≡ movedRun s ask)) ⊎ (after s (visit ask) ≡ s)
   unfolding after noted
   after-visit ask =
-      ⊎-elim (λ (late : mostClock < s .ring .clock). inr (rw (visit-stops (s .ring) ask kept-sound late)))
-      (λ (early : s .ring .clock ≤ mostClock). inl (early, rw (visit-goes (s .ring) ask kept-sound early)))
+      ⊎-elim (λ (late : mostClock < s .ring .clock). inr (rw (visit-stops (s .ring) ask (K .sound) late)))
+      (λ (early : s .ring .clock ≤ mostClock). inl (early, rw (visit-goes (s .ring) ask (K .sound) early)))
       (below-or-not mostClock (s .ring .clock))
 
-  pub after-held : (m : Message) → handInNumber (s .ring) m ≡ 0 → after s (message m) ≡ heldRun m
-  unfolding after
+  pub after-held : (m : Message) → handInNumber (s .ring) m ≡ 0 → after s (message m) ≡ heldRun s m
+  unfolding after noted
   after-held m h = rw (taken-accepted (handInNumber (s .ring) m) (s .ring) m h)
 
+  not-noted : (k : ℕ) (m : Message) → k ≢ 0 → noted k m (s .messages) ≡ s .messages
+  unfolding noted
+  not-noted zero m n = absurd (n refl)
+  not-noted (suc k) m n = refl
+
   -- a handing in: held, or as it was
-  pub after-message : (m : Message) → ((handInNumber (s .ring) m ≡ 0) × (after s (message m) ≡ heldRun m)) ⊎ (after s (message m) ≡ s)
+  pub after-message : (m : Message) → ((handInNumber (s .ring) m ≡ 0) × (after s (message m) ≡ heldRun s m)) ⊎ (after s (message m) ≡ s)
   unfolding after
   after-message m =
       ⊎-elim (λ (h : handInNumber (s .ring) m ≡ 0). inl (h, after-held m h))
-      (λ (n : handInNumber (s .ring) m ≢ 0). inr (rw (taken-refused (handInNumber (s .ring) m) (s .ring) m n)))
+      (λ (n : handInNumber (s .ring) m ≢ 0).
+      inr
+      (rw (taken-refused (handInNumber (s .ring) m) (s .ring) m n)
+      (ap (λ (l : List Message). record { ring = s .ring; records = s .records; messages = l }) (not-noted (handInNumber (s .ring) m) m n))))
       (same-or-not (handInNumber (s .ring) m) 0)
 
-pub kept-after : (t : Set) (a : Alloc) → Plan t a → (s : Run) → Kept t a s → (c : Call) → Kept t a (after s c)
-kept-after t a P s K (visit ask) =
-    ⊎-elim (λ (h : (s .ring .clock ≤ mostClock) × (after s (visit ask) ≡ movedRun t a P s K ask)). rw (h .1) (kept-moved t a P s K ask (h .0)))
-    (λ (e : after s (visit ask) ≡ s). rw e K)
-    (after-visit t a P s K ask)
-kept-after t a P s K (message m) =
-    ⊎-elim (λ (h : (handInNumber (s .ring) m ≡ 0) × (after s (message m) ≡ heldRun t a P s K m)). rw (h .1) (kept-held t a P s K m (h .0)))
-    (λ (e : after s (message m) ≡ s). rw e K)
-    (after-message t a P s K m)
+-- ---- what one kind of ring keeps
 
-pub kept-run : (t : Set) (a : Alloc) → Plan t a → (s : Run) → Kept t a s → (calls : List Call) → Kept t a (run s calls)
-unfolding run
-kept-run t a P s K [] = K
-kept-run t a P s K (c ∷ cs) = kept-run t a P (after s c) (kept-after t a P s K c) cs
+-- K holds what every run keeps, and accepted calls keep K
+pub record Steady (t : Set) (a : Alloc) (K : Run → Type 0) : Type 0 where
+  pub common : (s : Run) → K s → Kept t a s
+  pub moves : (s : Run) → K s → (ask : Ask) → s .ring .clock ≤ mostClock → K (movedRun s ask)
+  pub takes : (s : Run) → K s → (m : Message) → handInNumber (s .ring) m ≡ 0 → K (heldRun s m)
 
--- ---- from opening's own answer
+module _ (t : Set) (a : Alloc) (P : Plan t a) (K : Run → Type 0) (S : Steady t a K) where
+  pub steady-after : (s : Run) → K s → (c : Call) → K (after s c)
+  steady-after s k (visit ask) =
+      ⊎-elim (λ (h : (s .ring .clock ≤ mostClock) × (after s (visit ask) ≡ movedRun s ask)). rw (h .1) (S .moves s k ask (h .0)))
+      (λ (e : after s (visit ask) ≡ s). rw e k)
+      (after-visit t a P s (S .common s k) ask)
+  steady-after s k (message m) =
+      ⊎-elim (λ (h : (handInNumber (s .ring) m ≡ 0) × (after s (message m) ≡ heldRun s m)). rw (h .1) (S .takes s k m (h .0)))
+      (λ (e : after s (message m) ≡ s). rw e k)
+      (after-message t a P s (S .common s k) m)
 
-pub opens-plan : (t : Set) (a : Alloc) → Opens t a → Plan t a
-opens-plan t a h = plan-of t a (opens-judged t a h)
-
-kept-opened : (t : Set) (a : Alloc) → Opens t a → Kept t a (opened t a)
-kept-opened t a h =
-    let P = opens-plan t a h in
-    rw (opens-ring t a h)
-    (record {
-      places = opened-places t a P;
-      timed = opened-timed t a P;
-      messaged = opened-messaged t a P;
-      each = tt;
-    })
-
-pub kept : (t : Set) (a : Alloc) → Opens t a → (calls : List Call) → Kept t a (runOf t a calls)
-kept t a h calls = kept-run t a (opens-plan t a h) (opened t a) (kept-opened t a h) calls
+  pub steady-run : (s : Run) → K s → (calls : List Call) → K (run s calls)
+  unfolding run
+  steady-run s k [] = k
+  steady-run s k (c ∷ cs) = steady-run (after s c) (steady-after s k c) cs

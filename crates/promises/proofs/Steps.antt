@@ -22,9 +22,10 @@ use Rattle.rings.specs.declared.Ring.{Ring}
 use Rattle.rings.specs.declared.Message.{Message}
 use Rattle.rings.specs.declared.VisitRecord.{VisitRecord}
 use Rattle.promises.specs.History.{following}
-use Rattle.promises.specs.Facts.{VisitTiming, VisitOffer, VisitMessages, Sending, Silent, Completing, Leaving, SameTiming, Accepting}
+use Rattle.promises.specs.Run.{Ask}
+use Rattle.promises.specs.Facts.{timing, VisitCourse, VisitTimers, VisitOffer, VisitMessages, Sending, Silent, Completing, Leaving, Accepting}
 use Rattle.promises.proofs.Sums.{sum-lacking}
-use Rattle.promises.proofs.Timing.{Plan, Timed}
+use Rattle.promises.proofs.Course.{Plan, Course}
 
 -- every array of the ring has its 128 places
 pub record Places (r : Ring) : Type 0 where
@@ -68,32 +69,39 @@ module _ (r : Ring) (sync async : ℕ) (L : Places r) (few : count r ≤ 128) (b
       omega
       (arith, raise-inside (count r) (rise r sync async) (set (r .trt) (r .token) 0) i l (omega (arith, length-set (r .trt) (r .token) 0, L .trt)), getD-set-other (r .trt) (r .token) i 0 0 b)
 
-  -- the timing half, of the ring's own plan
-  moved-timing : sync ≤ share r (r .token) → async ≤ limit r → at (r .sent) (r .token) ≤ share r (r .token) → unusedAt r (r .token) ≤ r .unused → VisitTiming (r .set) (r .alloc) r (moved r sync async) (recordOf r sync async)
+  -- the course, of the ring's own plan
+  moved-course : sync ≤ share r (r .token) → VisitCourse (r .set) (r .alloc) (timing r) (timing (moved r sync async)) (recordOf r sync async)
   unfolding moved recordOf following nextToken
-  moved-timing within offered old enough =
+  moved-course within =
       record {
         station = refl;
         start = refl;
-        timer = refl;
         set = refl;
         alloc = refl;
-        room = λ fits. omega arith;
         within = within;
         sent-here = getD-set-same (r .sent) (r .token) sync 0 (omega (arith, L .sent));
         sent-there = λ i b. getD-set-other (r .sent) (r .token) i sync 0 b;
-        unused = omega arith;
         clock = refl;
-        trt-here = trt-here;
-        trt-there = trt-there;
         last-here = getD-set-same (r .last) (r .token) (r .clock) 0 (omega (arith, L .last));
         last-there = λ i b. getD-set-other (r .last) (r .token) i (r .clock) 0 b;
         token = refl;
         visits = refl;
       }
 
+  -- the timers
+  moved-timers : async ≤ limit r → at (r .sent) (r .token) ≤ share r (r .token) → unusedAt r (r .token) ≤ r .unused → sync ≤ share r (r .token) → VisitTimers (r .set) (timing r) (timing (moved r sync async)) (recordOf r sync async)
+  unfolding moved recordOf
+  moved-timers offered old enough within =
+      record {
+        timer = refl;
+        room = λ fits. omega arith;
+        unused = omega arith;
+        trt-here = trt-here;
+        trt-there = trt-there;
+      }
+
 -- the offer, of the ring's own plan
-moved-offer : (r : Ring) (sync ask : ℕ) → VisitOffer (r .set) r (recordOf r sync (asyncSent r ask))
+moved-offer : (r : Ring) (sync ask : ℕ) → VisitOffer (r .set) (timing r) (recordOf r sync (asyncSent r ask))
 unfolding recordOf
 moved-offer r sync ask = record { limit = omega arith; kept = omega arith }
 
@@ -108,7 +116,7 @@ sync-small r =
 -- ---- the message half, of the ring's own plan
 
 module _ (r : Ring) (async : ℕ) (L : Places r) (few : count r ≤ 128) (below : r .token < count r) where
-  sending : Sending (r .set) (r .alloc) r (recordOf r (syncSent r) async) ⊎ Silent r (recordOf r (syncSent r) async)
+  sending : Sending (r .alloc) r (r .clock) (recordOf r (syncSent r) async) ⊎ Silent r (r .clock) (recordOf r (syncSent r) async)
   unfolding recordOf
   sending =
       ⊎-elim (λ (h : serves r ≡ true).
@@ -129,7 +137,7 @@ module _ (r : Ring) (async : ℕ) (L : Places r) (few : count r ≤ 128) (below 
   unfolding moved
   rest-here = getD-set-same (r .rest) (r .token) (at (r .rest) (r .token) - syncSent r) 0 (omega (arith, L .rest))
 
-  completing : Completing (r .set) r (moved r (syncSent r) async) (recordOf r (syncSent r) async) ⊎ Leaving r (moved r (syncSent r) async) (recordOf r (syncSent r) async)
+  completing : Completing (r .set) r (moved r (syncSent r) async) (r .clock) (recordOf r (syncSent r) async) ⊎ Leaving r (moved r (syncSent r) async) (recordOf r (syncSent r) async)
   unfolding recordOf
   completing =
       ⊎-elim (λ (h : completes r (syncSent r) ≡ true).
@@ -169,7 +177,7 @@ module _ (r : Ring) (async : ℕ) (L : Places r) (few : count r ≤ 128) (below 
 
 -- ---- both halves, of the plan with which the ring was opened
 
-module _ (t : Set) (a : Alloc) (r : Ring) (h : List VisitRecord) (P : Plan t a) (T : Timed t a r h) (L : Places r) (ask : ℕ) where
+module _ (t : Set) (a : Alloc) (r : Ring) (h : List VisitRecord) (P : Plan t a) (C : Course t a (timing r) h) (L : Places r) (ask : Ask) where
   abbrev next : Ring
   next = moved r (syncSent r) (asyncSent r ask)
 
@@ -177,38 +185,41 @@ module _ (t : Set) (a : Alloc) (r : Ring) (h : List VisitRecord) (P : Plan t a) 
   made = recordOf r (syncSent r) (asyncSent r ask)
 
   few : count r ≤ 128
-  few = rw (T .set) (P .few)
+  few = rw (C .set) (P .few)
 
   below : r .token < count r
-  below = rw (T .set) (T .token)
+  below = rw (C .set) (C .token)
 
   old : at (r .sent) (r .token) ≤ share r (r .token)
-  old = rw (T .alloc) (T .sents (r .token) (T .token))
-
-  -- u is the sum of S − s
-  pub unused-is : r .unused ≡ sumBelow (count r) (unusedAt r)
-  unused-is =
-      rw (T .set, T .alloc)
-      (omega (arith, T .unused, sum-lacking (t .n) (at (r .sent)) (at (a .s)) (T .sents)))
-
-  enough : unusedAt r (r .token) ≤ r .unused
-  enough = rw unused-is (sum-part (count r) (unusedAt r) (r .token) below)
+  old = rw (C .alloc) (C .sents (r .token) (C .token))
 
   pub visit-places : Places next
   visit-places = moved-places r (syncSent r) (asyncSent r ask) L few below
 
-  pub visit-timing : VisitTiming t a r next made
-  visit-timing =
-      subst₂ (λ (x : Set) (y : Alloc). VisitTiming x y r next made) (T .set) (T .alloc)
-      (moved-timing r (syncSent r) (asyncSent r ask) L few below (sync-small r .0) (omega arith) old enough)
-
-  pub visit-offer : VisitOffer t r made
-  visit-offer = subst (λ (x : Set). VisitOffer x r made) (T .set) (moved-offer r (syncSent r) ask)
+  pub visit-course : VisitCourse t a (timing r) (timing next) made
+  visit-course =
+      subst₂ (λ (x : Set) (y : Alloc). VisitCourse x y (timing r) (timing next) made) (C .set) (C .alloc)
+      (moved-course r (syncSent r) (asyncSent r ask) L few below (sync-small r .0))
 
   pub visit-messages : VisitMessages t a r next made
   visit-messages =
-      subst₂ (λ (x : Set) (y : Alloc). VisitMessages x y r next made) (T .set) (T .alloc)
+      subst₂ (λ (x : Set) (y : Alloc). VisitMessages x y r next made) (C .set) (C .alloc)
       (moved-messages r (asyncSent r ask) L few below)
+
+  pub visit-offer : VisitOffer t (timing r) made
+  visit-offer = subst (λ (x : Set). VisitOffer x (timing r) made) (C .set) (moved-offer r (syncSent r) ask)
+
+  -- u is the sum of S − s
+  pub unused-is : r .unused + sumBelow (t .n) (at (r .sent)) ≡ sumBelow (t .n) (at (a .s)) → r .unused ≡ sumBelow (count r) (unusedAt r)
+  unused-is whole =
+      rw (C .set, C .alloc)
+      (omega (arith, sum-lacking (t .n) (at (r .sent)) (at (a .s)) (C .sents)))
+
+  pub visit-timers : r .unused + sumBelow (t .n) (at (r .sent)) ≡ sumBelow (t .n) (at (a .s)) → VisitTimers t (timing r) (timing next) made
+  visit-timers whole =
+      let enough : unusedAt r (r .token) ≤ r .unused = rw (unused-is whole) (sum-part (count r) (unusedAt r) (r .token) below) in
+      subst (λ (x : Set). VisitTimers x (timing r) (timing next) made) (C .set)
+      (moved-timers r (syncSent r) (asyncSent r ask) L few below (omega arith) old enough (sync-small r .0))
 
 -- ---- a handing in
 
@@ -225,11 +236,6 @@ module _ (r : Ring) (m : Message) where
         last = L .last;
       }
 
-  holding-timing : SameTiming r (holding r m)
-  unfolding holding
-  holding-timing =
-      record { set = refl; alloc = refl; trt = refl; sent = refl; last = refl; clock = refl; visits = refl; token = refl; unused = refl }
-
   holding-accepts : Places r → count r ≤ 128 → Takes r m → Accepting (r .set) r (holding r m) m
   unfolding holding
   holding-accepts L few A =
@@ -240,7 +246,7 @@ module _ (r : Ring) (m : Message) where
         range = A .arrival .range;
         later = A .arrival .later;
         gap = A .arrival .gap;
-        timing = holding-timing;
+        timing-same = refl;
         rest-here = getD-set-same (r .rest) (m .station .0) (m .length .0) 0 (omega (arith, A .known, L .rest));
         rest-there = λ i b. getD-set-other (r .rest) (m .station .0) i (m .length .0) 0 b;
         arrival-here = getD-set-same (r .arrival) (m .station .0) (m .arrival .0) 0 (omega (arith, A .known, L .arrival));
@@ -250,6 +256,6 @@ module _ (r : Ring) (m : Message) where
       }
 
 -- of the plan with which the ring was opened
-pub message-accepts : (t : Set) (a : Alloc) (r : Ring) (h : List VisitRecord) (m : Message) → Plan t a → Timed t a r h → Places r → handInNumber r m ≡ 0 → Accepting t r (holding r m) m
-message-accepts t a r h m P T L e =
-    subst (λ (x : Set). Accepting x r (holding r m) m) (T .set) (holding-accepts r m L (rw (T .set) (P .few)) (taken-passed r m e .1))
+pub message-accepts : (t : Set) (a : Alloc) (r : Ring) (h : List VisitRecord) (m : Message) → Plan t a → Course t a (timing r) h → Places r → handInNumber r m ≡ 0 → Accepting t r (holding r m) m
+message-accepts t a r h m P C L e =
+    subst (λ (x : Set). Accepting x r (holding r m) m) (C .set) (holding-accepts r m L (rw (C .set) (P .few)) (taken-passed r m e .1))

@@ -1,6 +1,8 @@
 -- The run is computed.
-use mathlib.Core.Path.{_≡_, refl}
+use mathlib.Core.Path.{_≡_, refl, sym, ap}
+use mathlib.Core.Option.{some}
 use native.Mathlib.Omega.{arith}
+use lib.IntN.{pos}
 use Rattle.units.specs.Places.{at, sumBelow, allBelow, fill, raise}
 use Rattle.units.specs.Judging.{orElse, allHold}
 use Rattle.sets.specs.Rules.{headInRange, stationInRange}
@@ -10,18 +12,32 @@ use Rattle.rings.specs.Opening.{openedRing, openedWith}
 use Rattle.rings.specs.Sound.{isSound}
 use Rattle.rings.specs.Steps.{syncSent, nextToken, moved, recordOf, visitedWith}
 use Rattle.rings.specs.HandingIn.{arrivalAllowed, holding, takenWith}
-use Rattle.promises.specs.Run.{noted, after, run, ringOf}
-use Rattle.promises.specs.Promised.{Regular}
-use Rattle.promises.specs.Witness.{pair, shares, thirty, waited, Happens}
+use Rattle.rings.specs.declared.Message.{Message}
+use Rattle.rings.specs.declared.VisitRecord.{VisitRecord}
+use Rattle.promises.specs.Run.{noted, after, run, runOf, ringOf}
+use Rattle.promises.specs.History.{latest, latestOf, latestFor}
+use Rattle.promises.specs.Valid.{Regular}
+use Rattle.promises.specs.Witness.{pair, shares, thirty, waited, row, Happens}
 
 -- station 0 may get its second message: the first arrived 250 before, and its last visit started at 202
-regular : Regular pair (ringOf pair shares waited) (thirty 250)
-unfolding judgedThen orElse answered sumBelow allBelow fill raise headInRange stationInRange allHold judgedPlan openedRing openedWith isSound syncSent nextToken moved recordOf visitedWith arrivalAllowed holding takenWith noted after run
+regular : Regular pair (runOf pair shares waited) (thirty 250)
+unfolding judgedThen orElse answered sumBelow allBelow fill raise headInRange stationInRange allHold judgedPlan openedRing openedWith isSound syncSent nextToken moved recordOf visitedWith arrivalAllowed holding takenWith noted after run latest
 regular =
-    let arrival : at (ringOf pair shares waited .arrival) 0 ≡ 0 = refl in
-    let last : at (ringOf pair shares waited .last) 0 ≡ 202 = refl in
+    let message : latestFor 0 (runOf pair shares waited .messages) ≡ some (thirty 0) = refl in
+    let visit : latestOf 0 (runOf pair shares waited .records) ≡ some (row 0 202 2 83 0 83 0 (pos 0) 0) = refl in
     let clock : ringOf pair shares waited .clock ≡ 286 = refl in
-    record { length = (omega arith, omega arith); gap = λ _. omega arith; arrived = omega arith; later = λ _. omega arith }
+    record {
+      length = (omega arith, omega arith);
+      gap = λ o e.
+          let same : thirty 0 ≡ o = cc (message, e) in
+          let arrival : o .arrival .0 ≡ 0 = ap (λ (m : Message). m .arrival .0) (sym same) in
+          omega arith;
+      arrived = omega arith;
+      later = λ u e.
+          let same : row 0 202 2 83 0 83 0 (pos 0) 0 ≡ u = cc (visit, e) in
+          let start : u .start .0 ≡ 202 = ap (λ (v : VisitRecord). v .start .0) (sym same) in
+          omega arith;
+    }
 
 pub happens : Happens
 unfolding smallestWith judgedThen orElse answered sumBelow allBelow fill raise headInRange stationInRange allHold judgedPlan openedRing openedWith isSound syncSent nextToken moved recordOf visitedWith arrivalAllowed holding takenWith noted after run
@@ -29,7 +45,7 @@ happens =
     record {
       plan = refl;
       spare = refl;
-      opens = refl;
+      judged = refl;
       records = refl;
       accepted = refl;
       held = refl;

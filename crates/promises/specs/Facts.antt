@@ -1,6 +1,7 @@
--- What an accepted visit and an accepted handing in do, as facts that add up. The promises are proved of these records alone: another step function that gives them keeps the same promises. The token's timing needs `VisitTiming` alone, the exact limit `VisitOffer` too, the deadlines `VisitMessages`.
+-- What an accepted visit and an accepted handing in do, as facts that add up. The promises are proved of these records alone: another step function that gives them keeps the same promises. Every kind of ring gives `VisitCourse` and `VisitMessages`; the timers' half is that of a timely-token ring.
 use Prim.Native.Nat.{ℕ, _+_, _-_, _≤_, _<_, min}
 use mathlib.Core.Path.{_≡_}
+use mathlib.Core.List.{List}
 use mathlib.Core.Logic.{_⊎_, _≢_}
 use lib.IntN.{subℕ}
 use Rattle.units.specs.Numbers.{mostClock}
@@ -10,65 +11,95 @@ use Rattle.plans.specs.declared.Alloc.{Alloc}
 use Rattle.rings.specs.declared.Ring.{Ring}
 use Rattle.rings.specs.declared.Message.{Message}
 use Rattle.rings.specs.declared.VisitRecord.{VisitRecord}
-use Rattle.promises.specs.History.{following}
+use Rattle.promises.specs.History.{following, syncStartOf}
 
--- what the clock and every TRT rise by
+-- ---- the timing of a ring: all that it has beside its messages
+pub record Timing : Type 0 where
+  pub set : Set
+  pub alloc : Alloc
+  pub trt : List ℕ
+  pub sent : List ℕ
+  pub last : List ℕ
+  pub clock : ℕ
+  pub visits : ℕ
+  pub token : ℕ
+  pub unused : ℕ
+
+abbrev pub timing : Ring → Timing
+timing r =
+    record {
+      set = r .set;
+      alloc = r .alloc;
+      trt = r .trt;
+      sent = r .sent;
+      last = r .last;
+      clock = r .clock;
+      visits = r .visits;
+      token = r .token;
+      unused = r .unused;
+    }
+
+-- what the clock and every timer rise by
 abbrev pub rises : Set → VisitRecord → ℕ
 rises t v = v .synchronous .0 + v .asynchronous .0 + at (t .w) (v .station .0)
 
--- ---- the timing half: of ring r with the plan (t, a) the visit v makes ring q
-pub record VisitTiming (t : Set) (a : Alloc) (r q : Ring) (v : VisitRecord) : Type 0 where
+-- ---- the course of a visit: of timing r with the plan (t, a) the visit v makes timing q
+pub record VisitCourse (t : Set) (a : Alloc) (r q : Timing) (v : VisitRecord) : Type 0 where
   -- the record says where and when
   pub station : v .station .0 ≡ r .token
   pub start : v .start .0 ≡ r .clock
-  pub timer : v .trt .0 ≡ at (r .trt) (r .token)
   -- the plan stays
   pub set : q .set ≡ t
   pub alloc : q .alloc ≡ a
-  -- the asynchronous part leaves room: where u and TRT are within TTRT, they still are with what was sent
-  pub room : r .unused + at (r .trt) (r .token) ≤ t .head .ttrt → v .asynchronous .0 + r .unused + at (r .trt) (r .token) ≤ t .head .ttrt
-  -- the synchronous part is within S
+  -- the synchronous part is within S; s of this station is what it sent, of the others what it was
   pub within : v .synchronous .0 ≤ at (a .s) (r .token)
-  -- s of this station is what it sent, of the others what it was; u falls as s rises
   pub sent-here : at (q .sent) (r .token) ≡ v .synchronous .0
   pub sent-there : (i : ℕ) → i ≢ r .token → at (q .sent) i ≡ at (r .sent) i
-  pub unused : q .unused + v .synchronous .0 ≡ r .unused + at (r .sent) (r .token)
-  -- the clock and every TRT rise, this station's from 0
+  -- the clock rises
   pub clock : q .clock ≡ r .clock + rises t v
-  pub trt-here : at (q .trt) (r .token) ≡ rises t v
-  pub trt-there : (i : ℕ) → i < t .n → i ≢ r .token → at (q .trt) i ≡ at (r .trt) i + rises t v
-  -- the start of this station's last visit is this one's
-  pub last-here : at (q .last) (r .token) ≡ r .clock
+  -- the start of this station's last synchronous part is this one's
+  pub last-here : at (q .last) (r .token) ≡ syncStartOf t v
   pub last-there : (i : ℕ) → i ≢ r .token → at (q .last) i ≡ at (r .last) i
   -- the token moves on, and the visit is counted
   pub token : q .token ≡ following (t .n) (r .token)
   pub visits : q .visits ≡ r .visits + 1
 
+-- ---- the timers of a timely-token visit
+pub record VisitTimers (t : Set) (r q : Timing) (v : VisitRecord) : Type 0 where
+  pub timer : v .trt .0 ≡ at (r .trt) (r .token)
+  -- the asynchronous part leaves room: where u and TRT are within TTRT, they still are with what was sent
+  pub room : r .unused + at (r .trt) (r .token) ≤ t .head .ttrt → v .asynchronous .0 + r .unused + at (r .trt) (r .token) ≤ t .head .ttrt
+  -- u falls as s rises
+  pub unused : q .unused + v .synchronous .0 ≡ r .unused + at (r .sent) (r .token)
+  -- every TRT rises with the clock, this station's from 0
+  pub trt-here : at (q .trt) (r .token) ≡ rises t v
+  pub trt-there : (i : ℕ) → i < t .n → i ≢ r .token → at (q .trt) i ≡ at (r .trt) i + rises t v
+
 -- ---- the offer: the limit of a visit, and what was sent of it. The timing needs no more of it than `room` above
-pub record VisitOffer (t : Set) (r : Ring) (v : VisitRecord) : Type 0 where
+pub record VisitOffer (t : Set) (r : Timing) (v : VisitRecord) : Type 0 where
   -- the larger of TTRT − u − TRT and 0
   pub limit : v .limit .0 ≡ t .head .ttrt - r .unused - at (r .trt) (r .token)
   pub kept : v .asynchronous .0 ≤ v .limit .0
 
--- ---- the message half
+-- ---- the message half: `begins` is when the synchronous part starts
 
 -- the station holds a message that has arrived, and sends the smaller of S and what remains
-pub record Sending (t : Set) (a : Alloc) (r : Ring) (v : VisitRecord) : Type 0 where
+pub record Sending (a : Alloc) (r : Ring) (begins : ℕ) (v : VisitRecord) : Type 0 where
   pub held : 0 < at (r .rest) (r .token)
-  pub arrived : at (r .arrival) (r .token) ≤ r .clock
+  pub arrived : at (r .arrival) (r .token) ≤ begins
   pub amount : v .synchronous .0 ≡ min (at (a .s) (r .token)) (at (r .rest) (r .token))
 
 -- or it sends nothing, because it holds none, or one that has not arrived yet
-pub record Silent (r : Ring) (v : VisitRecord) : Type 0 where
+pub record Silent (r : Ring) (begins : ℕ) (v : VisitRecord) : Type 0 where
   pub nothing : v .synchronous .0 ≡ 0
-  pub reason : (at (r .rest) (r .token) ≡ 0) ⊎ (r .clock < at (r .arrival) (r .token))
+  pub reason : (at (r .rest) (r .token) ≡ 0) ⊎ (begins < at (r .arrival) (r .token))
 
 -- the held message was completed, and the record has its finish and its margin
-pub record Completing (t : Set) (r q : Ring) (v : VisitRecord) : Type 0 where
+pub record Completing (t : Set) (r q : Ring) (begins : ℕ) (v : VisitRecord) : Type 0 where
   pub flag : v .completed ≡ 1
   pub held : 0 < at (r .rest) (r .token)
-  pub finish : v .finish .0 ≡ r .clock + v .synchronous .0
-  pub margin : v .margin ≡ subℕ (at (r .arrival) (r .token) + at (t .d) (r .token)) (r .clock + v .synchronous .0)
+  pub finish : v .finish .0 ≡ begins + v .synchronous .0
+  pub margin : v .margin ≡ subℕ (at (r .arrival) (r .token) + at (t .d) (r .token)) (v .finish .0)
   pub over : at (q .rest) (r .token) ≡ 0
 
 -- or none was
@@ -83,24 +114,10 @@ pub record VisitMessages (t : Set) (a : Alloc) (r q : Ring) (v : VisitRecord) : 
   -- arrivals stay
   pub arrival : q .arrival ≡ r .arrival
   pub had : q .had ≡ r .had
-  pub sending : Sending t a r v ⊎ Silent r v
-  pub completing : Completing t r q v ⊎ Leaving r q v
+  pub sending : Sending a r (syncStartOf t v) v ⊎ Silent r (syncStartOf t v) v
+  pub completing : Completing t r q (syncStartOf t v) v ⊎ Leaving r q v
 
--- ---- a call that is no visit
-
--- ring q has the plan, the token, the clock, the count and all timers of ring r
-pub record SameTiming (r q : Ring) : Type 0 where
-  pub set : q .set ≡ r .set
-  pub alloc : q .alloc ≡ r .alloc
-  pub trt : q .trt ≡ r .trt
-  pub sent : q .sent ≡ r .sent
-  pub last : q .last ≡ r .last
-  pub clock : q .clock ≡ r .clock
-  pub visits : q .visits ≡ r .visits
-  pub token : q .token ≡ r .token
-  pub unused : q .unused ≡ r .unused
-
--- the accepted handing in of m makes ring q of ring r
+-- ---- the accepted handing in of m makes ring q of ring r
 pub record Accepting (t : Set) (r q : Ring) (m : Message) : Type 0 where
   -- what was asked of the message
   pub known : m .station .0 < t .n
@@ -109,8 +126,8 @@ pub record Accepting (t : Set) (r q : Ring) (m : Message) : Type 0 where
   pub range : m .arrival .0 ≤ mostClock
   pub later : m .station .0 < r .visits → at (r .last) (m .station .0) < m .arrival .0
   pub gap : at (r .had) (m .station .0) ≢ 0 → at (r .arrival) (m .station .0) + at (t .p) (m .station .0) ≤ m .arrival .0
-  -- what it does
-  pub timing : SameTiming r q
+  -- what it does: nothing to the timing
+  pub timing-same : timing q ≡ timing r
   pub rest-here : at (q .rest) (m .station .0) ≡ m .length .0
   pub rest-there : (i : ℕ) → i ≢ m .station .0 → at (q .rest) i ≡ at (r .rest) i
   pub arrival-here : at (q .arrival) (m .station .0) ≡ m .arrival .0

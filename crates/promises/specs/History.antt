@@ -1,10 +1,12 @@
--- What is read off the records of a run, the latest first.
+-- What is read off a run: its records and its accepted messages, the latest first.
 use Prim.Native.Nat.{ℕ, zero, suc, _+_}
 use mathlib.Core.Bool.{Bool, cond}
 use mathlib.Core.List.{List, [], _∷_}
 use mathlib.Core.Logic.{_⊎_}
 use mathlib.Core.Option.{Option, none, some}
 use lib.Dec.{ltb, eqb}
+use Rattle.sets.specs.declared.Set.{Set}
+use Rattle.rings.specs.declared.Message.{Message}
 use Rattle.rings.specs.declared.VisitRecord.{VisitRecord}
 
 -- the asynchronous time of the latest n visits; visits that were not yet, those of the silent first rotation among them, count as nothing
@@ -13,14 +15,30 @@ asyncOf n [] = 0
 asyncOf zero (v ∷ before) = 0
 asyncOf (suc n) (v ∷ before) = v .asynchronous .0 + asyncOf n before
 
+-- when the synchronous part of a visit starts: at the visit's start
+abbrev pub syncStartOf : Set → VisitRecord → ℕ
+syncStartOf t v = v .start .0
+
+-- the latest of a list that is so, if there is one
+unfoldable pub latest : {A : Type 0} → (A → Bool) → List A → Option A
+latest is [] = none
+latest is (x ∷ before) = cond (is x) (some x) (latest is before)
+
 -- it is a visit of station i
 abbrev pub visitOf : ℕ → VisitRecord → Bool
 visitOf i v = eqb (v .station .0) i
 
--- the latest visit of station i, if there was one
-unfoldable pub latestOf : ℕ → List VisitRecord → Option VisitRecord
-latestOf i [] = none
-latestOf i (v ∷ before) = cond (visitOf i v) (some v) (latestOf i before)
+-- the latest visit of station i
+abbrev pub latestOf : ℕ → List VisitRecord → Option VisitRecord
+latestOf i records = latest (visitOf i) records
+
+-- it is a message for station i
+abbrev pub messageFor : ℕ → Message → Bool
+messageFor i m = eqb (m .station .0) i
+
+-- the latest message for station i
+abbrev pub latestFor : ℕ → List Message → Option Message
+latestFor i messages = latest (messageFor i) messages
 
 -- the synchronous time that station i sent in these visits
 unfoldable pub sentBy : ℕ → List VisitRecord → ℕ

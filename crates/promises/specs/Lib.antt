@@ -8,5 +8,6 @@
 pub mod Run
 pub mod History
 pub mod Facts
+pub mod Valid
 pub mod Promised
 pub mod Witness

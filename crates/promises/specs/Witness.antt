@@ -7,13 +7,13 @@ use lib.ListN.{replicate}
 use Rattle.units.specs.Places.{at}
 use Rattle.sets.specs.declared.Set.{Set}
 use Rattle.plans.specs.Rules.{spareTime}
-use Rattle.plans.specs.Planned.{planned}
+use Rattle.plans.specs.Planned.{judgedPlan, planned}
 use Rattle.plans.specs.declared.Alloc.{Alloc}
 use Rattle.rings.specs.HandingIn.{handedIn}
 use Rattle.rings.specs.declared.Message.{Message}
 use Rattle.rings.specs.declared.VisitRecord.{VisitRecord}
-use Rattle.promises.specs.Run.{Call, visit, message, ringOf, recordsOf}
-use Rattle.promises.specs.Promised.{Opens, Regular}
+use Rattle.promises.specs.Run.{Call, visit, message, runOf, ringOf, recordsOf}
+use Rattle.promises.specs.Valid.{Regular}
 
 -- two places, and 0 past them
 abbrev pub two : ℕ → ℕ → List ℕ
@@ -67,10 +67,10 @@ row station start trt limit sync async finish margin flag =
     }
 
 pub record Happens : Type 0 where
-  -- planning gives this plan; A* is 83, and it opens
+  -- planning gives this plan; A* is 83, and it meets the rules
   pub plan : planned pair ≡ record { alloc = shares; number = 0 }
   pub spare : spareTime pair (at (shares .s)) ≡ 83
-  pub opens : Opens pair shares
+  pub judged : judgedPlan pair shares ≡ 0
   -- first visits and a second one, TRTs and a gap of just TTRT, all of S sent, limits above 0 and of 0 after the asynchronous time of the two visits before, a message completed in its second part
   pub records : recordsOf pair shares completed ≡ row 0 100 100 0 15 0 115 (pos 135) 1 ∷ row 1 99 100 0 0 0 0 (pos 0) 0 ∷ row 0 0 2 83 15 83 0 (pos 0) 0 ∷ []
   -- the message is accepted, half of it is still held when both stations have been visited
@@ -83,5 +83,5 @@ pub record Happens : Type 0 where
   pub early-clock : ringOf pair shares completed .clock ≡ 116
   pub unserved : recordsOf pair shares ahead ≡ row 0 200 100 0 0 0 0 (pos 0) 0 ∷ row 1 116 17 83 0 83 0 (pos 0) 0 ∷ recordsOf pair shares completed
   -- a message that keeps C and P is handed in when the clock has reached its arrival, and taken
-  pub regular : Regular pair (ringOf pair shares waited) (thirty 250)
+  pub regular : Regular pair (runOf pair shares waited) (thirty 250)
   pub taken : handedIn (ringOf pair shares waited) (thirty 250) .number ≡ 0

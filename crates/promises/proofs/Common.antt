@@ -1,0 +1,120 @@
+-- What every kind of ring promises, read off what every run keeps.
+use Prim.Native.Nat.{ℕ, _*_, _+_, _≤_, _<_}
+use mathlib.Core.Path.{_≡_, sym, ap, _∙_}
+use mathlib.Core.List.{List}
+use mathlib.Core.Logic.{_⊎_, inl, inr, _≢_, _↔_, ⊎-elim}
+use mathlib.Core.Option.{none, some}
+use native.Mathlib.Omega.{arith}
+use Rattle.units.specs.Numbers.{mostClock}
+use Rattle.units.specs.Places.{at}
+use Rattle.units.specs.JudgingLaws.{held, not-given}
+use Rattle.units.specs.SmallLaws.{below-or-not}
+use Rattle.sets.specs.declared.Set.{Set}
+use Rattle.plans.specs.declared.Alloc.{Alloc}
+use Rattle.rings.specs.Sound.{isSound}
+use Rattle.rings.specs.Steps.{visited}
+use Rattle.rings.specs.HandingIn.{messageNumber, handedIn, handInNumber}
+use Rattle.rings.specs.RingLaws.{sound-sentences}
+use Rattle.rings.specs.declared.Message.{Message}
+use Rattle.rings.specs.declared.VisitRecord.{VisitRecord}
+use Rattle.promises.specs.Run.{Ask, Call, Run, runOf, ringOf, recordsOf}
+use Rattle.promises.specs.History.{syncStartOf, latestOf, latestFor}
+use Rattle.promises.specs.Facts.{timing}
+use Rattle.promises.specs.Valid.{Common}
+use Rattle.promises.proofs.Course.{Plan, Unvisited, Since}
+use Rattle.promises.proofs.Stores.{Latest, Never}
+use Rattle.promises.proofs.Runs.{Kept, Steady, visit-goes, visit-stops, message-number}
+use Rattle.promises.proofs.Followed.{Follows, followed-from}
+
+module _ (t : Set) (a : Alloc) (s : Run) (K : Kept t a s) where
+  -- ---- visits
+
+  -- the number of a visit: 0 or 13
+  visit-answers : (ask : Ask) → ((s .ring .clock ≤ mostClock) × (visited (s .ring) ask .answer .number ≡ 0)) ⊎ ((mostClock < s .ring .clock) × (visited (s .ring) ask .answer .number ≡ 13))
+  visit-answers ask =
+      ⊎-elim (λ (late : mostClock < s .ring .clock). inr (late, rw (visit-stops (s .ring) ask (K .sound) late)))
+      (λ (early : s .ring .clock ≤ mostClock). inl (early, rw (visit-goes (s .ring) ask (K .sound) early)))
+      (below-or-not mostClock (s .ring .clock))
+
+  never-8 : (ask : Ask) → visited (s .ring) ask .answer .number ≢ 8
+  never-8 ask =
+      ⊎-elim (λ (g : (s .ring .clock ≤ mostClock) × (visited (s .ring) ask .answer .number ≡ 0)). omega arith)
+      (λ (g : (mostClock < s .ring .clock) × (visited (s .ring) ask .answer .number ≡ 13)). omega arith)
+      (visit-answers ask)
+
+  goes-exactly : (ask : Ask) → (visited (s .ring) ask .answer .number ≡ 0) ↔ (s .ring .clock ≤ mostClock)
+  goes-exactly ask =
+      ⊎-elim (λ (g : (s .ring .clock ≤ mostClock) × (visited (s .ring) ask .answer .number ≡ 0)). ((λ _. g .0), (λ _. g .1)))
+      (λ (g : (mostClock < s .ring .clock) × (visited (s .ring) ask .answer .number ≡ 13)).
+      ((λ e. absurd (omega arith)), (λ l. absurd (omega arith))))
+      (visit-answers ask)
+
+  -- ---- messages
+
+  pub answer-of : (m : Message) → handedIn (s .ring) m .number ≡ messageNumber (s .ring) m
+  answer-of m = message-number (s .ring) m ∙ held (isSound (s .ring)) 8 (messageNumber (s .ring) m) (K .sound)
+
+  message-never-8 : (m : Message) → handedIn (s .ring) m .number ≢ 8
+  message-never-8 m =
+      rw (answer-of m)
+      (not-given _ 9 _ 8 (omega arith) (not-given _ 10 _ 8 (omega arith) (not-given _ 11 _ 8 (omega arith) (not-given _ 12 _ 8 (omega arith) (omega arith)))))
+
+  -- ---- the last start and the last message of a station
+
+  pub last-is : (i : ℕ) → i < t .n → (u : VisitRecord) → latestOf i (s .records) ≡ some u → (i < s .ring .visits) × (at (s .ring .last) i ≡ syncStartOf t u)
+  last-is i l u e =
+      ⊎-elim (λ (x : Unvisited (timing (s .ring)) (s .records) i). let z : _≡_ {A = ℕ} 0 1 = cc (e, x .latest) in absurd (omega arith))
+      (λ (x : (w : VisitRecord) × Since t (timing (s .ring)) (s .records) i w).
+      let same : x .0 ≡ u = cc (e, x .1 .latest) in
+      (x .1 .counted, x .1 .last ∙ ap (syncStartOf t) same))
+      (K .course .arrived i l)
+
+  last-is-not : (i : ℕ) → i < t .n → latestOf i (s .records) ≡ none → s .ring .visits ≤ i
+  last-is-not i l e =
+      ⊎-elim (λ (x : Unvisited (timing (s .ring)) (s .records) i). x .early)
+      (λ (x : (w : VisitRecord) × Since t (timing (s .ring)) (s .records) i w). let z : _≡_ {A = ℕ} 0 1 = cc (e, x .1 .latest) in absurd (omega arith))
+      (K .course .arrived i l)
+
+  message-is : (i : ℕ) (m : Message) → latestFor i (s .messages) ≡ some m → (at (s .ring .had) i ≢ 0) × (at (s .ring .arrival) i ≡ m .arrival .0)
+  message-is i m e =
+      ⊎-elim (λ (x : Never (s .ring) (s .messages) i). let z : _≡_ {A = ℕ} 0 1 = cc (e, x .latest) in absurd (omega arith))
+      (λ (x : (o : Message) × Latest (s .ring) (s .messages) i o).
+      let same : x .0 ≡ m = cc (e, x .1 .latest) in
+      (x .1 .had, x .1 .arrival ∙ ap (λ (o : Message). o .arrival .0) same))
+      (K .told i)
+
+  message-is-not : (i : ℕ) → latestFor i (s .messages) ≡ none → at (s .ring .had) i ≡ 0
+  message-is-not i e =
+      ⊎-elim (λ (x : Never (s .ring) (s .messages) i). x .had)
+      (λ (x : (o : Message) × Latest (s .ring) (s .messages) i o). let z : _≡_ {A = ℕ} 0 1 = cc (e, x .1 .latest) in absurd (omega arith))
+      (K .told i)
+
+-- ---- all of it
+
+module _ (t : Set) (a : Alloc) (P : Plan t a) (K : Run → Type 0) (S : Steady t a K) (every : (calls : List Call) → K (runOf t a calls)) where
+  to-the-end : (m : Message) → Follows t m K (λ r. Unit {0}) (λ v. Unit {0})
+  to-the-end m = record { waits = λ s k h e. tt; ends = λ s k ask b e c. tt }
+
+  kept : (calls : List Call) → Kept t a (runOf t a calls)
+  kept calls = S .common (runOf t a calls) (every calls)
+
+  pub common : Common t a
+  common =
+      record {
+        in-turn = λ calls. kept calls .turns;
+        share-kept = λ calls. kept calls .shares;
+        followed = λ calls m h later.
+            followed-from t a P K S m (λ r. Unit {0}) (λ v. Unit {0}) (to-the-end m) (runOf t a calls) (every calls) (sym (message-number (ringOf t a calls) m) ∙ h) later;
+        sound = λ calls. sound-sentences (ringOf t a calls) (kept calls .sound);
+        no-visit-8 = λ calls. never-8 t a (runOf t a calls) (kept calls);
+        no-message-8 = λ calls. message-never-8 t a (runOf t a calls) (kept calls);
+        goes = λ calls ask.
+            let exactly = goes-exactly t a (runOf t a calls) (kept calls) ask in
+            (λ e. omega (arith, exactly .0 e), λ l. exactly .1 (omega arith));
+        counted = λ calls. kept calls .course .counted;
+        bounded = λ calls. omega (arith, kept calls .course .counted, kept calls .course .bounded);
+        last-start = λ calls. last-is t a (runOf t a calls) (kept calls);
+        no-start = λ calls. last-is-not t a (runOf t a calls) (kept calls);
+        last-message = λ calls i _. message-is t a (runOf t a calls) (kept calls) i;
+        no-message = λ calls i _. message-is-not t a (runOf t a calls) (kept calls) i;
+      }

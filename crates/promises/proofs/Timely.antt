@@ -1,0 +1,154 @@
+-- What every run of a timely-token ring keeps beside what every run keeps: the timers are the gaps, the limit is exact, and no message is late.
+use Prim.Native.Nat.{ℕ, _+_, _-_, _≤_, _<_}
+use mathlib.Core.Path.{_≡_, sym, ap, _∙_}
+use mathlib.Core.List.{List}
+use mathlib.Core.Logic.{⊎-elim}
+use mathlib.Core.Option.{none, some}
+use native.Mathlib.Omega.{arith}
+use borrow.Author.Tests.{le-ltb}
+use lib.IntN.{pos}
+use Rattle.units.specs.Numbers.{mostClock}
+use Rattle.units.specs.Places.{at}
+use Rattle.sets.specs.declared.Set.{Set}
+use Rattle.plans.specs.declared.Alloc.{Alloc}
+use Rattle.plans.specs.Planned.{judgedPlan}
+use Rattle.rings.specs.Opening.{silentTrt}
+use Rattle.rings.specs.HandingIn.{holding, handInNumber}
+use Rattle.rings.specs.declared.Ring.{Ring}
+use Rattle.rings.specs.declared.Message.{Message}
+use Rattle.rings.specs.declared.VisitRecord.{VisitRecord}
+use Rattle.promises.specs.Run.{Ask, Call, Run, opened, runOf}
+use Rattle.promises.specs.History.{syncStartOf, latestOf, Each}
+use Rattle.promises.specs.Facts.{timing, VisitCourse, VisitTimers, VisitOffer, VisitMessages, Completing, Leaving}
+use Rattle.promises.specs.Valid.{Apart, TimerIsGap, ExactLimit, NoneLate}
+use Rattle.promises.proofs.Course.{Plan}
+use Rattle.promises.proofs.Timing.{Timed, token-timer, never-late, rise-small, timed-kept}
+use Rattle.promises.proofs.Messages.{Messaged, deadlineAt, messaged-kept, messaged-taken, completed-in-time}
+use Rattle.promises.proofs.Steps.{visit-timers, visit-offer}
+use Rattle.promises.proofs.Opening.{plan-of, opened-places, opened-timed, opened-stored, opened-told, opened-messaged}
+use Rattle.promises.proofs.Soundness.{is-sound}
+use Rattle.promises.proofs.Runs.{Kept, made, movedRun, heldRun, course-facts, message-parts, next-places, next-stored, kept-moved, message-facts, held-places, held-stored, kept-held, Steady, steady-run}
+
+-- ---- what a new record keeps
+
+pub record TimelyVisit (t : Set) (a : Alloc) (v : VisitRecord) (before : List VisitRecord) : Type 0 where
+  pub apart : Apart (t .head .ttrt) v before
+  pub timer : TimerIsGap t v before
+  pub limit : ExactLimit t a v before
+  pub none-late : NoneLate v before
+
+module _ (t : Set) (a : Alloc) (r q : Ring) (v : VisitRecord) (h : List VisitRecord) (P : Plan t a) (T : Timed t a (timing r) h) (C : VisitCourse t a (timing r) (timing q) v) (F : VisitTimers t (timing r) (timing q) v) where
+  -- the timer at the token is the gap since the latest visit
+  gap-since : (u : VisitRecord) → latestOf (v .station .0) h ≡ some u → v .start .0 ≡ u .start .0 + v .trt .0
+  gap-since u e =
+      omega (arith, C .start, F .timer, T .since (r .token) (T .course .token) u (ap (λ (i : ℕ). latestOf i h) (sym (C .station)) ∙ e))
+
+  first-since : latestOf (v .station .0) h ≡ none → v .trt .0 ≡ silentTrt t (v .station .0) + v .start .0
+  first-since e =
+      rw (C .station)
+      (omega (arith, C .start, F .timer, T .silent (r .token) (T .course .token) (ap (λ (i : ℕ). latestOf i h) (sym (C .station)) ∙ e)))
+
+  timer-within : v .trt .0 ≤ t .head .ttrt
+  timer-within = omega (arith, F .timer, never-late t a (timing r) h T (r .token) (T .course .token), T .course .sents (r .token) (T .course .token))
+
+  timer-made : TimerIsGap t v h
+  timer-made = record { gap = gap-since; first = λ e. omega (arith, first-since e); within = omega (arith, timer-within) }
+
+  -- what the timers leave is what the window leaves of A*, so it is nowhere held at 0
+  limit-made : VisitOffer t (timing r) v → ExactLimit t a v h
+  limit-made O =
+      record {
+        exact = omega (arith, O .limit, token-timer t a (timing r) h T, T .window);
+        window = omega (arith, T .window);
+        kept = omega (arith, O .kept);
+      }
+
+  module _ (G : VisitMessages t a r q v) (M : Messaged t a r (r .token)) where
+    -- what is left to the deadline
+    pub margin-made : Completing t r q (syncStartOf t v) v → v .margin ≡ pos (deadlineAt t r (r .token) - v .finish .0)
+    margin-made c = c .margin ∙ rw (le-ltb (deadlineAt t r (r .token)) (v .finish .0) (completed-in-time t a r q v h P T C F G M c))
+
+    none-late-made : NoneLate v h
+    none-late-made flag =
+        ⊎-elim (λ (c : Completing t r q (syncStartOf t v) v). (deadlineAt t r (r .token) - v .finish .0, margin-made c))
+        (λ (c : Leaving r q v). absurd (omega (arith, c .flag)))
+        (G .completing)
+
+    pub visit-made : VisitOffer t (timing r) v → TimelyVisit t a v h
+    visit-made O =
+        record {
+          apart = λ u e. omega (arith, gap-since u e, timer-within);
+          timer = timer-made;
+          limit = limit-made O;
+          none-late = none-late-made;
+        }
+
+-- ---- what a run keeps
+
+pub record Timely (t : Set) (a : Alloc) (s : Run) : Type 0 where
+  pub common : Kept t a s
+  pub timed : Timed t a (timing (s .ring)) (s .records)
+  pub messaged : (i : ℕ) → i < t .n → Messaged t a (s .ring) i
+  pub each : Each (TimelyVisit t a) (s .records)
+
+module _ (t : Set) (a : Alloc) (P : Plan t a) (s : Run) (K : Timely t a s) where
+  pub timer-facts : (ask : Ask) → VisitTimers t (timing (s .ring)) (timing (movedRun s ask .ring)) (made s ask)
+  timer-facts ask = visit-timers t a (s .ring) (s .records) P (K .common .course) (K .common .places) ask (K .timed .unused)
+
+  timely-moved : (ask : Ask) → s .ring .clock ≤ mostClock → Timely t a (movedRun s ask)
+  timely-moved ask early =
+      let r = s .ring in
+      let q = movedRun s ask .ring in
+      let v = made s ask in
+      let C = course-facts t a P s (K .common) ask in
+      let F = timer-facts ask in
+      let G = message-parts t a P s (K .common) ask in
+      let token = K .common .course .token in
+      let timed = timed-kept t a (timing r) (timing q) v (s .records) P (K .timed) C F early in
+      let sound = is-sound t a q (movedRun s ask .records) P timed (next-places t a P s (K .common) ask) (next-stored t a P s (K .common) ask) in
+      record {
+        common = kept-moved t a P s (K .common) ask (omega (arith, rise-small t a (timing r) (timing q) v (s .records) P (K .timed) C F)) early sound;
+        timed = timed;
+        messaged = messaged-kept t a r q v (s .records) P (K .timed) C F G (K .common .stored (r .token) token) (K .messaged);
+        each = (visit-made t a r q v (s .records) P (K .timed) C F G (K .messaged (r .token) token) (visit-offer t a r (s .records) P (K .common .course) (K .common .places) ask), K .each);
+      }
+
+  timely-held : (m : Message) → handInNumber (s .ring) m ≡ 0 → Timely t a (heldRun s m)
+  timely-held m e =
+      let A = message-facts t a P s (K .common) m e in
+      let timed : Timed t a (timing (holding (s .ring) m)) (s .records) = rw (A .timing-same) (K .timed) in
+      record {
+        common = kept-held t a P s (K .common) m e (is-sound t a (holding (s .ring) m) (s .records) P timed (held-places t a P s (K .common) m) (held-stored t a P s (K .common) m e));
+        timed = timed;
+        messaged = messaged-taken t a (s .ring) (holding (s .ring) m) m (s .records) P (K .timed) A (K .messaged);
+        each = K .each;
+      }
+
+pub steady : (t : Set) (a : Alloc) → Plan t a → Steady t a (Timely t a)
+steady t a P = record { common = λ s K. K .common; moves = timely-moved t a P; takes = timely-held t a P }
+
+-- ---- from the opened ring on
+
+timely-opened : (t : Set) (a : Alloc) → Plan t a → Timely t a (opened t a)
+timely-opened t a P =
+    let timed = opened-timed t a P in
+    record {
+      common =
+          record {
+            places = opened-places t a P;
+            course = timed .course;
+            stored = opened-stored t a P;
+            told = opened-told t a P;
+            turns = tt;
+            shares = tt;
+            sound = is-sound t a (opened t a .ring) (opened t a .records) P timed (opened-places t a P) (opened-stored t a P);
+          };
+      timed = timed;
+      messaged = opened-messaged t a P;
+      each = tt;
+    }
+
+pub timely : (t : Set) (a : Alloc) → judgedPlan t a ≡ 0 → (calls : List Call) → Timely t a (runOf t a calls)
+timely t a h calls =
+    let P = plan-of t a h in
+    steady-run t a P (Timely t a) (steady t a P) (opened t a) (timely-opened t a P) calls
