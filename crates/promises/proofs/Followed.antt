@@ -16,7 +16,7 @@ use Rattle.rings.specs.declared.VisitRecord.{VisitRecord}
 use Rattle.promises.specs.Run.{Call, visit, message, Run, after, run}
 use Rattle.promises.specs.History.{sentBy, Somewhere}
 use Rattle.promises.specs.Facts.{VisitTiming, VisitMessages, Completing, Leaving, Accepting}
-use Rattle.promises.specs.Promised.{StillHeld, CompletedBy, Followed, dueBy}
+use Rattle.promises.specs.Valid.{StillHeld, CompletedBy, Followed, dueBy}
 use Rattle.promises.proofs.Timing.{Plan, same-or-not}
 use Rattle.promises.proofs.Messages.{deadlineAt, clock-ahead, completed-in-time}
 use Rattle.promises.proofs.Runs.{Kept, movedRun, heldRun, visit-facts, visit-parts, message-facts, after-visit, after-message, after-held, kept-after, margin-made}

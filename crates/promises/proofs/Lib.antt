@@ -9,8 +9,8 @@
 --     Soundness    a ring that keeps it is sound
 --     Runs         every run keeps it, call by call
 --     Followed     one message, from its handing in on
+--     Witness      the run in which all that is promised happens
 --     Promised     the promises
---     Witness      the run in which they are called upon
 pub mod Sums
 pub mod Windows
 pub mod Deadlines
@@ -21,5 +21,5 @@ pub mod Opening
 pub mod Soundness
 pub mod Runs
 pub mod Followed
-pub mod Promised
 pub mod Witness
+pub mod Promised

@@ -16,7 +16,7 @@ use Rattle.plans.specs.declared.Alloc.{Alloc}
 use Rattle.rings.specs.Opening.{silentTrt, openedRing, openedWith, opening}
 use Rattle.rings.specs.declared.Ring.{Ring}
 use Rattle.promises.specs.History.{asyncOf, latestOf, due}
-use Rattle.promises.specs.Promised.{Opens}
+use Rattle.promises.specs.Valid.{Opens}
 use Rattle.promises.proofs.Timing.{Plan, Timed}
 use Rattle.promises.proofs.Messages.{Messaged}
 use Rattle.promises.proofs.Steps.{Places}

@@ -27,13 +27,15 @@ use Rattle.rings.specs.declared.VisitRecord.{VisitRecord}
 use Rattle.promises.specs.Run.{Call, Run, runOf, ringOf, recordsOf}
 use Rattle.promises.specs.History.{latestOf, Each}
 use Rattle.promises.specs.Facts.{Completing, Leaving}
-use Rattle.promises.specs.Promised.{Opens, AheadOf, Regular, FinishesInTime, Valid, Promised}
+use Rattle.promises.specs.Valid.{Opens, AheadOf, Regular, FinishesInTime, Valid}
+use Rattle.promises.specs.Promised.{Promised}
 use Rattle.promises.proofs.Timing.{Plan, Unvisited, Since}
 use Rattle.promises.proofs.Messages.{Waiting, clock-ahead, held-in-time, completed-in-time}
 use Rattle.promises.proofs.Opening.{judged-opens}
 use Rattle.promises.proofs.Soundness.{visits-bounded}
 use Rattle.promises.proofs.Runs.{VisitKept, Kept, kept, kept-sound, opens-plan, movedRun, visit-facts, visit-parts, visit-goes, visit-stops, message-number, margin-made}
 use Rattle.promises.proofs.Followed.{followed-from}
+use Rattle.promises.proofs.Witness.{happens}
 
 -- ---- records
 
@@ -207,4 +209,5 @@ promised =
       sheet-opens = sheet-opens;
       sheet-valid = λ bytes h. valid (readPlan bytes .set) (readPlan bytes .alloc) (sheet-opens bytes h);
       request-valid = λ bytes _ h. valid (readRequest bytes .set) (planned (readRequest bytes .set) .alloc) (plan-opens (readRequest bytes .set) h);
+      happens = happens;
     }

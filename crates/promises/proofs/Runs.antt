@@ -25,7 +25,7 @@ use Rattle.rings.specs.declared.VisitRecord.{VisitRecord}
 use Rattle.promises.specs.Run.{Call, visit, message, Run, noted, after, run, opened, runOf}
 use Rattle.promises.specs.History.{latestOf, Each}
 use Rattle.promises.specs.Facts.{VisitTiming, VisitOffer, VisitMessages, Completing, Leaving, Accepting}
-use Rattle.promises.specs.Promised.{Opens, InTurn, Timely, ShareKept, ExactLimit, NoneLate}
+use Rattle.promises.specs.Valid.{Opens, InTurn, Timely, ShareKept, ExactLimit, NoneLate}
 use Rattle.promises.proofs.Timing.{Plan, Timed, Unvisited, Since, token-timer, never-late, timed-kept, timed-same, same-or-not}
 use Rattle.promises.proofs.Messages.{Messaged, deadlineAt, messaged-kept, messaged-taken, completed-in-time}
 use Rattle.promises.proofs.Steps.{Places, visit-places, visit-timing, visit-offer, visit-messages, holding-places, message-accepts}

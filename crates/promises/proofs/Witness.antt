@@ -11,7 +11,7 @@ use Rattle.rings.specs.Sound.{isSound}
 use Rattle.rings.specs.Steps.{syncSent, nextToken, moved, recordOf, visitedWith}
 use Rattle.rings.specs.HandingIn.{arrivalAllowed, holding, takenWith}
 use Rattle.promises.specs.Run.{noted, after, run, ringOf}
-use Rattle.promises.specs.Promised.{Regular}
+use Rattle.promises.specs.Valid.{Regular}
 use Rattle.promises.specs.Witness.{pair, shares, thirty, waited, Happens}
 
 -- station 0 may get its second message: the first arrived 250 before, and its last visit started at 202

@@ -1,164 +1,13 @@
--- Demand 3: what is promised of every run, for every set and allocation that opening accepts, whatever calls are made, accepted and refused ones, and whatever is asked for; `proofs/Promised.antt` proves it.
-use Prim.Native.Nat.{ℕ, _+_, _-_, _*_, _≤_, _<_}
+-- What is promised of runs: what opening, planning and reading accept is valid, and the promises are called upon; `proofs/Promised.antt` proves it.
+use Prim.Native.Nat.{ℕ}
 use mathlib.Core.Path.{_≡_}
-use mathlib.Core.List.{List, _++_, _∷_}
-use mathlib.Core.Logic.{_⊎_, _≢_, _↔_}
-use mathlib.Core.Option.{none, some}
-use lib.IntN.{pos}
-use lib.ListN.{length}
-use Rattle.units.specs.Numbers.{mostClock, mostTtrt, mostStations}
-use Rattle.units.specs.Places.{at, sumBelow}
-use Rattle.sets.specs.Rules.{tau}
+use mathlib.Core.List.{List}
 use Rattle.sets.specs.declared.Set.{Set}
-use Rattle.plans.specs.Rules.{spareTime}
 use Rattle.plans.specs.Planned.{planned}
 use Rattle.plans.specs.declared.Alloc.{Alloc}
 use Rattle.sheets.specs.Reading.{readRequest, readPlan}
-use Rattle.rings.specs.Opening.{opening, silentTrt}
-use Rattle.rings.specs.Sound.{Sound}
-use Rattle.rings.specs.Steps.{visited}
-use Rattle.rings.specs.HandingIn.{handedIn}
-use Rattle.rings.specs.declared.Ring.{Ring}
-use Rattle.rings.specs.declared.Message.{Message}
-use Rattle.rings.specs.declared.VisitRecord.{VisitRecord}
-use Rattle.promises.specs.Run.{Call, message, Run, after, run, runOf, ringOf, recordsOf}
-use Rattle.promises.specs.History.{asyncOf, latestOf, sentBy, due, Each, Somewhere}
-
--- the one hypothesis: opening accepts the set with the allocation
-abbrev pub Opens : Set → Alloc → Type 0
-Opens t a = opening t a .number ≡ 0
-
--- ---- what each visit keeps: v is its record, `before` are the records of the visits before it, the latest first
-
--- the station is the one whose turn it is
-pub record InTurn (t : Set) (v : VisitRecord) (before : List VisitRecord) : Type 0 where
-  pub station : v .station .0 < t .n
-  pub turn : v .station .0 ≡ due (t .n) before
-
--- the token is not late
-pub record Timely (t : Set) (v : VisitRecord) (before : List VisitRecord) : Type 0 where
-  -- the start is at most TTRT after the start of the station's visit before
-  pub apart : (u : VisitRecord) → latestOf (v .station .0) before ≡ some u → v .start .0 ≤ u .start .0 + t .head .ttrt
-  -- TRT on arrival is that gap
-  pub gap : (u : VisitRecord) → latestOf (v .station .0) before ≡ some u → v .start .0 ≡ u .start .0 + v .trt .0
-  -- at the station's first visit it is the time since the silent rotation passed it: the walk from there to station N − 1, then the clock
-  pub first : latestOf (v .station .0) before ≡ none → v .trt .0 ≡ silentTrt t (v .station .0) + v .start .0
-  -- and it is at most TTRT, at the first visit too
-  pub within : v .trt .0 ≤ t .head .ttrt
-
--- S is kept
-abbrev pub ShareKept : Alloc → VisitRecord → List VisitRecord → Type 0
-ShareKept a v before = v .synchronous .0 ≤ at (a .s) (v .station .0)
-
--- the limit is exactly A* less the asynchronous time of the N visits before, and what is sent is at most the limit
-pub record ExactLimit (t : Set) (a : Alloc) (v : VisitRecord) (before : List VisitRecord) : Type 0 where
-  pub exact : v .limit .0 + asyncOf (t .n) before ≡ spareTime t (at (a .s))
-  pub kept : v .asynchronous .0 ≤ v .limit .0
-
--- no message is completed late: where the flag says that one was completed, the margin is not negative
-abbrev pub NoneLate : VisitRecord → List VisitRecord → Type 0
-NoneLate v before = v .completed ≡ 1 → (margin : ℕ) × (v .margin ≡ pos margin)
-
--- ---- a message that was handed in, followed
-
--- the deadline of a message: its arrival + D of its station
-abbrev pub dueBy : Set → Message → ℕ
-dueBy t m = m .arrival .0 + at (t .d) (m .station .0)
-
--- a moment lies ahead of the ring's clock
-abbrev pub AheadOf : Ring → ℕ → Type 0
-AheadOf r moment = r .clock < moment
-
--- the ring still holds it: what remains and what its station sent since make up its length, and the deadline is ahead of the clock
-pub record StillHeld (t : Set) (m : Message) (r : Ring) (since : List VisitRecord) : Type 0 where
-  pub held : 0 < at (r .rest) (m .station .0)
-  pub arrival : at (r .arrival) (m .station .0) ≡ m .arrival .0
-  pub parts : at (r .rest) (m .station .0) + sentBy (m .station .0) since ≡ m .length .0
-  pub ahead : AheadOf r (dueBy t m)
-
--- visit v completed it, `before` being the visits since the handing in and before v: what its station sent in all these is its length, and the finish is by the deadline
-pub record CompletedBy (t : Set) (m : Message) (v : VisitRecord) (before : List VisitRecord) : Type 0 where
-  pub station : v .station .0 ≡ m .station .0
-  pub flag : v .completed ≡ 1
-  pub whole : sentBy (m .station .0) (v ∷ before) ≡ m .length .0
-  pub finish : v .finish .0 ≡ v .start .0 + v .synchronous .0
-  pub in-time : v .finish .0 ≤ dueBy t m
-  pub margin : v .margin ≡ pos (dueBy t m - v .finish .0)
-
--- handed in after the run `then`, looked at after the run `now`: it is still held, or one of the visits since completed it
-pub record Followed (t : Set) (m : Message) (then now : Run) : Type 0 where
-  pub since : List VisitRecord
-  pub visits : now .records ≡ since ++ then .records
-  pub either : StillHeld t m (now .ring) since ⊎ Somewhere (CompletedBy t m) since
-
--- ---- what a visit finishes, of the message that the ring holds
-
-pub record FinishesInTime (t : Set) (r : Ring) (v : VisitRecord) : Type 0 where
-  pub finish : v .finish .0 ≡ r .clock + v .synchronous .0
-  pub in-time : v .finish .0 ≤ at (r .arrival) (r .token) + at (t .d) (r .token)
-  pub margin : v .margin ≡ pos (at (r .arrival) (r .token) + at (t .d) (r .token) - v .finish .0)
-
--- ---- a message that keeps C and P, has arrived, and is later than its station's last start
-
-pub record Regular (t : Set) (r : Ring) (m : Message) : Type 0 where
-  -- it is not longer than C
-  pub length : (1 ≤ m .length .0) × (m .length .0 ≤ at (t .c) (m .station .0))
-  -- it arrives at least P after its station's last accepted one, where there is one
-  pub gap : at (r .had) (m .station .0) ≢ 0 → at (r .arrival) (m .station .0) + at (t .p) (m .station .0) ≤ m .arrival .0
-  -- the clock has reached its arrival
-  pub arrived : m .arrival .0 ≤ r .clock
-  -- it arrives later than its station's last start, where there was a visit
-  pub later : m .station .0 < r .visits → at (r .last) (m .station .0) < m .arrival .0
-
--- ---- what "valid" means: every run of calls on the ring opened with set t and allocation a keeps this
-
-pub record Valid (t : Set) (a : Alloc) : Type 0 where
-  -- 1. the token is never late: successive arrivals at a station are at most TTRT apart, and TRT is that gap
-  pub never-late : (calls : List Call) → Each (Timely t) (recordsOf t a calls)
-  -- and the stations come in turn, from station 0 on
-  pub in-turn : (calls : List Call) → Each (InTurn t) (recordsOf t a calls)
-  -- 2. no visit sends more synchronous time than S
-  pub share-kept : (calls : List Call) → Each (ShareKept a) (recordsOf t a calls)
-  -- 3. the limit is exactly A* less the asynchronous time of the N visits before, the silent rotation counting as nothing
-  pub exact-limit : (calls : List Call) → Each (ExactLimit t a) (recordsOf t a calls)
-  -- A* is a true difference: with τ and the sum of S it makes up TTRT
-  pub spare : spareTime t (at (a .s)) + tau t + sumBelow (t .n) (at (a .s)) ≡ t .head .ttrt
-  -- 4. every accepted message, followed from its handing in, is held with its deadline ahead of the clock, or was completed by its deadline
-  pub followed : (calls : List Call) (m : Message)
-      → handedIn (ringOf t a calls) m .number ≡ 0 → (later : List Call)
-      → Followed t m (runOf t a calls) (run (after (runOf t a calls) (message m)) later)
-  -- while a station holds a message, that message's deadline is ahead of the clock
-  pub ahead : (calls : List Call) (i : ℕ)
-      → i < t .n → 0 < at (ringOf t a calls .rest) i → AheadOf (ringOf t a calls) (at (ringOf t a calls .arrival) i + at (t .d) i)
-  -- a visit that completes a message finishes it by its deadline, and the margin is what is left
-  pub finishes : (calls : List Call) (ask : ℕ)
-      → visited (ringOf t a calls) ask .answer .«record» .completed ≡ 1
-      → FinishesInTime t (ringOf t a calls) (visited (ringOf t a calls) ask .answer .«record»)
-  -- so no record of a run has a negative margin
-  pub none-late : (calls : List Call) → Each NoneLate (recordsOf t a calls)
-  -- 5. no ring reached from an opening is unsound, whatever the number of calls
-  pub sound : (calls : List Call) → Sound (ringOf t a calls)
-  -- so 8 is never given
-  pub no-visit-8 : (calls : List Call) (ask : ℕ) → visited (ringOf t a calls) ask .answer .number ≢ 8
-  pub no-message-8 : (calls : List Call) (m : Message) → handedIn (ringOf t a calls) m .number ≢ 8
-  -- a visit is accepted exactly if the clock is not above 1,000,000,000,000
-  pub goes : (calls : List Call) (ask : ℕ) → (visited (ringOf t a calls) ask .answer .number ≡ 0) ↔ (ringOf t a calls .clock ≤ mostClock)
-  -- the visit count is the number of accepted visits, and the clock ends them long before 2^62: each rotation takes a tick at least
-  pub counted : (calls : List Call) → ringOf t a calls .visits ≡ length (recordsOf t a calls)
-  pub bounded : (calls : List Call) → length (recordsOf t a calls) < mostStations * (mostClock + mostTtrt + 1)
-  -- 6. never 11 for a message that keeps C and P, handed in when the clock has reached its arrival and it is later than its station's last start
-  pub no-11 : (calls : List Call) (m : Message) → Regular t (ringOf t a calls) m → handedIn (ringOf t a calls) m .number ≢ 11
-  -- it is taken, where its station is one of the ring's and its arrival in range
-  pub taken : (calls : List Call) (m : Message)
-      → m .station .0 < t .n → m .arrival .0 ≤ mostClock
-      → Regular t (ringOf t a calls) m → handedIn (ringOf t a calls) m .number ≡ 0
-  -- the ring's last start of a station is the start of its latest record, and the ring says rightly that there was none
-  pub last-start : (calls : List Call) (i : ℕ)
-      → i < t .n → (u : VisitRecord) → latestOf i (recordsOf t a calls) ≡ some u
-      → (i < ringOf t a calls .visits) × (at (ringOf t a calls .last) i ≡ u .start .0)
-  pub no-start : (calls : List Call) (i : ℕ) → i < t .n → latestOf i (recordsOf t a calls) ≡ none → ringOf t a calls .visits ≤ i
-
--- ---- the promises
+use Rattle.promises.specs.Valid.{Opens, Valid}
+use Rattle.promises.specs.Witness.{Happens}
 
 pub record Promised : Type 0 where
   -- whatever set and allocation opening accepts, they are valid
@@ -173,3 +22,5 @@ pub record Promised : Type 0 where
   pub request-valid : (bytes : List ℕ)
       → readRequest bytes .number ≡ 0 → planned (readRequest bytes .set) .number ≡ 0
       → Valid (readRequest bytes .set) (planned (readRequest bytes .set) .alloc)
+  -- none of it is kept by never being called upon: in one run all of it happens
+  pub happens : Happens

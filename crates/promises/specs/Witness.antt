@@ -13,7 +13,7 @@ use Rattle.rings.specs.HandingIn.{handedIn}
 use Rattle.rings.specs.declared.Message.{Message}
 use Rattle.rings.specs.declared.VisitRecord.{VisitRecord}
 use Rattle.promises.specs.Run.{Call, visit, message, ringOf, recordsOf}
-use Rattle.promises.specs.Promised.{Opens, Regular}
+use Rattle.promises.specs.Valid.{Opens, Regular}
 
 -- two places, and 0 past them
 abbrev pub two : ℕ → ℕ → List ℕ
