@@ -91,11 +91,11 @@ pub fn judge(t: Set) -> u8
     }
     let h = t.head;
     let numbers_fit = head_in_range(h) & stations_in_range(t);
+    let tau = walk_time(t);
+    let walk_fits = (1 <= tau) & (tau <= units::wide(t.head.ttrt));
     if !numbers_fit {
         return numbers::OUT_OF_RANGE;
     }
-    let tau = walk_time(t);
-    let walk_fits = (1 <= tau) & (tau <= units::wide(t.head.ttrt));
     if !walk_fits {
         return numbers::BAD_WALK_TIME;
     }

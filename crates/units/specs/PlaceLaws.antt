@@ -1,6 +1,6 @@
 -- The laws of sums, tests and fills over the first n places, once for all layers. No rule stands here.
 use Prim.Native.Nat.{ℕ, zero, suc, _+_, _-_, _≤_, _<_, min}
-use mathlib.Core.Path.{_≡_, refl, ap, _∙_}
+use mathlib.Core.Path.{_≡_, refl, sym, ap, _∙_}
 use mathlib.Core.Bool.{Bool, true, _&&_}
 use mathlib.Core.List.{List, [], _∷_}
 use mathlib.Core.Logic.{⊎-elim}
@@ -22,9 +22,17 @@ pub all-step : (n : ℕ) (f : ℕ → Bool) → allBelow (n + 1) f ≡ (allBelow
 unfolding allBelow
 all-step n f = rw add-one
 
+-- a loop's turn: a flag for the first n places and one for the next are the flag for n + 1
+pub all-then : (n : ℕ) (f : ℕ → Bool) (all one : Bool) → all ≡ allBelow n f → one ≡ f n → (all && one) ≡ allBelow (n + 1) f
+all-then n f all one p q = rw (p, q) (sym (all-step n f))
+
 pub fill-step : (n : ℕ) (f : ℕ → ℕ) (xs : List ℕ) → fill (n + 1) f xs ≡ set (fill n f xs) n (f n)
 unfolding fill
 fill-step n f xs = rw add-one
+
+-- a loop's turn: a list filled at the first n places, with the next one stored, is filled at n + 1
+pub fill-then : (n : ℕ) (f : ℕ → ℕ) (xs ys : List ℕ) (v : ℕ) → ys ≡ fill n f xs → v ≡ f n → set ys n v ≡ fill (n + 1) f xs
+fill-then n f xs ys v p q = rw (p, q) (sym (fill-step n f xs))
 
 -- ---- no place yet: where a loop begins
 

@@ -1,9 +1,9 @@
 -- `alloc_in_range` is right because its flag is the test over the stations passed, and it passes the first N.
 use Prim.Native.Nat.{_-_, _≤_}
-use mathlib.Core.Path.{_≡_, sym, _∙_}
+use mathlib.Core.Path.{_≡_, refl, sym, _∙_}
 use native.Mathlib.Omega.{arith}
 use Rattle.units.specs.Places.{at, allBelow}
-use Rattle.units.specs.PlaceLaws.{all-step, all-none}
+use Rattle.units.specs.PlaceLaws.{all-then, all-none}
 use Rattle.plans.specs.Planned.{inRangeS}
 use borrow.Author.Needs.{needs}
 use Rattle.plans.proofs.alloc_in_range.Statement.{statement}
@@ -35,9 +35,9 @@ loop-less c = search needs
 
 loop-again : tie.Need-loop-again Inv-loop μ-loop
 loop-again c =
-    let s = at (c .before .before .before .before .args .t2 .s) in
-    let all : c .before .before .loop .all ≡ allBelow (c .before .before .loop .i) (inRangeS s) = c .before .before .loop .inv .1 in
-    (omega arith, rw (all-step, all))
+    let at-loop = c .before .before in
+    let fits = inRangeS (at (at-loop .before .before .args .t2 .s)) in
+    (omega arith, all-then (at-loop .loop .i) fits (at-loop .loop .all) (fits (at-loop .loop .i)) (at-loop .loop .inv .1) refl)
 
 returns : tie.Need-returns Inv-loop μ-loop
 returns c =

@@ -1,9 +1,10 @@
 -- `deadlines_fit` is right because its flag is the rule over the stations passed, and it passes the first N.
 use Prim.Native.Nat.{_-_, _≤_}
-use mathlib.Core.Path.{_≡_, sym, _∙_}
+use mathlib.Core.Path.{_≡_, refl, sym, _∙_}
 use native.Mathlib.Omega.{arith}
+use lib.Dec.{leb}
 use Rattle.units.specs.Places.{at, allBelow}
-use Rattle.units.specs.PlaceLaws.{all-step, all-none}
+use Rattle.units.specs.PlaceLaws.{all-then, all-none}
 use Rattle.plans.specs.Planned.{deadlineFitsAt}
 use borrow.Author.Needs.{needs}
 use Rattle.plans.proofs.deadlines_fit.Statement.{statement}
@@ -54,10 +55,9 @@ loop-less c = search needs
 loop-again : tie.Need-loop-again Inv-loop μ-loop
 loop-again c =
     let at-loop = c .before .before .before .before .before .before in
-    let t = at-loop .before .before .args .t1 in
-    let s = at (at-loop .before .before .args .t2 .s) in
-    let all : at-loop .loop .all ≡ allBelow (at-loop .loop .i) (deadlineFitsAt t s) = at-loop .loop .inv .1 in
-    (omega arith, rw (all-step, all, c .wide .ensures .same, c .before .before .least-time .ensures))
+    let fits = deadlineFitsAt (at-loop .before .before .args .t1) (at (at-loop .before .before .args .t2 .s)) in
+    let one : leb (c .wide .result) (c .before .before .least-time .result) ≡ fits (at-loop .loop .i) = rw (c .wide .ensures .same, c .before .before .least-time .ensures) refl in
+    (omega arith, all-then (at-loop .loop .i) fits (at-loop .loop .all) (leb (c .wide .result) (c .before .before .least-time .result)) (at-loop .loop .inv .1) one)
 
 returns : tie.Need-returns Inv-loop μ-loop
 returns c =

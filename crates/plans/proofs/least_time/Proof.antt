@@ -2,7 +2,6 @@
 use native.Mathlib.Omega.{arith}
 use Rattle.units.specs.SmallLaws.{product-small}
 use borrow.Author.Needs.{needs}
-use borrow.Author.Needs.{needs}
 use Rattle.plans.proofs.least_time.Statement.{statement}
 use Rattle.plans.proofs.least_time.Tie as tie
 
@@ -31,7 +30,7 @@ add-result c =
     omega (arith, product-small m s (omega arith) (omega arith))
 
 returns : tie.Need-returns
-returns c = cc
+returns c = rw (c .before .before .before .whole-rotations .ensures .is, c .before .wide .ensures .same) (omega arith)
 
 pub least-time-spec : {M : Type 1} → statement M
 least-time-spec =

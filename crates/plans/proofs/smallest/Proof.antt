@@ -7,7 +7,6 @@ use Rattle.plans.specs.Planned.{smallestWith, smallestFor}
 use Rattle.plans.specs.Bounds.{Smallest}
 use Rattle.plans.specs.PlanLaws.{smallest-small, smallest-whole, smallest-part}
 use borrow.Author.Needs.{needs}
-use borrow.Author.Needs.{needs}
 use Rattle.plans.proofs.smallest.Statement.{statement}
 use Rattle.plans.proofs.smallest.Tie as tie
 

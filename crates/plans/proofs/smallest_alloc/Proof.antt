@@ -4,7 +4,7 @@ use mathlib.Core.Path.{_≡_, sym, ap, _∙_}
 use mathlib.Core.List.{List}
 use native.Mathlib.Omega.{arith}
 use Rattle.units.specs.Places.{fill}
-use Rattle.units.specs.PlaceLaws.{fill-step, fill-none}
+use Rattle.units.specs.PlaceLaws.{fill-then, fill-none}
 use Rattle.sets.specs.Judged.{zeros}
 use Rattle.plans.specs.Planned.{smallestAt}
 use borrow.Author.Needs.{needs}
@@ -58,10 +58,8 @@ loop-less c = search needs
 loop-again : tie.Need-loop-again Inv-loop μ-loop
 loop-again c =
     let at-loop = c .before .before .before .before in
-    let t = at-loop .before .before .args .t1 in
-    let filled : at-loop .loop .s ≡ fill (at-loop .loop .i) (smallestAt t) zeros = at-loop .loop .inv .1 in
-    let stored : c .smallest .result ≡ smallestAt t (at-loop .loop .i) = c .smallest .ensures .is in
-    (omega arith, cc (fill-step (at-loop .loop .i) (smallestAt t) zeros))
+    let least = smallestAt (at-loop .before .before .args .t1) in
+    (omega arith, fill-then (at-loop .loop .i) least zeros (at-loop .loop .s) (c .smallest .result) (at-loop .loop .inv .1) (c .smallest .ensures .is))
 
 returns : tie.Need-returns Inv-loop μ-loop
 returns c =

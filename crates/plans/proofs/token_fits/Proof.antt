@@ -1,4 +1,5 @@
 -- `token_fits` is right because its sums are the definition's, and two of them fit 64 bits.
+use mathlib.Core.Path.{refl}
 use borrow.Author.Needs.{needs}
 use Rattle.plans.proofs.token_fits.Statement.{statement}
 use Rattle.plans.proofs.token_fits.Tie as tie
@@ -16,7 +17,7 @@ wide-requires : tie.Need-wide-requires
 wide-requires c κs = search needs
 
 returns : tie.Need-returns
-returns c = rw (c .before .before .sum-first .ensures .sum, c .before .walk-time .ensures .sum, c .wide .ensures .same)
+returns c = rw (c .before .before .sum-first .ensures .sum, c .before .walk-time .ensures .sum, c .wide .ensures .same) refl
 
 pub token-fits-spec : {M : Type 1} → statement M
 token-fits-spec =

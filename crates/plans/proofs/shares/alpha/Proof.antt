@@ -1,11 +1,10 @@
 -- `alpha` is right because its body is the definition; (m + 1)·TTRT is at most D + TTRT, so nothing wraps.
 use Prim.Native.Nat.{_+_}
-use mathlib.Core.Path.{_≡_, _∙_}
+use mathlib.Core.Path.{_≡_, refl, _∙_}
 use native.Mathlib.Omega.{arith}
 use Rattle.units.specs.SmallLaws.{one-more}
 use Rattle.plans.specs.Rules.{alpha}
 use Rattle.plans.specs.PlanLaws.{alpha-small}
-use borrow.Author.Needs.{needs}
 use borrow.Author.Needs.{needs}
 use Rattle.plans.proofs.shares.alpha.Statement.{statement}
 use Rattle.plans.proofs.shares.alpha.Tie as tie
@@ -35,7 +34,7 @@ returns : tie.Need-returns
 returns c =
     let args = c .before .before .before .before .args in
     let is : c .room .result ≡ alpha (args .ttrt) (args .d) =
-    c .room .ensures ∙ rw (c .before .before .before .whole-rotations .ensures .is, c .before .before .wide .ensures .same, c .before .wide2 .ensures .same) in
+    c .room .ensures ∙ rw (c .before .before .before .whole-rotations .ensures .is, c .before .before .wide .ensures .same, c .before .wide2 .ensures .same) refl in
     record { is = is; small = rw is (alpha-small (args .ttrt) (args .d)) }
 
 pub alpha-spec : {M : Type 1} → statement M

@@ -5,7 +5,6 @@ use native.Mathlib.Omega.{arith}
 use native.Mathlib.Nat.{div-zero}
 use Rattle.plans.specs.PlanLaws.{share-small}
 use borrow.Author.Needs.{needs}
-use borrow.Author.Needs.{needs}
 use Rattle.plans.proofs.shares.rounded_up.Statement.{statement}
 use Rattle.plans.proofs.shares.rounded_up.Tie as tie
 

@@ -5,7 +5,6 @@ use native.Mathlib.Nat.{div-zero, div-le-self, zero-mul}
 use Rattle.plans.specs.PlanLaws.{rotations-within}
 use Rattle.plans.specs.Rules.{wholeRotations}
 use borrow.Author.Needs.{needs}
-use borrow.Author.Needs.{needs}
 use Rattle.plans.proofs.shares.whole_rotations.Statement.{statement}
 use Rattle.plans.proofs.shares.whole_rotations.Tie as tie
 
