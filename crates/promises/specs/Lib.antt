@@ -1,9 +1,8 @@
 -- What every run of calls on an opened ring keeps (demand 3).
 --     Run         calls, and the ring and the records after a list of them
 --     History     what is read off the records: windows, the latest visit of a station, whose turn it is
---     Valid       what "valid" means: what every run keeps
---     Witness     a run in which all that it speaks of happens
 --     Promised    the promises
+--     Witness     a run in which all that the promises speak of happens
 -- and, for the proofs:
 --     Facts       what a visit and a handing in do, as records of facts that add up
 pub mod Run
@@ -12,4 +11,3 @@ pub mod Facts
 pub mod Valid
 pub mod Promised
 pub mod Witness
-pub mod Promised
