@@ -1,6 +1,6 @@
 -- The promises, read off what every run keeps.
 use Prim.Native.Nat.{ℕ, _+_, _≤_, _<_}
-use mathlib.Core.Path.{_≡_, sym, ap, _∙_}
+use mathlib.Core.Path.{_≡_, refl, sym, ap, _∙_}
 use mathlib.Core.Bool.{true}
 use mathlib.Core.List.{List, [], _∷_}
 use mathlib.Core.Logic.{_⊎_, inl, inr, _≢_, _↔_, ⊎-elim}
@@ -58,7 +58,7 @@ module _ (t : Set) (a : Alloc) (P : Plan t a) (s : Run) (K : Kept t a s) where
       record {
         finish = c .finish;
         in-time = omega (arith, c .finish, completed-in-time t a r q v (s .records) P (K .timed) F G M c);
-        margin = margin-made t a r q v (s .records) P (K .timed) F G M c ∙ rw (c .finish);
+        margin = margin-made t a r q v (s .records) P (K .timed) F G M c ∙ rw (c .finish) refl;
       })
       (λ (c : Leaving r q v). absurd (omega (arith, c .flag)))
       (G .completing)

@@ -10,7 +10,6 @@ use borrow.Author.Tests.{le-ltb}
 use lib.IntN.{pos}
 use Rattle.units.specs.Numbers.{mostClock}
 use Rattle.units.specs.Places.{at}
-use Rattle.units.specs.JudgingLaws.{held}
 use Rattle.units.specs.SmallLaws.{below-or-not}
 use Rattle.sets.specs.declared.Set.{Set}
 use Rattle.plans.specs.declared.Alloc.{Alloc}
@@ -186,8 +185,8 @@ module _ (t : Set) (a : Alloc) (P : Plan t a) (s : Run) (K : Kept t a s) where
   pub after-visit : (ask : ℕ) → ((s .ring .clock ≤ mostClock) × (after s (visit ask) ≡ movedRun ask)) ⊎ (after s (visit ask) ≡ s)
   unfolding after noted
   after-visit ask =
-      ⊎-elim (λ (late : mostClock < s .ring .clock). inr (rw (visit-stops (s .ring) ask kept-sound late)))
-      (λ (early : s .ring .clock ≤ mostClock). inl (early, rw (visit-goes (s .ring) ask kept-sound early)))
+      ⊎-elim (λ (late : mostClock < s .ring .clock). inr (rw (visit-stops (s .ring) ask kept-sound late) refl))
+      (λ (early : s .ring .clock ≤ mostClock). inl (early, rw (visit-goes (s .ring) ask kept-sound early) refl))
       (below-or-not mostClock (s .ring .clock))
 
   pub after-held : (m : Message) → handInNumber (s .ring) m ≡ 0 → after s (message m) ≡ heldRun m

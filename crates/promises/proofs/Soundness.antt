@@ -6,10 +6,8 @@ use mathlib.Core.List.{List}
 use native.Mathlib.Omega.{arith}
 use native.Mathlib.Nat.{mul-le-mul-left, le-mul-of-pos-right}
 use Rattle.units.specs.Numbers.{mostClock, mostTtrt, mostStations}
-use Rattle.units.specs.Places.{at}
 use Rattle.sets.specs.declared.Set.{Set}
 use Rattle.plans.specs.declared.Alloc.{Alloc}
-use Rattle.rings.specs.State.{count}
 use Rattle.rings.specs.Sound.{Sound, isSound}
 use Rattle.rings.specs.RingLaws.{sound-tests}
 use Rattle.rings.specs.declared.Ring.{Ring}
