@@ -14,8 +14,8 @@ use Rattle.sets.specs.Rules.{countAllowed, numbersAllowed, walkTimeAllowed}
 use Rattle.sets.specs.Judged.{judged}
 use Rattle.sets.specs.SetLaws.{decides-count, decides-numbers, decides-walk, allowed, judged-two, judged-four, judged-five, judged-later}
 use Rattle.sets.specs.declared.Set.{Set}
-use Rattle.plans.specs.Rules.{MeetsRules}
-use Rattle.plans.specs.Planned.{smallestFor, smallestAt, smallestAlloc, tokenFits, blankAlloc, planNumber, planned}
+use Rattle.plans.specs.Rules.{MeetsRules, tokenFits}
+use Rattle.plans.specs.Planned.{smallestFor, smallestAt, smallestAlloc, blankAlloc, planNumber, planned}
 use Rattle.plans.specs.Answer.{IsPlan, Fitting}
 use Rattle.plans.specs.Promised.{KeptBy, Promised}
 use Rattle.plans.specs.PlanLaws.{smallest-meets, smallest-least, smallest-is, smallest-one, smallest-inside, smallest-past, smallest-long, smallest-below, smallest-rules, token-needed, decides-token, answered-number, answered-refused, plan-refused-set, plan-none, plan-found, plan-judged, is-plan, planned-same, judged-plan-same, given-two, given-four, given-five, given-seven, given-none}

@@ -1,5 +1,5 @@
 -- The laws of plans, for the proofs of this layer and those above. No rule stands here.
-use Prim.Native.Nat.{ℕ, zero, suc, _+_, _-_, _*_, _/_, _≤_, _<_}
+use Prim.Native.Nat.{ℕ, zero, suc, _+_, _-_, _*_, _≤_, _<_}
 use mathlib.Core.Path.{_≡_, refl, ap, _∙_}
 use mathlib.Core.Bool.{true, false, _&&_}
 use mathlib.Core.Logic.{_↔_, _≢_, ⊎-elim}
@@ -13,13 +13,13 @@ use Rattle.units.specs.Places.{at, sumBelow, allBelow, fill}
 use Rattle.units.specs.PlaceLaws.{sum-mono, sum-part, all-same, fill-same, sum-same, decides-all, fill-length, fill-inside, fill-outside}
 use Rattle.units.specs.Judging.{orElse}
 use Rattle.units.specs.JudgingLaws.{true-and, Decides, decides-le, decides-both, held, failed, given, given-later, not-given, iff-then, iff-under}
-use Rattle.sets.specs.Rules.{tau, SameSet, CountAllowed, NumbersAllowed, WalkTimeAllowed, countAllowed, numbersAllowed, walkTimeAllowed}
+use Rattle.sets.specs.Rules.{tau, SameSet, CountAllowed, WalkTimeAllowed, countAllowed, numbersAllowed, walkTimeAllowed}
 use Rattle.sets.specs.Judged.{judged, zeros}
 use Rattle.sets.specs.SetLaws.{decides-count, decides-numbers, decides-walk, allowed, judged-rest, judged-keeps, judged-same, tau-same, stations-same}
 use Rattle.sets.specs.declared.Set.{Set}
 use Rattle.units.specs.SmallLaws.{below-or-not, one-more, shares-enough, shares-least}
-use Rattle.plans.specs.Rules.{wholeRotations, alpha, timeWith, leastTime, MeetsDeadlineAt, MeetsRules, AllocInRange, IsSmallest}
-use Rattle.plans.specs.Planned.{smallestWith, smallestFor, smallestAt, inRangeS, deadlineFitsAt, deadlinesFit, tokenFits, allocInRange, judgedPlan, blankAlloc, smallestAlloc, answered, planned}
+use Rattle.plans.specs.Rules.{wholeRotations, alpha, timeWith, leastTime, MeetsDeadlineAt, MeetsRules, AllocInRange, IsSmallest, InRange, KeepsRules, inRangeS, deadlineFitsAt, deadlinesFit, tokenFits, allocInRange}
+use Rattle.plans.specs.Planned.{smallestWith, smallestFor, smallestAt, judgedPlan, blankAlloc, smallestAlloc, answered, planned}
 use Rattle.plans.specs.Answer.{IsPlan}
 use Rattle.plans.specs.declared.Alloc.{Alloc}
 
@@ -242,7 +242,7 @@ plan-judged t h f =
 -- ---- the judgement of a given plan, number by number
 
 module _ (t : Set) (a : Alloc) where
-  decides-given : Decides (numbersAllowed t && allocInRange t (at (a .s))) (NumbersAllowed t × AllocInRange t (at (a .s)))
+  decides-given : Decides (numbersAllowed t && allocInRange t (at (a .s))) (InRange t a)
   decides-given = decides-both _ _ _ _ (decides-numbers t) (decides-alloc t (at (a .s)))
 
   pub given-two : (judgedPlan t a ≡ 2) ↔ ¬ CountAllowed t
@@ -251,13 +251,13 @@ module _ (t : Set) (a : Alloc) where
       given _ _ 2 _ (decides-count t)
       (not-given _ 4 _ 2 (omega arith) (not-given _ 5 _ 2 (omega arith) (not-given _ 7 0 2 (omega arith) (omega arith))))
 
-  pub given-four : (judgedPlan t a ≡ 4) ↔ (CountAllowed t × ¬ (NumbersAllowed t × AllocInRange t (at (a .s))))
+  pub given-four : (judgedPlan t a ≡ 4) ↔ (CountAllowed t × ¬ InRange t a)
   unfolding judgedPlan
   given-four =
       iff-then (given-later _ _ 2 _ 4 (decides-count t) (omega arith))
       (iff-under (given _ _ 4 _ decides-given (not-given _ 5 _ 4 (omega arith) (not-given _ 7 0 4 (omega arith) (omega arith)))))
 
-  pub given-five : (judgedPlan t a ≡ 5) ↔ (CountAllowed t × ((NumbersAllowed t × AllocInRange t (at (a .s))) × ¬ WalkTimeAllowed t))
+  pub given-five : (judgedPlan t a ≡ 5) ↔ (CountAllowed t × (InRange t a × ¬ WalkTimeAllowed t))
   unfolding judgedPlan
   given-five =
       iff-then (given-later _ _ 2 _ 5 (decides-count t) (omega arith))
@@ -265,7 +265,7 @@ module _ (t : Set) (a : Alloc) where
       (iff-then (given-later _ _ 4 _ 5 decides-given (omega arith))
       (iff-under (given _ _ 5 _ (decides-walk t) (not-given _ 7 0 5 (omega arith) (omega arith))))))
 
-  pub given-seven : (judgedPlan t a ≡ 7) ↔ (CountAllowed t × ((NumbersAllowed t × AllocInRange t (at (a .s))) × (WalkTimeAllowed t × ¬ MeetsRules t (at (a .s)))))
+  pub given-seven : (judgedPlan t a ≡ 7) ↔ (CountAllowed t × (InRange t a × (WalkTimeAllowed t × ¬ KeepsRules t a)))
   unfolding judgedPlan
   given-seven =
       iff-then (given-later _ _ 2 _ 7 (decides-count t) (omega arith))
@@ -275,7 +275,7 @@ module _ (t : Set) (a : Alloc) where
       (iff-then (given-later _ _ 5 _ 7 (decides-walk t) (omega arith))
       (iff-under (given _ _ 7 0 (decides-rules t (at (a .s))) (omega arith)))))))
 
-  pub given-none : (judgedPlan t a ≡ 0) ↔ (CountAllowed t × ((NumbersAllowed t × AllocInRange t (at (a .s))) × (WalkTimeAllowed t × MeetsRules t (at (a .s)))))
+  pub given-none : (judgedPlan t a ≡ 0) ↔ (CountAllowed t × (InRange t a × (WalkTimeAllowed t × KeepsRules t a)))
   unfolding judgedPlan
   given-none =
       iff-then (given-later _ _ 2 _ 0 (decides-count t) (omega arith))

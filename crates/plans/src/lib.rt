@@ -2,12 +2,12 @@
 mod shares;
 
 ghost use mathlib.Core.Path.{_≡_};
-ghost use Prim.Native.Nat.{_≤_};
+ghost use Prim.Native.Nat.{_+_, _≤_};
 ghost use Rattle.units.specs.Places.{at, allBelow};
 ghost use Rattle.sets.specs.Rules.{CountAllowed, NumbersAllowed};
-ghost use Rattle.plans.specs.Rules.{leastTime, spareTime};
-ghost use Rattle.plans.specs.Planned.{blankAlloc, smallestAlloc, inRangeS, deadlinesFit, tokenFits, judgedPlan, planned};
-ghost use Rattle.plans.specs.Bounds.{Smallest};
+ghost use Rattle.units.specs.Small.{UpTo};
+ghost use Rattle.plans.specs.Rules.{leastTime, spareTime, inRangeS, deadlinesFit, tokenFits};
+ghost use Rattle.plans.specs.Planned.{blankAlloc, smallestFor, smallestAlloc, judgedPlan, planned};
 use sets::Set;
 use units::numbers;
 
@@ -43,7 +43,7 @@ pub fn least_time(ttrt: u32, d: u32, s: u32) -> u64
 
 // The smallest S that meets the deadline rule.
 pub fn smallest(ttrt: u32, c: u32, d: u32) -> u64
-    ensures { λ r. ⌜ Smallest ttrt c d r ⌝ }
+    ensures { λ r. ⌜ UpTo (c + ttrt) (smallestFor ttrt c d) r ⌝ }
 {
     let m = shares::whole_rotations(ttrt, d);
     let a = shares::alpha(ttrt, d);

@@ -9,7 +9,7 @@ use Rattle.sets.specs.Judged.{judgedThen}
 use Rattle.plans.specs.Rules.{spareTime}
 use Rattle.plans.specs.Planned.{smallestFor, smallestWith, answered, planned}
 use Rattle.plans.proofs.Promised.{promised}
-use Rattle.stars.specs.Allocations.{Case, cases, CaseHolds, SetCase, SetCaseHolds, places, Allocations}
+use Rattle.stars.specs.Allocations.{Case, CaseHolds, SetCase, SetCaseHolds, places, Allocations}
 
 case-holds : (r : Case) → smallestFor 100 (r .c) (r .d) ≡ r .s → CaseHolds r
 case-holds r e = rw (← e) (promised .smallest 100 (r .c) (r .d))

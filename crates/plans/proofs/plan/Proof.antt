@@ -1,10 +1,10 @@
 -- `plan` is right because it keeps the set's number, stores the smallest S at each station, and lets the token rule decide.
 use mathlib.Core.Path.{_≡_, sym, _∙_}
 use borrow.Author.Tests.{not-true, not-false}
-use Rattle.units.specs.Places.{at}
 use Rattle.sets.specs.Judged.{judged}
 use Rattle.sets.specs.SetLaws.{allowed}
-use Rattle.plans.specs.Planned.{tokenFits, smallestAt}
+use Rattle.plans.specs.Rules.{tokenFits}
+use Rattle.plans.specs.Planned.{smallestAt}
 use Rattle.plans.specs.PlanLaws.{token-stored, plan-refused-set, plan-none, plan-found}
 use borrow.Author.Needs.{needs}
 use Rattle.plans.proofs.plan.Statement.{statement}
