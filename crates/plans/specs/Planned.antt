@@ -42,13 +42,13 @@ judgedPlan t a =
 abbrev pub blankAlloc : Alloc
 blankAlloc = record { s = zeros }
 
--- the smallest S at each of the N stations, 0 past them
-abbrev pub smallestAlloc : Set → Alloc
-smallestAlloc t = record { s = fill (t .n) (smallestAt t) zeros }
+-- what planning tries: the smallest S at each of the N stations, 0 past them
+unfoldable pub leastAlloc : Set → Alloc
+leastAlloc t = record { s = fill (t .n) (smallestAt t) zeros }
 
--- the lowest of 2, 4, 5 and 6 that applies; 6 where the smallest S together break the token rule
+-- the lowest of 2, 4, 5 and 6 that applies; 6 where what it tries breaks the token rule
 abbrev pub planNumber : Set → ℕ
-planNumber t = judgedThen t (orElse (tokenFits t (smallestAt t)) noAllocation accepted)
+planNumber t = judgedThen t (orElse (tokenFits t (at (leastAlloc t .s))) noAllocation accepted)
 
 -- a refused answer is blank
 unfoldable pub answered : ℕ → Alloc → Planned
@@ -57,4 +57,4 @@ answered (suc k) a = record { alloc = blankAlloc; number = suc k }
 
 -- planning's answer
 abbrev pub planned : Set → Planned
-planned t = answered (planNumber t) (smallestAlloc t)
+planned t = answered (planNumber t) (leastAlloc t)

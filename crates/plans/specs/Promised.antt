@@ -1,5 +1,5 @@
 -- What is promised of planning and of the judgement of a given plan, beside the contracts; `proofs/Promised.antt` proves it.
-use Prim.Native.Nat.{ℕ, _≤_, _<_}
+use Prim.Native.Nat.{ℕ, _<_}
 use mathlib.Core.Path.{_≡_}
 use mathlib.Core.List.{List}
 use mathlib.Core.Logic.{_↔_, _≢_}
@@ -15,12 +15,10 @@ use Rattle.plans.specs.declared.Planned.{Planned}
 
 -- what a plan that planning answered keeps
 pub record KeptBy (t : Set) (a : Planned) : Type 0 where
-  -- it holds the smallest S at each station, and 0 from N on
+  -- it is the least vector that meets the rules, and 0 from N on
   pub plan : IsPlan t a
-  -- it meets the deadline rule at every station and the token rule
-  pub meets : MeetsRules t (at (a .alloc .s))
-  -- every vector that meets the rules is at least as large at every station
-  pub least : (other : ℕ → ℕ) → MeetsRules t other → (i : ℕ) → i < t .n → at (a .alloc .s) i ≤ other i
+  -- at each station it holds the smallest whole S that meets the station's deadline rule
+  pub smallest : (i : ℕ) → i < t .n → IsSmallest (t .head .ttrt) (at (t .c) i) (at (t .d) i) (at (a .alloc .s) i)
   -- the judgement of that set with that allocation is 0
   pub judged : judgedPlan t (a .alloc) ≡ 0
 

@@ -37,12 +37,20 @@ pub record IsSmallest (ttrt c d s : ℕ) : Type 0 where
 abbrev pub MeetsDeadlineAt : Set → ℕ → ℕ → Type 0
 MeetsDeadlineAt t i s = MeetsDeadline (t .head .ttrt) (at (t .c) i) (at (t .d) i) s
 
+-- the deadline rule of a whole vector: at every station
+abbrev pub MeetsDeadlines : Set → (ℕ → ℕ) → Type 0
+MeetsDeadlines t s = (i : ℕ) → i < t .n → MeetsDeadlineAt t i (s i)
+
 -- both rules, of any vector of numbers whatever
 pub record MeetsRules (t : Set) (s : ℕ → ℕ) : Type 0 where
-  -- the deadline rule at every station
-  pub deadlines : (i : ℕ) → i < t .n → MeetsDeadlineAt t i (s i)
+  pub deadlines : MeetsDeadlines t s
   -- the token rule: the sum of all S at most TTRT − τ, written without a difference
   pub token : sumBelow (t .n) s + tau t ≤ t .head .ttrt
+
+-- s is the least vector: it meets the rules, and is at most every vector that does, at every station
+pub record IsLeast (t : Set) (s : ℕ → ℕ) : Type 0 where
+  pub meets : MeetsRules t s
+  pub least : (other : ℕ → ℕ) → MeetsRules t other → (i : ℕ) → i < t .n → s i ≤ other i
 
 -- A*, the spare time: TTRT − τ − the sum of S
 abbrev pub spareTime : Set → (ℕ → ℕ) → ℕ
