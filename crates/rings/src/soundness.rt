@@ -1,9 +1,7 @@
 // The tests of 8 that follow the test of the set and the allocation.
 use super::Ring;
-use super::places;
 use units::numbers;
 ghost use mathlib.Core.Path.{_≡_};
-ghost use Prim.Native.Nat.{_≤_};
 ghost use mathlib.Core.Bool.{_&&_};
 ghost use Rattle.units.specs.Places.{allBelow};
 ghost use Rattle.units.specs.Judging.{allHold};
@@ -17,7 +15,6 @@ const VISITS_END: u64 = 4_611_686_018_427_387_904;
 
 // The ring's own numbers are sound.
 pub(crate) fn numbers_sound(r: Ring) -> bool
-    requires { ⌜ r .set .n ≤ 128 ⌝ }
     ensures { λ b. ⌜ b ≡ allHold (numberTests r) ⌝ }
 {
     let n = r.set.n;
@@ -31,20 +28,18 @@ pub(crate) fn numbers_sound(r: Ring) -> bool
 
 // No s exceeds S, and u is the sum of S − s.
 fn shares_sound(r: Ring) -> bool
-    requires { ⌜ r .set .n ≤ 128 ⌝ }
     ensures { λ b. ⌜ b ≡ (allBelow (r .set .n) (sentSoundAt r) && unusedSound r) ⌝ }
 {
     let n = r.set.n;
     let share = r.alloc.s;
     let sent = r.sent;
     let within = places::each_within(sent, share, n);
-    let sum = places::unused(share, sent, n);
+    let sum = places::room_first(share, sent, n);
     within & (units::wide(r.unused) == sum)
 }
 
 // No held remainder is above C, and no stored arrival is out of range.
 fn messages_sound(r: Ring) -> bool
-    requires { ⌜ r .set .n ≤ 128 ⌝ }
     ensures { λ b. ⌜ b ≡ (allBelow (r .set .n) (restSoundAt r) && allBelow (r .set .n) (arrivalSoundAt r)) ⌝ }
 {
     let n = r.set.n;

@@ -4,7 +4,6 @@ use mathlib.Core.Bool.{true, false}
 use borrow.Author.Tests.{eq-eqb, ne-eqb}
 use Rattle.units.specs.Judging.{allHold}
 use Rattle.plans.specs.Planned.{judgedPlan}
-use Rattle.plans.specs.PlanLaws.{given-none}
 use Rattle.rings.specs.Sound.{isSound, planSound}
 use borrow.Author.Needs.{needs}
 use Rattle.rings.proofs.sound.Statement.{statement}
@@ -21,9 +20,7 @@ returns c =
     rw refused
 
 numbers-sound-requires : tie.Need-numbers-sound-requires
-numbers-sound-requires c κs =
-    let r = c .before .before .before .before .args .ring in
-    given-none (r .set) (r .alloc) .0 (sym (c .before .judge-plan .ensures) ∙ c .if1 .left) .0 .1
+numbers-sound-requires c κs = search needs
 
 returns-2 : tie.Need-returns-2
 unfolding isSound allHold

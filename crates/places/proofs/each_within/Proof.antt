@@ -1,13 +1,14 @@
 -- `each_within` is right because its flag is the test over the places passed, and it passes the first n.
-use Prim.Native.Nat.{_-_, _≤_}
-use mathlib.Core.Path.{_≡_, sym, _∙_}
+use Prim.Native.Nat.{_-_, _≤_, min}
+use mathlib.Core.Path.{_≡_, sym}
 use native.Mathlib.Omega.{arith}
 use Rattle.units.specs.Places.{at, allBelow}
-use Rattle.units.specs.PlaceLaws.{all-step, all-none}
+use Rattle.units.specs.PlaceLaws.{all-none}
 use lib.Dec.{leb}
+use Rattle.places.proofs.LoopLaws.{tested-next, tested, within-past}
 use borrow.Author.Needs.{needs}
-use Rattle.rings.proofs.places.each_within.Statement.{statement}
-use Rattle.rings.proofs.places.each_within.Tie as tie
+use Rattle.places.proofs.each_within.Statement.{statement}
+use Rattle.places.proofs.each_within.Tie as tie
 
 abbrev Inv-loop : tie.InvT-loop
 Inv-loop n xs most end all₀ i₀ all i = (i ≤ end) × (all ≡ allBelow i (λ j. leb (at xs j) (at most j)))
@@ -41,14 +42,14 @@ loop-less c = search needs
 
 loop-again : tie.Need-loop-again Inv-loop μ-loop
 loop-again c =
-    let start = c .before .before .before in
-    let all : c .before .loop .all ≡ allBelow (c .before .loop .i) (λ j. leb (at (start .args .t1) j) (at (start .args .t2) j)) = c .before .loop .inv .1 in
-    (omega arith, rw (all-step, all))
+    let args = c .before .before .before .args in
+    (omega arith, tested-next (λ j. leb (at (args .t1) j) (at (args .t2) j)) _ _ (c .before .loop .inv .1))
 
 returns : tie.Need-returns Inv-loop μ-loop
 returns c =
-    let end : c .before .loop .i ≡ c .before .before .before .args .n = omega arith in
-    c .before .loop .inv .1 ∙ rw end
+    let args = c .before .before .before .args in
+    let end : c .before .loop .i ≡ min (args .n) 128 = omega arith in
+    tested (λ j. leb (at (args .t1) j) (at (args .t2) j)) _ _ (c .before .loop .inv .1) (args .n) end (within-past (args .t1) (search needs) (at (args .t2)))
 
 pub each-within-spec : {M : Type 1} → statement M
 each-within-spec =

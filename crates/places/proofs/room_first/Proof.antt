@@ -1,18 +1,19 @@
--- `unused` is right because its sum is that of the places passed, and it passes the first n.
-use Prim.Native.Nat.{_-_, _*_, _^_, _≤_}
-use mathlib.Core.Path.{_≡_, sym, _∙_}
+-- `room_first` is right because its sum is that of the places passed, and it passes the first n.
+use Prim.Native.Nat.{_-_, _*_, _^_, _≤_, min}
+use mathlib.Core.Path.{_≡_, refl, sym, _∙_}
 use native.Mathlib.Omega.{arith}
 use Rattle.units.specs.Places.{at, sumBelow}
 use Rattle.units.specs.PlaceLaws.{sum-step, sum-none}
+use Rattle.places.proofs.LoopLaws.{summed, room-past}
 use borrow.Author.Needs.{needs}
-use Rattle.rings.proofs.places.unused.Statement.{statement}
-use Rattle.rings.proofs.places.unused.Tie as tie
+use Rattle.places.proofs.room_first.Statement.{statement}
+use Rattle.places.proofs.room_first.Tie as tie
 
 abbrev Inv-loop : tie.InvT-loop
-Inv-loop n share sent end sum₀ i₀ sum i = (i ≤ end) × (sum ≡ sumBelow i (λ j. at share j - at sent j)) × (sum ≤ i * 2 ^ 32)
+Inv-loop n xs taken end sum₀ i₀ sum i = (i ≤ end) × (sum ≡ sumBelow i (λ j. at xs j - at taken j)) × (sum ≤ i * 2 ^ 32)
 
 abbrev μ-loop : tie.MeasureT-loop
-μ-loop n share sent end sum₀ i₀ sum i = end - i
+μ-loop n xs taken end sum₀ i₀ sum i = end - i
 
 places-requires : tie.Need-places-requires Inv-loop μ-loop
 places-requires c κs = search needs
@@ -55,16 +56,17 @@ loop-again c =
     let at-loop = c .before .before .before .before in
     let args = at-loop .before .before .args in
     let i = at-loop .loop .i in
-    let one : c .room .result ≡ at (args .t1) i - at (args .t2) i = c .room .ensures ∙ rw (c .before .before .wide .ensures .same, c .before .wide2 .ensures .same) in
+    let one : c .room .result ≡ at (args .t1) i - at (args .t2) i = c .room .ensures ∙ rw (c .before .before .wide .ensures .same, c .before .wide2 .ensures .same) refl in
     (omega arith, omega (arith, sum-step i (λ j. at (args .t1) j - at (args .t2) j)), omega arith)
 
 returns : tie.Need-returns Inv-loop μ-loop
 returns c =
-    let end : c .before .loop .i ≡ c .before .before .before .args .n = omega arith in
-    c .before .loop .inv .1 ∙ rw end
+    let args = c .before .before .before .args in
+    let end : c .before .loop .i ≡ min (args .n) 128 = omega arith in
+    summed (λ j. at (args .t1) j - at (args .t2) j) _ _ (c .before .loop .inv .1) (args .n) end (room-past (args .t1) (args .t2) (search needs))
 
-pub unused-spec : {M : Type 1} → statement M
-unused-spec =
+pub room-first-spec : {M : Type 1} → statement M
+room-first-spec =
     tie.close
     (tie.spec
     Inv-loop

@@ -1,20 +1,21 @@
--- `sums_to_last` is right because what is left of the sum is the sum from here to the last, and each place passed holds what was left there.
-use Rattle.units.specs.PlaceLaws.{from-first, from-step}
-use Prim.Native.Nat.{_-_, _≤_}
-use mathlib.Core.Path.{_≡_, sym, _∙_}
+-- `sums_to_last` is right because what is left of the sum is the sum from here to the last, and each place passed holds what was left there, held at the largest.
+use Prim.Native.Nat.{_-_, _≤_, min}
+use mathlib.Core.Path.{_≡_, refl, sym, _∙_}
 use native.Mathlib.Omega.{arith}
+use lib.ListN.{replicate}
 use Rattle.units.specs.Places.{at, sumFrom, fill}
-use Rattle.units.specs.PlaceLaws.{fill-step, fill-none, sum-split}
-use Rattle.sets.specs.Judged.{zeros}
+use Rattle.units.specs.PlaceLaws.{fill-none, from-first, from-step}
+use Rattle.places.specs.Held.{held, sumsToLast}
+use Rattle.places.proofs.LoopLaws.{filled-next, filled}
 use borrow.Author.Needs.{needs}
-use Rattle.rings.proofs.places.sums_to_last.Statement.{statement}
-use Rattle.rings.proofs.places.sums_to_last.Tie as tie
+use Rattle.places.proofs.sums_to_last.Statement.{statement}
+use Rattle.places.proofs.sums_to_last.Tie as tie
 
 abbrev Inv-loop : tie.InvT-loop
-Inv-loop n w end left₀ sums₀ i₀ left sums i = (i ≤ end) × (left ≡ sumFrom i n (at w)) × (sums ≡ fill i (λ j. sumFrom j n (at w)) zeros)
+Inv-loop n xs end left₀ sums₀ i₀ left sums i = (i ≤ end) × (left ≡ sumFrom i n (at xs)) × (sums ≡ fill i (λ j. held (sumFrom j n (at xs))) (replicate 128 0))
 
 abbrev μ-loop : tie.MeasureT-loop
-μ-loop n w end left₀ sums₀ i₀ left sums i = end - i
+μ-loop n xs end left₀ sums₀ i₀ left sums i = end - i
 
 places-requires : tie.Need-places-requires Inv-loop μ-loop
 places-requires c κs = search needs
@@ -27,10 +28,11 @@ loop-holds c =
     let args = c .before .before .args in
     (omega arith, c .sum-first .ensures .sum ∙ sym (from-first (args .n) (at (args .t1))), sym (fill-none _ _))
 
+least-requires : tie.Need-least-requires Inv-loop μ-loop
+least-requires c κs = search needs
+
 cast-stored : tie.Need-cast-stored Inv-loop μ-loop
-cast-stored c =
-    let start = c .before .before .before .before in
-    omega (arith, sum-split (start .args .n) (at (start .args .t1)) (c .before .loop .i) (omega arith))
+cast-stored c = search needs
 
 mul-sums : tie.Need-mul-sums Inv-loop μ-loop
 mul-sums c = search needs
@@ -49,7 +51,7 @@ wide-requires c κs = search needs
 
 sub-left : tie.Need-sub-left Inv-loop μ-loop
 sub-left c =
-    let at-loop = c .before .before in
+    let at-loop = c .before .before .before in
     let args = at-loop .before .before .before .args in
     omega (arith, from-step (args .n) (at (args .t1)) (at-loop .loop .i) (omega arith))
 
@@ -61,17 +63,18 @@ loop-less c = search needs
 
 loop-again : tie.Need-loop-again Inv-loop μ-loop
 loop-again c =
-    let at-loop = c .before .before in
+    let at-loop = c .before .before .before in
     let args = at-loop .before .before .before .args in
     let i = at-loop .loop .i in
-    let left : at-loop .loop .left ≡ sumFrom i (args .n) (at (args .t1)) = at-loop .loop .inv .1 in
-    let filled : at-loop .loop .sums ≡ fill i (λ j. sumFrom j (args .n) (at (args .t1))) zeros = at-loop .loop .inv .2 in
-    (omega arith, omega (arith, from-step (args .n) (at (args .t1)) i (omega arith)), rw (fill-step, filled, left))
+    let stored : c .before .least .result ≡ held (sumFrom i (args .n) (at (args .t1))) = omega arith in
+    (omega arith, omega (arith, from-step (args .n) (at (args .t1)) i (omega arith)), filled-next (λ j. held (sumFrom j (args .n) (at (args .t1)))) (replicate 128 0) i _ (at-loop .loop .inv .2) _ stored)
 
 returns : tie.Need-returns Inv-loop μ-loop
+unfolding sumsToLast
 returns c =
-    let end : c .before .loop .i ≡ c .before .before .before .before .args .n = omega arith in
-    c .before .loop .inv .2 ∙ rw end
+    let args = c .before .before .before .before .args in
+    let end : c .before .loop .i ≡ min (args .n) 128 = omega arith in
+    filled (λ j. held (sumFrom j (args .n) (at (args .t1)))) (replicate 128 0) _ _ (c .before .loop .inv .2) (args .n) end refl
 
 pub sums-to-last-spec : {M : Type 1} → statement M
 sums-to-last-spec =
@@ -82,6 +85,7 @@ sums-to-last-spec =
     places-requires
     sum-first-requires
     loop-holds
+    least-requires
     cast-stored
     mul-sums
     array-write-sums
