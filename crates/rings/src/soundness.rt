@@ -5,7 +5,8 @@ ghost use mathlib.Core.Path.{_≡_};
 ghost use mathlib.Core.Bool.{_&&_};
 ghost use Rattle.units.specs.Places.{allBelow};
 ghost use Rattle.units.specs.Judging.{allHold};
-ghost use Rattle.rings.specs.Sound.{numberTests, sentSoundAt, unusedSound, restSoundAt, arrivalSoundAt};
+ghost use lib.Dec.{leb, ltb};
+ghost use Rattle.rings.specs.Sound.{mostRingClock, visitsEnd, numberTests, sentSoundAt, unusedSound, restSoundAt, arrivalSoundAt};
 
 // The highest clock of a sound ring.
 const MOST_RING_CLOCK: u64 = 1_000_002_000_000;
@@ -21,9 +22,15 @@ pub(crate) fn numbers_sound(r: Ring) -> bool
     let trt = r.trt;
     let trts = places::none_above(trt, r.set.head.ttrt, n);
     let token = r.token < n;
-    let clock = r.clock <= MOST_RING_CLOCK;
-    let visits = r.visits < VISITS_END;
-    token & trts & shares_sound(r) & messages_sound(r) & clock & visits
+    let counts = counts_sound(r.clock, r.visits);
+    token & trts & shares_sound(r) & messages_sound(r) & counts
+}
+
+// The clock is not above its top, and the visit count has not reached its end.
+fn counts_sound(clock: u64, visits: u64) -> bool
+    ensures { λ b. ⌜ b ≡ (leb clock mostRingClock && ltb visits visitsEnd) ⌝ }
+{
+    (clock <= MOST_RING_CLOCK) & (visits < VISITS_END)
 }
 
 // No s exceeds S, and u is the sum of S − s.

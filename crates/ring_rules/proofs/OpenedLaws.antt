@@ -12,9 +12,9 @@ use Rattle.sets.specs.declared.Set.{Set}
 use Rattle.plans.specs.Planned.{judgedPlan}
 use Rattle.plans.specs.PlanLaws.{given-none}
 use Rattle.plans.specs.declared.Alloc.{Alloc}
 use Rattle.rings.specs.Opening.{silentTrt, openedRing}
 use Rattle.rings.specs.Sound.{Sound}
-use Rattle.rings.specs.Promised.{Fresh}
+use Rattle.ring_rules.specs.Promised.{Fresh}
 
 -- every place of a blank array is 0
 zero-at : (i : ℕ) → at zeros i ≡ 0

@@ -11,12 +11,12 @@ use lib.Seq.{getD-set-same, getD-set-other}
 use Rattle.units.specs.Places.{at, raise}
 use Rattle.units.specs.PlaceLaws.{sum-part, raise-inside, raise-length}
 use Rattle.units.specs.JudgingLaws.{true-or-false, true-and, and-true}
 use Rattle.rings.specs.State.{count, share, unusedAt, holds}
 use Rattle.rings.specs.Sound.{Sound}
 use Rattle.rings.specs.Steps.{serves, syncSent, asyncSent, rise, nextToken, moved, completes, recordOf}
-use Rattle.rings.specs.Promised.{Shaped, Amounts, Moved, Completed, NoneCompleted, Done}
+use Rattle.ring_rules.specs.Promised.{Shaped, Amounts, Moved, Completed, NoneCompleted, Done}
 use Rattle.rings.specs.RingLaws.{sound-plan, served, not-served}
 use Rattle.rings.specs.declared.Ring.{Ring}
 
 -- what is sent of a message is within S and what remains
 pub sync-within : (r : Ring) → (syncSent r ≤ share r (r .token)) × (syncSent r ≤ at (r .rest) (r .token))

@@ -9,19 +9,19 @@ use Rattle.sets.specs.declared.Set.{Set}
 use Rattle.plans.specs.Planned.{judgedPlan}
 use Rattle.plans.specs.PlanLaws.{judged-plan-same}
 use Rattle.plans.specs.declared.Alloc.{Alloc}
 use Rattle.rings.specs.Opening.{blankRing, openedRing, opening}
 use Rattle.rings.specs.Sound.{Sound}
 use Rattle.rings.specs.Steps.{syncSent, asyncSent, moved, recordOf, visitNumber, acceptedVisit, refusedVisit, visited}
 use Rattle.rings.specs.HandingIn.{handInNumber, holding, handedIn}
-use Rattle.rings.specs.Promised.{Shaped, Fresh, Done, Held, SameFirst, SameRing, Promised}
+use Rattle.ring_rules.specs.Promised.{Shaped, Fresh, Done, Held, SameFirst, SameRing, Promised}
 use Rattle.rings.specs.RingLaws.{decides-sound, opened-refused, opened-accepted, visit-refused, visit-accepted, visit-passed, taken-refused, taken-accepted, taken-passed}
-use Rattle.rings.proofs.NumberLaws.{opened-number, visited-number, taken-number, visit-eight, visit-thirteen, visit-none, visit-only, message-eight, message-nine, message-ten, message-eleven, message-twelve, message-none, message-only}
-use Rattle.rings.proofs.OpenedLaws.{fresh, opened-sound}
-use Rattle.rings.proofs.MovedLaws.{margin-kept, margin-late, done}
-use Rattle.rings.proofs.HeldLaws.{held, held-sound}
-use Rattle.rings.proofs.FirstLaws.{sound-same, visit-number-same, sync-same, async-same, record-same, moved-same, message-number-same, held-same, fresh-same}
+use Rattle.ring_rules.proofs.NumberLaws.{opened-number, visited-number, taken-number, visit-eight, visit-thirteen, visit-none, visit-only, message-eight, message-nine, message-ten, message-eleven, message-twelve, message-none, message-only}
+use Rattle.ring_rules.proofs.OpenedLaws.{fresh, opened-sound}
+use Rattle.ring_rules.proofs.MovedLaws.{margin-kept, margin-late, done}
+use Rattle.ring_rules.proofs.HeldLaws.{held, held-sound}
+use Rattle.ring_rules.proofs.FirstLaws.{sound-same, visit-number-same, sync-same, async-same, record-same, moved-same, message-number-same, held-same, fresh-same}
 use Rattle.rings.specs.declared.Ring.{Ring}
 use Rattle.rings.specs.declared.Message.{Message}
 
 -- a number is 0 or it is not
 zero-or-not : (k : ℕ) → (k ≡ 0) ⊎ (k ≢ 0)

@@ -17,14 +17,14 @@ use Rattle.sets.specs.declared.Set.{Set}
 use Rattle.plans.specs.Planned.{judgedPlan}
 use Rattle.plans.specs.PlanLaws.{judged-plan-same}
 use Rattle.plans.specs.declared.Alloc.{Alloc}
 use Rattle.rings.specs.State.{count, ttrt, unusedAt}
 use Rattle.rings.specs.Sound.{trtSoundAt, sentSoundAt, restSoundAt, arrivalSoundAt, isSound}
 use Rattle.rings.specs.Steps.{limit, syncSent, asyncSent, recordOf, visitNumber}
 use Rattle.rings.specs.HandingIn.{arrivalAllowed, messageNumber, handInNumber}
-use Rattle.rings.specs.Promised.{SameFirst, SameRing, Moved, Held, Fresh}
+use Rattle.ring_rules.specs.Promised.{SameFirst, SameRing, Moved, Held, Fresh}
 use Rattle.rings.specs.declared.Ring.{Ring}
 use Rattle.rings.specs.declared.Message.{Message}
 use Rattle.rings.specs.declared.VisitRecord.{VisitRecord}
 
 equal-or-not : (i j : ℕ) → (i ≡ j) ⊎ (i ≢ j)
 equal-or-not i j =

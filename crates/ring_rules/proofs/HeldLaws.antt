@@ -6,12 +6,12 @@ use lib.ListN.{length, set, length-set}
 use lib.Seq.{getD-set-same, getD-set-other}
 use Rattle.units.specs.Places.{at}
 use Rattle.units.specs.PlaceLaws.{set-each}
 use Rattle.rings.specs.Sound.{Sound}
 use Rattle.rings.specs.HandingIn.{Takes, holding}
-use Rattle.rings.specs.Promised.{Shaped, Held}
+use Rattle.ring_rules.specs.Promised.{Shaped, Held}
 use Rattle.rings.specs.RingLaws.{sound-plan}
 use Rattle.rings.specs.declared.Ring.{Ring}
 use Rattle.rings.specs.declared.Message.{Message}
 
 module _ (r : Ring) (m : Message) (L : Shaped r) (s : Sound r) (t : Takes r m) where
   inside : m .station .0 < 128
