@@ -2,9 +2,9 @@
 use Prim.Native.Nat.{_-_, _≤_, min}
 use mathlib.Core.Path.{_≡_, refl, sym, _∙_}
 use native.Mathlib.Omega.{arith}
-use lib.ListN.{replicate}
 use Rattle.units.specs.Places.{at, sumFrom, fill}
 use Rattle.units.specs.PlaceLaws.{fill-none, from-first, from-step}
+use Rattle.sets.specs.Judged.{zeros}
 use Rattle.places.specs.Held.{held, sumsToLast}
 use Rattle.places.proofs.LoopLaws.{filled-next, filled}
 use borrow.Author.Needs.{needs}
@@ -12,7 +12,7 @@ use Rattle.places.proofs.sums_to_last.Statement.{statement}
 use Rattle.places.proofs.sums_to_last.Tie as tie
 
 abbrev Inv-loop : tie.InvT-loop
-Inv-loop n xs end left₀ sums₀ i₀ left sums i = (i ≤ end) × (left ≡ sumFrom i n (at xs)) × (sums ≡ fill i (λ j. held (sumFrom j n (at xs))) (replicate 128 0))
+Inv-loop n xs end left₀ sums₀ i₀ left sums i = (i ≤ end) × (left ≡ sumFrom i n (at xs)) × (sums ≡ fill i (λ j. held (sumFrom j n (at xs))) zeros)
 
 abbrev μ-loop : tie.MeasureT-loop
 μ-loop n xs end left₀ sums₀ i₀ left sums i = end - i
@@ -67,14 +67,14 @@ loop-again c =
     let args = at-loop .before .before .before .args in
     let i = at-loop .loop .i in
     let stored : c .before .least .result ≡ held (sumFrom i (args .n) (at (args .t1))) = omega arith in
-    (omega arith, omega (arith, from-step (args .n) (at (args .t1)) i (omega arith)), filled-next (λ j. held (sumFrom j (args .n) (at (args .t1)))) (replicate 128 0) i _ (at-loop .loop .inv .2) _ stored)
+    (omega arith, omega (arith, from-step (args .n) (at (args .t1)) i (omega arith)), filled-next (λ j. held (sumFrom j (args .n) (at (args .t1)))) zeros i _ (at-loop .loop .inv .2) _ stored)
 
 returns : tie.Need-returns Inv-loop μ-loop
 unfolding sumsToLast
 returns c =
     let args = c .before .before .before .before .args in
     let end : c .before .loop .i ≡ min (args .n) 128 = omega arith in
-    filled (λ j. held (sumFrom j (args .n) (at (args .t1)))) (replicate 128 0) _ _ (c .before .loop .inv .2) (args .n) end refl
+    filled (λ j. held (sumFrom j (args .n) (at (args .t1)))) zeros _ _ (c .before .loop .inv .2) (args .n) end refl
 
 pub sums-to-last-spec : {M : Type 1} → statement M
 sums-to-last-spec =
