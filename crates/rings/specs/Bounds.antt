@@ -1,9 +1,8 @@
 -- What the inner functions ask for and hand back: the definitions' numbers, and how large they can be.
-use Prim.Native.Nat.{ℕ, _+_, _≤_, _<_, _^_}
+use Prim.Native.Nat.{ℕ, _≤_, _<_, _^_}
 use mathlib.Core.Path.{_≡_}
-use mathlib.Core.List.{List}
 use Rattle.units.specs.Numbers.{mostTtrt, mostD, mostClock}
-use Rattle.units.specs.Places.{at, sumBelow}
+use Rattle.units.specs.Places.{at}
 use Rattle.rings.specs.State.{count, ttrt, share, unusedAt}
 use Rattle.rings.specs.Sound.{visitsEnd}
 use Rattle.rings.specs.Steps.{limit, syncSent}
@@ -42,17 +41,6 @@ pub record Sent (r : Ring) (x : ℕ) : Type 0 where
   pub is : x ≡ syncSent r
   pub allotted : x ≤ share r (r .token)
   pub rest : x ≤ at (r .rest) (r .token)
-
--- each of the first n places can rise by x
-pub record Raisable (xs : List ℕ) (n x : ℕ) : Type 0 where
-  pub few : n ≤ 128
-  pub each : (i : ℕ) → i < n → at xs i + x < 2 ^ 32
-  pub small : x < 2 ^ 32
-
--- the first n places have a sum that one place can hold
-pub record Summable (xs : List ℕ) (n : ℕ) : Type 0 where
-  pub few : n ≤ 128
-  pub small : sumBelow n (at xs) < 2 ^ 32
 
 -- the message is for a station of the ring, whose numbers can be added
 pub record Addressed (r : Ring) (m : Message) : Type 0 where

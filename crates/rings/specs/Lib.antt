@@ -4,7 +4,6 @@
 --     Sound        01's list of unsound states (8), a sentence and a test for each line
 --     Steps        the five steps of a visit, the record, and a visit's answer (8, 13)
 --     HandingIn    what each of 9 to 12 asks, the ring that holds the message, and the answer
---     Promised     what is promised beside the contracts
 --     Bounds       what the inner functions ask for and hand back
 -- and, for the proofs of the layers above:
 --     RingLaws
@@ -15,4 +14,3 @@ pub mod Steps
 pub mod HandingIn
 pub mod Bounds
 pub mod RingLaws
-pub mod Promised

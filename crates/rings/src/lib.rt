@@ -1,7 +1,6 @@
 // The ring by value: opening, the test of soundness, visits and handing in.
 mod messages;
 mod opening;
-mod places;
 mod soundness;
 mod steps;
 

@@ -3,10 +3,18 @@ use super::Message;
 use super::Ring;
 use units::numbers;
 ghost use mathlib.Core.Path.{_≡_};
-ghost use mathlib.Core.Bool.{true};
+ghost use mathlib.Core.Bool.{true, _||_};
+ghost use lib.Dec.{leb, ltb};
 ghost use Rattle.rings.specs.Sound.{isSound};
 ghost use Rattle.rings.specs.HandingIn.{arrivalAllowed, messageNumber, holding};
 ghost use Rattle.rings.specs.Bounds.{Addressed, Holdable};
+
+// The arrival is later than the start of the station's last visit; before its first visit any arrival is.
+fn later_than_start(visits: u64, station: u64, start: u64, arrival: u64) -> bool
+    ensures { λ b. ⌜ b ≡ (leb visits station || ltb start arrival) ⌝ }
+{
+    (visits <= station) | (start < arrival)
+}
 
 // The arrival time is allowed (12).
 fn arrival_allowed(r: Ring, m: Message) -> bool
@@ -20,7 +28,8 @@ fn arrival_allowed(r: Ring, m: Message) -> bool
     let arrivals = r.arrival;
     let marks = r.had;
     let in_range = a <= numbers::MOST_CLOCK;
-    let later = (r.visits <= m.station.0) | (starts[i] < a);
+    let start = starts[i];
+    let later = later_than_start(r.visits, m.station.0, start, a);
     let next = arrivals[i] + units::wide(gaps[i]);
     let gap = (marks[i] == 0) | (next <= a);
     in_range & later & gap

@@ -1,6 +1,5 @@
 // The opened ring, and the blank one.
 use super::Ring;
-use super::places;
 use plans::Alloc;
 use sets::Set;
 ghost use mathlib.Core.Path.{_≡_};

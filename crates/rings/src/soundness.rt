@@ -1,13 +1,12 @@
 // The tests of 8 that follow the test of the set and the allocation.
 use super::Ring;
-use super::places;
 use units::numbers;
 ghost use mathlib.Core.Path.{_≡_};
-ghost use Prim.Native.Nat.{_≤_};
 ghost use mathlib.Core.Bool.{_&&_};
 ghost use Rattle.units.specs.Places.{allBelow};
 ghost use Rattle.units.specs.Judging.{allHold};
-ghost use Rattle.rings.specs.Sound.{numberTests, sentSoundAt, unusedSound, restSoundAt, arrivalSoundAt};
+ghost use lib.Dec.{leb, ltb};
+ghost use Rattle.rings.specs.Sound.{mostRingClock, visitsEnd, numberTests, sentSoundAt, unusedSound, restSoundAt, arrivalSoundAt};
 
 // The highest clock of a sound ring.
 const MOST_RING_CLOCK: u64 = 1_000_002_000_000;
@@ -17,34 +16,37 @@ const VISITS_END: u64 = 4_611_686_018_427_387_904;
 
 // The ring's own numbers are sound.
 pub(crate) fn numbers_sound(r: Ring) -> bool
-    requires { ⌜ r .set .n ≤ 128 ⌝ }
     ensures { λ b. ⌜ b ≡ allHold (numberTests r) ⌝ }
 {
     let n = r.set.n;
     let trt = r.trt;
     let trts = places::none_above(trt, r.set.head.ttrt, n);
     let token = r.token < n;
-    let clock = r.clock <= MOST_RING_CLOCK;
-    let visits = r.visits < VISITS_END;
-    token & trts & shares_sound(r) & messages_sound(r) & clock & visits
+    let counts = counts_sound(r.clock, r.visits);
+    token & trts & shares_sound(r) & messages_sound(r) & counts
+}
+
+// The clock is not above its top, and the visit count has not reached its end.
+fn counts_sound(clock: u64, visits: u64) -> bool
+    ensures { λ b. ⌜ b ≡ (leb clock mostRingClock && ltb visits visitsEnd) ⌝ }
+{
+    (clock <= MOST_RING_CLOCK) & (visits < VISITS_END)
 }
 
 // No s exceeds S, and u is the sum of S − s.
 fn shares_sound(r: Ring) -> bool
-    requires { ⌜ r .set .n ≤ 128 ⌝ }
     ensures { λ b. ⌜ b ≡ (allBelow (r .set .n) (sentSoundAt r) && unusedSound r) ⌝ }
 {
     let n = r.set.n;
     let share = r.alloc.s;
     let sent = r.sent;
     let within = places::each_within(sent, share, n);
-    let sum = places::unused(share, sent, n);
+    let sum = places::room_first(share, sent, n);
     within & (units::wide(r.unused) == sum)
 }
 
 // No held remainder is above C, and no stored arrival is out of range.
 fn messages_sound(r: Ring) -> bool
-    requires { ⌜ r .set .n ≤ 128 ⌝ }
     ensures { λ b. ⌜ b ≡ (allBelow (r .set .n) (restSoundAt r) && allBelow (r .set .n) (arrivalSoundAt r)) ⌝ }
 {
     let n = r.set.n;

@@ -3,7 +3,6 @@ use super::Ring;
 use super::VisitAnswer;
 use super::VisitRecord;
 use super::Visited;
-use super::places;
 use units::Station;
 use units::Ticks;
 ghost use mathlib.Core.Path.{_≡_};

@@ -1,6 +1,6 @@
 -- `visit` is right because it asks the definition's two tests in the definition's order, and then moves by the definition's two amounts.
 use Prim.Native.Nat.{ℕ}
-use mathlib.Core.Path.{_≡_, sym, _∙_}
+use mathlib.Core.Path.{_≡_, refl, sym, _∙_}
 use mathlib.Core.Bool.{true}
 use native.Mathlib.Omega.{arith}
 use borrow.Author.Tests.{not-true, not-false}
@@ -83,7 +83,7 @@ returns-3 c =
     let sent = c .before .before in
     let start = sent .before .before .before .before .before .before .before .before .args in
     let sync : sent .before .before .before .sync-sent .result ≡ syncSent (start .self) = sent .before .before .before .sync-sent .ensures .is in
-    let async : sent .least .result ≡ asyncSent (start .self) (start .ask) = sent .least .ensures ∙ rw (sent .before .before .limit-of .ensures .is, sent .before .wide .ensures .same) in
+    let async : sent .least .result ≡ asyncSent (start .self) (start .ask) = sent .least .ensures ∙ rw (sent .before .before .limit-of .ensures .is, sent .before .wide .ensures .same) refl in
     done (start .self) (start .ask) _ _ _ _ (passed (sent .before .before .before .before)) sync async (c .moved-on .ensures) (c .before .record-of .ensures)
 
 pub visit-spec : {M : Type 1} → statement M

@@ -1,14 +1,18 @@
 -- `arrival_allowed` is right because its body is the definition, test by test.
 use Rattle.rings.specs.HandingIn.{arrivalAllowed}
+use mathlib.Core.Path.{refl}
 use borrow.Author.Needs.{needs}
 use Rattle.rings.proofs.messages.arrival_allowed.Statement.{statement}
 use Rattle.rings.proofs.messages.arrival_allowed.Tie as tie
 
-mul-later : tie.Need-mul-later
-mul-later c = search needs
+mul-start : tie.Need-mul-start
+mul-start c = search needs
 
-array-read-later : tie.Need-array-read-later
-array-read-later c = search needs
+array-read-start : tie.Need-array-read-start
+array-read-start c = search needs
+
+later-than-start-requires : tie.Need-later-than-start-requires
+later-than-start-requires c κs = search needs
 
 mul-next : tie.Need-mul-next
 mul-next c = search needs
@@ -33,14 +37,15 @@ array-read-gap c = search needs
 
 returns : tie.Need-returns
 unfolding arrivalAllowed
-returns c = rw (c .wide .ensures .same)
+returns c = rw (c .before .later-than-start .ensures, c .wide .ensures .same) refl
 
 pub arrival-allowed-spec : {M : Type 1} → statement M
 arrival-allowed-spec =
     tie.close
     (tie.spec
-    mul-later
-    array-read-later
+    mul-start
+    array-read-start
+    later-than-start-requires
     mul-next
     array-read-next
     mul-wide

@@ -1,5 +1,5 @@
 -- `message_number` is right because it asks the definition's tests in the definition's order, and stops at the first that fails.
-use mathlib.Core.Path.{_≡_, sym, _∙_}
+use mathlib.Core.Path.{_≡_, refl, sym, _∙_}
 use mathlib.Core.Bool.{true, false, _&&_}
 use native.Mathlib.Omega.{arith}
 use borrow.Author.Tests.{not-true, not-false, ltb-true, ltb-false, lt-ltb, le-ltb, eq-eqb, ne-eqb}
@@ -27,7 +27,7 @@ known c = lt-ltb _ _ (below c)
 
 -- the length's test is the definition's
 length-said : (c : tie.After-wide2) → (leb 1 (c .before .before .before .before .before .before .before .args .m .length .0) && leb (c .before .before .before .before .before .before .before .args .m .length .0) (c .wide2 .result)) ≡ lengthAllowed (c .before .before .before .before .before .before .before .args .r) (c .before .before .before .before .before .before .before .args .m)
-length-said c = rw (c .wide2 .ensures .same)
+length-said c = rw (c .wide2 .ensures .same) refl
 
 allowed : (c : tie.Else2) → lengthAllowed (c .before .before .before .before .before .before .before .before .before .args .r) (c .before .before .before .before .before .before .before .before .before .args .m) ≡ true
 allowed c = sym (length-said (c .before .before)) ∙ not-false _ (c .if2 .left)

@@ -1,4 +1,5 @@
 -- `completes_with` is right because its body is the definition, test by test.
+use mathlib.Core.Path.{refl}
 use borrow.Author.Needs.{needs}
 use Rattle.rings.proofs.steps.completes_with.Statement.{statement}
 use Rattle.rings.proofs.steps.completes_with.Tie as tie
@@ -19,7 +20,7 @@ room-requires : tie.Need-room-requires
 room-requires c κs = search needs
 
 returns : tie.Need-returns
-returns c = rw (c .room .ensures, c .before .wide .ensures .same)
+returns c = rw (c .room .ensures, c .before .wide .ensures .same) refl
 
 pub completes-with-spec : {M : Type 1} → statement M
 completes-with-spec =

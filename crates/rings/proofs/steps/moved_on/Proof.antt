@@ -8,19 +8,27 @@ use native.Mathlib.Omega.{arith}
 use Rattle.rings.specs.declared.Ring.{Ring}
 use Rattle.rings.specs.Steps.{rise, nextToken, unusedAfter, moved}
 use Rattle.units.specs.PlaceLaws.{set-zero}
+use Rattle.rings.specs.Bounds.{Safe, Sendable}
+use Rattle.places.specs.Held.{raisedHeld}
+use Rattle.places.proofs.Promised.{promised}
 use borrow.Author.Needs.{needs}
 use Rattle.rings.proofs.steps.moved_on.Statement.{statement}
 use Rattle.rings.proofs.steps.moved_on.Tie as tie
 
+-- no TRT of a safe ring is held: a visit's rise leaves each far below 2^32
+unheld : (r : Ring) (sync async : ℕ) → Safe r → Sendable r sync async → raisedHeld (count r) (rise r sync async) (set (r .trt) (r .token) 0) ≡ raise (count r) (rise r sync async) (set (r .trt) (r .token) 0)
+unheld r sync async s t =
+    promised .rise-fits (count r) _ (set (r .trt) (r .token) 0) (λ i l. let low = set-zero (r .trt) (r .token) i in let most = s .trts i l in omega arith)
+
 -- a ring is the moved one if its fields are: what is stored first, and then the four that are called for
-stored : (r : Ring) (sync async by : ℕ) (x : Ring) → x .visits ≡ r .visits + 1 → x .clock ≡ r .clock + by → x .last ≡ set (r .last) (r .token) (r .clock) → x .sent ≡ set (r .sent) (r .token) sync → x .rest ≡ set (r .rest) (r .token) (at (r .rest) (r .token) - sync) → x .set ≡ r .set → x .alloc ≡ r .alloc → x .arrival ≡ r .arrival → x .had ≡ r .had → by ≡ rise r sync async → x .trt ≡ raise (count r) by (set (r .trt) (r .token) 0) → x .token ≡ nextToken r → x .unused ≡ unusedAfter r sync → x ≡ moved r sync async
+stored : (r : Ring) (sync async by : ℕ) (x : Ring) → x .visits ≡ r .visits + 1 → x .clock ≡ r .clock + by → x .last ≡ set (r .last) (r .token) (r .clock) → x .sent ≡ set (r .sent) (r .token) sync → x .rest ≡ set (r .rest) (r .token) (at (r .rest) (r .token) - sync) → x .set ≡ r .set → x .alloc ≡ r .alloc → x .arrival ≡ r .arrival → x .had ≡ r .had → by ≡ rise r sync async → x .trt ≡ raisedHeld (count r) by (set (r .trt) (r .token) 0) → x .token ≡ nextToken r → x .unused ≡ unusedAfter r sync → Safe r → Sendable r sync async → x ≡ moved r sync async
 unfolding moved
-stored r sync async by x visits clock last sent rest kept alloc arrival had rises trt token unused =
-    (λ i. record { set = kept i; alloc = alloc i; trt = trt i; sent = sent i; rest = rest i; arrival = arrival i; had = had i; last = last i; clock = clock i; visits = visits i; token = token i; unused = unused i }) ∙ rw rises
+stored r sync async by x visits clock last sent rest kept alloc arrival had rises trt token unused s t =
+    (λ i. record { set = kept i; alloc = alloc i; trt = trt i; sent = sent i; rest = rest i; arrival = arrival i; had = had i; last = last i; clock = clock i; visits = visits i; token = token i; unused = unused i }) ∙ rw (rises, unheld r sync async s t)
 
 returns : tie.Need-returns
 returns c =
-    stored _ _ _ _ _ (omega arith) refl refl refl refl refl refl refl refl (search) (search) (search) (search)
+    stored _ _ _ _ _ (omega arith) refl refl refl refl refl refl refl refl (search) (search) (search) (search) (search) (search)
 
 cast-p : tie.Need-cast-p
 cast-p c = search needs
@@ -49,14 +57,7 @@ cast-raised : tie.Need-cast-raised
 cast-raised c = search needs
 
 raised-requires : tie.Need-raised-requires
-raised-requires c κs =
-    let start = c .before .before .before .before .before in
-    let r = start .args .r in
-    record {
-      few = start .pre .0 .few;
-      each = λ i l. omega (arith, set-zero (r .trt) (r .token) i, start .pre .0 .trts i l);
-      small = omega arith;
-    }
+raised-requires c κs = search needs
 
 mul-next : tie.Need-mul-next
 mul-next c = search needs

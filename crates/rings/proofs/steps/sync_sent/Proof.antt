@@ -1,5 +1,5 @@
 -- `sync_sent` is right because its branch is the definition's own.
-use mathlib.Core.Path.{_≡_, sym, _∙_}
+use mathlib.Core.Path.{_≡_, refl, sym, _∙_}
 use native.Mathlib.Omega.{arith}
 use Prim.Native.Nat.{min}
 use Rattle.units.specs.Places.{at}
@@ -49,7 +49,7 @@ returns : tie.Need-returns
 returns c =
     let then = c .before .before .before .before in
     let r = then .before .before .before .before .before .args .r in
-    let is : c .least .result ≡ min (share r (r .token)) (at (r .rest) (r .token)) = c .least .ensures ∙ rw (c .before .before .wide .ensures .same, c .before .wide2 .ensures .same) in
+    let is : c .least .result ≡ min (share r (r .token)) (at (r .rest) (r .token)) = c .least .ensures ∙ rw (c .before .before .wide .ensures .same, c .before .wide2 .ensures .same) refl in
     record { is = is ∙ sym (served r (then .if1 .taken)); allotted = omega arith; rest = omega arith }
 
 returns-2 : tie.Need-returns-2

@@ -1,0 +1,64 @@
+-- An accepted message is held because three places of the ring are set and nothing else; what was asked of it keeps the ring sound.
+use Prim.Native.Nat.{ℕ, _≤_, _<_}
+use mathlib.Core.Path.{refl, _∙_}
+use native.Mathlib.Omega.{arith}
+use lib.ListN.{length, set, length-set}
+use lib.Seq.{getD-set-same, getD-set-other}
+use Rattle.units.specs.Places.{at}
+use Rattle.units.specs.PlaceLaws.{set-each}
+use Rattle.rings.specs.Sound.{Sound}
+use Rattle.rings.specs.HandingIn.{Takes, holding}
+use Rattle.ring_rules.specs.Promised.{Shaped, Held}
+use Rattle.rings.specs.RingLaws.{sound-plan}
+use Rattle.rings.specs.declared.Ring.{Ring}
+use Rattle.rings.specs.declared.Message.{Message}
+
+module _ (r : Ring) (m : Message) (L : Shaped r) (s : Sound r) (t : Takes r m) where
+  inside : m .station .0 < 128
+  inside = omega (arith, t .known, sound-plan r s .0 .1)
+
+  pub held : Held r m (holding r m)
+  unfolding holding
+  held =
+      let i = m .station .0 in
+      record {
+        rest = getD-set-same (r .rest) i (m .length .0) 0 (omega (arith, inside, L .rest));
+        arrival = getD-set-same (r .arrival) i (m .arrival .0) 0 (omega (arith, inside, L .arrival));
+        had = getD-set-same (r .had) i 1 0 (omega (arith, inside, L .had));
+        rests = λ j n. getD-set-other (r .rest) i j (m .length .0) 0 (omega arith);
+        arrivals = λ j n. getD-set-other (r .arrival) i j (m .arrival .0) 0 (omega arith);
+        hads = λ j n. getD-set-other (r .had) i j 1 0 (omega arith);
+        set = refl;
+        alloc = refl;
+        trt = refl;
+        sent = refl;
+        last = refl;
+        clock = refl;
+        visits = refl;
+        token = refl;
+        unused = refl;
+        shaped =
+            record {
+              trt = L .trt;
+              sent = L .sent;
+              rest = length-set (r .rest) i _ ∙ L .rest;
+              arrival = length-set (r .arrival) i _ ∙ L .arrival;
+              had = length-set (r .had) i _ ∙ L .had;
+              last = L .last;
+            };
+      }
+
+  pub held-sound : Sound (holding r m)
+  unfolding holding
+  held-sound =
+      record {
+        plan = s .plan;
+        token = s .token;
+        trts = s .trts;
+        sents = s .sents;
+        unused = s .unused;
+        rests = λ j l. set-each (r .rest) (m .station .0) j (m .length .0) (λ (x : ℕ). x ≤ at (r .set .c) j) (s .rests j l) (λ e. rw e (t .length .1));
+        arrivals = λ j l. set-each (r .arrival) (m .station .0) j (m .arrival .0) (λ (x : ℕ). x ≤ 1_000_000_000_000) (s .arrivals j l) (λ e. t .arrival .range);
+        clock = s .clock;
+        visits = s .visits;
+      }

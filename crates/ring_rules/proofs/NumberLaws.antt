@@ -1,0 +1,142 @@
+-- Each number is given exactly if its line holds, because each test decides its sentence and the judgement stops at the first that fails.
+use Prim.Native.Nat.{ℕ, zero, suc, _≤_, _<_}
+use mathlib.Core.Path.{_≡_, refl}
+use mathlib.Core.Bool.{Bool, true, false}
+use mathlib.Core.Logic.{_↔_, _⊎_, inl, inr}
+use native.Mathlib.Omega.{arith}
+use borrow.Author.Tests.{ltb-true, lt-ltb, eqb-true, eq-eqb}
+use lib.Dec.{leb}
+use Rattle.units.specs.Numbers.{mostClock}
+use Rattle.units.specs.Places.{at}
+use Rattle.units.specs.Judging.{orElse}
+use Rattle.units.specs.JudgingLaws.{Decides, decides-le, decides-between, given, given-later, not-given, iff-then, iff-under}
+use Rattle.rings.specs.State.{count}
+use Rattle.rings.specs.Opening.{openedWith}
+use Rattle.rings.specs.Sound.{Sound, isSound}
+use Rattle.rings.specs.Steps.{visitNumber, visitedWith}
+use Rattle.rings.specs.HandingIn.{ArrivalAllowed, Takes, stationKnown, lengthAllowed, nothingHeld, arrivalAllowed, handInNumber, takenWith}
+use Rattle.rings.specs.RingLaws.{decides-sound, decides-arrival}
+use Rattle.rings.specs.declared.Ring.{Ring}
+use Rattle.rings.specs.declared.Message.{Message}
+
+-- ---- an answer's number is the judgement's
+
+pub opened-number : (k : ℕ) (r : Ring) → openedWith k r .number ≡ k
+unfolding openedWith
+opened-number zero r = refl
+opened-number (suc k) r = refl
+
+pub visited-number : (k : ℕ) (r : Ring) (ask : ℕ) → visitedWith k r ask .answer .number ≡ k
+unfolding visitedWith
+visited-number zero r ask = refl
+visited-number (suc k) r ask = refl
+
+pub taken-number : (k : ℕ) (r : Ring) (m : Message) → takenWith k r m .number ≡ k
+unfolding takenWith
+taken-number zero r m = refl
+taken-number (suc k) r m = refl
+
+-- ---- the numbers of a visit
+
+pub visit-eight : (r : Ring) → (visitNumber r ≡ 8) ↔ ¬ Sound r
+visit-eight r = given (isSound r) (Sound r) 8 _ (decides-sound r) (not-given _ 13 0 8 (omega arith) (omega arith))
+
+pub visit-thirteen : (r : Ring) → (visitNumber r ≡ 13) ↔ (Sound r × ¬ (r .clock ≤ mostClock))
+visit-thirteen r =
+    iff-then (given-later (isSound r) (Sound r) 8 _ 13 (decides-sound r) (omega arith))
+    (iff-under (given (leb (r .clock) mostClock) _ 13 0 (decides-le (r .clock) mostClock) (omega arith)))
+
+pub visit-none : (r : Ring) → (visitNumber r ≡ 0) ↔ (Sound r × (r .clock ≤ mostClock))
+visit-none r =
+    iff-then (given-later (isSound r) (Sound r) 8 _ 0 (decides-sound r) (omega arith))
+    (iff-under
+    (iff-then (given-later (leb (r .clock) mostClock) _ 13 0 0 (decides-le (r .clock) mostClock) (omega arith)) ((λ h. h .0), λ h. (h, refl))))
+
+pub visit-only : (r : Ring) → (visitNumber r ≡ 0) ⊎ (visitNumber r ≡ 8) ⊎ (visitNumber r ≡ 13)
+unfolding orElse
+visit-only r = go (isSound r) (leb (r .clock) mostClock)
+  where
+    go : (a b : Bool) → (orElse a 8 (orElse b 13 0) ≡ 0) ⊎ (orElse a 8 (orElse b 13 0) ≡ 8) ⊎ (orElse a 8 (orElse b 13 0) ≡ 13)
+    go false b = inr (inl refl)
+    go true false = inr (inr refl)
+    go true true = inl refl
+
+-- ---- the numbers of a handing in
+
+module _ (r : Ring) (m : Message) where
+  decides-known : Decides (stationKnown r m) (m .station .0 < count r)
+  decides-known = (ltb-true _ _, lt-ltb _ _)
+
+  decides-length : Decides (lengthAllowed r m) ((1 ≤ m .length .0) × (m .length .0 ≤ at (r .set .c) (m .station .0)))
+  decides-length = decides-between 1 _ (m .length .0)
+
+  decides-free : Decides (nothingHeld r m) (at (r .rest) (m .station .0) ≡ 0)
+  decides-free = (eqb-true _ _, eq-eqb _ _)
+
+  pub message-eight : (handInNumber r m ≡ 8) ↔ ¬ Sound r
+  message-eight =
+      given (isSound r) (Sound r) 8 _ (decides-sound r)
+      (not-given _ 9 _ 8 (omega arith)
+      (not-given _ 10 _ 8 (omega arith) (not-given _ 11 _ 8 (omega arith) (not-given _ 12 0 8 (omega arith) (omega arith)))))
+
+  pub message-nine : (handInNumber r m ≡ 9) ↔ (Sound r × ¬ (m .station .0 < count r))
+  message-nine =
+      iff-then (given-later (isSound r) (Sound r) 8 _ 9 (decides-sound r) (omega arith))
+      (iff-under
+      (given (stationKnown r m) _ 9 _ decides-known
+      (not-given _ 10 _ 9 (omega arith) (not-given _ 11 _ 9 (omega arith) (not-given _ 12 0 9 (omega arith) (omega arith))))))
+
+  pub message-ten : (handInNumber r m ≡ 10) ↔ (Sound r × ((m .station .0 < count r) × ¬ ((1 ≤ m .length .0) × (m .length .0 ≤ at (r .set .c) (m .station .0)))))
+  message-ten =
+      iff-then (given-later (isSound r) (Sound r) 8 _ 10 (decides-sound r) (omega arith))
+      (iff-under
+      (iff-then (given-later (stationKnown r m) _ 9 _ 10 decides-known (omega arith))
+      (iff-under
+      (given (lengthAllowed r m) _ 10 _ decides-length (not-given _ 11 _ 10 (omega arith) (not-given _ 12 0 10 (omega arith) (omega arith)))))))
+
+  pub message-eleven : (handInNumber r m ≡ 11) ↔ (Sound r × ((m .station .0 < count r) × (((1 ≤ m .length .0) × (m .length .0 ≤ at (r .set .c) (m .station .0))) × ¬ (at (r .rest) (m .station .0) ≡ 0))))
+  message-eleven =
+      iff-then (given-later (isSound r) (Sound r) 8 _ 11 (decides-sound r) (omega arith))
+      (iff-under
+      (iff-then (given-later (stationKnown r m) _ 9 _ 11 decides-known (omega arith))
+      (iff-under
+      (iff-then (given-later (lengthAllowed r m) _ 10 _ 11 decides-length (omega arith))
+      (iff-under (given (nothingHeld r m) _ 11 _ decides-free (not-given _ 12 0 11 (omega arith) (omega arith))))))))
+
+  pub message-twelve : (handInNumber r m ≡ 12) ↔ (Sound r × ((m .station .0 < count r) × (((1 ≤ m .length .0) × (m .length .0 ≤ at (r .set .c) (m .station .0))) × ((at (r .rest) (m .station .0) ≡ 0) × ¬ ArrivalAllowed r m))))
+  message-twelve =
+      iff-then (given-later (isSound r) (Sound r) 8 _ 12 (decides-sound r) (omega arith))
+      (iff-under
+      (iff-then (given-later (stationKnown r m) _ 9 _ 12 decides-known (omega arith))
+      (iff-under
+      (iff-then (given-later (lengthAllowed r m) _ 10 _ 12 decides-length (omega arith))
+      (iff-under
+      (iff-then (given-later (nothingHeld r m) _ 11 _ 12 decides-free (omega arith))
+      (iff-under (given (arrivalAllowed r m) _ 12 0 (decides-arrival r m) (omega arith)))))))))
+
+  pub message-none : (handInNumber r m ≡ 0) ↔ (Sound r × Takes r m)
+  message-none =
+      iff-then (given-later (isSound r) (Sound r) 8 _ 0 (decides-sound r) (omega arith))
+      (iff-under
+      (iff-then (given-later (stationKnown r m) _ 9 _ 0 decides-known (omega arith))
+      (iff-then (iff-under
+      (iff-then (given-later (lengthAllowed r m) _ 10 _ 0 decides-length (omega arith))
+      (iff-under
+      (iff-then (given-later (nothingHeld r m) _ 11 _ 0 decides-free (omega arith))
+      (iff-under (given-later (arrivalAllowed r m) _ 12 0 0 (decides-arrival r m) (omega arith)))))))
+      (λ h. record { known = h .0; length = h .1 .0; free = h .1 .1 .0; arrival = h .1 .1 .1 .0 }, λ t. (t .known, (t .length, (t .free, (t .arrival, refl))))))))
+
+  pub message-only : (handInNumber r m ≡ 0) ⊎ ((8 ≤ handInNumber r m) × (handInNumber r m ≤ 12))
+  unfolding orElse
+  message-only = go (isSound r) (stationKnown r m) (lengthAllowed r m) (nothingHeld r m) (arrivalAllowed r m)
+    where
+      among : Bool → Bool → Bool → Bool → Bool → ℕ
+      among a b c d e = orElse a 8 (orElse b 9 (orElse c 10 (orElse d 11 (orElse e 12 0))))
+
+      go : (a b c d e : Bool) → (among a b c d e ≡ 0) ⊎ ((8 ≤ among a b c d e) × (among a b c d e ≤ 12))
+      go false b c d e = inr (omega arith, omega arith)
+      go true false c d e = inr (omega arith, omega arith)
+      go true true false d e = inr (omega arith, omega arith)
+      go true true true false e = inr (omega arith, omega arith)
+      go true true true true false = inr (omega arith, omega arith)
+      go true true true true true = inl refl

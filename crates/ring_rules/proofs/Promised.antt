@@ -1,0 +1,150 @@
+-- Opening, visits and handing in keep their promises: each answer is the judgement's number with the ring that goes with it, and the laws beside this file say what that ring is.
+use Prim.Native.Nat.{ℕ}
+use mathlib.Core.Path.{_≡_, sym, _∙_}
+use mathlib.Core.Logic.{_⊎_, _≢_, ⊎-elim, inl, inr}
+use native.Mathlib.Omega.{arith}
+use Rattle.units.specs.SmallLaws.{below-or-not}
+use Rattle.sets.specs.Rules.{SameSet}
+use Rattle.sets.specs.declared.Set.{Set}
+use Rattle.plans.specs.Planned.{judgedPlan}
+use Rattle.plans.specs.PlanLaws.{judged-plan-same}
+use Rattle.plans.specs.declared.Alloc.{Alloc}
+use Rattle.rings.specs.Opening.{blankRing, openedRing, opening}
+use Rattle.rings.specs.Sound.{Sound}
+use Rattle.rings.specs.Steps.{syncSent, asyncSent, moved, recordOf, visitNumber, acceptedVisit, refusedVisit, visited}
+use Rattle.rings.specs.HandingIn.{handInNumber, holding, handedIn}
+use Rattle.ring_rules.specs.Promised.{Shaped, Fresh, Done, Held, SameFirst, SameRing, Promised}
+use Rattle.rings.specs.RingLaws.{decides-sound, opened-refused, opened-accepted, visit-refused, visit-accepted, visit-passed, taken-refused, taken-accepted, taken-passed}
+use Rattle.ring_rules.proofs.NumberLaws.{opened-number, visited-number, taken-number, visit-eight, visit-thirteen, visit-none, visit-only, message-eight, message-nine, message-ten, message-eleven, message-twelve, message-none, message-only}
+use Rattle.ring_rules.proofs.OpenedLaws.{fresh, opened-sound}
+use Rattle.ring_rules.proofs.MovedLaws.{margin-kept, margin-late, done}
+use Rattle.ring_rules.proofs.HeldLaws.{held, held-sound}
+use Rattle.ring_rules.proofs.FirstLaws.{sound-same, visit-number-same, sync-same, async-same, record-same, moved-same, message-number-same, held-same, fresh-same}
+use Rattle.rings.specs.declared.Ring.{Ring}
+use Rattle.rings.specs.declared.Message.{Message}
+
+-- a number is 0 or it is not
+zero-or-not : (k : ℕ) → (k ≡ 0) ⊎ (k ≢ 0)
+zero-or-not k = ⊎-elim (λ l. inr (omega arith)) (λ l. inl (omega arith)) (below-or-not 0 k)
+
+-- ---- opening
+
+module _ (t : Set) (a : Alloc) where
+  number-opened : opening t a .number ≡ judgedPlan t a
+  number-opened = opened-number (judgedPlan t a) (openedRing t a)
+
+  ring-opened : opening t a .number ≡ 0 → opening t a .ring ≡ openedRing t a
+  ring-opened e = rw (opened-accepted (judgedPlan t a) (openedRing t a) (sym number-opened ∙ e))
+
+  opening-blank : opening t a .number ≢ 0 → opening t a .ring ≡ blankRing
+  opening-blank n = rw (opened-refused (judgedPlan t a) (openedRing t a) (λ e. n (number-opened ∙ e)))
+
+  opening-fresh : opening t a .number ≡ 0 → Fresh t a (opening t a .ring)
+  opening-fresh e = rw (ring-opened e) (fresh t a (sym number-opened ∙ e))
+
+  opening-sound : opening t a .number ≡ 0 → Sound (opening t a .ring)
+  opening-sound e = rw (ring-opened e) (opened-sound t a (sym number-opened ∙ e))
+
+first-places-opening : (t u : Set) (a b : Alloc) → SameSet t u → SameFirst (t .n) (a .s) (b .s) → (opening t a .number ≡ opening u b .number) × (opening t a .number ≡ 0 → SameRing (opening t a .ring) (opening u b .ring))
+first-places-opening t u a b same alloc =
+    let number : opening t a .number ≡ opening u b .number = number-opened t a ∙ (judged-plan-same t u a b same alloc ∙ sym (number-opened u b)) in
+    (number, λ e. fresh-same t u a b _ _ same alloc (opening-fresh t a e) (opening-fresh u b (sym number ∙ e)))
+
+-- ---- a visit
+
+module _ (r : Ring) (ask : ℕ) where
+  number-visited : visited r ask .answer .number ≡ visitNumber r
+  number-visited = visited-number (visitNumber r) r ask
+
+  accepted : visited r ask .answer .number ≡ 0 → visited r ask ≡ acceptedVisit r ask
+  accepted e = visit-accepted (visitNumber r) r ask (sym number-visited ∙ e)
+
+  refused : visited r ask .answer .number ≢ 0 → visited r ask ≡ refusedVisit r (visitNumber r)
+  refused n = visit-refused (visitNumber r) r ask (λ e. n (number-visited ∙ e))
+
+  passed : visited r ask .answer .number ≡ 0 → Sound r
+  passed e = visit-passed r (sym number-visited ∙ e) .0
+
+  visit-done : Shaped r → visited r ask .answer .number ≡ 0 → Done r ask (visited r ask .ring) (visited r ask .answer .«record»)
+  visit-done L e = rw (accepted e) (done r ask L (passed e))
+
+first-places-visit : (a b : Ring) (ask : ℕ) → Shaped a → Shaped b → SameRing a b → (visited a ask .answer ≡ visited b ask .answer) × SameRing (visited a ask .ring) (visited b ask .ring)
+first-places-visit a b ask La Lb same =
+    let numbers : visitNumber a ≡ visitNumber b = visit-number-same a b same in
+    ⊎-elim (λ (e : visited a ask .answer .number ≡ 0).
+    let f : visited b ask .answer .number ≡ 0 = number-visited b ask ∙ (sym numbers ∙ (sym (number-visited a ask) ∙ e)) in
+    let l = passed a ask e .token in
+    let records : recordOf a (syncSent a) (asyncSent a ask) ≡ recordOf b (syncSent b) (asyncSent b ask) = record-same a b same ask l (syncSent a) (asyncSent a ask) ∙ rw (sync-same a b same ask l, async-same a b same ask l) in
+    let before = done a ask La (passed a ask e) .moved in
+    let after = done b ask Lb (passed b ask f) .moved in
+    rw (accepted a ask e, accepted b ask f)
+    (rw records, moved-same a b same ask l _ _ _ (rw records at before) after))
+    (λ (n : visited a ask .answer .number ≢ 0).
+    rw (refused a ask n, refused b ask (λ f. n (number-visited a ask ∙ (numbers ∙ (sym (number-visited b ask) ∙ f)))))
+    (rw numbers, same))
+    (zero-or-not (visited a ask .answer .number))
+
+-- ---- handing in
+
+module _ (r : Ring) (m : Message) where
+  number-taken : handedIn r m .number ≡ handInNumber r m
+  number-taken = taken-number (handInNumber r m) r m
+
+  ring-taken : handedIn r m .number ≡ 0 → handedIn r m .ring ≡ holding r m
+  ring-taken e = rw (taken-accepted (handInNumber r m) r m (sym number-taken ∙ e))
+
+  message-unchanged : handedIn r m .number ≢ 0 → handedIn r m .ring ≡ r
+  message-unchanged n = rw (taken-refused (handInNumber r m) r m (λ e. n (number-taken ∙ e)))
+
+  message-held : Shaped r → handedIn r m .number ≡ 0 → Held r m (handedIn r m .ring)
+  message-held L e =
+      let p = taken-passed r m (sym number-taken ∙ e) in
+      rw (ring-taken e) (held r m L (p .0) (p .1))
+
+  message-sound : Shaped r → handedIn r m .number ≡ 0 → Sound (handedIn r m .ring)
+  message-sound L e =
+      let p = taken-passed r m (sym number-taken ∙ e) in
+      rw (ring-taken e) (held-sound r m L (p .0) (p .1))
+
+first-places-message : (a b : Ring) (m : Message) → Shaped a → Shaped b → SameRing a b → (handedIn a m .number ≡ handedIn b m .number) × SameRing (handedIn a m .ring) (handedIn b m .ring)
+first-places-message a b m La Lb same =
+    let numbers : handedIn a m .number ≡ handedIn b m .number = number-taken a m ∙ (message-number-same a b same m ∙ sym (number-taken b m)) in (
+      numbers,
+      ⊎-elim (λ (e : handedIn a m .number ≡ 0).
+          held-same a b same m _ _ (taken-passed a m (sym (number-taken a m) ∙ e) .1 .known) (message-held a m La e) (message-held b m Lb (sym numbers ∙ e)))
+          (λ (n : handedIn a m .number ≢ 0). rw (message-unchanged a m n, message-unchanged b m (λ f. n (numbers ∙ f))) same)
+          (zero-or-not (handedIn a m .number)),
+    )
+
+pub promised : Promised
+promised =
+    record {
+      opening-number = number-opened;
+      opening-blank = opening-blank;
+      opening-fresh = opening-fresh;
+      opening-sound = opening-sound;
+      sound = decides-sound;
+      visit-eight = λ r ask. rw (number-visited r ask) (visit-eight r);
+      visit-thirteen = λ r ask. rw (number-visited r ask) (visit-thirteen r);
+      visit-none = λ r ask. rw (number-visited r ask) (visit-none r);
+      visit-only = λ r ask. rw (number-visited r ask) (visit-only r);
+      visit-unchanged = λ r ask n. rw (refused r ask n);
+      visit-blank = λ r ask n. rw (refused r ask n);
+      visit-done = visit-done;
+      margin-kept = margin-kept;
+      margin-late = margin-late;
+      message-eight = λ r m. rw (number-taken r m) (message-eight r m);
+      message-nine = λ r m. rw (number-taken r m) (message-nine r m);
+      message-ten = λ r m. rw (number-taken r m) (message-ten r m);
+      message-eleven = λ r m. rw (number-taken r m) (message-eleven r m);
+      message-twelve = λ r m. rw (number-taken r m) (message-twelve r m);
+      message-none = λ r m. rw (number-taken r m) (message-none r m);
+      message-only = λ r m. rw (number-taken r m) (message-only r m);
+      message-unchanged = message-unchanged;
+      message-held = message-held;
+      message-sound = message-sound;
+      first-places-opening = first-places-opening;
+      first-places-sound = sound-same;
+      first-places-visit = first-places-visit;
+      first-places-message = first-places-message;
+    }

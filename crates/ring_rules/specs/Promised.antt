@@ -1,0 +1,226 @@
+-- What is promised of opening, visits and handing in beside the contracts; `proofs/Promised.antt` proves it. What every run of calls keeps is promised one layer up.
+use Prim.Native.Nat.{ℕ, suc, _+_, _-_, _≤_, _<_, min}
+use mathlib.Core.Path.{_≡_}
+use mathlib.Core.Bool.{true}
+use mathlib.Core.List.{List}
+use mathlib.Core.Logic.{_↔_, _⊎_, _≢_}
+use lib.IntN.{pos, negsuc, subℕ}
+use lib.ListN.{length}
+use Rattle.units.specs.Numbers.{mostClock}
+use Rattle.units.specs.Places.{at, sumBelow, sumFrom}
+use Rattle.sets.specs.Rules.{SameSet}
+use Rattle.sets.specs.declared.Set.{Set}
+use Rattle.plans.specs.Planned.{judgedPlan}
+use Rattle.plans.specs.declared.Alloc.{Alloc}
+use Rattle.rings.specs.State.{count, ttrt, share}
+use Rattle.rings.specs.Opening.{blankRing, opening}
+use Rattle.rings.specs.Sound.{Sound, isSound}
+use Rattle.rings.specs.Steps.{blankRecord, visited}
+use Rattle.rings.specs.HandingIn.{ArrivalAllowed, Takes, handedIn}
+use Rattle.rings.specs.declared.Ring.{Ring}
+use Rattle.rings.specs.declared.Message.{Message}
+use Rattle.rings.specs.declared.VisitRecord.{VisitRecord}
+
+-- the arrays that a ring changes have 128 places, as those of every ring of the code have
+pub record Shaped (r : Ring) : Type 0 where
+  pub trt : length (r .trt) ≡ 128
+  pub sent : length (r .sent) ≡ 128
+  pub rest : length (r .rest) ≡ 128
+  pub arrival : length (r .arrival) ≡ 128
+  pub had : length (r .had) ≡ 128
+  pub last : length (r .last) ≡ 128
+
+-- the list at all places but i is as it was
+abbrev pub SameBut : ℕ → List ℕ → List ℕ → Type 0
+SameBut i xs ys = (j : ℕ) → j ≢ i → at xs j ≡ at ys j
+
+-- ---- opening
+
+-- the ring of a set and an allocation when the silent first rotation has ended
+pub record Fresh (t : Set) (a : Alloc) (r : Ring) : Type 0 where
+  pub set : r .set ≡ t
+  pub alloc : r .alloc ≡ a
+  pub clock : r .clock ≡ 0
+  pub token : r .token ≡ 0
+  -- TRT: the sum of w from the station to station N − 1
+  pub trts : (i : ℕ) → i < t .n → at (r .trt) i ≡ sumFrom i (t .n) (at (t .w))
+  pub sents : (i : ℕ) → at (r .sent) i ≡ 0
+  -- u: the sum of S
+  pub unused : r .unused ≡ sumBelow (t .n) (at (a .s))
+  -- no message is held, and none was ever accepted
+  pub rests : (i : ℕ) → at (r .rest) i ≡ 0
+  pub had : (i : ℕ) → at (r .had) i ≡ 0
+  pub arrivals : (i : ℕ) → at (r .arrival) i ≡ 0
+  -- no station has been visited
+  pub lasts : (i : ℕ) → at (r .last) i ≡ 0
+  pub visits : r .visits ≡ 0
+  pub shaped : Shaped r
+
+-- ---- a visit
+
+-- the two amounts, as the steps have them
+pub record Amounts (r : Ring) (ask : ℕ) (v : VisitRecord) : Type 0 where
+  -- step 1: the larger of TTRT − u − TRT and 0
+  pub limit : v .limit .0 ≡ ttrt r - r .unused - at (r .trt) (r .token)
+  -- step 3: a held message whose arrival is at or before the clock: the smaller of S and what remains
+  pub served : 0 < at (r .rest) (r .token) → at (r .arrival) (r .token) ≤ r .clock → v .synchronous .0 ≡ min (share r (r .token)) (at (r .rest) (r .token))
+  -- a message that arrives after the visit's start is not served
+  pub early : r .clock < at (r .arrival) (r .token) → v .synchronous .0 ≡ 0
+  -- no message, nothing sent
+  pub none : at (r .rest) (r .token) ≡ 0 → v .synchronous .0 ≡ 0
+  -- step 4: the smaller of the limit and the ticks asked for
+  pub offered : v .asynchronous .0 ≡ min (v .limit .0) ask
+
+-- the ring after the visit that the record tells of
+pub record Moved (r next : Ring) (v : VisitRecord) : Type 0 where
+  -- steps 2 and 3: u falls by S − s of before and rises by S − s of now: it has lost what s has gained
+  pub unused : next .unused + v .synchronous .0 ≡ r .unused + at (r .sent) (r .token)
+  pub sent : at (next .sent) (r .token) ≡ v .synchronous .0
+  -- what was sent comes off the remainder
+  pub rest : at (next .rest) (r .token) + v .synchronous .0 ≡ at (r .rest) (r .token)
+  -- step 5: the clock, and every TRT, this station's from 0, rise by sent synchronous + sent asynchronous + w
+  pub clock : next .clock ≡ r .clock + (v .synchronous .0 + v .asynchronous .0 + at (r .set .w) (r .token))
+  pub trt-here : at (next .trt) (r .token) ≡ v .synchronous .0 + v .asynchronous .0 + at (r .set .w) (r .token)
+  pub trt-there : (i : ℕ) → i < count r → i ≢ r .token → at (next .trt) i ≡ at (r .trt) i + (v .synchronous .0 + v .asynchronous .0 + at (r .set .w) (r .token))
+  -- the token moves on, after N − 1 to 0; the visit is counted, and its start kept
+  pub on : r .token + 1 < count r → next .token ≡ r .token + 1
+  pub round : r .token + 1 ≡ count r → next .token ≡ 0
+  pub visits : next .visits ≡ r .visits + 1
+  pub last : at (next .last) (r .token) ≡ r .clock
+  -- nothing else changes
+  pub set : next .set ≡ r .set
+  pub alloc : next .alloc ≡ r .alloc
+  pub arrival : next .arrival ≡ r .arrival
+  pub had : next .had ≡ r .had
+  pub sents : SameBut (r .token) (next .sent) (r .sent)
+  pub rests : SameBut (r .token) (next .rest) (r .rest)
+  pub lasts : SameBut (r .token) (next .last) (r .last)
+  pub shaped : Shaped next
+
+-- a message was completed: its finish is start + s, its margin the deadline less the finish
+pub record Completed (r : Ring) (v : VisitRecord) : Type 0 where
+  pub flag : v .completed ≡ 1
+  pub finish : v .finish .0 ≡ r .clock + v .synchronous .0
+  pub margin : v .margin ≡ subℕ (at (r .arrival) (r .token) + at (r .set .d) (r .token)) (v .finish .0)
+
+-- none was completed: finish and margin are 0, and the flag says so
+pub record NoneCompleted (v : VisitRecord) : Type 0 where
+  pub flag : v .completed ≡ 0
+  pub finish : v .finish .0 ≡ 0
+  pub margin : v .margin ≡ pos 0
+
+-- an accepted visit: the record, and what the ring is then
+pub record Done (r : Ring) (ask : ℕ) (next : Ring) (v : VisitRecord) : Type 0 where
+  pub station : v .station .0 ≡ r .token
+  pub start : v .start .0 ≡ r .clock
+  pub trt : v .trt .0 ≡ at (r .trt) (r .token)
+  pub amounts : Amounts r ask v
+  pub moved : Moved r next v
+  -- a message was held and nothing of it remains: it is completed, and no longer held
+  pub completed : 0 < at (r .rest) (r .token) → at (next .rest) (r .token) ≡ 0 → Completed r v
+  -- else none is
+  pub left : (at (r .rest) (r .token) ≡ 0) ⊎ (0 < at (next .rest) (r .token)) → NoneCompleted v
+
+-- ---- handing in
+
+-- the message is held with its whole length remaining and with its arrival, which is then that station's last accepted one; nothing else in the ring changes
+pub record Held (r : Ring) (m : Message) (next : Ring) : Type 0 where
+  pub rest : at (next .rest) (m .station .0) ≡ m .length .0
+  pub arrival : at (next .arrival) (m .station .0) ≡ m .arrival .0
+  pub had : at (next .had) (m .station .0) ≡ 1
+  pub rests : SameBut (m .station .0) (next .rest) (r .rest)
+  pub arrivals : SameBut (m .station .0) (next .arrival) (r .arrival)
+  pub hads : SameBut (m .station .0) (next .had) (r .had)
+  pub set : next .set ≡ r .set
+  pub alloc : next .alloc ≡ r .alloc
+  pub trt : next .trt ≡ r .trt
+  pub sent : next .sent ≡ r .sent
+  pub last : next .last ≡ r .last
+  pub clock : next .clock ≡ r .clock
+  pub visits : next .visits ≡ r .visits
+  pub token : next .token ≡ r .token
+  pub unused : next .unused ≡ r .unused
+  pub shaped : Shaped next
+
+-- ---- rings are compared over the first N places
+
+-- two lists are the same over the first n places
+abbrev pub SameFirst : ℕ → List ℕ → List ℕ → Type 0
+SameFirst n xs ys = (i : ℕ) → i < n → at xs i ≡ at ys i
+
+-- two rings are the same over their numbers and the first N places
+pub record SameRing (a b : Ring) : Type 0 where
+  pub set : SameSet (a .set) (b .set)
+  pub alloc : SameFirst (count a) (a .alloc .s) (b .alloc .s)
+  pub trt : SameFirst (count a) (a .trt) (b .trt)
+  pub sent : SameFirst (count a) (a .sent) (b .sent)
+  pub rest : SameFirst (count a) (a .rest) (b .rest)
+  pub arrival : SameFirst (count a) (a .arrival) (b .arrival)
+  pub had : SameFirst (count a) (a .had) (b .had)
+  pub last : SameFirst (count a) (a .last) (b .last)
+  pub clock : a .clock ≡ b .clock
+  pub visits : a .visits ≡ b .visits
+  pub token : a .token ≡ b .token
+  pub unused : a .unused ≡ b .unused
+
+-- ---- the promises
+
+pub record Promised : Type 0 where
+  -- opening's number is the judgement of the set and the allocation: 2, 4, 5, 7 or 0
+  pub opening-number : (t : Set) (a : Alloc) → opening t a .number ≡ judgedPlan t a
+  -- a refused opening returns the blank ring
+  pub opening-blank : (t : Set) (a : Alloc) → opening t a .number ≢ 0 → opening t a .ring ≡ blankRing
+  -- an accepted opening returns the ring that 01's sentence has
+  pub opening-fresh : (t : Set) (a : Alloc) → opening t a .number ≡ 0 → Fresh t a (opening t a .ring)
+  -- and that ring is sound
+  pub opening-sound : (t : Set) (a : Alloc) → opening t a .number ≡ 0 → Sound (opening t a .ring)
+  -- the test of soundness holds exactly if the ring keeps 01's list
+  pub sound : (r : Ring) → (isSound r ≡ true) ↔ Sound r
+  -- a visit: 8 exactly if the ring is unsound
+  pub visit-eight : (r : Ring) (ask : ℕ) → (visited r ask .answer .number ≡ 8) ↔ ¬ Sound r
+  -- 13 exactly if it is sound and the clock is above 1,000,000,000,000
+  pub visit-thirteen : (r : Ring) (ask : ℕ) → (visited r ask .answer .number ≡ 13) ↔ (Sound r × ¬ (r .clock ≤ mostClock))
+  -- 0 exactly if neither
+  pub visit-none : (r : Ring) (ask : ℕ) → (visited r ask .answer .number ≡ 0) ↔ (Sound r × (r .clock ≤ mostClock))
+  -- no other number is ever given: for a bad set or allocation inside a ring 8, never 2, 4, 5 or 7
+  pub visit-only : (r : Ring) (ask : ℕ) → (visited r ask .answer .number ≡ 0) ⊎ (visited r ask .answer .number ≡ 8) ⊎ (visited r ask .answer .number ≡ 13)
+  -- a refused visit gives back the very ring
+  pub visit-unchanged : (r : Ring) (ask : ℕ) → visited r ask .answer .number ≢ 0 → visited r ask .ring ≡ r
+  -- and a blank record
+  pub visit-blank : (r : Ring) (ask : ℕ) → visited r ask .answer .number ≢ 0 → visited r ask .answer .«record» ≡ blankRecord
+  -- an accepted visit does the five steps, and the record says so
+  pub visit-done : (r : Ring) (ask : ℕ) → Shaped r → visited r ask .answer .number ≡ 0 → Done r ask (visited r ask .ring) (visited r ask .answer .«record»)
+  -- the margin is exact: above 0, at 0, and below 0 where the finish is late
+  pub margin-kept : (deadline finish k : ℕ) → deadline ≡ finish + k → subℕ deadline finish ≡ pos k
+  pub margin-late : (deadline finish k : ℕ) → finish ≡ deadline + suc k → subℕ deadline finish ≡ negsuc k
+  -- handing in: 8 exactly if the ring is unsound
+  pub message-eight : (r : Ring) (m : Message) → (handedIn r m .number ≡ 8) ↔ ¬ Sound r
+  -- 9 exactly if it is sound and the station number is not below N
+  pub message-nine : (r : Ring) (m : Message) → (handedIn r m .number ≡ 9) ↔ (Sound r × ¬ (m .station .0 < count r))
+  -- 10 exactly if that passes and the length is 0 or above C
+  pub message-ten : (r : Ring) (m : Message) → (handedIn r m .number ≡ 10) ↔ (Sound r × ((m .station .0 < count r) × ¬ ((1 ≤ m .length .0) × (m .length .0 ≤ at (r .set .c) (m .station .0)))))
+  -- 11 exactly if that passes and the station holds an unsent message
+  pub message-eleven : (r : Ring) (m : Message) → (handedIn r m .number ≡ 11) ↔ (Sound r × ((m .station .0 < count r) × (((1 ≤ m .length .0) × (m .length .0 ≤ at (r .set .c) (m .station .0))) × ¬ (at (r .rest) (m .station .0) ≡ 0))))
+  -- 12 exactly if that passes and the arrival is not allowed
+  pub message-twelve : (r : Ring) (m : Message) → (handedIn r m .number ≡ 12) ↔ (Sound r × ((m .station .0 < count r) × (((1 ≤ m .length .0) × (m .length .0 ≤ at (r .set .c) (m .station .0))) × ((at (r .rest) (m .station .0) ≡ 0) × ¬ ArrivalAllowed r m))))
+  -- 0 exactly if all that passes: the clock plays no part, so arrivals may lie ahead of it
+  pub message-none : (r : Ring) (m : Message) → (handedIn r m .number ≡ 0) ↔ (Sound r × Takes r m)
+  -- no other number is ever given
+  pub message-only : (r : Ring) (m : Message) → (handedIn r m .number ≡ 0) ⊎ ((8 ≤ handedIn r m .number) × (handedIn r m .number ≤ 12))
+  -- a refused handing in gives back the very ring
+  pub message-unchanged : (r : Ring) (m : Message) → handedIn r m .number ≢ 0 → handedIn r m .ring ≡ r
+  -- an accepted message is held, and nothing else in the ring changes
+  pub message-held : (r : Ring) (m : Message) → Shaped r → handedIn r m .number ≡ 0 → Held r m (handedIn r m .ring)
+  -- and the ring is as sound as before
+  pub message-sound : (r : Ring) (m : Message) → Shaped r → handedIn r m .number ≡ 0 → Sound (handedIn r m .ring)
+  -- places from N on are never looked at, in opening
+  pub first-places-opening : (t u : Set) (a b : Alloc) → SameSet t u → SameFirst (t .n) (a .s) (b .s)
+      → (opening t a .number ≡ opening u b .number) × (opening t a .number ≡ 0 → SameRing (opening t a .ring) (opening u b .ring))
+  -- in the test of soundness
+  pub first-places-sound : (a b : Ring) → SameRing a b → isSound a ≡ isSound b
+  -- in a visit
+  pub first-places-visit : (a b : Ring) (ask : ℕ) → Shaped a → Shaped b → SameRing a b
+      → (visited a ask .answer ≡ visited b ask .answer) × SameRing (visited a ask .ring) (visited b ask .ring)
+  -- and in handing in
+  pub first-places-message : (a b : Ring) (m : Message) → Shaped a → Shaped b → SameRing a b
+      → (handedIn a m .number ≡ handedIn b m .number) × SameRing (handedIn a m .ring) (handedIn b m .ring)
