@@ -12,12 +12,12 @@ use Rattle.units.specs.SmallLaws.{below-or-not}
 use Rattle.sets.specs.declared.Set.{Set}
 use Rattle.plans.specs.declared.Alloc.{Alloc}
 use Rattle.rings.specs.Sound.{isSound}
-use Rattle.rings.specs.Steps.{visited}
+use Rattle.rings.specs.Steps.{Ask, visited}
 use Rattle.rings.specs.HandingIn.{messageNumber, handedIn, handInNumber}
 use Rattle.rings.specs.RingLaws.{sound-sentences}
 use Rattle.rings.specs.declared.Message.{Message}
 use Rattle.rings.specs.declared.VisitRecord.{VisitRecord}
-use Rattle.promises.specs.Run.{Ask, Call, Run, runOf, ringOf, recordsOf}
+use Rattle.promises.specs.Run.{Call, Run, runOf, ringOf, recordsOf}
 use Rattle.promises.specs.History.{syncStartOf, latestOf, latestFor}
 use Rattle.promises.specs.Facts.{timing}
 use Rattle.promises.specs.Valid.{Common}

@@ -19,8 +19,9 @@ use Rattle.sets.specs.declared.Set.{Set}
 use Rattle.plans.specs.Rules.{leastTime}
 use Rattle.plans.specs.Planned.{judgedPlan}
 use Rattle.plans.specs.declared.Alloc.{Alloc}
+use Rattle.rings.specs.State.{following}
 use Rattle.rings.specs.declared.VisitRecord.{VisitRecord}
-use Rattle.promises.specs.History.{syncStartOf, latest, visitOf, latestOf, following, due}
+use Rattle.promises.specs.History.{syncStartOf, latest, visitOf, latestOf, due}
 use Rattle.promises.specs.Facts.{Timing, VisitCourse, rises}
 
 -- ---- what an accepted plan gives

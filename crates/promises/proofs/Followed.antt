@@ -10,11 +10,12 @@ use Rattle.units.specs.Numbers.{mostClock}
 use Rattle.units.specs.Places.{at}
 use Rattle.sets.specs.declared.Set.{Set}
 use Rattle.plans.specs.declared.Alloc.{Alloc}
+use Rattle.rings.specs.Steps.{Ask}
 use Rattle.rings.specs.HandingIn.{handInNumber}
 use Rattle.rings.specs.declared.Ring.{Ring}
 use Rattle.rings.specs.declared.Message.{Message}
 use Rattle.rings.specs.declared.VisitRecord.{VisitRecord}
-use Rattle.promises.specs.Run.{Ask, Call, visit, message, Run, after, run}
+use Rattle.promises.specs.Run.{Call, visit, message, Run, after, run}
 use Rattle.promises.specs.History.{syncStartOf, sentBy, Somewhere}
 use Rattle.promises.specs.Facts.{Completing, Leaving, Accepting}
 use Rattle.promises.specs.Valid.{StillHeld, CompletedBy, Followed, dueBy}

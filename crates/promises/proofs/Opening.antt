@@ -4,7 +4,6 @@ use mathlib.Core.Path.{_≡_, refl, _∙_}
 use mathlib.Core.List.{[]}
 use mathlib.Core.Logic.{inl, ⊎-elim}
 use native.Mathlib.Omega.{arith}
-use lib.ListN.{getD-replicate, List·getD-eq-default}
 use Rattle.units.specs.Places.{at, sumBelow}
 use Rattle.units.specs.PlaceLaws.{sum-none, sum-split, fill-inside, fill-length}
 use Rattle.units.specs.SmallLaws.{below-or-not}
@@ -13,7 +12,10 @@ use Rattle.sets.specs.declared.Set.{Set}
 use Rattle.plans.specs.Planned.{judgedPlan}
 use Rattle.plans.specs.PlanLaws.{given-none}
 use Rattle.plans.specs.declared.Alloc.{Alloc}
-use Rattle.rings.specs.Opening.{silentTrt, openedRing, openedWith, opening}
+use Rattle.rings.specs.State.{Shaped}
+use Rattle.rings.specs.Timers.{silentTrt, silentTimers}
+use Rattle.rings.specs.Opening.{openedRing}
+use Rattle.rings.specs.RingLaws.{zero-at}
 use Rattle.rings.specs.declared.Ring.{Ring}
 use Rattle.promises.specs.History.{asyncOf, latest, due}
 use Rattle.promises.specs.Facts.{timing}
@@ -21,7 +23,6 @@ use Rattle.promises.proofs.Course.{Plan, Course}
 use Rattle.promises.proofs.Stores.{Stored, Told}
 use Rattle.promises.proofs.Timing.{Timed}
 use Rattle.promises.proofs.Messages.{Messaged}
-use Rattle.promises.proofs.Steps.{Places}
 
 pub plan-of : (t : Set) (a : Alloc) → judgedPlan t a ≡ 0 → Plan t a
 plan-of t a h =
@@ -39,14 +40,10 @@ plan-of t a h =
 
 -- ---- nothing but zeros
 
-at-zeros : (i : ℕ) → at zeros i ≡ 0
-at-zeros i =
-    ⊎-elim (λ (b : i < 128). getD-replicate 128 i 0 0 b) (λ (b : 128 ≤ i). List·getD-eq-default zeros 0 b) (below-or-not i 128)
-
 sum-zeros : (n : ℕ) → sumBelow n (at zeros) ≡ 0
 unfolding sumBelow
 sum-zeros zero = refl
-sum-zeros (suc n) = omega (arith, sum-zeros n, at-zeros n)
+sum-zeros (suc n) = omega (arith, sum-zeros n, zero-at n)
 
 async-nothing : (n : ℕ) → asyncOf n [] ≡ 0
 unfolding asyncOf
@@ -55,8 +52,8 @@ async-nothing n = refl
 -- ---- the opened ring
 
 module _ (t : Set) (a : Alloc) (P : Plan t a) where
-  pub opened-places : Places (openedRing t a)
-  unfolding openedRing
+  pub opened-places : Shaped (openedRing t a)
+  unfolding openedRing silentTimers
   opened-places =
       record {
         trt = fill-length (t .n) (silentTrt t) zeros;
@@ -68,11 +65,11 @@ module _ (t : Set) (a : Alloc) (P : Plan t a) where
       }
 
   opened-trt : (i : ℕ) → i < t .n → at (openedRing t a .trt) i ≡ silentTrt t i
-  unfolding openedRing
+  unfolding openedRing silentTimers
   opened-trt i l = fill-inside (t .n) (silentTrt t) zeros i l (P .few)
 
   pub opened-course : Course t a (timing (openedRing t a)) []
-  unfolding openedRing due latest
+  unfolding openedRing silentTimers due latest
   opened-course =
       record {
         set = refl;
@@ -83,12 +80,12 @@ module _ (t : Set) (a : Alloc) (P : Plan t a) where
         rounds = (0, record { visits = omega arith; walked = omega (arith, sum-none (at (t .w))) });
         bounded = omega arith;
         clock = omega arith;
-        sents = λ i l. omega (arith, at-zeros i);
-        arrived = λ i l. inl (record { latest = refl; early = omega arith; nothing = at-zeros i });
+        sents = λ i l. omega (arith, zero-at i);
+        arrived = λ i l. inl (record { latest = refl; early = omega arith; nothing = zero-at i });
       }
 
   pub opened-timed : Timed t a (timing (openedRing t a)) []
-  unfolding openedRing latest
+  unfolding openedRing silentTimers latest
   opened-timed =
       record {
         course = opened-course;
@@ -103,13 +100,13 @@ module _ (t : Set) (a : Alloc) (P : Plan t a) where
       }
 
   pub opened-stored : (i : ℕ) → i < t .n → Stored t (openedRing t a) i
-  unfolding openedRing
-  opened-stored i l = record { small = omega (arith, at-zeros i); range = omega (arith, at-zeros i) }
+  unfolding openedRing silentTimers
+  opened-stored i l = record { small = omega (arith, zero-at i); range = omega (arith, zero-at i) }
 
   pub opened-told : (i : ℕ) → Told (openedRing t a) [] i
-  unfolding openedRing latest
-  opened-told i = inl (record { latest = refl; had = at-zeros i })
+  unfolding openedRing silentTimers latest
+  opened-told i = inl (record { latest = refl; had = zero-at i })
 
   pub opened-messaged : (i : ℕ) → i < t .n → Messaged t a (openedRing t a) i
-  unfolding openedRing
-  opened-messaged i l = inl (record { none = at-zeros i; ended = inl (at-zeros i) })
+  unfolding openedRing silentTimers
+  opened-messaged i l = inl (record { none = zero-at i; ended = inl (zero-at i) })

@@ -1,5 +1,5 @@
 -- The promises, read off what every run keeps.
-use Prim.Native.Nat.{ℕ, zero, suc, _+_, _≤_, _<_}
+use Prim.Native.Nat.{ℕ, _+_, _≤_, _<_}
 use mathlib.Core.Path.{_≡_, refl, sym, ap, _∙_}
 use mathlib.Core.Bool.{true}
 use mathlib.Core.List.{List, [], _∷_}
@@ -18,14 +18,14 @@ use Rattle.plans.specs.declared.Alloc.{Alloc}
 use Rattle.plans.proofs.Promised.{promised as plans-promised}
 use Rattle.sheets.specs.Reading.{setIn, allocIn, shapeNumber, judgedSheet, readNumber, readSheet, readPlan, readRequest}
 use Rattle.sheets.specs.ReadLaws.{then-none, read-accepted, read-number}
-use Rattle.rings.specs.Opening.{openedRing, openedWith, opening}
-use Rattle.rings.specs.Steps.{visited}
+use Rattle.rings.specs.Opening.{openedRing, opening}
+use Rattle.rings.specs.Steps.{Ask, visited}
 use Rattle.rings.specs.HandingIn.{stationKnown, lengthAllowed, nothingHeld, arrivalAllowed, messageNumber, handedIn}
-use Rattle.rings.specs.RingLaws.{decides-arrival}
+use Rattle.rings.specs.RingLaws.{opened-number, decides-arrival}
 use Rattle.rings.specs.declared.Ring.{Ring}
 use Rattle.rings.specs.declared.Message.{Message}
 use Rattle.rings.specs.declared.VisitRecord.{VisitRecord}
-use Rattle.promises.specs.Run.{Ask, Call, Run, runOf, ringOf, recordsOf}
+use Rattle.promises.specs.Run.{Call, Run, runOf, ringOf, recordsOf}
 use Rattle.promises.specs.History.{syncStartOf, latestOf, Each}
 use Rattle.promises.specs.Facts.{timing, Completing, Leaving}
 use Rattle.promises.specs.Valid.{AheadOf, Regular, FinishesInTime, dueBy, NeverLate, ExactLimits, DeadlinesKept, Valid}
@@ -184,11 +184,6 @@ module _ (t : Set) (a : Alloc) (h : judgedPlan t a ≡ 0) where
       }
 
 -- ---- where plans come from
-
-opened-number : (k : ℕ) (r : Ring) → openedWith k r .number ≡ k
-unfolding openedWith
-opened-number zero r = refl
-opened-number (suc k) r = refl
 
 opens : (t : Set) (a : Alloc) → (opening t a .number ≡ 0) ↔ (judgedPlan t a ≡ 0)
 opens t a =

@@ -10,20 +10,21 @@ use Rattle.units.specs.Places.{at}
 use Rattle.units.specs.SmallLaws.{below-or-not}
 use Rattle.sets.specs.declared.Set.{Set}
 use Rattle.plans.specs.declared.Alloc.{Alloc}
+use Rattle.rings.specs.State.{Shaped}
 use Rattle.rings.specs.Sound.{isSound}
-use Rattle.rings.specs.Steps.{syncSent, asyncSent, moved, recordOf, visitNumber, refusedVisit, acceptedVisit, visited}
-use Rattle.rings.specs.HandingIn.{holding, handInNumber, takenWith, handedIn}
-use Rattle.rings.specs.RingLaws.{visit-0, visit-13, visit-accepted, visit-refused, taken-accepted, taken-refused}
+use Rattle.rings.specs.Steps.{Ask, syncSent, asyncSent, moved, recordOf, visitNumber, refusedVisit, acceptedVisit, visited}
+use Rattle.rings.specs.HandingIn.{holding, handInNumber, handedIn}
+use Rattle.rings.specs.RingLaws.{visit-0, visit-13, visit-accepted, visit-refused, taken-number, taken-accepted, taken-refused}
 use Rattle.rings.specs.declared.Ring.{Ring}
 use Rattle.rings.specs.declared.Message.{Message}
 use Rattle.rings.specs.declared.VisitRecord.{VisitRecord}
-use Rattle.promises.specs.Run.{Ask, Call, visit, message, Run, noted, after, run}
+use Rattle.promises.specs.Run.{Call, visit, message, Run, noted, after, run}
 use Rattle.promises.specs.History.{Each}
 use Rattle.promises.specs.Facts.{timing, VisitCourse, VisitMessages, Accepting, rises}
 use Rattle.promises.specs.Valid.{InTurn, ShareKept}
 use Rattle.promises.proofs.Course.{Plan, Course, course-kept, same-or-not}
 use Rattle.promises.proofs.Stores.{Stored, Told, stored-kept, told-kept, stored-taken, told-taken}
-use Rattle.promises.proofs.Steps.{Places, visit-places, visit-course, visit-messages, holding-places, message-accepts}
+use Rattle.promises.proofs.Steps.{visit-places, visit-course, visit-messages, holding-places, message-accepts}
 
 -- ---- the answers
 
@@ -34,25 +35,19 @@ module _ (r : Ring) (ask : Ask) (sound : isSound r ≡ true) where
   pub visit-stops : mostClock < r .clock → visited r ask ≡ refusedVisit r 13
   visit-stops late = rw (visit-13 r sound late) (visit-refused 13 r ask (omega arith))
 
-module _ (r : Ring) (m : Message) where
-  taken-as : (k : ℕ) → takenWith k r m .number ≡ k
-  unfolding takenWith
-  taken-as zero = refl
-  taken-as (suc k) = refl
-
-  pub message-number : handedIn r m .number ≡ handInNumber r m
-  message-number = taken-as (handInNumber r m)
+pub message-number : (r : Ring) (m : Message) → handedIn r m .number ≡ handInNumber r m
+message-number r m = taken-number (handInNumber r m) r m
 
 -- ---- the run after an accepted call
 
 -- the record of an accepted visit
 abbrev pub made : Run → Ask → VisitRecord
-made s ask = recordOf (s .ring) (syncSent (s .ring)) (asyncSent (s .ring) ask)
+made s ask = recordOf (s .ring) (syncSent (s .ring) (asyncSent (s .ring) ask)) (asyncSent (s .ring) ask)
 
 abbrev pub movedRun : Run → Ask → Run
 movedRun s ask =
     record {
-      ring = moved (s .ring) (syncSent (s .ring)) (asyncSent (s .ring) ask);
+      ring = moved (s .ring) (syncSent (s .ring) (asyncSent (s .ring) ask)) (asyncSent (s .ring) ask);
       records = made s ask ∷ s .records;
       messages = s .messages;
     }
@@ -63,7 +58,7 @@ heldRun s m = record { ring = holding (s .ring) m; records = s .records; message
 -- ---- what every run keeps
 
 pub record Kept (t : Set) (a : Alloc) (s : Run) : Type 0 where
-  pub places : Places (s .ring)
+  pub places : Shaped (s .ring)
   pub course : Course t a (timing (s .ring)) (s .records)
   pub stored : (i : ℕ) → i < t .n → Stored t (s .ring) i
   pub told : (i : ℕ) → Told (s .ring) (s .messages) i
@@ -78,7 +73,7 @@ module _ (t : Set) (a : Alloc) (P : Plan t a) (s : Run) (K : Kept t a s) where
   pub message-parts : (ask : Ask) → VisitMessages t a (s .ring) (movedRun s ask .ring) (made s ask)
   message-parts ask = visit-messages t a (s .ring) (s .records) P (K .course) (K .places) ask
 
-  pub next-places : (ask : Ask) → Places (movedRun s ask .ring)
+  pub next-places : (ask : Ask) → Shaped (movedRun s ask .ring)
   next-places ask = visit-places t a (s .ring) (s .records) P (K .course) (K .places) ask
 
   pub next-stored : (ask : Ask) (i : ℕ) → i < t .n → Stored t (movedRun s ask .ring) i
@@ -101,7 +96,7 @@ module _ (t : Set) (a : Alloc) (P : Plan t a) (s : Run) (K : Kept t a s) where
   pub message-facts : (m : Message) → handInNumber (s .ring) m ≡ 0 → Accepting t (s .ring) (holding (s .ring) m) m
   message-facts m e = message-accepts t a (s .ring) (s .records) m P (K .course) (K .places) e
 
-  pub held-places : (m : Message) → Places (heldRun s m .ring)
+  pub held-places : (m : Message) → Shaped (heldRun s m .ring)
   held-places m = holding-places (s .ring) m (K .places)
 
   pub held-stored : (m : Message) → handInNumber (s .ring) m ≡ 0 → (i : ℕ) → i < t .n → Stored t (heldRun s m .ring) i

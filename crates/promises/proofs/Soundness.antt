@@ -6,6 +6,7 @@ use mathlib.Core.List.{List}
 use native.Mathlib.Omega.{arith}
 use Rattle.sets.specs.declared.Set.{Set}
 use Rattle.plans.specs.declared.Alloc.{Alloc}
+use Rattle.rings.specs.State.{Shaped}
 use Rattle.rings.specs.Sound.{Sound, isSound}
 use Rattle.rings.specs.RingLaws.{sound-tests}
 use Rattle.rings.specs.declared.Ring.{Ring}
@@ -14,23 +15,26 @@ use Rattle.promises.specs.Facts.{timing}
 use Rattle.promises.proofs.Course.{Plan}
 use Rattle.promises.proofs.Stores.{Stored}
 use Rattle.promises.proofs.Timing.{Timed, never-late}
-use Rattle.promises.proofs.Steps.{unused-is, Places}
+use Rattle.promises.proofs.Steps.{unused-is}
 
 module _ (t : Set) (a : Alloc) (r : Ring) (h : List VisitRecord) (P : Plan t a) (T : Timed t a (timing r) h) where
-  sound-of : Places r → ((i : ℕ) → i < t .n → Stored t r i) → Sound r
+  sound-of : Shaped r → ((i : ℕ) → i < t .n → Stored t r i) → Sound r
   sound-of L K =
       let C = T .course in
       record {
         plan = rw (C .set, C .alloc) (P .judged);
         token = rw (C .set) (C .token);
-        trts = rw (C .set) (λ i l. omega (arith, never-late t a (timing r) h T i l, C .sents i l));
+        timers =
+            record {
+              trts = rw (C .set) (λ i l. omega (arith, never-late t a (timing r) h T i l, C .sents i l));
+              unused = unused-is t a r h P C L 0 (T .unused);
+            };
         sents = rw (C .set, C .alloc) (C .sents);
-        unused = unused-is t a r h P C L 0 (T .unused);
         rests = rw (C .set) (λ i l. K i l .small);
         arrivals = rw (C .set) (λ i l. K i l .range);
         clock = omega (arith, C .clock, P .rotation);
         visits = omega (arith, C .bounded);
       }
 
-  pub is-sound : Places r → ((i : ℕ) → i < t .n → Stored t r i) → isSound r ≡ true
+  pub is-sound : Shaped r → ((i : ℕ) → i < t .n → Stored t r i) → isSound r ≡ true
   is-sound L K = sound-tests r (sound-of L K)

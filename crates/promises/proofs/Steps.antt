@@ -7,34 +7,24 @@ use mathlib.Core.Logic.{_⊎_, inl, inr, _≢_, ⊎-elim}
 use native.Mathlib.Omega.{arith}
 use borrow.Author.Tests.{ltb-true, ltb-false, leb-true, leb-false, eqb-true, eqb-false}
 use lib.Dec.{leb, eqb}
-use lib.ListN.{length, set, length-set}
+use lib.ListN.{set, length-set}
 use lib.Seq.{getD-set-same, getD-set-other}
 use Rattle.units.specs.Places.{at, sumBelow}
 use Rattle.units.specs.PlaceLaws.{sum-part, raise-inside, raise-length}
 use Rattle.units.specs.JudgingLaws.{true-or-false, and-true}
 use Rattle.sets.specs.declared.Set.{Set}
 use Rattle.plans.specs.declared.Alloc.{Alloc}
-use Rattle.rings.specs.State.{count, share, unusedAt, holds}
-use Rattle.rings.specs.Steps.{limit, serves, syncSent, asyncSent, rise, nextToken, moved, completes, recordOf}
+use Rattle.rings.specs.State.{count, share, unusedAt, holds, Shaped}
+use Rattle.rings.specs.Timers.{limit, rise, timersAfter}
+use Rattle.rings.specs.Steps.{Ask, serves, syncSent, asyncSent, moved, completes, recordOf}
 use Rattle.rings.specs.HandingIn.{Takes, holding, handInNumber}
-use Rattle.rings.specs.RingLaws.{served, not-served, taken-passed}
+use Rattle.rings.specs.RingLaws.{served, not-served, sync-within, taken-passed}
 use Rattle.rings.specs.declared.Ring.{Ring}
 use Rattle.rings.specs.declared.Message.{Message}
 use Rattle.rings.specs.declared.VisitRecord.{VisitRecord}
-use Rattle.promises.specs.History.{following}
-use Rattle.promises.specs.Run.{Ask}
 use Rattle.promises.specs.Facts.{timing, VisitCourse, VisitTimers, VisitOffer, VisitMessages, Sending, Silent, Completing, Leaving, Accepting}
 use Rattle.promises.proofs.Sums.{sum-lacking}
 use Rattle.promises.proofs.Course.{Plan, Course}
-
--- every array of the ring has its 128 places
-pub record Places (r : Ring) : Type 0 where
-  pub trt : length (r .trt) ≡ 128
-  pub sent : length (r .sent) ≡ 128
-  pub rest : length (r .rest) ≡ 128
-  pub arrival : length (r .arrival) ≡ 128
-  pub had : length (r .had) ≡ 128
-  pub last : length (r .last) ≡ 128
 
 -- ---- tests
 
@@ -44,9 +34,9 @@ and-false false b h = inl refl
 
 -- ---- a visit that sends these two amounts
 
-module _ (r : Ring) (sync async : ℕ) (L : Places r) (few : count r ≤ 128) (below : r .token < count r) where
-  pub moved-places : Places (moved r sync async)
-  unfolding moved
+module _ (r : Ring) (sync async : ℕ) (L : Shaped r) (few : count r ≤ 128) (below : r .token < count r) where
+  pub moved-places : Shaped (moved r sync async)
+  unfolding moved timersAfter
   moved-places =
       record {
         trt = raise-length (count r) (rise r sync async) (set (r .trt) (r .token) 0) ∙ length-set (r .trt) (r .token) 0 ∙ L .trt;
@@ -58,20 +48,20 @@ module _ (r : Ring) (sync async : ℕ) (L : Places r) (few : count r ≤ 128) (b
       }
 
   trt-here : at (moved r sync async .trt) (r .token) ≡ rise r sync async
-  unfolding moved
+  unfolding moved timersAfter
   trt-here =
       omega
       (arith, raise-inside (count r) (rise r sync async) (set (r .trt) (r .token) 0) (r .token) below (omega (arith, length-set (r .trt) (r .token) 0, L .trt)), getD-set-same (r .trt) (r .token) 0 0 (omega (arith, L .trt)))
 
   trt-there : (i : ℕ) → i < count r → i ≢ r .token → at (moved r sync async .trt) i ≡ at (r .trt) i + rise r sync async
-  unfolding moved
+  unfolding moved timersAfter
   trt-there i l b =
       omega
       (arith, raise-inside (count r) (rise r sync async) (set (r .trt) (r .token) 0) i l (omega (arith, length-set (r .trt) (r .token) 0, L .trt)), getD-set-other (r .trt) (r .token) i 0 0 b)
 
   -- the course, of the ring's own plan
   moved-course : sync ≤ share r (r .token) → VisitCourse (r .set) (r .alloc) (timing r) (timing (moved r sync async)) (recordOf r sync async)
-  unfolding moved recordOf following nextToken
+  unfolding moved recordOf
   moved-course within =
       record {
         station = refl;
@@ -90,7 +80,7 @@ module _ (r : Ring) (sync async : ℕ) (L : Places r) (few : count r ≤ 128) (b
 
   -- the timers
   moved-timers : async ≤ limit r → at (r .sent) (r .token) ≤ share r (r .token) → unusedAt r (r .token) ≤ r .unused → sync ≤ share r (r .token) → VisitTimers (r .set) (timing r) (timing (moved r sync async)) (recordOf r sync async)
-  unfolding moved recordOf
+  unfolding moved recordOf timersAfter
   moved-timers offered old enough within =
       record {
         timer = refl;
@@ -105,43 +95,35 @@ moved-offer : (r : Ring) (sync ask : ℕ) → VisitOffer (r .set) (timing r) (re
 unfolding recordOf
 moved-offer r sync ask = record { limit = omega arith; kept = omega arith }
 
--- ---- what is sent of the held message
-
-pub sync-small : (r : Ring) → (syncSent r ≤ share r (r .token)) × (syncSent r ≤ at (r .rest) (r .token))
-sync-small r =
-    ⊎-elim (λ (h : serves r ≡ true). rw (served r h) (omega arith))
-    (λ (h : serves r ≡ false). rw (not-served r h) (omega arith))
-    (true-or-false (serves r))
-
 -- ---- the message half, of the ring's own plan
 
-module _ (r : Ring) (async : ℕ) (L : Places r) (few : count r ≤ 128) (below : r .token < count r) where
-  sending : Sending (r .alloc) r (r .clock) (recordOf r (syncSent r) async) ⊎ Silent r (r .clock) (recordOf r (syncSent r) async)
+module _ (r : Ring) (async : ℕ) (L : Shaped r) (few : count r ≤ 128) (below : r .token < count r) where
+  sending : Sending (r .alloc) r (r .clock) (recordOf r (syncSent r async) async) ⊎ Silent r (r .clock) (recordOf r (syncSent r async) async)
   unfolding recordOf
   sending =
-      ⊎-elim (λ (h : serves r ≡ true).
+      ⊎-elim (λ (h : serves r async ≡ true).
       let both = and-true (holds r (r .token)) (leb (at (r .arrival) (r .token)) (r .clock)) h in
-      inl (record { held = ltb-true _ _ (both .0); arrived = leb-true _ _ (both .1); amount = served r h }))
-      (λ (h : serves r ≡ false).
+      inl (record { held = ltb-true _ _ (both .0); arrived = leb-true _ _ (both .1); amount = served r async h }))
+      (λ (h : serves r async ≡ false).
       inr
       (record {
-        nothing = not-served r h;
+        nothing = not-served r async h;
         reason =
             ⊎-elim (λ (z : holds r (r .token) ≡ false). let l : at (r .rest) (r .token) ≤ 0 = ltb-false _ _ z in inl (omega arith))
             (λ (z : leb (at (r .arrival) (r .token)) (r .clock) ≡ false). inr (leb-false _ _ z))
             (and-false (holds r (r .token)) (leb (at (r .arrival) (r .token)) (r .clock)) h);
       }))
-      (true-or-false (serves r))
+      (true-or-false (serves r async))
 
-  rest-here : at (moved r (syncSent r) async .rest) (r .token) ≡ at (r .rest) (r .token) - syncSent r
+  rest-here : at (moved r (syncSent r async) async .rest) (r .token) ≡ at (r .rest) (r .token) - syncSent r async
   unfolding moved
-  rest-here = getD-set-same (r .rest) (r .token) (at (r .rest) (r .token) - syncSent r) 0 (omega (arith, L .rest))
+  rest-here = getD-set-same (r .rest) (r .token) (at (r .rest) (r .token) - syncSent r async) 0 (omega (arith, L .rest))
 
-  completing : Completing (r .set) r (moved r (syncSent r) async) (r .clock) (recordOf r (syncSent r) async) ⊎ Leaving r (moved r (syncSent r) async) (recordOf r (syncSent r) async)
+  completing : Completing (r .set) r (moved r (syncSent r async) async) (r .clock) (recordOf r (syncSent r async) async) ⊎ Leaving r (moved r (syncSent r async) async) (recordOf r (syncSent r async) async)
   unfolding recordOf
   completing =
-      ⊎-elim (λ (h : completes r (syncSent r) ≡ true).
-      let both = and-true (holds r (r .token)) (eqb (at (r .rest) (r .token) - syncSent r) 0) h in
+      ⊎-elim (λ (h : completes r (syncSent r async) ≡ true).
+      let both = and-true (holds r (r .token)) (eqb (at (r .rest) (r .token) - syncSent r async) 0) h in
       inl
       (record {
         flag = rw h;
@@ -150,25 +132,25 @@ module _ (r : Ring) (async : ℕ) (L : Places r) (few : count r ≤ 128) (below 
         margin = rw h;
         over = rest-here ∙ eqb-true _ _ (both .1);
       }))
-      (λ (h : completes r (syncSent r) ≡ false).
+      (λ (h : completes r (syncSent r async) ≡ false).
       inr
       (record {
         flag = rw h;
         left =
             ⊎-elim (λ (z : holds r (r .token) ≡ false). let l : at (r .rest) (r .token) ≤ 0 = ltb-false _ _ z in inl (omega arith))
-            (λ (z : eqb (at (r .rest) (r .token) - syncSent r) 0 ≡ false).
-            let n : at (r .rest) (r .token) - syncSent r ≢ 0 = eqb-false _ _ z in
+            (λ (z : eqb (at (r .rest) (r .token) - syncSent r async) 0 ≡ false).
+            let n : at (r .rest) (r .token) - syncSent r async ≢ 0 = eqb-false _ _ z in
             inr (omega (arith, rest-here)))
-            (and-false (holds r (r .token)) (eqb (at (r .rest) (r .token) - syncSent r) 0) h);
+            (and-false (holds r (r .token)) (eqb (at (r .rest) (r .token) - syncSent r async) 0) h);
       }))
-      (true-or-false (completes r (syncSent r)))
+      (true-or-false (completes r (syncSent r async)))
 
-  moved-messages : VisitMessages (r .set) (r .alloc) r (moved r (syncSent r) async) (recordOf r (syncSent r) async)
+  moved-messages : VisitMessages (r .set) (r .alloc) r (moved r (syncSent r async) async) (recordOf r (syncSent r async) async)
   unfolding moved recordOf
   moved-messages =
       record {
-        rest-here = omega (arith, rest-here, sync-small r .1);
-        rest-there = λ i b. getD-set-other (r .rest) (r .token) i (at (r .rest) (r .token) - syncSent r) 0 b;
+        rest-here = omega (arith, rest-here, sync-within r async .1);
+        rest-there = λ i b. getD-set-other (r .rest) (r .token) i (at (r .rest) (r .token) - syncSent r async) 0 b;
         arrival = refl;
         had = refl;
         sending = sending;
@@ -177,12 +159,12 @@ module _ (r : Ring) (async : ℕ) (L : Places r) (few : count r ≤ 128) (below 
 
 -- ---- both halves, of the plan with which the ring was opened
 
-module _ (t : Set) (a : Alloc) (r : Ring) (h : List VisitRecord) (P : Plan t a) (C : Course t a (timing r) h) (L : Places r) (ask : Ask) where
+module _ (t : Set) (a : Alloc) (r : Ring) (h : List VisitRecord) (P : Plan t a) (C : Course t a (timing r) h) (L : Shaped r) (ask : Ask) where
   abbrev next : Ring
-  next = moved r (syncSent r) (asyncSent r ask)
+  next = moved r (syncSent r (asyncSent r ask)) (asyncSent r ask)
 
   abbrev made : VisitRecord
-  made = recordOf r (syncSent r) (asyncSent r ask)
+  made = recordOf r (syncSent r (asyncSent r ask)) (asyncSent r ask)
 
   few : count r ≤ 128
   few = rw (C .set) (P .few)
@@ -193,13 +175,13 @@ module _ (t : Set) (a : Alloc) (r : Ring) (h : List VisitRecord) (P : Plan t a) 
   old : at (r .sent) (r .token) ≤ share r (r .token)
   old = rw (C .alloc) (C .sents (r .token) (C .token))
 
-  pub visit-places : Places next
-  visit-places = moved-places r (syncSent r) (asyncSent r ask) L few below
+  pub visit-places : Shaped next
+  visit-places = moved-places r (syncSent r (asyncSent r ask)) (asyncSent r ask) L few below
 
   pub visit-course : VisitCourse t a (timing r) (timing next) made
   visit-course =
       subst₂ (λ (x : Set) (y : Alloc). VisitCourse x y (timing r) (timing next) made) (C .set) (C .alloc)
-      (moved-course r (syncSent r) (asyncSent r ask) L few below (sync-small r .0))
+      (moved-course r (syncSent r (asyncSent r ask)) (asyncSent r ask) L few below (sync-within r (asyncSent r ask) .0))
 
   pub visit-messages : VisitMessages t a r next made
   visit-messages =
@@ -207,7 +189,7 @@ module _ (t : Set) (a : Alloc) (r : Ring) (h : List VisitRecord) (P : Plan t a) 
       (moved-messages r (asyncSent r ask) L few below)
 
   pub visit-offer : VisitOffer t (timing r) made
-  visit-offer = subst (λ (x : Set). VisitOffer x (timing r) made) (C .set) (moved-offer r (syncSent r) ask)
+  visit-offer = subst (λ (x : Set). VisitOffer x (timing r) made) (C .set) (moved-offer r (syncSent r (asyncSent r ask)) ask)
 
   -- u is the sum of S − s
   pub unused-is : r .unused + sumBelow (t .n) (at (r .sent)) ≡ sumBelow (t .n) (at (a .s)) → r .unused ≡ sumBelow (count r) (unusedAt r)
@@ -219,12 +201,12 @@ module _ (t : Set) (a : Alloc) (r : Ring) (h : List VisitRecord) (P : Plan t a) 
   visit-timers whole =
       let enough : unusedAt r (r .token) ≤ r .unused = rw (unused-is whole) (sum-part (count r) (unusedAt r) (r .token) below) in
       subst (λ (x : Set). VisitTimers x (timing r) (timing next) made) (C .set)
-      (moved-timers r (syncSent r) (asyncSent r ask) L few below (omega arith) old enough (sync-small r .0))
+      (moved-timers r (syncSent r (asyncSent r ask)) (asyncSent r ask) L few below (omega arith) old enough (sync-within r (asyncSent r ask) .0))
 
 -- ---- a handing in
 
 module _ (r : Ring) (m : Message) where
-  pub holding-places : Places r → Places (holding r m)
+  pub holding-places : Shaped r → Shaped (holding r m)
   unfolding holding
   holding-places L =
       record {
@@ -236,7 +218,7 @@ module _ (r : Ring) (m : Message) where
         last = L .last;
       }
 
-  holding-accepts : Places r → count r ≤ 128 → Takes r m → Accepting (r .set) r (holding r m) m
+  holding-accepts : Shaped r → count r ≤ 128 → Takes r m → Accepting (r .set) r (holding r m) m
   unfolding holding
   holding-accepts L few A =
       record {
@@ -256,6 +238,6 @@ module _ (r : Ring) (m : Message) where
       }
 
 -- of the plan with which the ring was opened
-pub message-accepts : (t : Set) (a : Alloc) (r : Ring) (h : List VisitRecord) (m : Message) → Plan t a → Course t a (timing r) h → Places r → handInNumber r m ≡ 0 → Accepting t r (holding r m) m
+pub message-accepts : (t : Set) (a : Alloc) (r : Ring) (h : List VisitRecord) (m : Message) → Plan t a → Course t a (timing r) h → Shaped r → handInNumber r m ≡ 0 → Accepting t r (holding r m) m
 message-accepts t a r h m P C L e =
     subst (λ (x : Set). Accepting x r (holding r m) m) (C .set) (holding-accepts r m L (rw (C .set) (P .few)) (taken-passed r m e .1))

@@ -12,12 +12,13 @@ use Rattle.units.specs.Places.{at}
 use Rattle.sets.specs.declared.Set.{Set}
 use Rattle.plans.specs.declared.Alloc.{Alloc}
 use Rattle.plans.specs.Planned.{judgedPlan}
-use Rattle.rings.specs.Opening.{silentTrt}
+use Rattle.rings.specs.Timers.{silentTrt}
+use Rattle.rings.specs.Steps.{Ask}
 use Rattle.rings.specs.HandingIn.{holding, handInNumber}
 use Rattle.rings.specs.declared.Ring.{Ring}
 use Rattle.rings.specs.declared.Message.{Message}
 use Rattle.rings.specs.declared.VisitRecord.{VisitRecord}
-use Rattle.promises.specs.Run.{Ask, Call, Run, opened, runOf}
+use Rattle.promises.specs.Run.{Call, Run, opened, runOf}
 use Rattle.promises.specs.History.{syncStartOf, latestOf, Each}
 use Rattle.promises.specs.Facts.{timing, VisitCourse, VisitTimers, VisitOffer, VisitMessages, Completing, Leaving}
 use Rattle.promises.specs.Valid.{Apart, TimerIsGap, ExactLimit, NoneLate}

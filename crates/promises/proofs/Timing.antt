@@ -12,9 +12,10 @@ use Rattle.units.specs.SmallLaws.{below-or-not}
 use Rattle.sets.specs.Rules.{tau}
 use Rattle.sets.specs.declared.Set.{Set}
 use Rattle.plans.specs.declared.Alloc.{Alloc}
-use Rattle.rings.specs.Opening.{silentTrt}
+use Rattle.rings.specs.Timers.{silentTrt}
+use Rattle.rings.specs.State.{following}
 use Rattle.rings.specs.declared.VisitRecord.{VisitRecord}
-use Rattle.promises.specs.History.{asyncOf, latestOf, following}
+use Rattle.promises.specs.History.{asyncOf, latestOf}
 use Rattle.promises.specs.Facts.{Timing, VisitCourse, VisitTimers, rises}
 use Rattle.promises.proofs.Sums.{sum-grows, sum-changed, sum-kept, sum-between}
 use Rattle.promises.proofs.Windows.{async-step, async-none, async-grows, async-moves}

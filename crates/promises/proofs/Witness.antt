@@ -10,7 +10,9 @@ use Rattle.sets.specs.Judged.{judgedThen}
 use Rattle.plans.specs.Planned.{smallestWith, answered, leastAlloc, judgedPlan}
 use Rattle.rings.specs.Opening.{openedRing, openedWith}
 use Rattle.rings.specs.Sound.{isSound}
-use Rattle.rings.specs.Steps.{syncSent, nextToken, moved, recordOf, visitedWith}
+use Rattle.rings.specs.State.{following}
+use Rattle.rings.specs.Timers.{timersAfter, silentTimers, timersSound}
+use Rattle.rings.specs.Steps.{syncSent, moved, recordOf, visitedWith}
 use Rattle.rings.specs.HandingIn.{arrivalAllowed, holding, takenWith}
 use Rattle.rings.specs.declared.Message.{Message}
 use Rattle.rings.specs.declared.VisitRecord.{VisitRecord}
@@ -21,7 +23,7 @@ use Rattle.promises.specs.Witness.{pair, shares, thirty, waited, row, Ha
 
 -- station 0 may get its second message: the first arrived 250 before, and its last visit started at 202
 regular : Regular pair (runOf pair shares waited) (thirty 250)
-unfolding judgedThen orElse answered leastAlloc sumBelow allBelow fill raise headInRange stationInRange allHold judgedPlan openedRing openedWith isSound syncSent nextToken moved recordOf visitedWith arrivalAllowed holding takenWith noted after run latest
+unfolding judgedThen orElse answered leastAlloc sumBelow allBelow fill raise headInRange stationInRange allHold judgedPlan openedRing openedWith isSound syncSent following timersAfter silentTimers timersSound moved recordOf visitedWith arrivalAllowed holding takenWith noted after run latest
 regular =
     let message : latestFor 0 (runOf pair shares waited .messages) ≡ some (thirty 0) = refl in
     let visit : latestOf 0 (runOf pair shares waited .records) ≡ some (row 0 202 2 83 0 83 0 (pos 0) 0) = refl in
@@ -40,7 +42,7 @@ regular =
     }
 
 pub happens : Happens
-unfolding smallestWith judgedThen orElse answered leastAlloc sumBelow allBelow fill raise headInRange stationInRange allHold judgedPlan openedRing openedWith isSound syncSent nextToken moved recordOf visitedWith arrivalAllowed holding takenWith noted after run
+unfolding smallestWith judgedThen orElse answered leastAlloc sumBelow allBelow fill raise headInRange stationInRange allHold judgedPlan openedRing openedWith isSound syncSent following timersAfter silentTimers timersSound moved recordOf visitedWith arrivalAllowed holding takenWith noted after run
 happens =
     record {
       plan = refl;

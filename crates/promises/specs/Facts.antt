@@ -8,10 +8,11 @@ use Rattle.units.specs.Numbers.{mostClock}
 use Rattle.units.specs.Places.{at}
 use Rattle.sets.specs.declared.Set.{Set}
 use Rattle.plans.specs.declared.Alloc.{Alloc}
+use Rattle.rings.specs.State.{following}
 use Rattle.rings.specs.declared.Ring.{Ring}
 use Rattle.rings.specs.declared.Message.{Message}
 use Rattle.rings.specs.declared.VisitRecord.{VisitRecord}
-use Rattle.promises.specs.History.{following, syncStartOf}
+use Rattle.promises.specs.History.{syncStartOf}
 
 -- ---- the timing of a ring: all that it has beside its messages
 pub record Timing : Type 0 where

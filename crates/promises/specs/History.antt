@@ -4,8 +4,9 @@ use mathlib.Core.Bool.{Bool, cond}
 use mathlib.Core.List.{List, [], _∷_}
 use mathlib.Core.Logic.{_⊎_}
 use mathlib.Core.Option.{Option, none, some}
-use lib.Dec.{ltb, eqb}
+use lib.Dec.{eqb}
 use Rattle.sets.specs.declared.Set.{Set}
+use Rattle.rings.specs.State.{following}
 use Rattle.rings.specs.declared.Message.{Message}
 use Rattle.rings.specs.declared.VisitRecord.{VisitRecord}
 
@@ -44,10 +45,6 @@ latestFor i messages = latest (messageFor i) messages
 unfoldable pub sentBy : ℕ → List VisitRecord → ℕ
 sentBy i [] = 0
 sentBy i (v ∷ before) = cond (visitOf i v) (v .synchronous .0) 0 + sentBy i before
-
--- of n stations the one after i, after n − 1 station 0
-unfoldable pub following : ℕ → ℕ → ℕ
-following n i = cond (ltb (i + 1) n) (i + 1) 0
 
 -- the station whose turn it is: station 0 at first, then the one after the latest visit's
 unfoldable pub due : ℕ → List VisitRecord → ℕ

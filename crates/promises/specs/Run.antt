@@ -4,15 +4,11 @@ use mathlib.Core.List.{List, [], _∷_}
 use Rattle.sets.specs.declared.Set.{Set}
 use Rattle.plans.specs.declared.Alloc.{Alloc}
 use Rattle.rings.specs.Opening.{openedRing}
-use Rattle.rings.specs.Steps.{visited}
+use Rattle.rings.specs.Steps.{Ask, visited}
 use Rattle.rings.specs.HandingIn.{handedIn}
 use Rattle.rings.specs.declared.Ring.{Ring}
 use Rattle.rings.specs.declared.Message.{Message}
 use Rattle.rings.specs.declared.VisitRecord.{VisitRecord}
-
--- what is asked for at a visit: asynchronous ticks
-abbrev pub Ask : Type 0
-Ask = ℕ
 
 -- a call: a visit with what is asked for, or the handing in of a message
 pub data Call : Type 0 where

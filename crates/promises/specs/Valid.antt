@@ -12,14 +12,14 @@ use Rattle.sets.specs.Rules.{tau}
 use Rattle.sets.specs.declared.Set.{Set}
 use Rattle.plans.specs.Rules.{spareTime}
 use Rattle.plans.specs.declared.Alloc.{Alloc}
-use Rattle.rings.specs.Opening.{silentTrt}
+use Rattle.rings.specs.Timers.{silentTrt}
 use Rattle.rings.specs.Sound.{Sound}
-use Rattle.rings.specs.Steps.{visited}
+use Rattle.rings.specs.Steps.{Ask, visited}
 use Rattle.rings.specs.HandingIn.{handedIn}
 use Rattle.rings.specs.declared.Ring.{Ring}
 use Rattle.rings.specs.declared.Message.{Message}
 use Rattle.rings.specs.declared.VisitRecord.{VisitRecord}
-use Rattle.promises.specs.Run.{Ask, Call, message, Run, after, run, runOf, ringOf, recordsOf, messagesOf}
+use Rattle.promises.specs.Run.{Call, message, Run, after, run, runOf, ringOf, recordsOf, messagesOf}
 use Rattle.promises.specs.History.{asyncOf, syncStartOf, latestOf, latestFor, sentBy, due, Each, Somewhere}
 
 -- ---- what each visit keeps: v is its record, `before` are the records of the visits before it, the latest first

@@ -18,8 +18,9 @@ use Rattle.plans.specs.Planned.{judgedPlan}
 use Rattle.plans.specs.PlanLaws.{judged-plan-same}
 use Rattle.plans.specs.declared.Alloc.{Alloc}
 use Rattle.rings.specs.State.{count, ttrt, unusedAt}
-use Rattle.rings.specs.Sound.{trtSoundAt, sentSoundAt, restSoundAt, arrivalSoundAt, isSound}
-use Rattle.rings.specs.Steps.{limit, syncSent, asyncSent, recordOf, visitNumber}
+use Rattle.rings.specs.Timers.{limit, trtSoundAt, timersSound}
+use Rattle.rings.specs.Sound.{sentSoundAt, restSoundAt, arrivalSoundAt, isSound}
+use Rattle.rings.specs.Steps.{Ask, syncSent, asyncSent, recordOf, visitNumber}
 use Rattle.rings.specs.HandingIn.{arrivalAllowed, messageNumber, handInNumber}
 use Rattle.ring_rules.specs.Promised.{SameFirst, SameRing, Moved, Held, Fresh}
 use Rattle.rings.specs.declared.Ring.{Ring}
@@ -42,7 +43,7 @@ module _ (a b : Ring) (e : SameRing a b) where
   ttrt-same = ap (λ (h : Head). h .ttrt) (e .set .header)
 
   pub sound-same : isSound a ≡ isSound b
-  unfolding isSound
+  unfolding isSound timersSound
   sound-same =
       let n = e .set .count in
       let rotation = ttrt-same in
@@ -59,7 +60,7 @@ module _ (a b : Ring) (e : SameRing a b) where
 
   -- ---- a visit
 
-  module _ (ask : ℕ) (l : a .token < count a) where
+  module _ (ask : Ask) (l : a .token < count a) where
     -- the number at the token's station
     here : (xs ys : List ℕ) → SameFirst (count a) xs ys → at xs (a .token) ≡ at ys (b .token)
     here xs ys same = same (a .token) l ∙ ap (at ys) (e .token)
@@ -67,9 +68,9 @@ module _ (a b : Ring) (e : SameRing a b) where
     limit-same : limit a ≡ limit b
     limit-same = rw (here (a .trt) (b .trt) (e .trt), ttrt-same, e .unused)
 
-    pub sync-same : syncSent a ≡ syncSent b
+    pub sync-same : (async : ℕ) → syncSent a async ≡ syncSent b async
     unfolding syncSent
-    sync-same = rw (here (a .rest) (b .rest) (e .rest), here (a .arrival) (b .arrival) (e .arrival), here (a .alloc .s) (b .alloc .s) (e .alloc), e .clock)
+    sync-same async = rw (here (a .rest) (b .rest) (e .rest), here (a .arrival) (b .arrival) (e .arrival), here (a .alloc .s) (b .alloc .s) (e .alloc), e .clock)
 
     pub async-same : asyncSent a ask ≡ asyncSent b ask
     async-same = rw limit-same

@@ -6,9 +6,10 @@ use lib.ListN.{length, set, length-set}
 use lib.Seq.{getD-set-same, getD-set-other}
 use Rattle.units.specs.Places.{at}
 use Rattle.units.specs.PlaceLaws.{set-each}
+use Rattle.rings.specs.State.{Shaped}
 use Rattle.rings.specs.Sound.{Sound}
 use Rattle.rings.specs.HandingIn.{Takes, holding}
-use Rattle.ring_rules.specs.Promised.{Shaped, Held}
+use Rattle.ring_rules.specs.Promised.{Held}
 use Rattle.rings.specs.RingLaws.{sound-plan}
 use Rattle.rings.specs.declared.Ring.{Ring}
 use Rattle.rings.specs.declared.Message.{Message}
@@ -54,9 +55,8 @@ module _ (r : Ring) (m : Message) (L : Shaped r) (s : Sound r) (t : Takes r m) w
       record {
         plan = s .plan;
         token = s .token;
-        trts = s .trts;
+        timers = record { trts = s .timers .trts; unused = s .timers .unused };
         sents = s .sents;
-        unused = s .unused;
         rests = λ j l. set-each (r .rest) (m .station .0) j (m .length .0) (λ (x : ℕ). x ≤ at (r .set .c) j) (s .rests j l) (λ e. rw e (t .length .1));
         arrivals = λ j l. set-each (r .arrival) (m .station .0) j (m .arrival .0) (λ (x : ℕ). x ≤ 1_000_000_000_000) (s .arrivals j l) (λ e. t .arrival .range);
         clock = s .clock;

@@ -11,19 +11,13 @@ use lib.Seq.{getD-set-same, getD-set-other}
 use Rattle.units.specs.Places.{at, raise}
 use Rattle.units.specs.PlaceLaws.{sum-part, raise-inside, raise-length}
 use Rattle.units.specs.JudgingLaws.{true-or-false, true-and, and-true}
-use Rattle.rings.specs.State.{count, share, unusedAt, holds}
+use Rattle.rings.specs.State.{count, following, share, unusedAt, holds, Shaped}
+use Rattle.rings.specs.Timers.{rise, timersAfter}
 use Rattle.rings.specs.Sound.{Sound}
-use Rattle.rings.specs.Steps.{serves, syncSent, asyncSent, rise, nextToken, moved, completes, recordOf}
-use Rattle.ring_rules.specs.Promised.{Shaped, Amounts, Moved, Completed, NoneCompleted, Done}
-use Rattle.rings.specs.RingLaws.{sound-plan, served, not-served}
+use Rattle.rings.specs.Steps.{Ask, serves, syncSent, asyncSent, nextToken, moved, completes, recordOf}
+use Rattle.ring_rules.specs.Promised.{Amounts, Moved, Completed, NoneCompleted, Done}
+use Rattle.rings.specs.RingLaws.{sound-plan, served, not-served, sync-within}
 use Rattle.rings.specs.declared.Ring.{Ring}
-
--- what is sent of a message is within S and what remains
-pub sync-within : (r : Ring) → (syncSent r ≤ share r (r .token)) × (syncSent r ≤ at (r .rest) (r .token))
-sync-within r =
-    ⊎-elim (λ (e : serves r ≡ true). let s = served r e in (omega arith, omega arith))
-    (λ (e : serves r ≡ false). let s = not-served r e in (omega arith, omega arith))
-    (true-or-false (serves r))
 
 -- the margin is exact on both sides of 0
 pub margin-kept : (deadline finish k : ℕ) → deadline ≡ finish + k → subℕ deadline finish ≡ pos k
@@ -36,21 +30,21 @@ margin-late deadline finish k e =
     let d : finish - suc deadline ≡ k = omega arith in
     rw (lt-ltb deadline finish (omega arith)) (ap negsuc d)
 
-module _ (r : Ring) (ask : ℕ) (L : Shaped r) (s : Sound r) where
+module _ (r : Ring) (ask : Ask) (L : Shaped r) (s : Sound r) where
   -- the token's station is one of the places
   inside : r .token < 128
   inside = omega (arith, s .token, sound-plan r s .0 .1)
 
-  amounts : Amounts r ask (recordOf r (syncSent r) (asyncSent r ask))
+  amounts : Amounts r ask (recordOf r (syncSent r (asyncSent r ask)) (asyncSent r ask))
   unfolding recordOf
   amounts =
       record {
         limit = refl;
-        served = λ h l. served r (true-and _ _ (lt-ltb _ _ h) (le-leb _ _ l));
-        early = λ l. ⊎-elim (λ (e : serves r ≡ true). let n : at (r .arrival) (r .token) ≤ r .clock = leb-true _ _ (and-true (holds r (r .token)) _ e .1) in absurd (omega arith))
-            (λ (e : serves r ≡ false). not-served r e)
-            (true-or-false (serves r));
-        none = λ e. omega (arith, sync-within r .1);
+        served = λ h l. served r (asyncSent r ask) (true-and _ _ (lt-ltb _ _ h) (le-leb _ _ l));
+        early = λ l. ⊎-elim (λ (e : serves r (asyncSent r ask) ≡ true). let n : at (r .arrival) (r .token) ≤ r .clock = leb-true _ _ (and-true (holds r (r .token)) _ e .1) in absurd (omega arith))
+            (λ (e : serves r (asyncSent r ask) ≡ false). not-served r (asyncSent r ask) e)
+            (true-or-false (serves r (asyncSent r ask)));
+        none = λ e. omega (arith, sync-within r (asyncSent r ask) .1);
         offered = refl;
       }
 
@@ -69,31 +63,31 @@ module _ (r : Ring) (ask : ℕ) (L : Shaped r) (s : Sound r) where
       omega arith
 
   next-on : r .token + 1 < count r → nextToken r ≡ r .token + 1
-  unfolding nextToken
+  unfolding following
   next-on l = rw (lt-ltb (r .token + 1) (count r) l)
 
   next-round : r .token + 1 ≡ count r → nextToken r ≡ 0
-  unfolding nextToken
+  unfolding following
   next-round e = rw (le-ltb (r .token + 1) (count r) (omega arith))
 
   -- what remains of the held message
-  rest-here : at (moved r (syncSent r) (asyncSent r ask) .rest) (r .token) ≡ at (r .rest) (r .token) - syncSent r
+  rest-here : at (moved r (syncSent r (asyncSent r ask)) (asyncSent r ask) .rest) (r .token) ≡ at (r .rest) (r .token) - syncSent r (asyncSent r ask)
   unfolding moved
-  rest-here = getD-set-same (r .rest) (r .token) (at (r .rest) (r .token) - syncSent r) 0 (omega (arith, inside, L .rest))
+  rest-here = getD-set-same (r .rest) (r .token) (at (r .rest) (r .token) - syncSent r (asyncSent r ask)) 0 (omega (arith, inside, L .rest))
 
-  changed : Moved r (moved r (syncSent r) (asyncSent r ask)) (recordOf r (syncSent r) (asyncSent r ask))
-  unfolding moved recordOf
+  changed : Moved r (moved r (syncSent r (asyncSent r ask)) (asyncSent r ask)) (recordOf r (syncSent r (asyncSent r ask)) (asyncSent r ask))
+  unfolding moved recordOf timersAfter
   changed =
-      let within = sync-within r in
-      let old : unusedAt r (r .token) ≤ r .unused = omega (arith, s .unused, sum-part (count r) (unusedAt r) (r .token) (s .token)) in
+      let within = sync-within r (asyncSent r ask) in
+      let old : unusedAt r (r .token) ≤ r .unused = omega (arith, s .timers .unused, sum-part (count r) (unusedAt r) (r .token) (s .token)) in
       let sents : at (r .sent) (r .token) ≤ share r (r .token) = s .sents (r .token) (s .token) in
       record {
         unused = omega arith;
-        sent = getD-set-same (r .sent) (r .token) (syncSent r) 0 (omega (arith, inside, L .sent));
+        sent = getD-set-same (r .sent) (r .token) (syncSent r (asyncSent r ask)) 0 (omega (arith, inside, L .sent));
         rest = omega (arith, rest-here);
         clock = refl;
-        trt-here = trt-here (rise r (syncSent r) (asyncSent r ask));
-        trt-there = trt-there (rise r (syncSent r) (asyncSent r ask));
+        trt-here = trt-here (rise r (syncSent r (asyncSent r ask)) (asyncSent r ask));
+        trt-there = trt-there (rise r (syncSent r (asyncSent r ask)) (asyncSent r ask));
         on = next-on;
         round = next-round;
         visits = refl;
@@ -102,7 +96,7 @@ module _ (r : Ring) (ask : ℕ) (L : Shaped r) (s : Sound r) where
         alloc = refl;
         arrival = refl;
         had = refl;
-        sents = λ j n. getD-set-other (r .sent) (r .token) j (syncSent r) 0 (omega arith);
+        sents = λ j n. getD-set-other (r .sent) (r .token) j (syncSent r (asyncSent r ask)) 0 (omega arith);
         rests = λ j n. getD-set-other (r .rest) (r .token) j _ 0 (omega arith);
         lasts = λ j n. getD-set-other (r .last) (r .token) j (r .clock) 0 (omega arith);
         shaped =
@@ -116,28 +110,28 @@ module _ (r : Ring) (ask : ℕ) (L : Shaped r) (s : Sound r) where
             };
       }
 
-  completed : 0 < at (r .rest) (r .token) → at (moved r (syncSent r) (asyncSent r ask) .rest) (r .token) ≡ 0 → Completed r (recordOf r (syncSent r) (asyncSent r ask))
+  completed : 0 < at (r .rest) (r .token) → at (moved r (syncSent r (asyncSent r ask)) (asyncSent r ask) .rest) (r .token) ≡ 0 → Completed r (recordOf r (syncSent r (asyncSent r ask)) (asyncSent r ask))
   unfolding recordOf
   completed h e =
-      let yes : completes r (syncSent r) ≡ true = true-and _ _ (lt-ltb _ _ h) (eq-eqb _ _ (sym rest-here ∙ e)) in
+      let yes : completes r (syncSent r (asyncSent r ask)) ≡ true = true-and _ _ (lt-ltb _ _ h) (eq-eqb _ _ (sym rest-here ∙ e)) in
       record { flag = rw yes; finish = rw yes; margin = rw yes }
 
-  left : (at (r .rest) (r .token) ≡ 0) ⊎ (0 < at (moved r (syncSent r) (asyncSent r ask) .rest) (r .token)) → NoneCompleted (recordOf r (syncSent r) (asyncSent r ask))
+  left : (at (r .rest) (r .token) ≡ 0) ⊎ (0 < at (moved r (syncSent r (asyncSent r ask)) (asyncSent r ask) .rest) (r .token)) → NoneCompleted (recordOf r (syncSent r (asyncSent r ask)) (asyncSent r ask))
   unfolding recordOf
   left w =
-      let no : completes r (syncSent r) ≡ false =
-      ⊎-elim (λ (e : completes r (syncSent r) ≡ true).
+      let no : completes r (syncSent r (asyncSent r ask)) ≡ false =
+      ⊎-elim (λ (e : completes r (syncSent r (asyncSent r ask)) ≡ true).
       let both = and-true (holds r (r .token)) _ e in
       let some : 0 < at (r .rest) (r .token) = ltb-true _ _ (both .0) in
-      let nothing : at (r .rest) (r .token) - syncSent r ≡ 0 = eqb-true _ _ (both .1) in
+      let nothing : at (r .rest) (r .token) - syncSent r (asyncSent r ask) ≡ 0 = eqb-true _ _ (both .1) in
       absurd (⊎-elim (λ (n : at (r .rest) (r .token) ≡ 0). omega arith)
-      (λ (n : 0 < at (moved r (syncSent r) (asyncSent r ask) .rest) (r .token)). omega (arith, rest-here))
+      (λ (n : 0 < at (moved r (syncSent r (asyncSent r ask)) (asyncSent r ask) .rest) (r .token)). omega (arith, rest-here))
       w))
-      (λ (e : completes r (syncSent r) ≡ false). e)
-      (true-or-false (completes r (syncSent r))) in
+      (λ (e : completes r (syncSent r (asyncSent r ask)) ≡ false). e)
+      (true-or-false (completes r (syncSent r (asyncSent r ask)))) in
       record { flag = rw no; finish = rw no; margin = rw no }
 
-  pub done : Done r ask (moved r (syncSent r) (asyncSent r ask)) (recordOf r (syncSent r) (asyncSent r ask))
+  pub done : Done r ask (moved r (syncSent r (asyncSent r ask)) (asyncSent r ask)) (recordOf r (syncSent r (asyncSent r ask)) (asyncSent r ask))
   unfolding recordOf
   done =
       record {

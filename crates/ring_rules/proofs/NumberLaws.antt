@@ -11,30 +11,19 @@ use Rattle.units.specs.Places.{at}
 use Rattle.units.specs.Judging.{orElse}
 use Rattle.units.specs.JudgingLaws.{Decides, decides-le, decides-between, given, given-later, not-given, iff-then, iff-under}
 use Rattle.rings.specs.State.{count}
-use Rattle.rings.specs.Opening.{openedWith}
 use Rattle.rings.specs.Sound.{Sound, isSound}
-use Rattle.rings.specs.Steps.{visitNumber, visitedWith}
-use Rattle.rings.specs.HandingIn.{ArrivalAllowed, Takes, stationKnown, lengthAllowed, nothingHeld, arrivalAllowed, handInNumber, takenWith}
+use Rattle.rings.specs.Steps.{Ask, visitNumber, visitedWith}
+use Rattle.rings.specs.HandingIn.{ArrivalAllowed, Takes, stationKnown, lengthAllowed, nothingHeld, arrivalAllowed, handInNumber}
 use Rattle.rings.specs.RingLaws.{decides-sound, decides-arrival}
 use Rattle.rings.specs.declared.Ring.{Ring}
 use Rattle.rings.specs.declared.Message.{Message}
 
 -- ---- an answer's number is the judgement's
 
-pub opened-number : (k : ℕ) (r : Ring) → openedWith k r .number ≡ k
-unfolding openedWith
-opened-number zero r = refl
-opened-number (suc k) r = refl
-
-pub visited-number : (k : ℕ) (r : Ring) (ask : ℕ) → visitedWith k r ask .answer .number ≡ k
+pub visited-number : (k : ℕ) (r : Ring) (ask : Ask) → visitedWith k r ask .answer .number ≡ k
 unfolding visitedWith
 visited-number zero r ask = refl
 visited-number (suc k) r ask = refl
-
-pub taken-number : (k : ℕ) (r : Ring) (m : Message) → takenWith k r m .number ≡ k
-unfolding takenWith
-taken-number zero r m = refl
-taken-number (suc k) r m = refl
 
 -- ---- the numbers of a visit
 

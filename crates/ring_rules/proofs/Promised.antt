@@ -9,13 +9,14 @@ use Rattle.sets.specs.declared.Set.{Set}
 use Rattle.plans.specs.Planned.{judgedPlan}
 use Rattle.plans.specs.PlanLaws.{judged-plan-same}
 use Rattle.plans.specs.declared.Alloc.{Alloc}
+use Rattle.rings.specs.State.{Shaped}
 use Rattle.rings.specs.Opening.{blankRing, openedRing, opening}
 use Rattle.rings.specs.Sound.{Sound}
-use Rattle.rings.specs.Steps.{syncSent, asyncSent, moved, recordOf, visitNumber, acceptedVisit, refusedVisit, visited}
+use Rattle.rings.specs.Steps.{Ask, syncSent, asyncSent, moved, recordOf, visitNumber, acceptedVisit, refusedVisit, visited}
 use Rattle.rings.specs.HandingIn.{handInNumber, holding, handedIn}
-use Rattle.ring_rules.specs.Promised.{Shaped, Fresh, Done, Held, SameFirst, SameRing, Promised}
-use Rattle.rings.specs.RingLaws.{decides-sound, opened-refused, opened-accepted, visit-refused, visit-accepted, visit-passed, taken-refused, taken-accepted, taken-passed}
-use Rattle.ring_rules.proofs.NumberLaws.{opened-number, visited-number, taken-number, visit-eight, visit-thirteen, visit-none, visit-only, message-eight, message-nine, message-ten, message-eleven, message-twelve, message-none, message-only}
+use Rattle.ring_rules.specs.Promised.{Fresh, Done, Held, SameFirst, SameRing, Promised}
+use Rattle.rings.specs.RingLaws.{decides-sound, opened-number, taken-number, opened-refused, opened-accepted, visit-refused, visit-accepted, visit-passed, taken-refused, taken-accepted, taken-passed}
+use Rattle.ring_rules.proofs.NumberLaws.{visited-number, visit-eight, visit-thirteen, visit-none, visit-only, message-eight, message-nine, message-ten, message-eleven, message-twelve, message-none, message-only}
 use Rattle.ring_rules.proofs.OpenedLaws.{fresh, opened-sound}
 use Rattle.ring_rules.proofs.MovedLaws.{margin-kept, margin-late, done}
 use Rattle.ring_rules.proofs.HeldLaws.{held, held-sound}
@@ -52,7 +53,7 @@ first-places-opening t u a b same alloc =
 
 -- ---- a visit
 
-module _ (r : Ring) (ask : ℕ) where
+module _ (r : Ring) (ask : Ask) where
   number-visited : visited r ask .answer .number ≡ visitNumber r
   number-visited = visited-number (visitNumber r) r ask
 
@@ -68,13 +69,13 @@ module _ (r : Ring) (ask : ℕ) where
   visit-done : Shaped r → visited r ask .answer .number ≡ 0 → Done r ask (visited r ask .ring) (visited r ask .answer .«record»)
   visit-done L e = rw (accepted e) (done r ask L (passed e))
 
-first-places-visit : (a b : Ring) (ask : ℕ) → Shaped a → Shaped b → SameRing a b → (visited a ask .answer ≡ visited b ask .answer) × SameRing (visited a ask .ring) (visited b ask .ring)
+first-places-visit : (a b : Ring) (ask : Ask) → Shaped a → Shaped b → SameRing a b → (visited a ask .answer ≡ visited b ask .answer) × SameRing (visited a ask .ring) (visited b ask .ring)
 first-places-visit a b ask La Lb same =
     let numbers : visitNumber a ≡ visitNumber b = visit-number-same a b same in
     ⊎-elim (λ (e : visited a ask .answer .number ≡ 0).
     let f : visited b ask .answer .number ≡ 0 = number-visited b ask ∙ (sym numbers ∙ (sym (number-visited a ask) ∙ e)) in
     let l = passed a ask e .token in
-    let records : recordOf a (syncSent a) (asyncSent a ask) ≡ recordOf b (syncSent b) (asyncSent b ask) = record-same a b same ask l (syncSent a) (asyncSent a ask) ∙ rw (sync-same a b same ask l, async-same a b same ask l) in
+    let records : recordOf a (syncSent a (asyncSent a ask)) (asyncSent a ask) ≡ recordOf b (syncSent b (asyncSent b ask)) (asyncSent b ask) = record-same a b same ask l (syncSent a (asyncSent a ask)) (asyncSent a ask) ∙ rw (sync-same a b same ask l (asyncSent a ask), async-same a b same ask l) in
     let before = done a ask La (passed a ask e) .moved in
     let after = done b ask Lb (passed b ask f) .moved in
     rw (accepted a ask e, accepted b ask f)

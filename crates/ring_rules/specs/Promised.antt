@@ -12,23 +12,14 @@ use Rattle.sets.specs.Rules.{SameSet}
 use Rattle.sets.specs.declared.Set.{Set}
 use Rattle.plans.specs.Planned.{judgedPlan}
 use Rattle.plans.specs.declared.Alloc.{Alloc}
-use Rattle.rings.specs.State.{count, ttrt, share}
+use Rattle.rings.specs.State.{count, ttrt, share, Shaped}
 use Rattle.rings.specs.Opening.{blankRing, opening}
 use Rattle.rings.specs.Sound.{Sound, isSound}
-use Rattle.rings.specs.Steps.{blankRecord, visited}
-use Rattle.rings.specs.HandingIn.{ArrivalAllowed, Takes, handedIn}
+use Rattle.rings.specs.Steps.{Ask, blankRecord, visited}
+use Rattle.rings.specs.HandingIn.{Known, LengthAllowed, Free, ArrivalAllowed, Takes, handedIn}
 use Rattle.rings.specs.declared.Ring.{Ring}
 use Rattle.rings.specs.declared.Message.{Message}
 use Rattle.rings.specs.declared.VisitRecord.{VisitRecord}
-
--- the arrays that a ring changes have 128 places, as those of every ring of the code have
-pub record Shaped (r : Ring) : Type 0 where
-  pub trt : length (r .trt) ≡ 128
-  pub sent : length (r .sent) ≡ 128
-  pub rest : length (r .rest) ≡ 128
-  pub arrival : length (r .arrival) ≡ 128
-  pub had : length (r .had) ≡ 128
-  pub last : length (r .last) ≡ 128
 
 -- the list at all places but i is as it was
 abbrev pub SameBut : ℕ → List ℕ → List ℕ → Type 0
@@ -59,7 +50,7 @@ pub record Fresh (t : Set) (a : Alloc) (r : Ring) : Type 0 where
 -- ---- a visit
 
 -- the two amounts, as the steps have them
-pub record Amounts (r : Ring) (ask : ℕ) (v : VisitRecord) : Type 0 where
+pub record Amounts (r : Ring) (ask : Ask) (v : VisitRecord) : Type 0 where
   -- step 1: the larger of TTRT − u − TRT and 0
   pub limit : v .limit .0 ≡ ttrt r - r .unused - at (r .trt) (r .token)
   -- step 3: a held message whose arrival is at or before the clock: the smaller of S and what remains
@@ -110,7 +101,7 @@ pub record NoneCompleted (v : VisitRecord) : Type 0 where
   pub margin : v .margin ≡ pos 0
 
 -- an accepted visit: the record, and what the ring is then
-pub record Done (r : Ring) (ask : ℕ) (next : Ring) (v : VisitRecord) : Type 0 where
+pub record Done (r : Ring) (ask : Ask) (next : Ring) (v : VisitRecord) : Type 0 where
   pub station : v .station .0 ≡ r .token
   pub start : v .start .0 ≡ r .clock
   pub trt : v .trt .0 ≡ at (r .trt) (r .token)
@@ -177,32 +168,32 @@ pub record Promised : Type 0 where
   -- the test of soundness holds exactly if the ring keeps 01's list
   pub sound : (r : Ring) → (isSound r ≡ true) ↔ Sound r
   -- a visit: 8 exactly if the ring is unsound
-  pub visit-eight : (r : Ring) (ask : ℕ) → (visited r ask .answer .number ≡ 8) ↔ ¬ Sound r
+  pub visit-eight : (r : Ring) (ask : Ask) → (visited r ask .answer .number ≡ 8) ↔ ¬ Sound r
   -- 13 exactly if it is sound and the clock is above 1,000,000,000,000
-  pub visit-thirteen : (r : Ring) (ask : ℕ) → (visited r ask .answer .number ≡ 13) ↔ (Sound r × ¬ (r .clock ≤ mostClock))
+  pub visit-thirteen : (r : Ring) (ask : Ask) → (visited r ask .answer .number ≡ 13) ↔ (Sound r × ¬ (r .clock ≤ mostClock))
   -- 0 exactly if neither
-  pub visit-none : (r : Ring) (ask : ℕ) → (visited r ask .answer .number ≡ 0) ↔ (Sound r × (r .clock ≤ mostClock))
+  pub visit-none : (r : Ring) (ask : Ask) → (visited r ask .answer .number ≡ 0) ↔ (Sound r × (r .clock ≤ mostClock))
   -- no other number is ever given: for a bad set or allocation inside a ring 8, never 2, 4, 5 or 7
-  pub visit-only : (r : Ring) (ask : ℕ) → (visited r ask .answer .number ≡ 0) ⊎ (visited r ask .answer .number ≡ 8) ⊎ (visited r ask .answer .number ≡ 13)
+  pub visit-only : (r : Ring) (ask : Ask) → (visited r ask .answer .number ≡ 0) ⊎ (visited r ask .answer .number ≡ 8) ⊎ (visited r ask .answer .number ≡ 13)
   -- a refused visit gives back the very ring
-  pub visit-unchanged : (r : Ring) (ask : ℕ) → visited r ask .answer .number ≢ 0 → visited r ask .ring ≡ r
+  pub visit-unchanged : (r : Ring) (ask : Ask) → visited r ask .answer .number ≢ 0 → visited r ask .ring ≡ r
   -- and a blank record
-  pub visit-blank : (r : Ring) (ask : ℕ) → visited r ask .answer .number ≢ 0 → visited r ask .answer .«record» ≡ blankRecord
+  pub visit-blank : (r : Ring) (ask : Ask) → visited r ask .answer .number ≢ 0 → visited r ask .answer .«record» ≡ blankRecord
   -- an accepted visit does the five steps, and the record says so
-  pub visit-done : (r : Ring) (ask : ℕ) → Shaped r → visited r ask .answer .number ≡ 0 → Done r ask (visited r ask .ring) (visited r ask .answer .«record»)
+  pub visit-done : (r : Ring) (ask : Ask) → Shaped r → visited r ask .answer .number ≡ 0 → Done r ask (visited r ask .ring) (visited r ask .answer .«record»)
   -- the margin is exact: above 0, at 0, and below 0 where the finish is late
   pub margin-kept : (deadline finish k : ℕ) → deadline ≡ finish + k → subℕ deadline finish ≡ pos k
   pub margin-late : (deadline finish k : ℕ) → finish ≡ deadline + suc k → subℕ deadline finish ≡ negsuc k
   -- handing in: 8 exactly if the ring is unsound
   pub message-eight : (r : Ring) (m : Message) → (handedIn r m .number ≡ 8) ↔ ¬ Sound r
   -- 9 exactly if it is sound and the station number is not below N
-  pub message-nine : (r : Ring) (m : Message) → (handedIn r m .number ≡ 9) ↔ (Sound r × ¬ (m .station .0 < count r))
+  pub message-nine : (r : Ring) (m : Message) → (handedIn r m .number ≡ 9) ↔ (Sound r × ¬ Known r m)
   -- 10 exactly if that passes and the length is 0 or above C
-  pub message-ten : (r : Ring) (m : Message) → (handedIn r m .number ≡ 10) ↔ (Sound r × ((m .station .0 < count r) × ¬ ((1 ≤ m .length .0) × (m .length .0 ≤ at (r .set .c) (m .station .0)))))
+  pub message-ten : (r : Ring) (m : Message) → (handedIn r m .number ≡ 10) ↔ (Sound r × (Known r m × ¬ LengthAllowed r m))
   -- 11 exactly if that passes and the station holds an unsent message
-  pub message-eleven : (r : Ring) (m : Message) → (handedIn r m .number ≡ 11) ↔ (Sound r × ((m .station .0 < count r) × (((1 ≤ m .length .0) × (m .length .0 ≤ at (r .set .c) (m .station .0))) × ¬ (at (r .rest) (m .station .0) ≡ 0))))
+  pub message-eleven : (r : Ring) (m : Message) → (handedIn r m .number ≡ 11) ↔ (Sound r × (Known r m × (LengthAllowed r m × ¬ Free r m)))
   -- 12 exactly if that passes and the arrival is not allowed
-  pub message-twelve : (r : Ring) (m : Message) → (handedIn r m .number ≡ 12) ↔ (Sound r × ((m .station .0 < count r) × (((1 ≤ m .length .0) × (m .length .0 ≤ at (r .set .c) (m .station .0))) × ((at (r .rest) (m .station .0) ≡ 0) × ¬ ArrivalAllowed r m))))
+  pub message-twelve : (r : Ring) (m : Message) → (handedIn r m .number ≡ 12) ↔ (Sound r × (Known r m × (LengthAllowed r m × (Free r m × ¬ ArrivalAllowed r m))))
   -- 0 exactly if all that passes: the clock plays no part, so arrivals may lie ahead of it
   pub message-none : (r : Ring) (m : Message) → (handedIn r m .number ≡ 0) ↔ (Sound r × Takes r m)
   -- no other number is ever given
@@ -219,7 +210,7 @@ pub record Promised : Type 0 where
   -- in the test of soundness
   pub first-places-sound : (a b : Ring) → SameRing a b → isSound a ≡ isSound b
   -- in a visit
-  pub first-places-visit : (a b : Ring) (ask : ℕ) → Shaped a → Shaped b → SameRing a b
+  pub first-places-visit : (a b : Ring) (ask : Ask) → Shaped a → Shaped b → SameRing a b
       → (visited a ask .answer ≡ visited b ask .answer) × SameRing (visited a ask .ring) (visited b ask .ring)
   -- and in handing in
   pub first-places-message : (a b : Ring) (m : Message) → Shaped a → Shaped b → SameRing a b

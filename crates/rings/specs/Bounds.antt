@@ -5,7 +5,8 @@ use Rattle.units.specs.Numbers.{mostTtrt, mostD, mostClock}
 use Rattle.units.specs.Places.{at}
 use Rattle.rings.specs.State.{count, ttrt, share, unusedAt}
 use Rattle.rings.specs.Sound.{visitsEnd}
-use Rattle.rings.specs.Steps.{limit, syncSent}
+use Rattle.rings.specs.Timers.{limit}
+use Rattle.rings.specs.Steps.{syncSent}
 use Rattle.rings.specs.declared.Ring.{Ring}
 use Rattle.rings.specs.declared.Message.{Message}
 
@@ -16,20 +17,23 @@ pub record Safe (r : Ring) : Type 0 where
   pub rotation : ttrt r ≤ mostTtrt
   pub walk : at (r .set .w) (r .token) ≤ ttrt r
   pub allotted : share r (r .token) ≤ ttrt r
-  pub trts : (i : ℕ) → i < count r → at (r .trt) i ≤ ttrt r
   pub sent : at (r .sent) (r .token) ≤ share r (r .token)
-  pub old : unusedAt r (r .token) ≤ r .unused
-  pub unused : r .unused ≤ ttrt r
   pub deadline : at (r .set .d) (r .token) ≤ mostD
   pub arrival : at (r .arrival) (r .token) ≤ mostClock
   pub clock : r .clock ≤ mostClock
   pub visits : r .visits < visitsEnd
 
--- two amounts that a visit may send: at most S and what remains, and at most TTRT
+-- and of its timers
+pub record SafeTimers (r : Ring) : Type 0 where
+  pub trts : (i : ℕ) → i < count r → at (r .trt) i ≤ ttrt r
+  pub old : unusedAt r (r .token) ≤ r .unused
+  pub unused : r .unused ≤ ttrt r
+
+-- two amounts that a visit may send: at most S and what remains; of the asynchronous one no more than that it can be added
 pub record Sendable (r : Ring) (sync async : ℕ) : Type 0 where
   pub allotted : sync ≤ share r (r .token)
   pub rest : sync ≤ at (r .rest) (r .token)
-  pub spare : async ≤ ttrt r
+  pub small : async < 2 ^ 31
 
 -- x is the limit
 pub record Limit (r : Ring) (x : ℕ) : Type 0 where
@@ -37,8 +41,8 @@ pub record Limit (r : Ring) (x : ℕ) : Type 0 where
   pub small : x ≤ ttrt r
 
 -- x is what is sent of the held message
-pub record Sent (r : Ring) (x : ℕ) : Type 0 where
-  pub is : x ≡ syncSent r
+pub record Sent (r : Ring) (async x : ℕ) : Type 0 where
+  pub is : x ≡ syncSent r async
   pub allotted : x ≤ share r (r .token)
   pub rest : x ≤ at (r .rest) (r .token)
 

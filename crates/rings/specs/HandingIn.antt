@@ -16,6 +16,18 @@ use Rattle.rings.specs.declared.Taken.{Taken}
 
 -- ---- what each number asks, as sentences
 
+-- 9: the station number is below N
+abbrev pub Known : Ring → Message → Type 0
+Known r m = m .station .0 < count r
+
+-- 10: the length is neither 0 nor above C
+abbrev pub LengthAllowed : Ring → Message → Type 0
+LengthAllowed r m = (1 ≤ m .length .0) × (m .length .0 ≤ at (r .set .c) (m .station .0))
+
+-- 11: that station holds no unsent message
+abbrev pub Free : Ring → Message → Type 0
+Free r m = at (r .rest) (m .station .0) ≡ 0
+
 -- 12: when an arrival is allowed
 pub record ArrivalAllowed (r : Ring) (m : Message) : Type 0 where
   -- it is in range
@@ -27,13 +39,9 @@ pub record ArrivalAllowed (r : Ring) (m : Message) : Type 0 where
 
 -- what a sound ring asks of a message that it takes
 pub record Takes (r : Ring) (m : Message) : Type 0 where
-  -- 9: the station number is below N
-  pub known : m .station .0 < count r
-  -- 10: the length is neither 0 nor above C
-  pub length : (1 ≤ m .length .0) × (m .length .0 ≤ at (r .set .c) (m .station .0))
-  -- 11: that station holds no unsent message
-  pub free : at (r .rest) (m .station .0) ≡ 0
-  -- 12: the arrival is allowed
+  pub known : Known r m
+  pub length : LengthAllowed r m
+  pub free : Free r m
   pub arrival : ArrivalAllowed r m
 
 -- ---- the same as tests, one for each number

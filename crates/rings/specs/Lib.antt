@@ -1,5 +1,6 @@
 -- What a ring is and does: 01, "The ring", by value.
 --     State        what the fields of a ring say of a station
+--     Timers       the limit, and what becomes of the timers
 --     Opening      the opened ring, and opening's answer
 --     Sound        01's list of unsound states (8), a sentence and a test for each line
 --     Steps        the five steps of a visit, the record, and a visit's answer (8, 13)
@@ -8,6 +9,7 @@
 -- and, for the proofs of the layers above:
 --     RingLaws
 pub mod State
+pub mod Timers
 pub mod Opening
 pub mod Sound
 pub mod Steps

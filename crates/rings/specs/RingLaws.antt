@@ -7,28 +7,39 @@ use mathlib.Core.Logic.{_≢_, ⊎-elim}
 use native.Mathlib.Omega.{arith}
 use borrow.Author.Tests.{leb-true, ltb-true, eqb-true, eqb-false, le-leb, lt-leb, lt-ltb, le-ltb, eq-eqb}
 use lib.IntN.{pos, subℕ, _-ℤ_}
+use lib.ListN.{getD-replicate, List·getD-eq-default}
 use mir.Syntax.{w64}
 use mir.Val.{SFits}
 use Rattle.units.specs.SmallLaws.{below-or-not}
 use lib.Dec.{leb, ltb}
 use Rattle.units.specs.Numbers.{mostClock}
 use Rattle.units.specs.Places.{at, sumBelow}
-use Rattle.units.specs.PlaceLaws.{all-at, all-of, sum-part, sum-mono}
+use Rattle.units.specs.PlaceLaws.{all-at, all-of, decides-all, sum-part, sum-mono}
 use Rattle.units.specs.Judging.{orElse}
 use Rattle.units.specs.JudgingLaws.{Decides, true-or-false, decides-le, decides-both, decides-between, pick, all-hold, none-hold, held, failed, passed}
+use Rattle.sets.specs.Judged.{zeros}
 use Rattle.sets.specs.Rules.{tau, CountAllowed, NumbersAllowed, WalkTimeAllowed}
 use Rattle.plans.specs.Rules.{MeetsRules, AllocInRange}
 use Rattle.plans.specs.PlanLaws.{given-none}
 use Rattle.rings.specs.State.{count, ttrt, share, unusedAt, beforeFirstVisit, beforeFirstMessage}
 use Rattle.rings.specs.Opening.{openedWith, blankRing}
-use Rattle.rings.specs.Sound.{Sound, trtSoundAt, sentSoundAt, restSoundAt, arrivalSoundAt, planSound, numberTests, isSound}
+use Rattle.rings.specs.Timers.{TimersSound, trtSoundAt, unusedSound, timersSound}
+use Rattle.rings.specs.Sound.{Sound, sentSoundAt, restSoundAt, arrivalSoundAt, planSound, numberTests, isSound}
 use Rattle.rings.specs.Steps.{serves, syncSent, visitNumber, refusedVisit, acceptedVisit, visitedWith}
 use Rattle.rings.specs.HandingIn.{ArrivalAllowed, Takes, stationKnown, lengthAllowed, nothingHeld, arrivalInRange, laterThanLastStart, gapKept, arrivalAllowed, handInNumber, holding, messageNumber, takenWith}
-use Rattle.rings.specs.Bounds.{Safe, Holdable}
+use Rattle.rings.specs.Bounds.{Safe, SafeTimers, Holdable}
 use Rattle.rings.specs.declared.Ring.{Ring}
 use Rattle.rings.specs.declared.Message.{Message}
 
 -- ---- soundness
+
+-- the timers' test decides their sentence
+pub decides-timers : (r : Ring) → Decides (timersSound r) (TimersSound r)
+unfolding timersSound
+decides-timers r =
+    let trts = decides-all (count r) (trtSoundAt r) (λ i. at (r .trt) i ≤ ttrt r) (λ i. decides-le (at (r .trt) i) (ttrt r)) in
+    let both = decides-both _ (unusedSound r) _ _ trts (eqb-true _ _, eq-eqb _ _) in
+    (λ h. let f = both .0 h in record { trts = f .0; unused = f .1 }, λ s. both .1 (s .trts, s .unused))
 
 -- the tests decide the sentences
 pub sound-sentences : (r : Ring) → isSound r ≡ true → Sound r
@@ -38,13 +49,12 @@ sound-sentences r h =
     record {
       plan = eqb-true _ _ (pick tests 0 h);
       token = ltb-true _ _ (pick tests 1 h);
-      trts = λ i l. leb-true _ _ (all-at (count r) (trtSoundAt r) (pick tests 2 h) i l);
+      timers = decides-timers r .0 (pick tests 2 h);
       sents = λ i l. leb-true _ _ (all-at (count r) (sentSoundAt r) (pick tests 3 h) i l);
-      unused = eqb-true _ _ (pick tests 4 h);
-      rests = λ i l. leb-true _ _ (all-at (count r) (restSoundAt r) (pick tests 5 h) i l);
-      arrivals = λ i l. leb-true _ _ (all-at (count r) (arrivalSoundAt r) (pick tests 6 h) i l);
-      clock = leb-true _ _ (pick tests 7 h);
-      visits = ltb-true _ _ (pick tests 8 h);
+      rests = λ i l. leb-true _ _ (all-at (count r) (restSoundAt r) (pick tests 4 h) i l);
+      arrivals = λ i l. leb-true _ _ (all-at (count r) (arrivalSoundAt r) (pick tests 5 h) i l);
+      clock = leb-true _ _ (pick tests 6 h);
+      visits = ltb-true _ _ (pick tests 7 h);
     }
 
 pub sound-tests : (r : Ring) → Sound r → isSound r ≡ true
@@ -52,12 +62,11 @@ unfolding isSound
 sound-tests r s =
     all-hold _ _ (eq-eqb _ _ (s .plan))
     (all-hold _ _ (lt-ltb _ _ (s .token))
-    (all-hold _ _ (all-of (count r) (trtSoundAt r) (λ i l. le-leb _ _ (s .trts i l)))
+    (all-hold _ _ (decides-timers r .1 (s .timers))
     (all-hold _ _ (all-of (count r) (sentSoundAt r) (λ i l. le-leb _ _ (s .sents i l)))
-    (all-hold _ _ (eq-eqb _ _ (s .unused))
     (all-hold _ _ (all-of (count r) (restSoundAt r) (λ i l. le-leb _ _ (s .rests i l)))
     (all-hold _ _ (all-of (count r) (arrivalSoundAt r) (λ i l. le-leb _ _ (s .arrivals i l)))
-    (all-hold _ _ (le-leb _ _ (s .clock)) (all-hold _ _ (lt-ltb _ _ (s .visits)) none-hold))))))))
+    (all-hold _ _ (le-leb _ _ (s .clock)) (all-hold _ _ (lt-ltb _ _ (s .visits)) none-hold)))))))
 
 pub decides-sound : (r : Ring) → Decides (isSound r) (Sound r)
 decides-sound r = (sound-sentences r, sound-tests r)
@@ -73,7 +82,7 @@ pub unused-small : (r : Ring) → Sound r → r .unused + tau (r .set) ≤ ttrt 
 unused-small r s =
     let kept = sound-plan r s in
     let less : sumBelow (count r) (unusedAt r) ≤ sumBelow (count r) (at (r .alloc .s)) = sum-mono (count r) (unusedAt r) (at (r .alloc .s)) (λ i l. omega arith) in
-    omega (arith, s .unused, kept .1 .1 .1 .token)
+    omega (arith, s .timers .unused, kept .1 .1 .1 .token)
 
 -- S at one station and τ are at most TTRT
 pub share-small : (r : Ring) → Sound r → (i : ℕ) → i < count r → share r i + tau (r .set) ≤ ttrt r
@@ -90,24 +99,24 @@ safe r s c =
     let head = kept .1 .0 .0 .header in
     let station = kept .1 .0 .0 .stations p (s .token) in
     let walk : at (r .set .w) p ≤ tau (r .set) = walk-small r p (s .token) in
-    let own : unusedAt r p ≤ sumBelow (count r) (unusedAt r) = sum-part (count r) (unusedAt r) p (s .token) in
     let most : share r p + tau (r .set) ≤ ttrt r = share-small r s p (s .token) in
-    let unused : r .unused + tau (r .set) ≤ ttrt r = unused-small r s in
     record {
       few = kept .0 .1;
       token = s .token;
       rotation = head .1;
       walk = omega arith;
       allotted = omega arith;
-      trts = s .trts;
       sent = s .sents p (s .token);
-      old = omega (arith, s .unused);
-      unused = omega arith;
       deadline = station .deadline .1;
       arrival = s .arrivals p (s .token);
       clock = c;
       visits = s .visits;
     }
+
+pub safe-timers : (r : Ring) → Sound r → SafeTimers r
+safe-timers r s =
+    let own : unusedAt r (r .token) ≤ sumBelow (count r) (unusedAt r) = sum-part (count r) (unusedAt r) (r .token) (s .token) in
+    record { trts = s .timers .trts; old = omega (arith, s .timers .unused); unused = omega (arith, unused-small r s) }
 
 -- ---- the answers, number by number
 
@@ -119,6 +128,16 @@ opened-refused (suc k) r h = refl
 pub opened-accepted : (k : ℕ) (r : Ring) → k ≡ 0 → openedWith k r ≡ record { ring = r; number = 0 }
 unfolding openedWith
 opened-accepted k r h = rw h
+
+pub opened-number : (k : ℕ) (r : Ring) → openedWith k r .number ≡ k
+unfolding openedWith
+opened-number zero r = refl
+opened-number (suc k) r = refl
+
+-- every place of a blank array is 0
+pub zero-at : (i : ℕ) → at zeros i ≡ 0
+zero-at i =
+    ⊎-elim (λ (b : i < 128). getD-replicate 128 i 0 0 b) (λ (b : 128 ≤ i). List·getD-eq-default zeros 0 b) (below-or-not i 128)
 
 pub visit-refused : (k : ℕ) (r : Ring) (ask : ℕ) → k ≢ 0 → visitedWith k r ask ≡ refusedVisit r k
 unfolding visitedWith
@@ -134,19 +153,31 @@ unfolding takenWith
 taken-refused zero r m h = absurd (h refl)
 taken-refused (suc k) r m h = refl
 
+pub taken-number : (k : ℕ) (r : Ring) (m : Message) → takenWith k r m .number ≡ k
+unfolding takenWith
+taken-number zero r m = refl
+taken-number (suc k) r m = refl
+
 pub taken-accepted : (k : ℕ) (r : Ring) (m : Message) → k ≡ 0 → takenWith k r m ≡ record { ring = holding r m; number = 0 }
 unfolding takenWith
 taken-accepted k r m h = rw h
 
 -- ---- what is sent of the held message
 
-pub served : (r : Ring) → serves r ≡ true → syncSent r ≡ min (share r (r .token)) (at (r .rest) (r .token))
+pub served : (r : Ring) (async : ℕ) → serves r async ≡ true → syncSent r async ≡ min (share r (r .token)) (at (r .rest) (r .token))
 unfolding syncSent
-served r h = rw h
+served r async h = rw h
 
-pub not-served : (r : Ring) → serves r ≡ false → syncSent r ≡ 0
+pub not-served : (r : Ring) (async : ℕ) → serves r async ≡ false → syncSent r async ≡ 0
 unfolding syncSent
-not-served r h = rw h
+not-served r async h = rw h
+
+-- what is sent of a message is within S and what remains
+pub sync-within : (r : Ring) (async : ℕ) → (syncSent r async ≤ share r (r .token)) × (syncSent r async ≤ at (r .rest) (r .token))
+sync-within r async =
+    ⊎-elim (λ (e : serves r async ≡ true). let s = served r async e in (omega arith, omega arith))
+    (λ (e : serves r async ≡ false). let s = not-served r async e in (omega arith, omega arith))
+    (true-or-false (serves r async))
 
 -- ---- the numbers of a visit
 
@@ -166,8 +197,8 @@ visit-passed r h =
     let second = passed (leb (r .clock) mostClock) 13 0 (omega arith) (first .1) in
     (sound-sentences r (first .0), leb-true _ _ (second .0))
 
-pub visit-safe : (r : Ring) → visitNumber r ≡ 0 → Safe r
-visit-safe r h = safe r (visit-passed r h .0) (visit-passed r h .1)
+pub visit-safe : (r : Ring) → visitNumber r ≡ 0 → Safe r × SafeTimers r
+visit-safe r h = (safe r (visit-passed r h .0) (visit-passed r h .1), safe-timers r (visit-passed r h .0))
 
 -- ---- the numbers of a handing in
 

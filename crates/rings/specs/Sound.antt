@@ -5,10 +5,11 @@ use mathlib.Core.Bool.{Bool}
 use mathlib.Core.List.{List, [], _∷_}
 use lib.Dec.{ltb, leb, eqb}
 use Rattle.units.specs.Numbers.{mostClock}
-use Rattle.units.specs.Places.{at, sumBelow, allBelow}
+use Rattle.units.specs.Places.{at, allBelow}
 use Rattle.units.specs.Judging.{allHold}
 use Rattle.plans.specs.Planned.{judgedPlan}
-use Rattle.rings.specs.State.{count, ttrt, share, unusedAt}
+use Rattle.rings.specs.State.{count, share}
+use Rattle.rings.specs.Timers.{TimersSound, timersSound}
 use Rattle.rings.specs.declared.Ring.{Ring}
 
 -- the highest clock of a sound ring: the last start that is allowed, and twice the largest TTRT
@@ -26,12 +27,10 @@ pub record Sound (r : Ring) : Type 0 where
   pub plan : judgedPlan (r .set) (r .alloc) ≡ 0
   -- the token's station is below N
   pub token : r .token < count r
-  -- no TRT exceeds TTRT
-  pub trts : (i : ℕ) → i < count r → at (r .trt) i ≤ ttrt r
+  -- the timers are sound: no TRT exceeds TTRT, and u is the sum of S − s
+  pub timers : TimersSound r
   -- no s exceeds S
   pub sents : (i : ℕ) → i < count r → at (r .sent) i ≤ share r i
-  -- u is the sum of S − s
-  pub unused : r .unused ≡ sumBelow (count r) (unusedAt r)
   -- no held remainder is above C; a remainder of 0 says that none is held
   pub rests : (i : ℕ) → i < count r → at (r .rest) i ≤ at (r .set .c) i
   -- no stored arrival is out of range
@@ -49,14 +48,8 @@ planSound r = eqb (judgedPlan (r .set) (r .alloc)) 0
 abbrev pub tokenSound : Ring → Bool
 tokenSound r = ltb (r .token) (count r)
 
-abbrev pub trtSoundAt : Ring → ℕ → Bool
-trtSoundAt r i = leb (at (r .trt) i) (ttrt r)
-
 abbrev pub sentSoundAt : Ring → ℕ → Bool
 sentSoundAt r i = leb (at (r .sent) i) (share r i)
-
-abbrev pub unusedSound : Ring → Bool
-unusedSound r = eqb (r .unused) (sumBelow (count r) (unusedAt r))
 
 abbrev pub restSoundAt : Ring → ℕ → Bool
 restSoundAt r i = leb (at (r .rest) i) (at (r .set .c) i)
@@ -70,13 +63,12 @@ clockSound r = leb (r .clock) mostRingClock
 abbrev pub visitsSound : Ring → Bool
 visitsSound r = ltb (r .visits) visitsEnd
 
--- the tests of the ring's own numbers, in 01's order
+-- the tests of the ring's own numbers, one for each sentence
 abbrev pub numberTests : Ring → List Bool
 numberTests r =
     tokenSound r ∷
-    allBelow (count r) (trtSoundAt r) ∷
+    timersSound r ∷
     allBelow (count r) (sentSoundAt r) ∷
-    unusedSound r ∷
     allBelow (count r) (restSoundAt r) ∷
     allBelow (count r) (arrivalSoundAt r) ∷
     clockSound r ∷

@@ -3,6 +3,7 @@ mod messages;
 mod opening;
 mod soundness;
 mod steps;
+mod timing;
 
 ghost use mathlib.Core.Path.{_≡_};
 ghost use Rattle.rings.specs.Opening.{opening};
@@ -37,6 +38,12 @@ pub struct Ring {
     // The station that has the token.
     pub token: u32,
     // u, the sum of S − s.
+    pub unused: u32,
+}
+
+// A ring's timers: TRT of each station, and u.
+pub struct Timers {
+    pub trt: [u32; 128],
     pub unused: u32,
 }
 
@@ -133,9 +140,9 @@ impl Ring {
         if numbers::MOST_CLOCK < self.clock {
             return steps::refused(self, numbers::CLOCK_TOO_HIGH);
         }
-        let sync = steps::sync_sent(self);
-        let limit = steps::limit_of(self);
+        let limit = timing::limit_of(self);
         let asynchronous = units::least(limit, units::wide(ask));
+        let sync = steps::sync_sent(self, asynchronous);
         let record = steps::record_of(self, sync, asynchronous);
         let answer = VisitAnswer {
             record,

@@ -1,5 +1,6 @@
 // The opened ring, and the blank one.
 use super::Ring;
+use super::timing;
 use plans::Alloc;
 use sets::Set;
 ghost use mathlib.Core.Path.{_≡_};
@@ -33,11 +34,8 @@ pub(crate) fn opened_ring(set: Set, alloc: Alloc) -> Ring
     requires { ⌜ judgedPlan set alloc ≡ 0 ⌝ }
     ensures { λ r. ⌜ r ≡ openedRing set alloc ⌝ }
 {
-    let w = set.w;
-    let trt = places::sums_to_last(w, set.n);
-    let s = alloc.s;
-    let sum = units::sum_first(s, set.n);
-    let unused = sum as u32;
+    let timers = timing::silent_timers(set, alloc);
+    let trt = timers.trt;
     Ring {
         set,
         alloc,
@@ -50,6 +48,6 @@ pub(crate) fn opened_ring(set: Set, alloc: Alloc) -> Ring
         clock: 0,
         visits: 0,
         token: 0,
-        unused,
+        unused: timers.unused,
     }
 }

@@ -1,12 +1,13 @@
 // The tests of 8 that follow the test of the set and the allocation.
 use super::Ring;
+use super::timing;
 use units::numbers;
 ghost use mathlib.Core.Path.{_≡_};
 ghost use mathlib.Core.Bool.{_&&_};
 ghost use Rattle.units.specs.Places.{allBelow};
 ghost use Rattle.units.specs.Judging.{allHold};
 ghost use lib.Dec.{leb, ltb};
-ghost use Rattle.rings.specs.Sound.{mostRingClock, visitsEnd, numberTests, sentSoundAt, unusedSound, restSoundAt, arrivalSoundAt};
+ghost use Rattle.rings.specs.Sound.{mostRingClock, visitsEnd, numberTests, sentSoundAt, restSoundAt, arrivalSoundAt};
 
 // The highest clock of a sound ring.
 const MOST_RING_CLOCK: u64 = 1_000_002_000_000;
@@ -18,12 +19,9 @@ const VISITS_END: u64 = 4_611_686_018_427_387_904;
 pub(crate) fn numbers_sound(r: Ring) -> bool
     ensures { λ b. ⌜ b ≡ allHold (numberTests r) ⌝ }
 {
-    let n = r.set.n;
-    let trt = r.trt;
-    let trts = places::none_above(trt, r.set.head.ttrt, n);
-    let token = r.token < n;
+    let token = r.token < r.set.n;
     let counts = counts_sound(r.clock, r.visits);
-    token & trts & shares_sound(r) & messages_sound(r) & counts
+    token & timing::timers_sound(r) & shares_sound(r) & messages_sound(r) & counts
 }
 
 // The clock is not above its top, and the visit count has not reached its end.
@@ -33,16 +31,13 @@ fn counts_sound(clock: u64, visits: u64) -> bool
     (clock <= MOST_RING_CLOCK) & (visits < VISITS_END)
 }
 
-// No s exceeds S, and u is the sum of S − s.
+// No s exceeds S.
 fn shares_sound(r: Ring) -> bool
-    ensures { λ b. ⌜ b ≡ (allBelow (r .set .n) (sentSoundAt r) && unusedSound r) ⌝ }
+    ensures { λ b. ⌜ b ≡ allBelow (r .set .n) (sentSoundAt r) ⌝ }
 {
-    let n = r.set.n;
     let share = r.alloc.s;
     let sent = r.sent;
-    let within = places::each_within(sent, share, n);
-    let sum = places::room_first(share, sent, n);
-    within & (units::wide(r.unused) == sum)
+    places::each_within(sent, share, r.set.n)
 }
 
 // No held remainder is above C, and no stored arrival is out of range.

@@ -3,55 +3,38 @@ use super::Ring;
 use super::VisitAnswer;
 use super::VisitRecord;
 use super::Visited;
+use super::timing;
 use units::Station;
 use units::Ticks;
 ghost use mathlib.Core.Path.{_≡_};
-ghost use Prim.Native.Nat.{_≤_, _<_, _^_};
-ghost use Rattle.rings.specs.State.{share};
+ghost use Prim.Native.Nat.{_<_, _^_};
 ghost use lib.IntN.{subℕ};
-ghost use Rattle.rings.specs.Steps.{rise, nextToken, unusedAfter, moved, completes, deadline, recordOf, blankRecord, refusedVisit};
-ghost use Rattle.rings.specs.Bounds.{Safe, Sendable, Limit, Sent};
+ghost use Rattle.rings.specs.Steps.{syncStart, nextToken, moved, completes, deadline, recordOf, blankRecord, refusedVisit};
+ghost use Rattle.rings.specs.Bounds.{Safe, SafeTimers, Sendable, Sent};
 
-// Step 1: the limit.
-pub(crate) fn limit_of(r: Ring) -> u64
-    requires { ⌜ r .token < 128 ⌝ }
-    ensures { λ x. ⌜ Limit r x ⌝ }
+// When the synchronous part starts: at the visit's start.
+fn sync_start(r: Ring, asynchronous: u64) -> u64
+    ensures { λ x. ⌜ x ≡ syncStart r asynchronous ⌝ }
 {
-    let p = r.token as usize;
-    let times = r.trt;
-    let whole = units::wide(r.set.head.ttrt);
-    let left = units::room(whole, units::wide(r.unused));
-    units::room(left, units::wide(times[p]))
+    r.clock
 }
 
 // Step 3: what is sent of the held message.
-pub(crate) fn sync_sent(r: Ring) -> u64
+pub(crate) fn sync_sent(r: Ring, asynchronous: u64) -> u64
     requires { ⌜ r .token < 128 ⌝ }
-    ensures { λ x. ⌜ Sent r x ⌝ }
+    ensures { λ x. ⌜ Sent r asynchronous x ⌝ }
 {
     let p = r.token as usize;
     let rests = r.rest;
     let arrivals = r.arrival;
+    let start = sync_start(r, asynchronous);
     let held = 0 < rests[p];
-    let arrived = arrivals[p] <= r.clock;
+    let arrived = arrivals[p] <= start;
     if held & arrived {
         let shares = r.alloc.s;
         return units::least(units::wide(shares[p]), units::wide(rests[p]));
     }
     0
-}
-
-// Steps 2 and 3: u after the visit.
-fn unused_after(r: Ring, sync: u32) -> u32
-    requires { ⌜ Safe r × (sync ≤ share r (r .token)) ⌝ }
-    ensures { λ x. ⌜ x ≡ unusedAfter r sync ⌝ }
-{
-    let p = r.token as usize;
-    let shares = r.alloc.s;
-    let share = shares[p];
-    let amounts = r.sent;
-    let fallen = r.unused - (share - amounts[p]);
-    fallen + (share - sync)
 }
 
 // Step 5: the station that the token moves on to.
@@ -63,49 +46,37 @@ fn next_token(r: Ring) -> u32
     if next < r.set.n { next } else { 0 }
 }
 
-// What the clock and every TRT rise by.
-fn rise_of(r: Ring, sync: u64, asynchronous: u64) -> u64
-    requires { ⌜ Safe r × Sendable r sync asynchronous ⌝ }
-    ensures { λ x. ⌜ x ≡ rise r sync asynchronous ⌝ }
-{
-    let p = r.token as usize;
-    let walks = r.set.w;
-    let walk = units::wide(walks[p]);
-    sync + asynchronous + walk
-}
-
 // The ring after a visit that sent these two amounts.
 pub(crate) fn moved_on(r: Ring, sync: u64, asynchronous: u64) -> Ring
-    requires { ⌜ Safe r × Sendable r sync asynchronous ⌝ }
+    requires { ⌜ Safe r × SafeTimers r × Sendable r sync asynchronous ⌝ }
     ensures { λ x. ⌜ x ≡ moved r sync asynchronous ⌝ }
 {
     let p = r.token as usize;
-    let rise = rise_of(r, sync, asynchronous);
-    let sent = sync as u32;
-    let unused = unused_after(r, sent);
+    let rise = timing::rise_of(r, sync, asynchronous);
+    let timers = timing::timers_after(r, sync, asynchronous);
+    let start = sync_start(r, asynchronous);
     let token = next_token(r);
-    let mut trt = r.trt;
-    trt[p] = 0;
-    let raised = places::raised(trt, r.set.n, rise as u32);
+    let sent = sync as u32;
+    let trt = timers.trt;
     let mut next = r;
-    next.trt = raised;
+    next.trt = trt;
     next.sent[p] = sent;
     next.rest[p] -= sent;
-    next.last[p] = r.clock;
+    next.last[p] = start;
     next.clock = r.clock + rise;
     next.visits = r.visits + 1;
     next.token = token;
-    next.unused = unused;
+    next.unused = timers.unused;
     next
 }
 
 // The deadline less the finish, negative when late.
-fn margin_of(deadline: u64, finish: u64) -> i64
-    requires { ⌜ (deadline < 2 ^ 62) × (finish < 2 ^ 62) ⌝ }
-    ensures { λ m. ⌜ m ≡ subℕ deadline finish ⌝ }
+fn margin_of(deadline: Ticks, finish: Ticks) -> i64
+    requires { ⌜ (deadline .0 < 2 ^ 62) × (finish .0 < 2 ^ 62) ⌝ }
+    ensures { λ m. ⌜ m ≡ subℕ (deadline .0) (finish .0) ⌝ }
 {
-    let due = deadline as i64;
-    let done = finish as i64;
+    let due = deadline.0 as i64;
+    let done = finish.0 as i64;
     due - done
 }
 
@@ -142,13 +113,14 @@ pub(crate) fn record_of(r: Ring, sync: u64, asynchronous: u64) -> VisitRecord
     let station = units::wide(r.token);
     let times = r.trt;
     let trt = units::wide(times[p]);
-    let limit = limit_of(r);
+    let limit = timing::limit_of(r);
     let mut finish: u64 = 0;
     let mut margin: i64 = 0;
     let mut completed: u8 = 0;
     if completes_with(r, sync) {
-        finish = r.clock + sync;
-        margin = margin_of(deadline_of(r), finish);
+        let start = sync_start(r, asynchronous);
+        finish = start + sync;
+        margin = margin_of(Ticks(deadline_of(r)), Ticks(finish));
         completed = 1;
     }
     VisitRecord {

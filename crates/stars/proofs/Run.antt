@@ -7,12 +7,14 @@ use Rattle.sets.specs.Judged.{judgedThen}
 use Rattle.plans.specs.Planned.{smallestWith, judgedPlan, answered, leastAlloc}
 use Rattle.rings.specs.Opening.{openedRing, openedWith}
 use Rattle.rings.specs.Sound.{isSound}
-use Rattle.rings.specs.Steps.{syncSent, nextToken, moved, recordOf, visitedWith}
+use Rattle.rings.specs.State.{following}
+use Rattle.rings.specs.Timers.{timersAfter, silentTimers, timersSound}
+use Rattle.rings.specs.Steps.{syncSent, moved, recordOf, visitedWith}
 use Rattle.rings.specs.HandingIn.{arrivalAllowed, holding, takenWith}
 use Rattle.stars.specs.Run.{WorkedRun}
 
 pub workedRun : WorkedRun
-unfolding sumBelow allBelow fill raise orElse allHold headInRange stationInRange judgedThen smallestWith judgedPlan answered leastAlloc openedRing openedWith isSound syncSent nextToken moved recordOf visitedWith arrivalAllowed holding takenWith
+unfolding sumBelow allBelow fill raise orElse allHold headInRange stationInRange judgedThen smallestWith judgedPlan answered leastAlloc openedRing openedWith isSound syncSent following timersAfter silentTimers timersSound moved recordOf visitedWith arrivalAllowed holding takenWith
 workedRun =
     record {
       plan = refl;

@@ -1,42 +1,15 @@
--- `opened_ring` is right because its body is the definition; the sums of an accepted plan are at most TTRT.
-use mathlib.Core.Path.{_≡_, refl, _∙_}
-use native.Mathlib.Omega.{arith}
-use Rattle.units.specs.Places.{at, sumBelow, fill}
-use Rattle.sets.specs.Judged.{zeros}
-use Rattle.places.proofs.Promised.{promised}
-use Rattle.rings.specs.Opening.{silentTrt, openedRing}
-use Rattle.plans.specs.PlanLaws.{given-none}
-use borrow.Author.Needs.{needs}
+-- `opened_ring` is right because its body is the definition.
+use mathlib.Core.Path.{refl}
+use Rattle.rings.specs.Opening.{openedRing}
 use Rattle.rings.proofs.opening.opened_ring.Statement.{statement}
 use Rattle.rings.proofs.opening.opened_ring.Tie as tie
 
--- what is stored for TRT is the whole sum of w from each station on: τ is at most TTRT, so that no sum is held
-walked : (c : tie.After-sums-to-last) → c .sums-to-last .result ≡ fill (c .before .before .args .set .n) (silentTrt (c .before .before .args .set)) zeros
-walked c =
-    let args = c .before .before .args in
-    let plan = given-none (args .set) (args .alloc) .0 (c .before .before .pre) in
-    c .sums-to-last .ensures ∙ promised .sums-fit (args .set .n) (args .set .w) (omega (arith, plan .1 .0 .0 .header, plan .1 .1 .0))
-
--- what is stored for u is the sum of S over all stations
-summed : (c : tie.After-sum-first) → c .sum-first .result ≡ sumBelow (c .before .before .before .before .args .set .n) (at (c .before .before .before .before .args .alloc .s))
-summed c = c .sum-first .ensures .sum
-
-sums-to-last-requires : tie.Need-sums-to-last-requires
-sums-to-last-requires c κs = search needs
-
-sum-first-requires : tie.Need-sum-first-requires
-sum-first-requires c κs = search needs
-
-cast-unused : tie.Need-cast-unused
-cast-unused c =
-    let start = c .before .before .before .before in
-    let plan = given-none (start .args .set) (start .args .alloc) .0 (start .pre) in
-    record { fits = omega (arith, plan .1 .0 .0 .header, plan .1 .1 .1 .token) }
+silent-timers-requires : tie.Need-silent-timers-requires
+silent-timers-requires c κs = c .pre
 
 returns : tie.Need-returns
 unfolding openedRing
-returns c = rw (walked (c .before .before), summed c) refl
+returns c = rw (c .before .silent-timers .ensures) refl
 
 pub opened-ring-spec : {M : Type 1} → statement M
-opened-ring-spec =
-    tie.close (tie.spec sums-to-last-requires sum-first-requires cast-unused returns)
+opened-ring-spec = tie.close (tie.spec silent-timers-requires returns)

@@ -10,13 +10,15 @@ use borrow.Author.Needs.{needs}
 use Rattle.rings.proofs.steps.margin_of.Statement.{statement}
 use Rattle.rings.proofs.steps.margin_of.Tie as tie
 
-said : (c : tie.Start) → toZ w64 (c .args .deadline) -ℤ toZ w64 (c .args .finish) ≡ subℕ (c .args .deadline) (c .args .finish)
+said : (c : tie.Start) → toZ w64 (c .args .deadline .0) -ℤ toZ w64 (c .args .finish .0) ≡ subℕ (c .args .deadline .0) (c .args .finish .0)
 said c =
-    rw (toZ-pos w64 (c .args .deadline) (omega arith), toZ-pos w64 (c .args .finish) (omega arith))
-    (difference (c .args .deadline) (c .args .finish))
+    rw (toZ-pos w64 (c .args .deadline .0) (omega arith), toZ-pos w64 (c .args .finish .0) (omega arith))
+    (difference (c .args .deadline .0) (c .args .finish .0))
 
 returns : tie.Need-returns
-returns c = ap (λ m. toZ w64 (ofZ w64 m)) (said c) ∙ toZ-ofZ w64 _ (difference-fits _ _ (c .pre .0) (c .pre .1))
+returns c =
+    let start = c .before .before in
+    ap (λ m. toZ w64 (ofZ w64 m)) (said start) ∙ toZ-ofZ w64 _ (difference-fits _ _ (start .pre .0) (start .pre .1))
 
 cast-due : tie.Need-cast-due
 cast-due c = search needs
@@ -25,7 +27,9 @@ cast-done : tie.Need-cast-done
 cast-done c = search needs
 
 sub-result : tie.Need-sub-result
-sub-result c = subst (SFits w64) (sym (said c)) (difference-fits _ _ (c .pre .0) (c .pre .1))
+sub-result c =
+    let start = c .before .before in
+    subst (SFits w64) (sym (said start)) (difference-fits _ _ (start .pre .0) (start .pre .1))
 
 pub margin-of-spec : {M : Type 1} → statement M
 margin-of-spec = tie.close (tie.spec cast-due cast-done sub-result returns)

@@ -1,7 +1,6 @@
 -- `next_token` is right because its branch is the definition's own.
 use Prim.Native.Nat.{_+_, _<_}
-use Rattle.rings.specs.State.{count}
-use Rattle.rings.specs.Steps.{nextToken}
+use Rattle.rings.specs.State.{count, following}
 use borrow.Author.Tests.{lt-ltb, le-ltb}
 use borrow.Author.Needs.{needs}
 use Rattle.rings.proofs.steps.next_token.Statement.{statement}
@@ -11,14 +10,14 @@ add-next : tie.Need-add-next
 add-next c = search needs
 
 returns : tie.Need-returns
-unfolding nextToken
+unfolding following
 returns c =
     let r = c .before .before .before .args .r in
     let inside : r .token + 1 < count r = c .if1 .taken in
     rw (lt-ltb _ _ inside)
 
 returns-2 : tie.Need-returns-2
-unfolding nextToken
+unfolding following
 returns-2 c = rw (le-ltb _ _ (c .if1 .left))
 
 pub next-token-spec : {M : Type 1} → statement M

@@ -12,6 +12,9 @@ use Rattle.rings.proofs.steps.sync_sent.Tie as tie
 cast-p : tie.Need-cast-p
 cast-p c = search needs
 
+sync-start-requires : tie.Need-sync-start-requires
+sync-start-requires c κs = search needs
+
 mul-held : tie.Need-mul-held
 mul-held c = search needs
 
@@ -48,20 +51,22 @@ least-requires c κs = search needs
 returns : tie.Need-returns
 returns c =
     let then = c .before .before .before .before in
-    let r = then .before .before .before .before .before .args .r in
+    let args = then .before .before .before .before .before .args in
+    let r = args .r in
     let is : c .least .result ≡ min (share r (r .token)) (at (r .rest) (r .token)) = c .least .ensures ∙ rw (c .before .before .wide .ensures .same, c .before .wide2 .ensures .same) refl in
-    record { is = is ∙ sym (served r (then .if1 .taken)); allotted = omega arith; rest = omega arith }
+    record { is = is ∙ sym (served r (args .asynchronous) (rw (then .before .sync-start .ensures) at (then .if1 .taken))); allotted = omega arith; rest = omega arith }
 
 returns-2 : tie.Need-returns-2
 returns-2 c =
-    let r = c .before .before .before .before .before .args .r in
-    record { is = sym (not-served r (c .if1 .left)); allotted = omega arith; rest = omega arith }
+    let args = c .before .before .before .before .before .args in
+    record { is = sym (not-served (args .r) (args .asynchronous) (rw (c .before .sync-start .ensures) at (c .if1 .left))); allotted = omega arith; rest = omega arith }
 
 pub sync-sent-spec : {M : Type 1} → statement M
 sync-sent-spec =
     tie.close
     (tie.spec
     cast-p
+    sync-start-requires
     mul-held
     array-read-held
     mul-arrived

@@ -3,10 +3,10 @@ use Prim.Native.Nat.{_-_}
 use mathlib.Core.Path.{_≡_, _∙_}
 use native.Mathlib.Omega.{arith}
 use Rattle.rings.specs.State.{ttrt}
-use Rattle.rings.specs.Steps.{limit}
+use Rattle.rings.specs.Timers.{limit}
 use borrow.Author.Needs.{needs}
-use Rattle.rings.proofs.steps.limit_of.Statement.{statement}
-use Rattle.rings.proofs.steps.limit_of.Tie as tie
+use Rattle.rings.proofs.timing.limit_of.Statement.{statement}
+use Rattle.rings.proofs.timing.limit_of.Tie as tie
 
 cast-p : tie.Need-cast-p
 cast-p c = search needs

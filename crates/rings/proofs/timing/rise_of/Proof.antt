@@ -2,8 +2,8 @@
 use Prim.Native.Nat.{_+_}
 use mathlib.Core.Path.{ap}
 use borrow.Author.Needs.{needs}
-use Rattle.rings.proofs.steps.rise_of.Statement.{statement}
-use Rattle.rings.proofs.steps.rise_of.Tie as tie
+use Rattle.rings.proofs.timing.rise_of.Statement.{statement}
+use Rattle.rings.proofs.timing.rise_of.Tie as tie
 
 cast-p : tie.Need-cast-p
 cast-p c = search needs

@@ -1,8 +1,8 @@
 -- `unused_after` is right because it takes off S − s of before and adds S − s of now, as the definition does.
 use mathlib.Core.Path.{refl}
 use borrow.Author.Needs.{needs}
-use Rattle.rings.proofs.steps.unused_after.Statement.{statement}
-use Rattle.rings.proofs.steps.unused_after.Tie as tie
+use Rattle.rings.proofs.timing.unused_after.Statement.{statement}
+use Rattle.rings.proofs.timing.unused_after.Tie as tie
 
 cast-p : tie.Need-cast-p
 cast-p c = search needs
