@@ -1,6 +1,6 @@
 -- `least_time` is right because its body is the definition; products of two 32-bit numbers leave room for a third.
 use native.Mathlib.Omega.{arith}
-use Rattle.units.specs.SmallLaws.{product-small}
+use Rattle.units.specs.SmallLaws.{product-room}
 use borrow.Author.Needs.{needs}
 use Rattle.plans.proofs.least_time.Statement.{statement}
 use Rattle.plans.proofs.least_time.Tie as tie
@@ -16,18 +16,15 @@ wide-requires c κs = search needs
 
 mul-result : tie.Need-mul-result
 mul-result c =
-    let m = c .before .before .whole-rotations .result in
-    let s = c .wide .result in
-    omega (arith, product-small m s (omega arith) (omega arith))
+    omega (arith, product-room (c .before .before .whole-rotations .result) (c .wide .result) 0 (omega arith) (omega arith) (omega arith))
 
 room-requires : tie.Need-room-requires
 room-requires c κs = search needs
 
 add-result : tie.Need-add-result
 add-result c =
-    let m = c .before .before .before .whole-rotations .result in
-    let s = c .before .wide .result in
-    omega (arith, product-small m s (omega arith) (omega arith))
+    omega
+    (arith, product-room (c .before .before .before .whole-rotations .result) (c .before .wide .result) (c .room .result) (omega arith) (omega arith) (omega arith))
 
 returns : tie.Need-returns
 returns c = rw (c .before .before .before .whole-rotations .ensures .is, c .before .wide .ensures .same) (omega arith)

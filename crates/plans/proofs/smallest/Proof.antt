@@ -50,13 +50,13 @@ rounded-up-requires-2 c κs = search needs
 returns : tie.Need-returns
 returns c =
     let w = c .before .before in
-    let whole = smallest-whole (w .before .before .whole-rotations .result) (w .before .alpha .result) (w .wide .result) (c .before .if1 .taken) in
+    let whole = smallest-whole (w .before .before .whole-rotations .result) (w .before .alpha .result) (w .wide .result) (omega arith) in
     bounded _ _ _ _ (c .rounded-up .ensures .is ∙ sym whole ∙ said w)
 
 returns-2 : tie.Need-returns-2
 returns-2 c =
     let w = c .before .before in
-    let part = smallest-part (w .before .before .whole-rotations .result) (w .before .alpha .result) (w .wide .result) (c .before .if1 .left) in
+    let part = smallest-part (w .before .before .whole-rotations .result) (w .before .alpha .result) (w .wide .result) (omega arith) in
     bounded _ _ _ _ (c .rounded-up2 .ensures .is ∙ sym part ∙ said w)
 
 pub smallest-spec : {M : Type 1} → statement M
