@@ -157,10 +157,10 @@ saidOver u (b ∷ bs) = saidAt u b ++ saidOver (runOn u b) bs
 
 -- ---- what the functions hand back
 
--- a line was answered
-pub record Answers (ring : Ring) (s : Scan) (n : ℕ) (before : List ℕ) (a : ℕ) (after : List ℕ) (r : Answered) : Type 0 where
-  pub put : PutShort 240 before a (answerText ring s n) after (r .next)
-  pub behind : r .ring ≡ ringAfter ring s
+-- a line was answered: this was said, and this ring stands behind it
+pub record Answers (said : List ℕ) (ring : Ring) (before : List ℕ) (a : ℕ) (after : List ℕ) (r : Answered) : Type 0 where
+  pub put : PutShort 240 before a said after (r .next)
+  pub behind : r .ring ≡ ring
 
 -- how many bytes are read at once
 abbrev pub pieceSize : ℕ

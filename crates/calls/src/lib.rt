@@ -1,11 +1,13 @@
 // What `run` prints: the calls are read line by line, and each is answered by the ring.
 ghost use mathlib.Core.Path.{_≡_};
-ghost use mathlib.Core.List.{_∷_, []};
+ghost use mathlib.Core.List.{_∷_};
 ghost use Prim.Native.Nat.{_+_, _≤_, min};
 ghost use lib.ListN.{length};
 ghost use Rattle.sheets.specs.Reading.{readPlan};
+ghost use Rattle.rings.specs.Steps.{visited};
+ghost use Rattle.rings.specs.HandingIn.{handedIn};
 ghost use Rattle.text.specs.Text.{PutShort, space, lineOn};
-ghost use Rattle.calls.specs.RunText.{isVisit, isMessage, messageIn, withoutSign, signedOf, completion, arrivalWords, amountWords, visitLine, visitText, takenText, runFrom, openedRun, Answers, Piece, RanPiece, RanOn};
+ghost use Rattle.calls.specs.RunText.{isVisit, isMessage, messageIn, withoutSign, signedOf, completion, arrivalWords, amountWords, visitLine, visitText, takenText, answerText, ringAfter, runFrom, openedRun, Answers, Piece, RanPiece, RanOn};
 use lines::Scan;
 use rings::Message;
 use rings::Ring;
@@ -188,10 +190,33 @@ fn put_taken(page: &mut [u8], at: usize, number: u8) -> usize
 
 // ---- one line
 
+// The answer to a visit, and the ring behind it.
+fn answer_visit(page: &mut [u8], at: usize, ring: Ring, ask: u32) -> Answered
+    requires { ⌜ at + 240 ≤ length (now page) ⌝ }
+    ensures { λ r. ⌜ Answers (visitText (visited ring ask .answer)) (visited ring ask .ring) (now (page .entry)) at (now (page .exit)) r ⌝ }
+{
+    let visited = ring.visit(ask);
+    let answer = visited.answer;
+    let next = put_visit(page, at, answer);
+    let moved = visited.ring;
+    Answered { ring: moved, next }
+}
+
+// The answer to a handing in, and the ring behind it.
+fn answer_message(page: &mut [u8], at: usize, ring: Ring, message: Message) -> Answered
+    requires { ⌜ at + 240 ≤ length (now page) ⌝ }
+    ensures { λ r. ⌜ Answers (takenText (handedIn ring message .number)) (handedIn ring message .ring) (now (page .entry)) at (now (page .exit)) r ⌝ }
+{
+    let taken = ring.hand_in(message);
+    let next = put_taken(page, at, taken.number);
+    let held = taken.ring;
+    Answered { ring: held, next }
+}
+
 // The answer to a line, and the ring behind it.
 fn answer_line(page: &mut [u8], at: usize, ring: Ring, s: Scan, line: u64) -> Answered
     requires { ⌜ at + 240 ≤ length (now page) ⌝ }
-    ensures { λ r. ⌜ Answers ring s line (now (page .entry)) at (now (page .exit)) r ⌝ }
+    ensures { λ r. ⌜ Answers (answerText ring s line) (ringAfter ring s) (now (page .entry)) at (now (page .exit)) r ⌝ }
 {
     if lines::is_empty_line(s) {
         return Answered { ring, next: at };
@@ -199,19 +224,10 @@ fn answer_line(page: &mut [u8], at: usize, ring: Ring, s: Scan, line: u64) -> An
     if is_visit(s) {
         let values = s.values;
         let asked = values[0];
-        let ask = asked as u32;
-        let visited = ring.visit(ask);
-        let answer = visited.answer;
-        let next = put_visit(page, at, answer);
-        let moved = visited.ring;
-        return Answered { ring: moved, next };
+        return answer_visit(page, at, ring, asked as u32);
     }
     if is_message(s) {
-        let message = message_in(s);
-        let taken = ring.hand_in(message);
-        let next = put_taken(page, at, taken.number);
-        let held = taken.ring;
-        return Answered { ring: held, next };
+        return answer_message(page, at, ring, message_in(s));
     }
     let next = text::put_unread(page, at, line);
     Answered { ring, next }

@@ -1,4 +1,4 @@
--- What is promised of `compose` beside the contracts; `proofs/Promised.antt` proves it. That it undoes `show` is promised in `console`.
+-- What is promised of `compose` beside the contracts; `proofs/Promised.antt` proves it. That it undoes `show` is promised in `outputs`.
 use Prim.Native.Nat.{ℕ}
 use mathlib.Core.Path.{_≡_}
 use mathlib.Core.List.{List, [], _∷_, _++_}

@@ -1,7 +1,7 @@
 // What `compose` makes of a text: a set, for a plan with its allocation, read line by line.
 ghost use mathlib.Core.Path.{_≡_};
 ghost use Prim.Native.Nat.{_<_, _^_};
-ghost use Rattle.drafts.specs.Compose.{allFit, isLine, isTtrt, isStation, isPlanStation, blankDraft, misplaced, withTtrt, NumbersFit, setAnd, allocAnd, withStation, withUnread, lineDrafted, onNextLine, composeStart, composeAfter, WroteDraft};
+ghost use Rattle.drafts.specs.Compose.{allFit, isLine, misplaced, withTtrt, NumbersFit, setAnd, allocAnd, withStation, withUnread, lineDrafted, onNextLine, composeStart, composeAfter, WroteDraft};
 use lines::Scan;
 use plans::Alloc;
 use sets::Head;

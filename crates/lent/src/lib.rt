@@ -5,7 +5,7 @@ ghost use Rattle.plans.specs.Planned.{blankAlloc, planned};
 ghost use Rattle.sheets.specs.Reading.{readRequest, readPlan};
 ghost use Rattle.sheets.specs.Writing.{Wrote};
 ghost use Rattle.rings.specs.Opening.{opening};
-ghost use Rattle.lent.specs.Lent.{VisitLent, HandInLent};
+ghost use Rattle.lending.specs.Lent.{VisitLent, HandInLent};
 use plans::Alloc;
 use plans::Planned;
 use rings::Message;

@@ -1,6 +1,6 @@
 // Text put into a page. Each public function puts a text into the page from a place on, and answers the place behind it. If the page has no room for the most bytes that it may put, the page stays as it was and the answer is the place itself.
 ghost use mathlib.Core.Path.{_≡_};
-ghost use mathlib.Core.List.{List, [], _∷_};
+ghost use mathlib.Core.List.{[], _∷_};
 ghost use Prim.Native.Nat.{_+_, _-_, _<_, _≤_};
 ghost use lib.ListN.{length};
 ghost use Rattle.text.specs.Text.{Put, PutShort, PutWithin, Room, digit, decimalOf, space, newline, refusedLine, unreadLine};

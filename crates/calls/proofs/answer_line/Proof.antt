@@ -1,6 +1,7 @@
 -- `answer_line` is right because it goes by what the line is, as the definition does.
-use mathlib.Core.Path.{sym, _∙_}
+use mathlib.Core.Path.{refl, sym, ap, _∙_}
 use native.Mathlib.Omega.{arith}
+use Rattle.rings.specs.HandingIn.{handedIn}
 use Rattle.calls.specs.RunLaws.{answered-empty, answered-visit, answered-message, answered-unread, ask-small}
 use Rattle.text.specs.TextLaws.{unread-short, put-none, put-as}
 use borrow.Author.Needs.{needs}
@@ -22,30 +23,26 @@ is-visit-requires c κs = search needs
 array-read-asked : tie.Need-array-read-asked
 array-read-asked c = search needs
 
-cast-ask : tie.Need-cast-ask
-cast-ask c =
-    let visits = c .before in
+cast-answer-visit : tie.Need-cast-answer-visit
+cast-answer-visit c =
+    let visits = c .before .before in
     omega (arith, ask-small (visits .before .before .before .before .before .args .s) (sym (visits .before .is-visit .ensures) ∙ visits .if2 .taken))
 
-visit-requires : tie.Need-visit-requires
-visit-requires c κs = search needs
-
-put-visit-requires : tie.Need-put-visit-requires
-put-visit-requires c κs = search needs
+answer-visit-requires : tie.Need-answer-visit-requires
+answer-visit-requires c κs = search needs
 
 same-length : tie.Need-same-length
 same-length c = search needs
 
 returns-2 : tie.Need-returns-2
 returns-2 c =
-    let called = c .before .before .before in
-    let visit = called .before .before .before in
-    let visits = visit .before .before in
+    let called = c .before .before in
+    let visits = called .before .before .before in
     let other = visits .before .before in
     let start = other .before .before .before in
     let both = answered-visit (start .args .ring) (start .args .s) (start .args .line) _ (sym (other .before .is-empty-line .ensures) ∙ other .if1 .left)
-    (sym (visits .before .is-visit .ensures) ∙ visits .if2 .taken) (visit .visit .ensures) in
-    record { put = put-as (called .put-visit .ensures) (both .0) (omega arith); behind = both .1 }
+    (sym (visits .before .is-visit .ensures) ∙ visits .if2 .taken) refl in
+    record { put = put-as (called .answer-visit .ensures .put) (both .0) (omega arith); behind = called .answer-visit .ensures .behind ∙ both .1 }
 
 is-message-requires : tie.Need-is-message-requires
 is-message-requires c κs = search needs
@@ -53,27 +50,24 @@ is-message-requires c κs = search needs
 message-in-requires : tie.Need-message-in-requires
 message-in-requires c κs = search needs
 
-hand-in-requires : tie.Need-hand-in-requires
-hand-in-requires c κs = search needs
-
-put-taken-requires : tie.Need-put-taken-requires
-put-taken-requires c κs = search needs
+answer-message-requires : tie.Need-answer-message-requires
+answer-message-requires c κs = search needs
 
 same-length-2 : tie.Need-same-length-2
 same-length-2 c = search needs
 
 returns-3 : tie.Need-returns-3
 returns-3 c =
-    let called = c .before .before .before in
-    let handed = called .before .before in
-    let hands = handed .before .before in
+    let called = c .before .before in
+    let read = called .before in
+    let hands = read .before .before in
     let other = hands .before .before in
     let filled = other .before .before in
     let start = filled .before .before .before in
     let both = answered-message (start .args .ring) (start .args .s) (start .args .line) _ (sym (filled .before .is-empty-line .ensures) ∙ filled .if1 .left)
     (sym (other .before .is-visit .ensures) ∙ other .if2 .left) (sym (hands .before .is-message .ensures) ∙ hands .if3 .taken)
-    (rw (handed .before .message-in .ensures) at (handed .hand-in .ensures)) in
-    record { put = put-as (called .put-taken .ensures) (both .0) (omega arith); behind = both .1 }
+    (ap (handedIn (start .args .ring)) (read .message-in .ensures)) in
+    record { put = put-as (called .answer-message .ensures .put) (both .0) (omega arith); behind = called .answer-message .ensures .behind ∙ both .1 }
 
 put-unread-requires : tie.Need-put-unread-requires
 put-unread-requires c κs = search needs
@@ -100,15 +94,13 @@ answer-line-spec =
     returns
     is-visit-requires
     array-read-asked
-    cast-ask
-    visit-requires
-    put-visit-requires
+    cast-answer-visit
+    answer-visit-requires
     same-length
     returns-2
     is-message-requires
     message-in-requires
-    hand-in-requires
-    put-taken-requires
+    answer-message-requires
     same-length-2
     returns-3
     put-unread-requires

@@ -1,15 +1,10 @@
--- `hand_in_lent` is the walk over `Ring::hand_in`: what a handing in gives has the contract's three parts, the last since a refused one gives the ring back.
-use Prim.Native.Nat.{ℕ, zero, suc}
-use mathlib.Core.Path.{_≡_, refl}
-use mathlib.Core.Logic.{_≢_}
+-- `hand_in_lent` is the walk over `Ring::hand_in`: what a handing in by value gives has the contract's three parts, which `lending` proves.
 use mir.Syntax.{w8}
 use contract.Running.{givenOf, tables, tablesOf}
 use denote.Struct.Laws as LL
 use denote.Triple.Spec.{tripleOf}
 use denote.Triple.Table.{entered, cited}
-use Rattle.rings.specs.HandingIn.{handInNumber, handedIn, takenWith}
-use Rattle.rings.specs.declared.Ring.{Ring}
-use Rattle.rings.specs.declared.Message.{Message}
+use Rattle.rings.specs.HandingIn.{handedIn}
 use Rattle.rings.proofs.Ring as ring
 use Rattle.rings.proofs.Ring.Laws as ring′
 use Rattle.rings.proofs.Message as message
@@ -19,7 +14,8 @@ use Rattle.rings.proofs.Taken.Laws as both′
 use Rattle.rings.proofs.Ring.hand_in as hand-in
 use Rattle.rings.proofs.Ring.hand_in.Symbol as hand-in-def
 use Rattle.rings.proofs.Ring.hand_in.Met as hand-in-thm
-use Rattle.lent.specs.Lent.{HandInLent}
+use Rattle.lending.specs.Lent.{HandInLent}
+use Rattle.lending.proofs.Promised.{promised}
 use Rattle.lent.proofs.Walk.{PlainType, TwoFields, of-uint, of-struct, meets}
 use Rattle.lent.proofs.hand_in_lent as lent
 use Rattle.lent.proofs.hand_in_lent.Key as key
@@ -41,20 +37,11 @@ RingAndNumber = record {
   second-is = λ p vs is. LL.owed both.the-type both′.the-laws p vs is .1 .0;
 }
 
--- whatever the number, a handing in that is not answered 0 gives the ring back
-same-ring : (k : ℕ) (r : Ring) (m : Message) → takenWith k r m .number ≢ 0 → takenWith k r m .ring ≡ r
-unfolding takenWith
-same-ring zero r m n = absurd (n refl)
-same-ring (suc k) r m n = refl
-
-holds : (r : Ring) (m : Message) → HandInLent r m (handedIn r m .ring) (handedIn r m .number)
-holds r m = record { ring = refl; answered = refl; refused = same-ring (handInNumber r m) r m }
-
 pub hand-in-lent-spec : {M : Type 1} → stated.statement M
 unfolding code.routine tablesOf
 hand-in-lent-spec 𝓤 H 𝓜 𝓖 𝓡 =
     entered 𝓤 H (tripleOf 𝓤 H (𝓖 .A) lent.signature (lent.spec 𝓤 H (𝓖 .A) (𝓜 .mem) (𝓡 .run)))
     (tables 𝓤 H 𝓜 𝓡 code.env .C) (tables 𝓤 H 𝓜 𝓡 code.env .Λ) key.name code.function (code.unfolded 𝓤 H 𝓜 𝓡)
-    (meets ring.the-type ring′.the-laws ring′.the-plain ToHandIn (of-uint w8) RingAndNumber handedIn HandInLent holds
+    (meets ring.the-type ring′.the-laws ring′.the-plain ToHandIn (of-uint w8) RingAndNumber handedIn HandInLent (promised .hand-in)
     𝓤 H (𝓖 .A) (givenOf 𝓤 H 𝓜 𝓖) (tablesOf 𝓤 H 𝓜 (tables 𝓤 H 𝓜 𝓡 code.env)) hand-in-def.name
     (cited 𝓤 H (tripleOf 𝓤 H (𝓖 .A) hand-in.signature (hand-in.spec 𝓤 H (𝓖 .A) (𝓜 .mem) (𝓡 .run))) 𝓜 𝓡 code.env hand-in-def.name hand-in-def.routine code.calls-rings·Ring·hand-in (hand-in-thm.met 𝓤 H 𝓜 𝓖 𝓡)))

@@ -1,14 +1,10 @@
--- `visit_lent` is the walk over `Ring::visit`: what a visit gives has the contract's three parts, the last since a refused visit gives the ring back.
-use Prim.Native.Nat.{ℕ, zero, suc}
-use mathlib.Core.Path.{_≡_, refl}
-use mathlib.Core.Logic.{_≢_}
+-- `visit_lent` is the walk over `Ring::visit`: what a visit by value gives has the contract's three parts, which `lending` proves.
 use mir.Syntax.{w32}
 use contract.Running.{givenOf, tables, tablesOf}
 use denote.Struct.Laws as LL
 use denote.Triple.Spec.{tripleOf}
 use denote.Triple.Table.{entered, cited}
-use Rattle.rings.specs.Steps.{visitNumber, visited, visitedWith}
-use Rattle.rings.specs.declared.Ring.{Ring}
+use Rattle.rings.specs.Steps.{visited}
 use Rattle.rings.proofs.Ring as ring
 use Rattle.rings.proofs.Ring.Laws as ring′
 use Rattle.rings.proofs.VisitAnswer as answer
@@ -18,7 +14,8 @@ use Rattle.rings.proofs.Visited.Laws as both′
 use Rattle.rings.proofs.Ring.visit as visit
 use Rattle.rings.proofs.Ring.visit.Symbol as visit-def
 use Rattle.rings.proofs.Ring.visit.Met as visit-thm
-use Rattle.lent.specs.Lent.{VisitLent}
+use Rattle.lending.specs.Lent.{VisitLent}
+use Rattle.lending.proofs.Promised.{promised}
 use Rattle.lent.proofs.Walk.{PlainType, TwoFields, of-uint, of-struct, meets}
 use Rattle.lent.proofs.visit_lent as lent
 use Rattle.lent.proofs.visit_lent.Key as key
@@ -40,20 +37,11 @@ RingAndAnswer = record {
   second-is = λ p vs is. LL.owed both.the-type both′.the-laws p vs is .1 .0;
 }
 
--- whatever the number, a visit that is not answered 0 gives the ring back
-same-ring : (k : ℕ) (r : Ring) (ask : ℕ) → visitedWith k r ask .answer .number ≢ 0 → visitedWith k r ask .ring ≡ r
-unfolding visitedWith
-same-ring zero r ask n = absurd (n refl)
-same-ring (suc k) r ask n = refl
-
-holds : (r : Ring) (ask : ℕ) → VisitLent r ask (visited r ask .ring) (visited r ask .answer)
-holds r ask = record { ring = refl; answered = refl; refused = same-ring (visitNumber r) r ask }
-
 pub visit-lent-spec : {M : Type 1} → stated.statement M
 unfolding code.routine tablesOf
 visit-lent-spec 𝓤 H 𝓜 𝓖 𝓡 =
     entered 𝓤 H (tripleOf 𝓤 H (𝓖 .A) lent.signature (lent.spec 𝓤 H (𝓖 .A) (𝓜 .mem) (𝓡 .run)))
     (tables 𝓤 H 𝓜 𝓡 code.env .C) (tables 𝓤 H 𝓜 𝓡 code.env .Λ) key.name code.function (code.unfolded 𝓤 H 𝓜 𝓡)
-    (meets ring.the-type ring′.the-laws ring′.the-plain (of-uint w32) Answer RingAndAnswer visited VisitLent holds
+    (meets ring.the-type ring′.the-laws ring′.the-plain (of-uint w32) Answer RingAndAnswer visited VisitLent (promised .visit)
     𝓤 H (𝓖 .A) (givenOf 𝓤 H 𝓜 𝓖) (tablesOf 𝓤 H 𝓜 (tables 𝓤 H 𝓜 𝓡 code.env)) visit-def.name
     (cited 𝓤 H (tripleOf 𝓤 H (𝓖 .A) visit.signature (visit.spec 𝓤 H (𝓖 .A) (𝓜 .mem) (𝓡 .run))) 𝓜 𝓡 code.env visit-def.name visit-def.routine code.calls-rings·Ring·visit (visit-thm.met 𝓤 H 𝓜 𝓖 𝓡)))
