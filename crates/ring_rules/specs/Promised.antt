@@ -1,4 +1,4 @@
--- What is promised of opening, visits and handing in beside the contracts; `proofs/Promised.antt` proves it. What every run of calls keeps is promised one layer up.
+-- What is promised of opening, visits and handing in beside the contracts; `proofs/Promised.antt` proves it. What every run of calls keeps is promised in `promises`.
 use Prim.Native.Nat.{ℕ, suc, _+_, _-_, _≤_, _<_, min}
 use mathlib.Core.Path.{_≡_}
 use mathlib.Core.Bool.{true}
