@@ -10,10 +10,12 @@ use Rattle.sets.specs.Rules.{headInRange, stationInRange}
 use Rattle.sets.specs.Judged.{judgedThen, zeros}
 use Rattle.sets.specs.declared.Set.{Set}
 use Rattle.plans.specs.Planned.{planned, smallestWith, answered, leastAlloc}
-use Rattle.fields.specs.Rows.{rows, lead}
+use Rattle.fields.specs.Rows.{rows}
 use Rattle.fields.specs.Bytes.{shortAt, numberAt}
-use Rattle.fields.specs.Fields.{allowedNext, isAllowed, fieldNumber, wholeAt}
-use Rattle.sheets.specs.Reading.{readRequest, stationsIn, allocationsIn, thenNumber, endNumber, shapeNumber, judgedSheet, readAnswer, readSheet}
+use Rattle.fields.specs.Fields.{isAllowed, fieldNumber, handedOut}
+use Rattle.scan.specs.Cursor.{cursorAfter}
+use Rattle.scan.specs.Scanned.{withField, stopsAt, stopNumber, scanFrom, scanned}
+use Rattle.sheets.specs.Reading.{readRequest, thenNumber, judgedSheet, readAnswer, readSheet}
 use Rattle.sheets.specs.ReadLaws.{then-none}
 use Rattle.sheets.specs.Writing.{writeAnswer, bufferAfter}
 use Rattle.sheets.specs.declared.Written.{Written}
@@ -57,7 +59,7 @@ refused-text sheet k = text-then (readRequest sheet .number) (planned (readReque
 -- ---- the cases
 
 empty-read : readRequest [] .number ≡ 1
-unfolding readSheet readAnswer thenNumber shapeNumber fieldNumber isAllowed allowedNext orElse
+unfolding readSheet readAnswer thenNumber scanned scanFrom stopsAt stopNumber fieldNumber handedOut orElse
 empty-read = refl
 
 empty-said : planPrinted [] ≡ refusedLine 1
@@ -67,7 +69,7 @@ workedSet : Set
 workedSet = record { head = record { ttrt = 100 }; n = 4; w = fill 1 (λ i. 2) zeros; c = fill 4 (λ i. 20) zeros; d = fill 4 (λ i. 100) zeros; p = fill 4 (λ i. 100) zeros }
 
 worked-read : readRequest workedSheet ≡ record { set = workedSet; number = 0 }
-unfolding workedSet readSheet readAnswer thenNumber shapeNumber fieldNumber isAllowed allowedNext orElse endNumber stationsIn allocationsIn lead allBelow wholeAt shortAt numberAt fill judgedSheet judgedThen allHold sumBelow headInRange stationInRange
+unfolding workedSet readSheet readAnswer thenNumber scanned scanFrom stopsAt stopNumber withField cursorAfter fieldNumber handedOut isAllowed orElse allBelow shortAt numberAt fill judgedSheet judgedThen allHold sumBelow headInRange stationInRange
 worked-read = refl
 
 worked-planned : planned workedSet ≡ record { alloc = record { s = fill 4 (λ i. 20) zeros }; number = 0 }

@@ -1,7 +1,7 @@
--- The fields of a sheet: one tag byte, two length bytes, then the body. What is allowed at a place, and what is found there.
+-- The fields of a sheet: one tag byte, two length bytes, then the body. What may stand at a place, and what is found there.
 use Prim.Native.Nat.{ℕ, zero, suc, _+_, _-_, _≤_}
 use mathlib.Core.Path.{_≡_}
-use mathlib.Core.Bool.{Bool, cond, not, _&&_, _||_}
+use mathlib.Core.Bool.{Bool, true, false, cond, not, _&&_}
 use mathlib.Core.List.{List}
 use lib.Dec.{leb, ltb, eqb}
 use lib.ListN.{length}
@@ -9,7 +9,6 @@ use Rattle.units.specs.Numbers.{accepted, cutShort, wrongShape, mostStations}
 use Rattle.units.specs.Places.{at}
 use Rattle.units.specs.Judging.{orElse}
 use Rattle.fields.specs.Bytes.{shortAt}
-use Rattle.fields.specs.declared.Allowed.{Allowed}
 use Rattle.fields.specs.declared.Passed.{Passed}
 use Rattle.fields.specs.declared.Field.{Field}
 
@@ -43,29 +42,32 @@ endTag = 255
 abbrev pub endSize : ℕ
 endSize = 0
 
--- ---- what is allowed
+-- ---- what may stand where
 
 -- how many allocations a sheet with n stations has: a plan one for each station, a request none
 abbrev pub allocationsFor : Bool → ℕ → ℕ
 allocationsFor plan n = cond plan n 0
 
--- what may stand next where these fields have passed: the header; then stations, up to 128 and none after an allocation; then in a plan as many allocations; then, behind at least one station and all allocations, the end
-unfoldable pub allowedNext : Bool → Passed → Allowed
-allowedNext plan p =
-    record {
-      head = not (p .head);
-      station = p .head && ltb (p .stations) mostStations && eqb (p .allocations) 0;
-      allocation = p .head && ltb (p .allocations) (allocationsFor plan (p .stations));
-      end = p .head && leb 1 (p .stations) && eqb (p .allocations) (allocationsFor plan (p .stations));
-    }
+-- as many as belong to the stations that have passed
+abbrev pub due : Passed → ℕ
+due p = allocationsFor (p .plan) (p .stations)
 
--- the tag with this length is one of those allowed
-unfoldable pub isAllowed : Allowed → ℕ → ℕ → Bool
-isAllowed allowed tag size =
-    (allowed .head && eqb tag headTag && eqb size headSize)
-    || (allowed .station && eqb tag stationTag && eqb size stationSize)
-    || (allowed .allocation && eqb tag allocationTag && eqb size allocationSize)
-    || (allowed .end && eqb tag endTag && eqb size endSize)
+-- the first field of the header has passed
+abbrev pub headed : Passed → Bool
+headed p = leb headTag (p .head)
+
+-- a row of the table: what holds for this tag; any other tag goes by the rest
+abbrev pub row : ℕ → ℕ → Bool → Bool → Bool
+row tag its holds rest = cond (eqb tag its) holds rest
+
+-- the tag with this length may stand behind the fields that have passed. A row for each tag, with its one length: the header, once; then stations, up to 128 and none behind an allocation; then in a plan an allocation for each; then, behind at least one station and all allocations, the end
+unfoldable pub isAllowed : Passed → ℕ → ℕ → Bool
+isAllowed p tag size =
+    row tag headTag (eqb size headSize && not (headed p))
+    (row tag stationTag (eqb size stationSize && headed p && ltb (p .stations) mostStations && eqb (p .allocations) 0)
+    (row tag allocationTag (eqb size allocationSize && headed p && ltb (p .allocations) (due p))
+    (row tag endTag (eqb size endSize && headed p && leb 1 (p .stations) && eqb (p .allocations) (due p))
+    false)))
 
 -- ---- what is found at a place
 
@@ -79,11 +81,19 @@ tagAt bs a = at bs a
 abbrev pub sizeAt : List ℕ → ℕ → ℕ
 sizeAt bs a = shortAt bs (a + 1)
 
+-- the place behind the field at a
+abbrev pub behind : List ℕ → ℕ → ℕ
+behind bs a = a + 3 + sizeAt bs a
+
+-- the field at a has a tag and a length that may stand behind the fields that have passed
+abbrev pub allowedAt : List ℕ → ℕ → Passed → Bool
+allowedAt bs a p = isAllowed p (tagAt bs a) (sizeAt bs a)
+
 -- at each field: fewer than three bytes left gives 1; then a tag or length not allowed there gives 2; then a body cut short gives 1
-unfoldable pub fieldNumber : List ℕ → ℕ → Allowed → ℕ
-fieldNumber bs a allowed =
+unfoldable pub fieldNumber : List ℕ → ℕ → Passed → ℕ
+fieldNumber bs a p =
     orElse (leb 3 (left bs a)) cutShort
-    (orElse (isAllowed allowed (tagAt bs a) (sizeAt bs a)) wrongShape
+    (orElse (allowedAt bs a p) wrongShape
     (orElse (leb (sizeAt bs a) (left bs (a + 3))) cutShort accepted))
 
 -- the field that is handed out: its tag, where its body begins, and where the next field does; nothing with a refusal
@@ -91,15 +101,10 @@ unfoldable pub handedOut : ℕ → ℕ → ℕ → ℕ → Field
 handedOut zero tag body next = record { number = 0; tag = tag; body = body; next = next }
 handedOut (suc k) tag body next = record { number = suc k; tag = 0; body = 0; next = 0 }
 
-abbrev pub fieldAt : List ℕ → ℕ → Allowed → Field
-fieldAt bs a allowed = handedOut (fieldNumber bs a allowed) (tagAt bs a) (a + 3) (a + 3 + sizeAt bs a)
+abbrev pub fieldAt : List ℕ → ℕ → Passed → Field
+fieldAt bs a p = handedOut (fieldNumber bs a p) (tagAt bs a) (a + 3) (behind bs a)
 
--- a whole field with this tag and this length stands at the place a
-unfoldable pub wholeAt : List ℕ → ℕ → ℕ → ℕ → Bool
-wholeAt bs a tag size = leb (3 + size) (left bs a) && (eqb (tagAt bs a) tag && eqb (sizeAt bs a) size)
-
--- the same as a sentence
-pub record Whole (bs : List ℕ) (a tag size : ℕ) : Type 0 where
-  pub inside : a + 3 + size ≤ length bs
-  pub has-tag : tagAt bs a ≡ tag
-  pub has-size : sizeAt bs a ≡ size
+-- a whole field that may stand there, as a sentence
+pub record FieldWhole (bs : List ℕ) (a : ℕ) (p : Passed) : Type 0 where
+  pub inside : behind bs a ≤ length bs
+  pub allowed : allowedAt bs a p ≡ true

@@ -1,10 +1,9 @@
--- Lists of bytes put together: rows of like fields, a segment laid into a buffer, a segment that stands at a place, and counting from the left.
+-- Lists of bytes put together: rows of like fields, a segment laid into a buffer, and a segment that stands at a place.
 use Prim.Native.Nat.{ℕ, zero, suc, _+_, _≤_, _<_}
 use mathlib.Core.Path.{_≡_}
-use mathlib.Core.Bool.{Bool, cond}
 use mathlib.Core.List.{List, [], _++_}
 use lib.ListN.{length, take, drop}
-use Rattle.units.specs.Places.{at, allBelow}
+use Rattle.units.specs.Places.{at}
 
 -- row 0, then row 1, up to row n − 1
 unfoldable pub rows : ℕ → (ℕ → List ℕ) → List ℕ
@@ -19,8 +18,3 @@ laid out a segment = take a out ++ segment ++ drop (a + length segment) out
 pub record Stands (bs : List ℕ) (a : ℕ) (segment : List ℕ) : Type 0 where
   pub fits : a + length segment ≤ length bs
   pub same : (i : ℕ) → i < length segment → at bs (a + i) ≡ at segment i
-
--- the largest count, up to `most`, whose places 0, 1, 2 .. all pass the test: how many pass before the first that does not
-unfoldable pub lead : ℕ → (ℕ → Bool) → ℕ
-lead zero f = 0
-lead (suc most) f = cond (allBelow (suc most) f) (suc most) (lead most f)

@@ -2,9 +2,8 @@
 pub mod bytes;
 
 ghost use mathlib.Core.Path.{_≡_};
-ghost use Prim.Native.Nat.{_+_, _-_, _≤_};
-ghost use lib.ListN.{length};
-ghost use Rattle.fields.specs.Fields.{left, allowedNext, isAllowed, allocationsFor, fieldAt, wholeAt};
+ghost use Prim.Native.Nat.{_+_};
+ghost use Rattle.fields.specs.Fields.{left, isAllowed, allocationsFor, fieldAt};
 use units::numbers;
 
 // ---- the tags, each with its one length
@@ -25,17 +24,11 @@ pub const END_TAG: u8 = 255;
 
 pub const END_SIZE: usize = 0;
 
-// Which fields may stand at a place.
-pub struct Allowed {
-    pub head: bool,
-    pub station: bool,
-    pub allocation: bool,
-    pub end: bool,
-}
-
-// Which fields have passed.
+// Which sheet it is, a plan or a request, and which of its fields have passed: the highest tag of the header's fields, 0 before the first; where the header's fields end and the stations begin; how many stations, and how many allocations.
 pub struct Passed {
-    pub head: bool,
+    pub plan: bool,
+    pub head: u8,
+    pub from: usize,
     pub stations: usize,
     pub allocations: usize,
 }
@@ -55,28 +48,28 @@ pub fn allocations_for(plan: bool, n: usize) -> usize
     if plan { n } else { 0 }
 }
 
-// What may stand next.
-pub fn allowed_next(plan: bool, passed: Passed) -> Allowed
-    ensures { λ r. ⌜ r ≡ allowedNext plan passed ⌝ }
+// The tag with this length may stand next: a row for each tag, with its one length.
+fn is_allowed(passed: Passed, tag: u8, size: usize) -> bool
+    ensures { λ r. ⌜ r ≡ isAllowed passed tag size ⌝ }
 {
-    let most = allocations_for(plan, passed.stations);
-    Allowed {
-        head: !passed.head,
-        station: passed.head & (passed.stations < 128) & (passed.allocations == 0),
-        allocation: passed.head & (passed.allocations < most),
-        end: passed.head & (1 <= passed.stations) & (passed.allocations == most),
+    let headed = HEAD_TAG <= passed.head;
+    let due = allocations_for(passed.plan, passed.stations);
+    if tag == HEAD_TAG {
+        return (size == HEAD_SIZE) & !headed;
     }
-}
-
-// The tag with this length is one of those allowed.
-fn is_allowed(allowed: Allowed, tag: u8, size: usize) -> bool
-    ensures { λ r. ⌜ r ≡ isAllowed allowed tag size ⌝ }
-{
-    let head = allowed.head & (tag == HEAD_TAG) & (size == HEAD_SIZE);
-    let station = allowed.station & (tag == STATION_TAG) & (size == STATION_SIZE);
-    let allocation = allowed.allocation & (tag == ALLOCATION_TAG) & (size == ALLOCATION_SIZE);
-    let end = allowed.end & (tag == END_TAG) & (size == END_SIZE);
-    head | station | allocation | end
+    if tag == STATION_TAG {
+        return (size == STATION_SIZE)
+            & headed
+            & (passed.stations < 128)
+            & (passed.allocations == 0);
+    }
+    if tag == ALLOCATION_TAG {
+        return (size == ALLOCATION_SIZE) & headed & (passed.allocations < due);
+    }
+    if tag == END_TAG {
+        return (size == END_SIZE) & headed & (1 <= passed.stations) & (passed.allocations == due);
+    }
+    false
 }
 
 // How many bytes are left from a place on.
@@ -102,15 +95,15 @@ fn refused(number: u8) -> Field
 }
 
 // The field at a place, or 1 or 2: fewer than three bytes left, then a tag or length not allowed there, then a body cut short.
-pub fn field_at(bs: &[u8], at: usize, allowed: Allowed) -> Field
-    ensures { λ r. ⌜ r ≡ fieldAt (now (bs .entry)) at allowed ⌝ }
+pub fn field_at(bs: &[u8], at: usize, passed: Passed) -> Field
+    ensures { λ r. ⌜ r ≡ fieldAt (now (bs .entry)) at passed ⌝ }
 {
     if left_from(bs, at) < 3 {
         return refused(numbers::CUT_SHORT);
     }
     let tag = bs[at];
     let size = bytes::short_at(bs, at + 1);
-    if !is_allowed(allowed, tag, size) {
+    if !is_allowed(passed, tag, size) {
         return refused(numbers::WRONG_SHAPE);
     }
     let body = at + 3;
@@ -123,20 +116,4 @@ pub fn field_at(bs: &[u8], at: usize, allowed: Allowed) -> Field
         body,
         next: body + size,
     }
-}
-
-// A whole field with this tag and this length stands at a place.
-pub fn whole_at(bs: &[u8], at: usize, tag: u8, size: usize) -> bool
-    ensures { λ r. ⌜ r ≡ wholeAt (now (bs .entry)) at tag size ⌝ }
-{
-    let left = left_from(bs, at);
-    if left < 3 {
-        return false;
-    }
-    if left - 3 < size {
-        return false;
-    }
-    let same_tag = bs[at] == tag;
-    let same_size = bytes::short_at(bs, at + 1) == size;
-    same_tag & same_size
 }

@@ -16,7 +16,8 @@ use Rattle.sets.specs.declared.Set.{Set}
 use Rattle.plans.specs.Planned.{judgedPlan, planned}
 use Rattle.plans.specs.declared.Alloc.{Alloc}
 use Rattle.plans.proofs.Promised.{promised as plans-promised}
-use Rattle.sheets.specs.Reading.{setIn, allocIn, shapeNumber, judgedSheet, readNumber, readSheet, readPlan, readRequest}
+use Rattle.scan.specs.Scanned.{scanned}
+use Rattle.sheets.specs.Reading.{setIn, allocIn, judgedSheet, readNumber, readSheet, readPlan, readRequest}
 use Rattle.sheets.specs.ReadLaws.{then-none, read-accepted, read-number}
 use Rattle.rings.specs.Opening.{openedRing, opening}
 use Rattle.rings.specs.Steps.{Ask, visited}
@@ -197,9 +198,9 @@ plan-judged t h = plans-promised .kept t h .judged
 sheet-judged : (bytes : List ℕ) → readPlan bytes .number ≡ 0 → judgedPlan (readPlan bytes .set) (readPlan bytes .alloc) ≡ 0
 unfolding readSheet judgedSheet
 sheet-judged bytes h =
-    let number : readNumber true bytes ≡ 0 = sym (read-number (readNumber true bytes) (setIn bytes) (allocIn true bytes)) ∙ h in
-    rw (read-accepted (readNumber true bytes) (setIn bytes) (allocIn true bytes) number)
-    (then-none (shapeNumber true bytes) (judgedPlan (setIn bytes) (allocIn true bytes)) number .1)
+    let number : readNumber true bytes ≡ 0 = sym (read-number (readNumber true bytes) (setIn true bytes) (allocIn true bytes)) ∙ h in
+    rw (read-accepted (readNumber true bytes) (setIn true bytes) (allocIn true bytes) number)
+    (then-none (scanned true bytes .number) (judgedPlan (setIn true bytes) (allocIn true bytes)) number .1)
 
 pub promised : Promised
 promised =

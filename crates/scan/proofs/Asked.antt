@@ -1,5 +1,5 @@
 -- `fields::field_at`, as the walks of this crate ask it: what it is passed, what it asks for, and what is known of its answer.
--- It asks for what the lent bytes own and for their lifetime's token; the place and what is allowed there are plain data, so what they own is made anew.
+-- It asks for what the lent bytes own and for their lifetime's token; the place and the fields that have passed are plain data, so what they own is made anew.
 -- A reader is Copy: what it owns is had twice, one copy is kept, and of the other what its bytes own goes to `field_at`.
 use mathlib.Core.Path.{_≡_, refl}
 use Prim.Native.Nat.{_<_, _^_}
@@ -29,10 +29,10 @@ use denote.Triple.Statement.{Contract}
 use denote.Triple.Entry.{Vals}
 use denote.Triple.Spec.{tripleOf}
 use denote.Triple.Clauses.{ensured, lasts}
-use Rattle.fields.specs.declared.Allowed.{Allowed}
+use Rattle.fields.specs.declared.Passed.{Passed}
 use Rattle.fields.specs.declared.Field.{Field}
-use Rattle.fields.proofs.Allowed as allowed-type
-use Rattle.fields.proofs.Allowed.Laws as allowed-laws
+use Rattle.fields.proofs.Passed as passed-type
+use Rattle.fields.proofs.Passed.Laws as passed-laws
 use Rattle.fields.proofs.field_at as field-at
 use Rattle.scan.specs.Cursor.{fieldOf}
 use Rattle.scan.specs.declared.Reader.{Reader}
@@ -45,7 +45,7 @@ module _ {M : Type 1} (𝓤 : URA M) (H : Heap 𝓤) (A : Atoms 𝓤) (mem : Mem
   FieldAt = tripleOf 𝓤 H A field-at.signature (field-at.spec 𝓤 H A mem run)
 
   -- the reader d, with the lifetime ℓ of its bytes as MIR names it
-  module _ (ℓ : Lifetime) (κ : Lft) (q : Share) (d : Reader) (allowed : Allowed) where
+  module _ (ℓ : Lifetime) (κ : Lft) (q : Share) (d : Reader) (passed : Passed) where
     -- the machine value of the bytes
     abbrev v : Val
     v = sliceVal (d .sheet .ptr) (length (d .sheet .now))
@@ -61,17 +61,17 @@ module _ {M : Type 1} (𝓤 : URA M) (H : Heap 𝓤) (A : Atoms 𝓤) (mem : Mem
     vd = (d .sheet, (d .at, tt))
 
     -- what `field_at` is passed
-    abbrev passed : Vals field-at.signature (κ, tt)
-    passed = (v ∷ [], (vint w64 (d .at) ∷ [], (LL.vals allowed-type.the-type allowed-laws.the-laws allowed, tt)))
+    abbrev values : Vals field-at.signature (κ, tt)
+    values = (v ∷ [], (vint w64 (d .at) ∷ [], (LL.vals passed-type.the-type passed-laws.the-laws passed, tt)))
 
     abbrev pub to-field : FieldAt .Ghost
-    to-field = (((κ, tt), (q, tt), tt, (d .sheet, (d .at, (allowed, tt))), passed), tt)
+    to-field = (((κ, tt), (q, tt), tt, (d .sheet, (d .at, (passed, tt))), values), tt)
 
-    module _ (W : Given 𝓤 H A) (fits : d .at < 2 ^ 64) (is-allowed : Is allowed-type.the-row allowed (LL.vals allowed-type.the-type allowed-laws.the-laws allowed)) where
+    module _ (W : Given 𝓤 H A) (fits : d .at < 2 ^ 64) (is-passed : Is passed-type.the-row passed (LL.vals passed-type.the-type passed-laws.the-laws passed)) where
       asks : ent 𝓤 (⋆ 𝓤 H A (‵ (ShrSlice (named 0) κ u8 .own (d .sheet) (v ∷ [])) ∷ (‵ (flft κ q) ⊛ ‵ ftrue) ∷ [])) (FieldAt .pre to-field)
       asks =
           qed W (‵ (ShrSlice (named 0) κ u8 .own (d .sheet) (v ∷ [])) ∷ (‵ (flft κ q) ⊛ ‵ ftrue) ∷ []) ∵
-          nothing ! $ owned ! allowed-type.the-row (Is allowed-type.the-row) (LL.makes allowed-type.the-type allowed-laws.the-plain 𝓤 H A) allowed _ is-allowed $ fjoin ! $
+          nothing ! $ owned ! passed-type.the-row (Is passed-type.the-row) (LL.makes passed-type.the-type passed-laws.the-plain 𝓤 H A) passed _ is-passed $ fjoin ! $
           owned ! usize (Is usize) (uint-makes 𝓤 H A W w64) (d .at) _ (refl, fits) $ fjoin ! $ move ! (1 ∷ 0 ∷ []) $ fjoin ! $ move ! (1 ∷ 0 ∷ []) $ join ! $ frame ! $ done !
 
       -- what the reader owns gives what `field_at` asks, and is kept
@@ -84,5 +84,5 @@ module _ {M : Type 1} (𝓤 : URA M) (H : Heap 𝓤) (A : Atoms 𝓤) (mem : Mem
           move ! (1 ∷ []) $ drop ! $ move ! (0 ∷ 2 ∷ []) $ use2 W (raw (FieldAt .pre to-field)) asks $ frame ! $ done !)
 
     -- of what it ensures, the clause alone: it has no `&mut`, so what is said of last values is dropped
-    pub field-said : (r : Field) → ent 𝓤 (ensured 𝓤 H A field-at.ended (field-at.clauses 𝓤 H A mem run) (κ, tt) (d .sheet, (d .at, (allowed, tt))) tt r) (fact 𝓤 (r ≡ fieldOf d allowed))
-    field-said r = exE 𝓤 _ (λ ws. snd∗ 𝓤 (sem 𝓤 H A (lasts field-at.ended (κ, tt) (d .sheet, (d .at, (allowed, tt))) ws)) (fact 𝓤 (r ≡ fieldOf d allowed)))
+    pub field-said : (r : Field) → ent 𝓤 (ensured 𝓤 H A field-at.ended (field-at.clauses 𝓤 H A mem run) (κ, tt) (d .sheet, (d .at, (passed, tt))) tt r) (fact 𝓤 (r ≡ fieldOf d passed))
+    field-said r = exE 𝓤 _ (λ ws. snd∗ 𝓤 (sem 𝓤 H A (lasts field-at.ended (κ, tt) (d .sheet, (d .at, (passed, tt))) ws)) (fact 𝓤 (r ≡ fieldOf d passed)))

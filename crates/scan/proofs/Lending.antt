@@ -28,9 +28,9 @@ use denote.Struct.Laws as LL
 use denote.Struct.Steps.{spelt}
 use denote.Triple.Statement.{Contract}
 use denote.Triple.Spec.{tripleOf}
-use Rattle.fields.specs.declared.Allowed.{Allowed}
-use Rattle.fields.proofs.Allowed as allowed-type
-use Rattle.fields.proofs.Allowed.Laws as allowed-laws
+use Rattle.fields.specs.declared.Passed.{Passed}
+use Rattle.fields.proofs.Passed as passed-type
+use Rattle.fields.proofs.Passed.Laws as passed-laws
 use Rattle.scan.specs.declared.Reader.{Reader}
 use Rattle.scan.proofs.Reader as T
 use Rattle.scan.proofs.Reader.Laws as T′
@@ -57,14 +57,14 @@ module _ {M : Type 1} (𝓤 : URA M) (H : Heap 𝓤) (A : Atoms 𝓤) (at-mem : 
     Own d = R .own d (T′.lowered d ∷ [])
 
     -- what `next` is passed: the reader d under the name δ, for the lifetime ν ⊓ κ
-    abbrev pub args : Reader → Allowed → GName → RefT Reader × (Allowed × Unit {0})
-    args d allowed δ = (record { ptr = (l, 0); name = δ; now = d }, (allowed, tt))
+    abbrev pub args : Reader → Passed → GName → RefT Reader × (Passed × Unit {0})
+    args d passed δ = (record { ptr = (l, 0); name = δ; now = d }, (passed, tt))
 
-    abbrev vals : Allowed → List Val × (List Val × Unit {0})
-    vals allowed = (vptr l 0 ∷ [], (LL.vals allowed-type.the-type allowed-laws.the-laws allowed, tt))
+    abbrev vals : Passed → List Val × (List Val × Unit {0})
+    vals passed = (vptr l 0 ∷ [], (LL.vals passed-type.the-type passed-laws.the-laws passed, tt))
 
-    abbrev pub to-next : Reader → Allowed → ℕ → GName → Next .Ghost
-    to-next d allowed ν δ = (((ν ∷ κ, (κ, tt)), (PosShare·left q, (PosShare·right q, tt)), (meet-⊑-right (ν ∷ []) κ, tt), args d allowed δ, vals allowed), tt)
+    abbrev pub to-next : Reader → Passed → ℕ → GName → Next .Ghost
+    to-next d passed ν δ = (((ν ∷ κ, (κ, tt)), (PosShare·left q, (PosShare·right q, tt)), (meet-⊑-right (ν ∷ []) κ, tt), args d passed δ, vals passed), tt)
 
     -- the tokens of the call, and what is kept meanwhile
     abbrev pub Tokens : ℕ → Item 𝓤
@@ -74,14 +74,14 @@ module _ {M : Type 1} (𝓤 : URA M) (H : Heap 𝓤) (A : Atoms 𝓤) (at-mem : 
     Kept ν δ = ‵ (flent (ν ∷ κ) (Body (mem R) l 0 δ)) ⊛ raw (wand 𝓤 (A .lft (ν ∷ []) (PosShare·left q)) (A .lft (ν ∷ []) fullShare))
 
     module _ (W : Given 𝓤 H A) where
-      asked : (d : Reader) (allowed : Allowed) (ν : ℕ) (δ : GName)
-          → ent 𝓤 (⋆ 𝓤 H A (Tokens ν ∷ ‵ (owns (MutRef (named 0) (ν ∷ κ) R ∷ allowed-type.the-row ∷ []) (args d allowed δ) (vals allowed)) ∷ [])) (Next .pre (to-next d allowed ν δ))
-      asked d allowed ν δ = qed W (Tokens ν ∷ ‵ (owns (MutRef (named 0) (ν ∷ κ) R ∷ allowed-type.the-row ∷ []) (args d allowed δ) (vals allowed)) ∷ []) ∵ join ! $ frame ! $ done !
+      asked : (d : Reader) (passed : Passed) (ν : ℕ) (δ : GName)
+          → ent 𝓤 (⋆ 𝓤 H A (Tokens ν ∷ ‵ (owns (MutRef (named 0) (ν ∷ κ) R ∷ passed-type.the-row ∷ []) (args d passed δ) (vals passed)) ∷ [])) (Next .pre (to-next d passed ν δ))
+      asked d passed ν δ = qed W (Tokens ν ∷ ‵ (owns (MutRef (named 0) (ν ∷ κ) R ∷ passed-type.the-row ∷ []) (args d passed δ) (vals passed)) ∷ []) ∵ join ! $ frame ! $ done !
 
-      pub goes-next : (d : Reader) (allowed : Allowed) → Is allowed-type.the-row allowed (LL.vals allowed-type.the-type allowed-laws.the-laws allowed)
-          → ent 𝓤 (⋆ 𝓤 H A (‵ (Cell d) ∷ ‵ (Own d) ∷ ‵ (flft κ q) ∷ [])) (H .⇛ (mean 𝓤 H A (some (λ (ν : ℕ). some (λ (δ : GName). raw (Next .pre (to-next d allowed ν δ)) ⊛ Kept ν δ)))))
+      pub goes-next : (d : Reader) (passed : Passed) → Is passed-type.the-row passed (LL.vals passed-type.the-type passed-laws.the-laws passed)
+          → ent 𝓤 (⋆ 𝓤 H A (‵ (Cell d) ∷ ‵ (Own d) ∷ ‵ (flft κ q) ∷ [])) (H .⇛ (mean 𝓤 H A (some (λ (ν : ℕ). some (λ (δ : GName). raw (Next .pre (to-next d passed ν δ)) ⊛ Kept ν δ)))))
       unfolding partOf
-      goes-next d allowed is-allowed =
+      goes-next d passed is-passed =
           qed W (‵ (Cell d) ∷ ‵ (Own d) ∷ ‵ (flft κ q) ∷ []) ∵ updating ! $ use1 W (‵ (cellAt fullShare (R .mir) (T′.lowered d ∷ []) l 0)) (W .laws .at-raw fullShare (T′.mir erased) l 0 (T′.lowered d)) $ fjoin ! $
           fpack ! (List Val) (λ vs. fsep (cellAt fullShare (R .mir) vs l 0) (R .own d vs)) (T′.lowered d ∷ []) $
           lft-new ! tt (λ ν. move ! (1 ∷ []) $
@@ -92,10 +92,10 @@ module _ {M : Type 1} (𝓤 : URA M) (H : Heap 𝓤) (A : Atoms 𝓤) (at-mem : 
           move ! (0 ∷ 2 ∷ []) $ use2 W (‵ (flft (ν ∷ κ) (PosShare·left q))) (W .lfts .lft-meet (ν ∷ []) κ (PosShare·left q)) $
           -- [the meet's token; the way back; half of κ's token; the reference; the lender's part]
           nothing ! $ move ! (3 ∷ 0 ∷ []) $ join ! $ move ! (1 ∷ 0 ∷ []) $ join ! $
-          nothing ! $ owned ! allowed-type.the-row (Is allowed-type.the-row) (LL.makes allowed-type.the-type allowed-laws.the-plain 𝓤 H A) allowed _ is-allowed $ fjoin ! $ move ! (3 ∷ 0 ∷ []) $ fjoin ! $
-          move ! (1 ∷ 0 ∷ []) $ use2 W (raw (Next .pre (to-next d allowed ν δ))) (asked d allowed ν δ) $
+          nothing ! $ owned ! passed-type.the-row (Is passed-type.the-row) (LL.makes passed-type.the-type passed-laws.the-plain 𝓤 H A) passed _ is-passed $ fjoin ! $ move ! (3 ∷ 0 ∷ []) $ fjoin ! $
+          move ! (1 ∷ 0 ∷ []) $ use2 W (raw (Next .pre (to-next d passed ν δ))) (asked d passed ν δ) $
           move ! (2 ∷ 1 ∷ []) $ join ! $ move ! (1 ∷ 0 ∷ []) $ join ! $
-          at-once ! $ show ! (λ (ν : ℕ). mean 𝓤 H A (some (λ (δ : GName). raw (Next .pre (to-next d allowed ν δ)) ⊛ Kept ν δ))) ν $ show ! (λ (δ : GName). mean 𝓤 H A (raw (Next .pre (to-next d allowed ν δ)) ⊛ Kept ν δ)) δ $ done !))
+          at-once ! $ show ! (λ (ν : ℕ). mean 𝓤 H A (some (λ (δ : GName). raw (Next .pre (to-next d passed ν δ)) ⊛ Kept ν δ))) ν $ show ! (λ (δ : GName). mean 𝓤 H A (raw (Next .pre (to-next d passed ν δ)) ⊛ Kept ν δ)) δ $ done !))
 
       pub comes-back : (d : Reader) (ν : ℕ) (δ : GName)
           → ent 𝓤 (⋆ 𝓤 H A (Tokens ν ∷ ‵ (fres δ (R .coded .code d)) ∷ Kept ν δ ∷ [])) (H .⇛ (⋆ 𝓤 H A (‵ (Cell d) ∷ ‵ (Own d) ∷ ‵ (flft κ q) ∷ [])))

@@ -1,3 +1,6 @@
 pub mod Asked
 pub mod Lending
+pub mod CursorLaws
+pub mod ScanLaws
+pub mod PassedLaws
 pub mod Promised

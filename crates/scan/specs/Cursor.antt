@@ -6,7 +6,7 @@ use lib.Dec.{eqb}
 use mathlib.Core.List.{List}
 use denote.Ref.{now}
 use Rattle.fields.specs.Fields.{fieldAt}
-use Rattle.fields.specs.declared.Allowed.{Allowed}
+use Rattle.fields.specs.declared.Passed.{Passed}
 use Rattle.fields.specs.declared.Field.{Field}
 use Rattle.scan.specs.declared.Reader.{Reader}
 use Rattle.scan.specs.declared.Step.{Step}
@@ -15,16 +15,16 @@ use Rattle.scan.specs.declared.Step.{Step}
 unfoldable pub cursorAfter : ℕ → Field → ℕ
 cursorAfter at field = cond (eqb (field .number) 0) (field .next) at
 
--- what the reader hands out: the field at its cursor, tested against what is allowed there
-abbrev pub fieldOf : Reader → Allowed → Field
-fieldOf reader allowed = fieldAt (now (reader .sheet)) (reader .at) allowed
+-- what the reader hands out: the field at its cursor, tested against what may stand behind the fields that have passed
+abbrev pub fieldOf : Reader → Passed → Field
+fieldOf reader passed = fieldAt (now (reader .sheet)) (reader .at) passed
 
 -- advancing: the field at the cursor is handed out, the cursor moves over it, and the bytes are the same
-pub record Advanced (entry : Reader) (allowed : Allowed) (exit : Reader) (field : Field) : Type 0 where
-  pub handed : field ≡ fieldOf entry allowed
-  pub cursor : exit .at ≡ cursorAfter (entry .at) (fieldOf entry allowed)
+pub record Advanced (entry : Reader) (passed : Passed) (exit : Reader) (field : Field) : Type 0 where
+  pub handed : field ≡ fieldOf entry passed
+  pub cursor : exit .at ≡ cursorAfter (entry .at) (fieldOf entry passed)
   pub bytes : exit .sheet ≡ entry .sheet
 
 -- a step from a place of the bytes: the field there, and where the cursor stands after it
-abbrev pub stepOf : List ℕ → ℕ → Allowed → Step
-stepOf bs at allowed = record { field = fieldAt bs at allowed; at = cursorAfter at (fieldAt bs at allowed) }
+abbrev pub stepOf : List ℕ → ℕ → Passed → Step
+stepOf bs at passed = record { field = fieldAt bs at passed; at = cursorAfter at (fieldAt bs at passed) }

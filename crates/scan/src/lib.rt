@@ -5,7 +5,6 @@ ghost use Prim.Native.Nat.{_+_, _<_, _^_};
 ghost use Rattle.fields.specs.Fields.{fieldAt};
 ghost use Rattle.scan.specs.Cursor.{cursorAfter, fieldOf, stepOf, Advanced};
 ghost use Rattle.scan.specs.Scanned.{stopsAt, stopNumber, withField, scanned};
-use fields::Allowed;
 use fields::Field;
 use fields::Passed;
 use units::numbers;
@@ -24,10 +23,10 @@ pub fn new<'a>(sheet: &'a [u8]) -> Reader<'a>
 }
 
 // Looks at the next field.
-pub fn peek<'a>(reader: Reader<'a>, allowed: Allowed) -> Field
-    ensures { λ r. ⌜ r ≡ fieldOf (reader .entry) allowed ⌝ }
+pub fn peek<'a>(reader: Reader<'a>, passed: Passed) -> Field
+    ensures { λ r. ⌜ r ≡ fieldOf (reader .entry) passed ⌝ }
 {
-    fields::field_at(reader.sheet, reader.at, allowed)
+    fields::field_at(reader.sheet, reader.at, passed)
 }
 
 // Where the cursor stands after a field: an accepted field moves it to the next one, a refused one leaves it.
@@ -41,19 +40,19 @@ pub fn after(at: usize, field: Field) -> usize
 }
 
 // Hands out the next field and moves over it.
-pub fn next<'s, 'a>(reader: &'s mut Reader<'a>, allowed: Allowed) -> Field
-    ensures { λ r. ⌜ Advanced (now (reader .entry)) allowed (now (reader .exit)) r ⌝ }
+pub fn next<'s, 'a>(reader: &'s mut Reader<'a>, passed: Passed) -> Field
+    ensures { λ r. ⌜ Advanced (now (reader .entry)) passed (now (reader .exit)) r ⌝ }
 {
-    let field = fields::field_at(reader.sheet, reader.at, allowed);
+    let field = fields::field_at(reader.sheet, reader.at, passed);
     reader.at = after(reader.at, field);
     field
 }
 
 // The field at a place of the lent bytes, for whoever has no reader: one is made and looks.
-pub fn field_of(sheet: &[u8], at: usize, allowed: Allowed) -> Field
-    ensures { λ r. ⌜ r ≡ fieldAt (now (sheet .entry)) at allowed ⌝ }
+pub fn field_of(sheet: &[u8], at: usize, passed: Passed) -> Field
+    ensures { λ r. ⌜ r ≡ fieldAt (now (sheet .entry)) at passed ⌝ }
 {
-    peek(Reader { sheet, at }, allowed)
+    peek(Reader { sheet, at }, passed)
 }
 
 // A field, and where the cursor stands after it.
@@ -63,11 +62,11 @@ pub struct Step {
 }
 
 // The field at a place of the lent bytes and where the next one begins, for whoever has no reader: one is made and moves over the field.
-pub fn step_of(sheet: &[u8], at: usize, allowed: Allowed) -> Step
-    ensures { λ r. ⌜ r ≡ stepOf (now (sheet .entry)) at allowed ⌝ }
+pub fn step_of(sheet: &[u8], at: usize, passed: Passed) -> Step
+    ensures { λ r. ⌜ r ≡ stepOf (now (sheet .entry)) at passed ⌝ }
 {
     let mut reader = Reader { sheet, at };
-    let field = next(&mut reader, allowed);
+    let field = next(&mut reader, passed);
     Step {
         field,
         at: reader.at,
@@ -104,29 +103,35 @@ fn stop_number(size: usize, field: Field) -> u8
     numbers::ACCEPTED
 }
 
-// One more field has passed: a header, a station or an allocation.
-fn with_field(passed: Passed, tag: u8) -> Passed
+// One more field has passed, by its tag: a station, an allocation, or a field of the header, behind which the stations begin.
+fn with_field(passed: Passed, tag: u8, next: usize) -> Passed
     requires { ⌜ (passed .stations + 1 < 2 ^ 64) × (passed .allocations + 1 < 2 ^ 64) ⌝ }
-    ensures { λ r. ⌜ r ≡ withField passed tag ⌝ }
+    ensures { λ r. ⌜ r ≡ withField passed tag next ⌝ }
 {
-    if tag == fields::HEAD_TAG {
-        return Passed {
-            head: true,
-            stations: passed.stations,
-            allocations: passed.allocations,
-        };
-    }
     if tag == fields::STATION_TAG {
         return Passed {
+            plan: passed.plan,
             head: passed.head,
+            from: passed.from,
             stations: passed.stations + 1,
             allocations: passed.allocations,
         };
     }
+    if tag == fields::ALLOCATION_TAG {
+        return Passed {
+            plan: passed.plan,
+            head: passed.head,
+            from: passed.from,
+            stations: passed.stations,
+            allocations: passed.allocations + 1,
+        };
+    }
     Passed {
-        head: passed.head,
+        plan: passed.plan,
+        head: tag,
+        from: next,
         stations: passed.stations,
-        allocations: passed.allocations + 1,
+        allocations: passed.allocations,
     }
 }
 
@@ -135,16 +140,18 @@ pub fn scan_sheet(sheet: &[u8], plan: bool) -> Scanned
     ensures { λ r. ⌜ r ≡ scanned plan (now (sheet .entry)) ⌝ }
 {
     let mut passed = Passed {
-        head: false,
+        plan,
+        head: 0,
+        from: 0,
         stations: 0,
         allocations: 0,
     };
     let mut at: usize = 0;
-    let mut step = step_of(sheet, at, fields::allowed_next(plan, passed));
+    let mut step = step_of(sheet, at, passed);
     while !stops(step.field) {
-        passed = with_field(passed, step.field.tag);
+        passed = with_field(passed, step.field.tag, step.at);
         at = step.at;
-        step = step_of(sheet, at, fields::allowed_next(plan, passed));
+        step = step_of(sheet, at, passed);
     }
     Scanned {
         number: stop_number(sheet.len(), step.field),

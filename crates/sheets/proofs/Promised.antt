@@ -11,7 +11,7 @@ use borrow.Author.Tests.{leb-true}
 use Rattle.units.specs.Places.{at, fill}
 use Rattle.units.specs.PlaceLaws.{fill-outside}
 use Rattle.units.specs.SmallLaws.{below-or-not}
-use Rattle.units.specs.JudgingLaws.{held, not-given}
+use Rattle.units.specs.JudgingLaws.{held, not-given, passed}
 use Rattle.sets.specs.Rules.{SameSet, CountAllowed}
 use Rattle.sets.specs.Judged.{judged, judgedThen, blankSet, zeros}
 use Rattle.sets.specs.SetLaws.{decides-count, judged-same}
@@ -22,19 +22,22 @@ use Rattle.plans.specs.declared.Alloc.{Alloc}
 use Rattle.fields.specs.Rows.{rows}
 use Rattle.fields.specs.Bytes.{bytesOf, AllBytes}
 use Rattle.fields.specs.Fields.{allocationsFor}
+use Rattle.fields.proofs.SegmentLaws.{rows-same}
+use Rattle.fields.proofs.FieldLaws.{allocations-few}
+use Rattle.fields.specs.declared.Passed.{Passed}
+use Rattle.scan.specs.Scanned.{scanned}
+use Rattle.scan.specs.FirstFault.{Fault, no-start, not-allowed, cut-body, follows, FirstFault, WholeSheet}
+use Rattle.scan.specs.declared.Scanned.{Scanned}
+use Rattle.scan.proofs.ScanLaws.{zero-or-not, fault-there, end-there, stopped, shape-fault, shape-whole}
+use Rattle.scan.proofs.PassedLaws.{scanned-ended, through, plan-no-request}
 use Rattle.sheets.specs.Layout.{headBytes, stationWith, stationBytes, allocationBytes, sheetOf, requestSheet, planSheet, sheetLength}
-use Rattle.sheets.specs.Reading.{thenNumber, stationsIn, allocationsIn, shapeNumber, setIn, allocIn, judgedSheet, readSheet, readRequest, readPlan}
+use Rattle.sheets.specs.Reading.{thenNumber, setIn, allocIn, judgedSheet, readSheet, readRequest, readPlan}
 use Rattle.sheets.specs.Writing.{writtenAnswer, writtenBuffer}
-use Rattle.sheets.specs.FirstFault.{Fault, no-start, not-allowed, cut-body, follows, FirstFault, WholeSheet}
 use Rattle.sheets.specs.Promised.{Promised, ZeroPast, GivenRequest, GivenPlan, firstPlaces, firstAllocations, smallSet}
-use Rattle.fields.specs.RowLaws.{rows-same}
-use Rattle.fields.specs.FieldLaws.{passed}
-use Rattle.sheets.specs.ReadLaws.{then-rest, then-keeps, then-none, read-refused, read-accepted, read-number, end-says, few-stations, few-allocations, sheet-accepted}
-use Rattle.sheets.specs.WriteLaws.{sheet-long, answer-accepted, answer-number, buffer-accepted, buffer-refused, number-none}
-use Rattle.sheets.specs.BackLaws.{read-back, first-same, first-allocations}
-use Rattle.sheets.specs.AgainLaws.{stop-is-end, read-again}
-use Rattle.sheets.specs.FaultLaws.{zero-or-not, fault-shape, shape-fault, whole-shape, shape-whole, one-fault}
-use Rattle.fields.specs.declared.Allowed.{Allowed}
+use Rattle.sheets.specs.ReadLaws.{then-rest, then-keeps, then-none, read-refused, read-accepted, read-number, sheet-accepted}
+use Rattle.sheets.proofs.WritingLaws.{sheet-long, answer-accepted, answer-number, buffer-accepted, buffer-refused, number-none}
+use Rattle.sheets.proofs.BackLaws.{read-back, first-same, first-allocations}
+use Rattle.sheets.proofs.AgainLaws.{read-again}
 use Rattle.sheets.specs.declared.ReadPlan.{ReadPlan}
 use Rattle.sheets.specs.declared.Written.{Written}
 
@@ -89,7 +92,7 @@ module _ (bs : List ℕ) (bytes : AllBytes bs) where
   request-same out h fits =
       let said = read-again false bs bytes h in
       rw (sheet-accepted false bs (said .1 .1) (said .0))
-      (same-bytes false (setIn bs) blankAlloc bs out (said .0) (said .1 .0 ∙ no-allocation (setIn bs) (allocIn false bs) blankAlloc) fits)
+      (same-bytes false (setIn false bs) blankAlloc bs out (said .0) (said .1 .0 ∙ no-allocation (setIn false bs) (allocIn false bs) blankAlloc) fits)
 
   plan-same : (out : List ℕ) → readPlan bs .number ≡ 0 → length bs ≤ length out
       → (writtenAnswer true (readPlan bs .set) (readPlan bs .alloc) out ≡ record { length = length bs; number = 0 })
@@ -97,7 +100,7 @@ module _ (bs : List ℕ) (bytes : AllBytes bs) where
   plan-same out h fits =
       let said = read-again true bs bytes h in
       rw (sheet-accepted true bs (said .1 .1) (said .0))
-      (same-bytes true (setIn bs) (allocIn true bs) bs out (said .0) (said .1 .0) fits)
+      (same-bytes true (setIn true bs) (allocIn true bs) bs out (said .0) (said .1 .0) fits)
 
 -- bytes that stand at the start are the first of them
 first-of : (bs out : List ℕ) → take (length bs) (bs ++ drop (length bs) out) ≡ bs
@@ -131,49 +134,45 @@ not-low true t a k count low high h =
 not-low false t a k count low high h =
     not-given _ 4 _ k (omega arith) (not-given _ 5 0 k (omega arith) (omega arith)) (sym (held _ 2 _ (decides-count t .1 count)) ∙ h)
 
-count-read : (plan : Bool) (bs : List ℕ) → shapeNumber plan bs ≡ 0 → CountAllowed (setIn bs)
-unfolding shapeNumber
-count-read plan bs h =
-    let n = stationsIn bs in
-    let m = allocationsIn plan bs (stationsIn bs) in
-    (stop-is-end plan bs n m refl refl (end-says plan bs n m (then-none _ _ h .1) .0) .some, few-stations plan bs)
+count-read : (plan : Bool) (bs : List ℕ) → scanned plan bs .number ≡ 0 → CountAllowed (setIn plan bs)
+count-read plan bs h = let e = scanned-ended plan bs h in (e .some, e .few)
 
 -- the number that is read
-number-read : (plan : Bool) (bs : List ℕ) → shapeNumber plan bs ≢ 0 → readSheet plan bs .number ≡ shapeNumber plan bs
+number-read : (plan : Bool) (bs : List ℕ) → scanned plan bs .number ≢ 0 → readSheet plan bs .number ≡ scanned plan bs .number
 unfolding readSheet
 number-read plan bs h = read-number _ _ _ ∙ then-keeps _ _ h
 
-number-judged : (plan : Bool) (bs : List ℕ) → shapeNumber plan bs ≡ 0 → readSheet plan bs .number ≡ judgedSheet plan (setIn bs) (allocIn plan bs)
+number-judged : (plan : Bool) (bs : List ℕ) → scanned plan bs .number ≡ 0 → readSheet plan bs .number ≡ judgedSheet plan (setIn plan bs) (allocIn plan bs)
 unfolding readSheet
 number-judged plan bs h = read-number _ _ _ ∙ then-rest _ _ h
 
 fault-given : (plan : Bool) (bs : List ℕ) (k : ℕ) → 1 ≤ k → k ≤ 3 → (readSheet plan bs .number ≡ k) ↔ FirstFault plan bs k
 fault-given plan bs k low high = (
   λ h.
-      ⊎-elim (λ (z : shapeNumber plan bs ≡ 0). absurd (not-low plan (setIn bs) (allocIn plan bs) k (count-read plan bs z) low high (sym (number-judged plan bs z) ∙ h)))
-      (λ (z : shapeNumber plan bs ≢ 0). shape-fault plan bs k (omega arith) (sym (number-read plan bs z) ∙ h))
-      (zero-or-not (shapeNumber plan bs)),
+      ⊎-elim (λ (z : scanned plan bs .number ≡ 0). absurd (not-low plan (setIn plan bs) (allocIn plan bs) k (count-read plan bs z) low high (sym (number-judged plan bs z) ∙ h)))
+      (λ (z : scanned plan bs .number ≢ 0). shape-fault plan bs k (omega arith) (sym (number-read plan bs z) ∙ h))
+      (zero-or-not (scanned plan bs .number)),
   λ f.
-      let e = fault-shape plan bs k f in
-      let some : shapeNumber plan bs ≢ 0 = λ z. absurd (omega arith) in
+      let e : scanned plan bs .number ≡ k = ap (λ (r : Scanned). r .number) (fault-there plan bs k f) in
+      let some : scanned plan bs .number ≢ 0 = λ z. absurd (omega arith) in
       number-read plan bs some ∙ e,
 )
 
 -- no fault has a number above 3
-fault-low : (bs : List ℕ) (a : ℕ) (allowed : Allowed) (k : ℕ) → Fault bs a allowed k → k ≤ 3
-fault-low bs a allowed _ (no-start short) = omega arith
-fault-low bs a allowed _ (not-allowed three wrong) = omega arith
-fault-low bs a allowed _ (cut-body three may cut) = omega arith
-fault-low bs a allowed _ (follows e w m) = omega arith
+fault-low : (bs : List ℕ) (a : ℕ) (p : Passed) (k : ℕ) → Fault bs a p k → k ≤ 3
+fault-low bs a p _ (no-start short) = omega arith
+fault-low bs a p _ (not-allowed three wrong) = omega arith
+fault-low bs a p _ (cut-body three may cut) = omega arith
+fault-low bs a p _ (follows e w m) = omega arith
 
 whole-else : (plan : Bool) (bs : List ℕ) → ((k : ℕ) → 1 ≤ k → k ≤ 3 → readSheet plan bs .number ≢ k) → WholeSheet plan bs
 whole-else plan bs h =
-    ⊎-elim (λ (z : shapeNumber plan bs ≡ 0). shape-whole plan bs z)
-    (λ (z : shapeNumber plan bs ≢ 0).
-    let f = shape-fault plan bs (shapeNumber plan bs) z refl in
-    let low : shapeNumber plan bs ≤ 3 = fault-low bs (f .place) _ (shapeNumber plan bs) (f .fault) in
-    absurd (h (shapeNumber plan bs) (above (shapeNumber plan bs) z) low (number-read plan bs z)))
-    (zero-or-not (shapeNumber plan bs))
+    ⊎-elim (λ (z : scanned plan bs .number ≡ 0). shape-whole plan bs z)
+    (λ (z : scanned plan bs .number ≢ 0).
+    let f = shape-fault plan bs (scanned plan bs .number) z refl in
+    let low : scanned plan bs .number ≤ 3 = fault-low bs (f .place) _ (scanned plan bs .number) (f .fault) in
+    absurd (h (scanned plan bs .number) (above (scanned plan bs .number) z) low (number-read plan bs z)))
+    (zero-or-not (scanned plan bs .number))
   where
     above : (k : ℕ) → k ≢ 0 → 1 ≤ k
     above zero z = absurd (z refl)
@@ -184,13 +183,13 @@ whole-else plan bs h =
 blank : (plan : Bool) (bs : List ℕ) → readSheet plan bs .number ≢ 0 → readSheet plan bs ≡ record { set = blankSet; alloc = blankAlloc; number = readSheet plan bs .number }
 unfolding readSheet
 blank plan bs h =
-    let e = read-number (thenNumber (shapeNumber plan bs) (judgedSheet plan (setIn bs) (allocIn plan bs))) (setIn bs) (allocIn plan bs) in
-    let some : thenNumber (shapeNumber plan bs) (judgedSheet plan (setIn bs) (allocIn plan bs)) ≢ 0 = λ z. h (e ∙ z) in
-    read-refused _ (setIn bs) (allocIn plan bs) some ∙ ap (λ (k : ℕ). record { set = blankSet; alloc = blankAlloc; number = k }) (sym e)
+    let e = read-number (thenNumber (scanned plan bs .number) (judgedSheet plan (setIn plan bs) (allocIn plan bs))) (setIn plan bs) (allocIn plan bs) in
+    let some : thenNumber (scanned plan bs .number) (judgedSheet plan (setIn plan bs) (allocIn plan bs)) ≢ 0 = λ z. h (e ∙ z) in
+    read-refused _ (setIn plan bs) (allocIn plan bs) some ∙ ap (λ (k : ℕ). record { set = blankSet; alloc = blankAlloc; number = k }) (sym e)
 
-accepted : (plan : Bool) (bs : List ℕ) → readSheet plan bs .number ≡ 0 → readSheet plan bs ≡ record { set = setIn bs; alloc = allocIn plan bs; number = 0 }
+accepted : (plan : Bool) (bs : List ℕ) → readSheet plan bs .number ≡ 0 → readSheet plan bs ≡ record { set = setIn plan bs; alloc = allocIn plan bs; number = 0 }
 unfolding readSheet
-accepted plan bs h = read-accepted _ (setIn bs) (allocIn plan bs) (sym (read-number _ _ _) ∙ h)
+accepted plan bs h = read-accepted _ (setIn plan bs) (allocIn plan bs) (sym (read-number _ _ _) ∙ h)
 
 zeros-at : (i : ℕ) → at zeros i ≡ 0
 zeros-at i = ⊎-elim (λ (b : i < 128). getD-replicate 128 i 0 0 b) (λ (b : 128 ≤ i). List·getD-eq-default zeros 0 b) (below-or-not i 128)
@@ -201,18 +200,18 @@ filled-past n f i l = fill-outside n f zeros i l ∙ zeros-at i
 blank-past : ZeroPast blankSet
 blank-past = record { walk = λ i l. zeros-at i; longest = λ i l. zeros-at i; deadline = λ i l. zeros-at i; gap = λ i l. zeros-at i }
 
-read-past : (bs : List ℕ) → ZeroPast (setIn bs)
-read-past bs =
+read-past : (plan : Bool) (bs : List ℕ) → ZeroPast (setIn plan bs)
+read-past plan bs =
     record {
-      walk = λ i l. filled-past (stationsIn bs) _ i l;
-      longest = λ i l. filled-past (stationsIn bs) _ i l;
-      deadline = λ i l. filled-past (stationsIn bs) _ i l;
-      gap = λ i l. filled-past (stationsIn bs) _ i l;
+      walk = λ i l. filled-past (scanned plan bs .passed .stations) _ i l;
+      longest = λ i l. filled-past (scanned plan bs .passed .stations) _ i l;
+      deadline = λ i l. filled-past (scanned plan bs .passed .stations) _ i l;
+      gap = λ i l. filled-past (scanned plan bs .passed .stations) _ i l;
     }
 
 past : (plan : Bool) (bs : List ℕ) → ZeroPast (readSheet plan bs .set)
 past plan bs =
-    ⊎-elim (λ (z : readSheet plan bs .number ≡ 0). rw (accepted plan bs z) (read-past bs))
+    ⊎-elim (λ (z : readSheet plan bs .number ≡ 0). rw (accepted plan bs z) (read-past plan bs))
     (λ (z : readSheet plan bs .number ≢ 0). rw (blank plan bs z) blank-past)
     (zero-or-not (readSheet plan bs .number))
 
@@ -220,8 +219,9 @@ past-allocations : (bs : List ℕ) (i : ℕ) → readPlan bs .set .n ≤ i → a
 past-allocations bs i l =
     ⊎-elim (λ (z : readSheet true bs .number ≡ 0).
     let e = accepted true bs z in
-    let n : stationsIn bs ≤ i = rw e at l in
-    rw e (filled-past (allocationsIn true bs (stationsIn bs)) _ i (omega (arith, few-allocations true bs (stationsIn bs)))))
+    let n : scanned true bs .passed .stations ≤ i = rw e at l in
+    let most = through true bs _ _ (stopped true bs .before) .most in
+    rw e (filled-past (scanned true bs .passed .allocations) _ i (omega arith)))
     (λ (z : readSheet true bs .number ≢ 0). rw (blank true bs z) (zeros-at i))
     (zero-or-not (readSheet true bs .number))
 
@@ -273,13 +273,20 @@ plan-written t a out h fits =
     let bytes : take (10 + 26 * t .n) (writtenBuffer true t a out) ≡ planSheet t a = ap (λ (k : ℕ). take k (writtenBuffer true t a out)) e ∙ first-bytes true t a out h fit in
     (answered true t a out h fit ∙ ap (λ (k : ℕ). record { length = k; number = 0 }) (sym e), ap readPlan bytes ∙ read-back true t a h)
 
-request-judgement : (bs : List ℕ) → WholeSheet false bs → readRequest bs .number ≡ judged (setIn bs)
+request-judgement : (bs : List ℕ) → WholeSheet false bs → readRequest bs .number ≡ judged (setIn false bs)
 unfolding judgedSheet
-request-judgement bs w = number-judged false bs (whole-shape false bs w)
+request-judgement bs w = number-judged false bs (ap (λ (r : Scanned). r .number) (end-there false bs w))
 
-plan-judgement : (bs : List ℕ) → WholeSheet true bs → readPlan bs .number ≡ judgedPlan (setIn bs) (allocIn true bs)
+plan-judgement : (bs : List ℕ) → WholeSheet true bs → readPlan bs .number ≡ judgedPlan (setIn true bs) (allocIn true bs)
 unfolding judgedSheet
-plan-judgement bs w = number-judged true bs (whole-shape true bs w)
+plan-judgement bs w = number-judged true bs (ap (λ (r : Scanned). r .number) (end-there true bs w))
+
+-- a plan that is accepted has no fault as a plan, so as a request it has one
+no-request : (bs : List ℕ) → readPlan bs .number ≡ 0 → readRequest bs .number ≡ 2
+unfolding readSheet
+no-request bs h =
+    let whole = shape-whole true bs (then-none _ _ (sym (read-number _ _ _) ∙ h) .0) in
+    fault-given false bs 2 (omega arith) (omega arith) .1 (plan-no-request bs whole)
 
 small-written : requestSheet smallSet ≡ 1 ∷ 0 ∷ 4 ∷ 0 ∷ 0 ∷ 0 ∷ 1 ∷ 2 ∷ 0 ∷ 16 ∷ 0 ∷ 0 ∷ 0 ∷ 1 ∷ 0 ∷ 0 ∷ 0 ∷ 0 ∷ 0 ∷ 0 ∷ 0 ∷ 1 ∷ 0 ∷ 0 ∷ 0 ∷ 1 ∷ 255 ∷ 0 ∷ 0 ∷ []
 unfolding sheetOf headBytes stationWith rows bytesOf fill
@@ -303,11 +310,14 @@ promised =
       plan-exactly = plan-given;
       request-fault = λ bs k low high. fault-given false bs k low high;
       plan-fault = λ bs k low high. fault-given true bs k low high;
-      one-fault = one-fault;
+      one-fault = λ plan bs j k f g.
+          let e = sym (fault-there plan bs j f) ∙ fault-there plan bs k g in
+          (ap (λ (r : Scanned). r .number) e, ap (λ (r : Scanned). r .at) e);
       request-whole = λ bs h. whole-else false bs h;
       plan-whole = λ bs h. whole-else true bs h;
       request-judged = request-judgement;
       plan-judged = plan-judgement;
+      plan-no-request = no-request;
       request-blank = λ bs h. ap (λ (r : ReadPlan). r .set) (blank false bs h);
       plan-blank = λ bs h. (ap (λ (r : ReadPlan). r .set) (blank true bs h), ap (λ (r : ReadPlan). r .alloc) (blank true bs h));
       request-past = past false;

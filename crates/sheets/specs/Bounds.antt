@@ -1,17 +1,15 @@
--- What the small functions hand out, with the bounds that their callers need.
+-- What the small functions need of the bytes.
 use Prim.Native.Nat.{ℕ, _+_, _*_, _≤_, _<_}
-use mathlib.Core.Path.{_≡_}
-use mathlib.Core.Bool.{Bool}
 use mathlib.Core.List.{List}
 use lib.ListN.{length}
-use Rattle.sheets.specs.Reading.{stationsIn, allocationsIn, shapeNumber}
-use Rattle.sheets.specs.declared.reading.Shape.{Shape}
+use Rattle.fields.specs.declared.Passed.{Passed}
 
--- r is the shape of the sheet: its number and, where it is 0, how many stations and allocations it has
-pub record Shaped (plan : Bool) (bs : List ℕ) (r : Shape) : Type 0 where
-  pub number : r .number ≡ shapeNumber plan bs
-  pub stations : r .number ≡ 0 → r .stations ≡ stationsIn bs
-  pub allocations : r .number ≡ 0 → r .allocations ≡ allocationsIn plan bs (stationsIn bs)
+-- the fields that have passed lie inside the bytes, the header's first among them
+pub record PassedFits (bs : List ℕ) (p : Passed) : Type 0 where
+  pub header : 7 ≤ p .from
+  pub few : p .stations ≤ 128
+  pub fewer : p .allocations ≤ 128
+  pub inside : p .from + 19 * p .stations + 7 * p .allocations ≤ length bs
 
 -- a column of numbers that lies inside the bytes
 pub record ColumnFits (bs : List ℕ) (from step n : ℕ) : Type 0 where

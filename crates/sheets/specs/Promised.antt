@@ -12,10 +12,10 @@ use Rattle.sets.specs.declared.Set.{Set}
 use Rattle.plans.specs.Planned.{judgedPlan, blankAlloc}
 use Rattle.plans.specs.declared.Alloc.{Alloc}
 use Rattle.fields.specs.Bytes.{AllBytes}
+use Rattle.scan.specs.FirstFault.{FirstFault, WholeSheet}
 use Rattle.sheets.specs.Layout.{requestSheet, planSheet}
 use Rattle.sheets.specs.Reading.{setIn, allocIn, readRequest, readPlan}
 use Rattle.sheets.specs.Writing.{writtenAnswer, writtenBuffer}
-use Rattle.sheets.specs.FirstFault.{FirstFault, WholeSheet}
 
 -- ---- over the first N places
 
@@ -108,8 +108,10 @@ pub record Promised : Type 0 where
   pub request-whole : (bs : List ℕ) → ((k : ℕ) → 1 ≤ k → k ≤ 3 → readRequest bs .number ≢ k) → WholeSheet false bs
   pub plan-whole : (bs : List ℕ) → ((k : ℕ) → 1 ≤ k → k ≤ 3 → readPlan bs .number ≢ k) → WholeSheet true bs
   -- with no such fault the number is the judgement of what the bytes hold: 4 or 5, and 7 for plans, or 0
-  pub request-judged : (bs : List ℕ) → WholeSheet false bs → readRequest bs .number ≡ judged (setIn bs)
-  pub plan-judged : (bs : List ℕ) → WholeSheet true bs → readPlan bs .number ≡ judgedPlan (setIn bs) (allocIn true bs)
+  pub request-judged : (bs : List ℕ) → WholeSheet false bs → readRequest bs .number ≡ judged (setIn false bs)
+  pub plan-judged : (bs : List ℕ) → WholeSheet true bs → readPlan bs .number ≡ judgedPlan (setIn true bs) (allocIn true bs)
+  -- a plan sheet that is accepted is no request: its first allocation may not stand there
+  pub plan-no-request : (bs : List ℕ) → readPlan bs .number ≡ 0 → readRequest bs .number ≡ 2
   -- refused: the set is blank, and the allocation
   pub request-blank : (bs : List ℕ) → readRequest bs .number ≢ 0 → readRequest bs .set ≡ blankSet
   pub plan-blank : (bs : List ℕ) → readPlan bs .number ≢ 0 → (readPlan bs .set ≡ blankSet) × (readPlan bs .alloc ≡ blankAlloc)

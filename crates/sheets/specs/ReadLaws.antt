@@ -1,21 +1,22 @@
--- The laws of reading, for the proofs of this layer and those above. No rule stands here.
-use Prim.Native.Nat.{ℕ, zero, suc, _+_, _≤_}
+-- The laws of the answers of reading, for this layer and those above. No rule stands here.
+use Prim.Native.Nat.{ℕ, zero, suc, _≤_}
 use mathlib.Core.Path.{_≡_, refl}
-use mathlib.Core.Bool.{Bool, true}
+use mathlib.Core.Bool.{Bool, true, false, false≢true}
 use mathlib.Core.List.{List}
 use mathlib.Core.Logic.{_≢_}
 use native.Mathlib.Omega.{arith}
-use lib.ListN.{length}
-use borrow.Author.Tests.{leb-true, le-leb, eqb-true, eq-eqb}
-use Rattle.units.specs.JudgingLaws.{and-true, true-and}
+use Rattle.units.specs.Places.{at}
+use Rattle.units.specs.JudgingLaws.{and-true, passed}
+use Rattle.sets.specs.Rules.{CountAllowed, NumbersAllowed}
 use Rattle.sets.specs.Judged.{blankSet}
+use Rattle.sets.specs.SetLaws.{allowed, decides-count, decides-numbers}
 use Rattle.sets.specs.declared.Set.{Set}
-use Rattle.plans.specs.Planned.{blankAlloc}
+use Rattle.plans.specs.Rules.{AllocInRange}
+use Rattle.plans.specs.Planned.{judgedPlan, blankAlloc}
+use Rattle.plans.specs.PlanLaws.{decides-alloc}
 use Rattle.plans.specs.declared.Alloc.{Alloc}
-use Rattle.fields.specs.Fields.{Whole, left, wholeAt, allowedNext, allocationsFor}
-use Rattle.sheets.specs.Reading.{thenNumber, readAnswer, readSheet, setIn, allocIn, judgedSheet, stationsIn, allocationsIn, allocationsFrom, wholeFrom, goesOnAt, passedAll, endNumber, shapeNumber}
-use Rattle.fields.specs.RowLaws.{lead-most}
-use Rattle.fields.specs.FieldLaws.{FieldWhole, field-says, passed, allocations-few}
+use Rattle.scan.specs.Scanned.{scanned}
+use Rattle.sheets.specs.Reading.{thenNumber, setIn, allocIn, judgedSheet, readAnswer, readSheet}
 
 -- ---- one number after another
 
@@ -33,22 +34,6 @@ unfolding thenNumber
 then-none zero rest h = (refl, h)
 then-none (suc k) rest h = absurd (omega arith)
 
--- ---- whole fields
-
-pub whole-says : (bs : List ℕ) (a tag size : ℕ) → wholeAt bs a tag size ≡ true → Whole bs a tag size
-unfolding wholeAt
-whole-says bs a tag size h =
-    let w = and-true _ _ h in
-    let v = and-true _ _ (w .1) in
-    let l : 3 + size ≤ left bs a = leb-true _ _ (w .0) in
-    record { inside = omega arith; has-tag = eqb-true _ _ (v .0); has-size = eqb-true _ _ (v .1) }
-
-pub whole-is : (bs : List ℕ) (a tag size : ℕ) → Whole bs a tag size → wholeAt bs a tag size ≡ true
-unfolding wholeAt
-whole-is bs a tag size w =
-    let l : 3 + size ≤ left bs a = omega (arith, w .inside) in
-    true-and _ _ (le-leb _ _ l) (true-and _ _ (eq-eqb _ _ (w .has-tag)) (eq-eqb _ _ (w .has-size)))
-
 -- ---- answers
 
 pub read-refused : (k : ℕ) (t : Set) (a : Alloc) → k ≢ 0 → readAnswer k t a ≡ record { set = blankSet; alloc = blankAlloc; number = k }
@@ -65,43 +50,42 @@ unfolding readAnswer
 read-number zero t a = refl
 read-number (suc k) t a = refl
 
--- ---- the shape
+pub sheet-accepted : (plan : Bool) (bs : List ℕ) → scanned plan bs .number ≡ 0 → judgedSheet plan (setIn plan bs) (allocIn plan bs) ≡ 0 → readSheet plan bs ≡ record { set = setIn plan bs; alloc = allocIn plan bs; number = 0 }
+unfolding readSheet
+sheet-accepted plan bs e h = rw (then-rest (scanned plan bs .number) (judgedSheet plan (setIn plan bs) (allocIn plan bs)) e) (read-accepted _ _ _ h)
 
-pub end-says : (plan : Bool) (bs : List ℕ) (n m : ℕ) → endNumber plan bs n m ≡ 0 → FieldWhole bs (goesOnAt n m) (allowedNext plan (passedAll n m)) × (length bs ≤ goesOnAt n m + 3)
-unfolding endNumber
-end-says plan bs n m h =
-    let w = then-none _ _ h in
-    let l : length bs ≤ goesOnAt n m + 3 = leb-true _ _ (passed _ 3 _ (omega arith) (w .1) .0) in
-    (field-says bs (goesOnAt n m) (allowedNext plan (passedAll n m)) (w .0), l)
+-- ---- what a sheet that is judged 0 keeps
 
-module _ (plan : Bool) (bs : List ℕ) where
-  pub few-stations : stationsIn bs ≤ 128
-  unfolding stationsIn
-  few-stations = lead-most 128 _
+pub record Kept (plan : Bool) (t : Set) (a : Alloc) : Type 0 where
+  pub count : CountAllowed t
+  pub numbers : NumbersAllowed t
+  pub allocations : plan ≡ true → AllocInRange t (at (a .s))
 
-  pub allocations-most : (n : ℕ) → allocationsIn plan bs n ≤ allocationsFor plan n
-  unfolding allocationsIn
-  allocations-most n = lead-most (allocationsFor plan n) (wholeFrom bs (allocationsFrom n) 3 4)
+plan-kept : (t : Set) (a : Alloc) → judgedPlan t a ≡ 0 → Kept true t a
+unfolding judgedPlan
+plan-kept t a h =
+    let p = passed _ 2 _ (omega arith) h in
+    let q = passed _ 4 _ (omega arith) (p .1) in
+    let w = and-true _ _ (q .0) in
+    record {
+      count = decides-count t .0 (p .0);
+      numbers = decides-numbers t .0 (w .0);
+      allocations = λ e. decides-alloc t (at (a .s)) .0 (w .1);
+    }
 
-  pub few-allocations : (n : ℕ) → allocationsIn plan bs n ≤ n
-  few-allocations n = omega (arith, allocations-most n, allocations-few plan n)
+pub judged-kept : (plan : Bool) (t : Set) (a : Alloc) → judgedSheet plan t a ≡ 0 → Kept plan t a
+unfolding judgedSheet
+judged-kept true t a h = plan-kept t a h
+judged-kept false t a h =
+    let f = allowed t .0 h in
+    record { count = f .0; numbers = f .1 .0; allocations = λ e. absurd (false≢true e) }
 
-  -- a sheet of the right shape has room for all that is read from it
-  pub shape-fits : shapeNumber plan bs ≡ 0 → goesOnAt (stationsIn bs) (allocationsIn plan bs (stationsIn bs)) + 3 ≤ length bs
-  unfolding shapeNumber
-  shape-fits h =
-      let n = stationsIn bs in
-      let m = allocationsIn plan bs (stationsIn bs) in
-      omega (arith, end-says plan bs n m (then-none _ _ h .1) .0 .inside)
+answer-few : (k : ℕ) (t : Set) (a : Alloc) → (k ≡ 0 → t .n ≤ 128) → readAnswer k t a .set .n ≤ 128
+unfolding readAnswer
+answer-few zero t a h = h refl
+answer-few (suc k) t a h = omega arith
 
-  pub sheet-misshapen : shapeNumber plan bs ≢ 0 → readSheet plan bs ≡ record { set = blankSet; alloc = blankAlloc; number = shapeNumber plan bs }
-  unfolding readSheet
-  sheet-misshapen h = rw (then-keeps (shapeNumber plan bs) (judgedSheet plan (setIn bs) (allocIn plan bs)) h) (read-refused _ _ _ h)
-
-  pub sheet-refused : shapeNumber plan bs ≡ 0 → judgedSheet plan (setIn bs) (allocIn plan bs) ≢ 0 → readSheet plan bs ≡ record { set = blankSet; alloc = blankAlloc; number = judgedSheet plan (setIn bs) (allocIn plan bs) }
-  unfolding readSheet
-  sheet-refused e h = rw (then-rest (shapeNumber plan bs) (judgedSheet plan (setIn bs) (allocIn plan bs)) e) (read-refused _ _ _ h)
-
-  pub sheet-accepted : shapeNumber plan bs ≡ 0 → judgedSheet plan (setIn bs) (allocIn plan bs) ≡ 0 → readSheet plan bs ≡ record { set = setIn bs; alloc = allocIn plan bs; number = 0 }
-  unfolding readSheet
-  sheet-accepted e h = rw (then-rest (shapeNumber plan bs) (judgedSheet plan (setIn bs) (allocIn plan bs)) e) (read-accepted _ _ _ h)
+-- what is read has at most 128 stations
+pub read-few : (plan : Bool) (bs : List ℕ) → readSheet plan bs .set .n ≤ 128
+unfolding readSheet
+read-few plan bs = answer-few _ _ _ (λ e. judged-kept plan (setIn plan bs) (allocIn plan bs) (then-none _ _ e .1) .count .1)

@@ -8,18 +8,11 @@ use lib.ListN.{length, drop}
 use Rattle.sets.specs.declared.Set.{Set}
 use Rattle.plans.specs.Planned.{blankAlloc}
 use Rattle.plans.specs.declared.Alloc.{Alloc}
-use Rattle.fields.specs.Rows.{lead}
 use Rattle.fields.specs.Bytes.{AllBytes}
-use Rattle.fields.specs.Fields.{allowedNext, tagAt, sizeAt, Whole}
-use Rattle.sheets.specs.Reading.{stationsIn, allocationsIn, headNumber, endNumber, shapeNumber, goesOnAt, passedAll, setIn, allocIn, readSheet, readRequest, readPlan}
-use Rattle.sheets.specs.FirstFault.{WellFormed, MayStand, a-head, a-station, an-allocation, an-end, not-allowed}
+use Rattle.sheets.specs.Reading.{setIn, allocIn, readSheet, readRequest, readPlan}
 use Rattle.sheets.specs.Writing.{writtenAnswer, writtenBuffer}
 use Rattle.sheets.specs.Promised.{firstPlaces, firstAllocations}
-use Rattle.sheets.specs.ReadLaws.{then-none, read-number, whole-says, end-says, sheet-accepted}
-use Rattle.sheets.specs.SheetLaws.{Kept, judged-kept}
-use Rattle.sheets.specs.AllowedLaws.{allocation-next}
-use Rattle.sheets.specs.AgainLaws.{Ended, stop-is-end, allocations-hold}
-use Rattle.sheets.specs.FaultLaws.{all-passed}
+use Rattle.sheets.specs.ReadLaws.{then-none, read-number, sheet-accepted, Kept, judged-kept}
 use Rattle.sheets.proofs.Promised.{promised}
 use Rattle.text.specs.Text.{newline}
 use Rattle.shows.specs.ShowText.{sheetText, showPrinted}
@@ -30,50 +23,13 @@ use Rattle.drafts.specs.declared.Draft.{Draft}
 use Rattle.drafts.specs.declared.Composing.{Composing}
 use Rattle.shows.proofs.DraftLaws.{SmallAt, kindOf, shareOf, kindBehind, draftBehind, text-drafted}
 
--- ---- a plan is no request: where a request would end, its first allocation stands
-
-module _ (sheet : List ℕ) (h : readPlan sheet .number ≡ 0) where
-  stations : ℕ
-  stations = stationsIn sheet
-
-  shape : (headNumber true sheet ≡ 0) × (endNumber true sheet stations (allocationsIn true sheet stations) ≡ 0)
-  unfolding readSheet shapeNumber stations
-  shape = then-none _ _ (then-none _ _ (sym (read-number _ _ _) ∙ h) .0)
-
-  ended : Ended true sheet stations (allocationsIn true sheet stations)
-  unfolding stations
-  ended = stop-is-end true sheet _ _ refl refl (end-says true sheet _ _ (shape .1) .0)
-
-  first-allocation : Whole sheet (goesOnAt stations 0) 3 4
-  first-allocation = whole-says sheet (goesOnAt stations 0) 3 4 (allocations-hold sheet true stations 0 (omega (arith, ended .some, ended .all)))
-
-  counted : WellFormed false sheet (passedAll stations 0) (goesOnAt stations 0)
-  unfolding allowedNext allocationsIn lead stations
-  counted = all-passed false sheet (shape .0)
-
-  not-in-a-request : ¬ MayStand (allowedNext false (passedAll stations 0)) (tagAt sheet (goesOnAt stations 0)) (sizeAt sheet (goesOnAt stations 0))
-  not-in-a-request (a-head p q r) = absurd (omega (arith, first-allocation .has-tag))
-  not-in-a-request (a-station p q r) = absurd (omega (arith, first-allocation .has-tag))
-  not-in-a-request (an-allocation p q r) = absurd (omega (arith, allocation-next false (passedAll stations 0) .0 p .1))
-  not-in-a-request (an-end p q r) = absurd (omega (arith, first-allocation .has-tag))
-
-  plan-as-request : readRequest sheet .number ≡ 2
-  plan-as-request =
-      promised .request-fault sheet 2 (omega arith) (omega arith) .1
-      (record {
-        passed = passedAll stations 0;
-        place = goesOnAt stations 0;
-        before = counted;
-        fault = not-allowed (omega (arith, first-allocation .inside)) not-in-a-request;
-      })
-
 -- ---- the text that is shown of an accepted sheet
 
 request-shown : (sheet : List ℕ) → readRequest sheet .number ≡ 0 → showPrinted sheet ≡ sheetText false (readRequest sheet .set) blankAlloc
 request-shown sheet h = sym (shown-request (readRequest sheet) sheet refl (omega arith) h)
 
 plan-shown : (sheet : List ℕ) → readPlan sheet .number ≡ 0 → showPrinted sheet ≡ sheetText true (readPlan sheet .set) (readPlan sheet .alloc)
-plan-shown sheet h = sym (shown-plan (readPlan sheet) (readPlan sheet) refl h ∙ shown-as-plan (readRequest sheet) sheet refl (plan-as-request sheet h))
+plan-shown sheet h = sym (shown-plan (readPlan sheet) (readPlan sheet) refl h ∙ shown-as-plan (readRequest sheet) sheet refl (promised .plan-no-request sheet h))
 
 -- ---- what was read is in its ranges, so each number has 32 bits
 
@@ -81,7 +37,7 @@ read-kept : (plan : Bool) (sheet : List ℕ) → readSheet plan sheet .number �
 unfolding readSheet
 read-kept plan sheet h =
     let both = then-none _ _ (sym (read-number _ _ _) ∙ h) in
-    rw (sheet-accepted plan sheet (both .0) (both .1)) (judged-kept plan (setIn sheet) (allocIn plan sheet) (both .1))
+    rw (sheet-accepted plan sheet (both .0) (both .1)) (judged-kept plan (setIn plan sheet) (allocIn plan sheet) (both .1))
 
 module _ (plan : Bool) (t : Set) (a : Alloc) (k : Kept plan t a) where
   small-at : (i : ℕ) → i < t .n → SmallAt plan t a i

@@ -9,23 +9,13 @@ use borrow.Author.Tests.{eq-eqb, ne-eqb}
 use Rattle.sets.specs.declared.Set.{Set}
 use Rattle.plans.specs.Planned.{blankAlloc}
 use Rattle.plans.specs.declared.Alloc.{Alloc}
-use Rattle.sheets.specs.Reading.{readAnswer, readSheet, readRequest, readPlan}
-use Rattle.sheets.specs.ReadLaws.{few-stations}
+use Rattle.sheets.specs.Reading.{readRequest, readPlan}
+use Rattle.sheets.specs.ReadLaws.{read-few}
 use Rattle.sheets.specs.declared.ReadRequest.{ReadRequest}
 use Rattle.sheets.specs.declared.ReadPlan.{ReadPlan}
 use Rattle.text.specs.Text.{refusedLine}
 use Rattle.text.specs.TextLaws.{text-accepted, text-refused}
 use Rattle.shows.specs.ShowText.{sheetText, planReadText, requestReadText, planShown, showPrinted}
-
-answer-few : (k : ℕ) (t : Set) (a : Alloc) → t .n ≤ 128 → readAnswer k t a .set .n ≤ 128
-unfolding readAnswer
-answer-few zero t a h = h
-answer-few (suc k) t a h = omega arith
-
--- what is read has at most 128 stations
-pub read-few : (plan : Bool) (bs : List ℕ) → readSheet plan bs .set .n ≤ 128
-unfolding readSheet
-read-few plan bs = answer-few _ _ _ (few-stations plan bs)
 
 pub request-few : (r : ReadRequest) (bs : List ℕ) → r ≡ readRequest bs → r .set .n ≤ 128
 request-few r bs e = rw e (read-few false bs)

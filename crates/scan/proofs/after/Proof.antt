@@ -1,6 +1,6 @@
 -- `after` is right because it leaves the cursor for any number but 0, as the definition does.
 use mathlib.Core.Path.{sym}
-use Rattle.scan.specs.CursorLaws.{stays, moves}
+use Rattle.scan.proofs.CursorLaws.{stays, moves}
 use Rattle.scan.proofs.after.Statement.{statement}
 use Rattle.scan.proofs.after.Tie as tie
 

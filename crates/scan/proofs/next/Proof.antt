@@ -41,10 +41,10 @@ use denote.Triple.Table.{entered, cited}
 use denote.Triple.Walked.{says, Stays, stay-ref, stay-none, walkOf, goes-none, goes-ref, Walks, ends-at, walked, walk-meets}
 use denote.Exit.{yes}
 use denote.Triple.Clauses.{ensured, lasts}
-use Rattle.fields.specs.declared.Allowed.{Allowed}
+use Rattle.fields.specs.declared.Passed.{Passed}
 use Rattle.fields.specs.declared.Field.{Field}
-use Rattle.fields.proofs.Allowed as allowed-type
-use Rattle.fields.proofs.Allowed.Laws as allowed-laws
+use Rattle.fields.proofs.Passed as passed-type
+use Rattle.fields.proofs.Passed.Laws as passed-laws
 use Rattle.fields.proofs.Field as field-type
 use Rattle.fields.proofs.Field.Laws as field-laws
 use Rattle.fields.proofs.field_at as field-at
@@ -77,7 +77,7 @@ abbrev behind : Slot 2
 behind = plain (λ κs. T.the-row (namedLft 2 1 tt κs))
 
 abbrev stayed : Stays (next.ended .signature .params) (next.ended .kept)
-stayed = (stay-ref (0 ∷ []) tt behind, (stay-none (λ _. allowed-type.the-row) yes, tt))
+stayed = (stay-ref (0 ∷ []) tt behind, (stay-none (λ _. passed-type.the-row) yes, tt))
 
 module _ {M : Type 1} (𝓤 : URA M) (H : Heap 𝓤) (A : Atoms 𝓤) (at-mem : Memory → SProp 𝓤) (run : Routine → Fun 𝓤) where
   -- the contract of `after`: what it is passed, what it asks, and what is known of its answer
@@ -96,26 +96,26 @@ module _ {M : Type 1} (𝓤 : URA M) (H : Heap 𝓤) (A : Atoms 𝓤) (at-mem : 
     after-said : (m : ℕ) → ent 𝓤 (ensured 𝓤 H A after.ended (after.clauses 𝓤 H A at-mem run) tt (n, (r, tt)) tt m) (fact 𝓤 (m ≡ cursorAfter n r))
     after-said m = exE 𝓤 _ (λ ws. snd∗ 𝓤 (sem 𝓤 H A (lasts after.ended tt (n, (r, tt)) ws)) (fact 𝓤 (m ≡ cursorAfter n r)))
 
-module _ {M : Type 1} (𝓤 : URA M) (H : Heap 𝓤) (A : Atoms 𝓤) (W : Given 𝓤 H A) (at-mem : Memory → SProp 𝓤) (run : Routine → Fun 𝓤) (κ κ′ : Lft) (q q′ : Share) (bounds : AllOutlive 2 (next.signature .outlives) (κ, (κ′, tt))) (b o : ℕ) (γ : GName) (h : Reader) (allowed : Allowed)
-    (is-allowed : Is allowed-type.the-row allowed (LL.vals allowed-type.the-type allowed-laws.the-laws allowed)) where
-  abbrev x : RefT Reader × (Allowed × Unit {0})
-  x = (record { ptr = (b, o); name = γ; now = h }, (allowed, tt))
+module _ {M : Type 1} (𝓤 : URA M) (H : Heap 𝓤) (A : Atoms 𝓤) (W : Given 𝓤 H A) (at-mem : Memory → SProp 𝓤) (run : Routine → Fun 𝓤) (κ κ′ : Lft) (q q′ : Share) (bounds : AllOutlive 2 (next.signature .outlives) (κ, (κ′, tt))) (b o : ℕ) (γ : GName) (h : Reader) (passed : Passed)
+    (is-passed : Is passed-type.the-row passed (LL.vals passed-type.the-type passed-laws.the-laws passed)) where
+  abbrev x : RefT Reader × (Passed × Unit {0})
+  x = (record { ptr = (b, o); name = γ; now = h }, (passed, tt))
 
   -- the reader with another cursor
   abbrev moved : ℕ → Reader
   moved m = record { sheet = h .sheet; at = m }
 
   abbrev at : List Val × (List Val × Unit {0})
-  at = (vptr b o ∷ [], (LL.vals allowed-type.the-type allowed-laws.the-laws allowed, tt))
+  at = (vptr b o ∷ [], (LL.vals passed-type.the-type passed-laws.the-laws passed, tt))
 
   abbrev Post : Val → SProp 𝓤
   Post = walkOf 𝓤 H A next.ended stayed (next.clauses 𝓤 H A at-mem run) .post (((κ, (κ′, tt)), (q, (q′, tt)), bounds, x, at), tt)
 
   abbrev to : FieldAt 𝓤 H A at-mem run .Ghost
-  to = to-field 𝓤 H A at-mem run (named 1) κ′ q′ h allowed
+  to = to-field 𝓤 H A at-mem run (named 1) κ′ q′ h passed
 
   abbrev Own-h : Fml
-  Own-h = Own 𝓤 H A at-mem run (named 1) κ′ q′ h allowed
+  Own-h = Own 𝓤 H A at-mem run (named 1) κ′ q′ h passed
 
   -- the reader's machine value has the type that MIR gives it behind the reference
   typed : Is (B κ′) h (T′.lowered h ∷ []) → Holds (hasTy (T′.mir erased) (T′.lowered h)) × WT (T′.lowered h)
@@ -126,19 +126,19 @@ module _ {M : Type 1} (𝓤 : URA M) (H : Heap 𝓤) (A : Atoms 𝓤) (W : Given
   again m fits =
       qed W (‵ Own-h ∷ []) ∵ owned ! usize (Is usize) (uint-makes 𝓤 H A W w64) m _ (refl, fits) $ move ! (1 ∷ 0 ∷ []) $ by ! (own-put 𝓤 H A W (T.the-type (α κ′)) (T′.the-laws (α κ′)) 1 (h .sheet, (h .at, tt)) m (T′.lowered h))
 
-  exits : (m : ℕ) (r : Field) (u : Val) → Advanced h allowed (moved m) r
+  exits : (m : ℕ) (r : Field) (u : Val) → Advanced h passed (moved m) r
       → ent 𝓤 (⋆ 𝓤 H A (‵ (fobs γ (B κ′ .coded .code (moved m))) ∷ ‵ (fbor κ (Body (mem (B κ′)) b o γ)) ∷ ‵ (flft κ q) ∷ ‵ (field-type.the-row .own r (u ∷ [])) ∷ (‵ (flft κ′ q′) ⊛ ‵ ftrue) ∷ [])) (Post u)
   exits m r u advanced =
       qed W (‵ (fobs γ (B κ′ .coded .code (moved m))) ∷ ‵ (fbor κ (Body (mem (B κ′)) b o γ)) ∷ ‵ (flft κ q) ∷ ‵ (field-type.the-row .own r (u ∷ [])) ∷ (‵ (flft κ′ q′) ⊛ ‵ ftrue) ∷ []) ∵
       suffices ! _ (ends-at 𝓤 H A next.ended stayed (next.clauses 𝓤 H A at-mem run) W (((κ, (κ′, tt)), (q, (q′, tt)), bounds, x, at), tt) u r (moved m, (tt, tt)) (tt, (tt, tt))) $ says ! advanced $
       move ! (2 ∷ 4 ∷ []) $ join ! $ frame ! $ feqI ! (List Val) (vptr b o ∷ []) (vptr b o ∷ []) refl $ fjoin3 ! $
-      nothing ! $ owned ! allowed-type.the-row (Is allowed-type.the-row) (LL.makes allowed-type.the-type allowed-laws.the-plain 𝓤 H A) allowed _ is-allowed $ fjoin ! $ move ! (1 ∷ 0 ∷ []) $ fjoin ! $ done !
+      nothing ! $ owned ! passed-type.the-row (Is passed-type.the-row) (LL.makes passed-type.the-type passed-laws.the-plain 𝓤 H A) passed _ is-passed $ fjoin ! $ move ! (1 ∷ 0 ∷ []) $ fjoin ! $ done !
 
   module _ (C : Calls 𝓤 H) (Λ : Loops 𝓤 H) (fm : FmC 𝓤 H (W .laws) C) (known-field : Triple 𝓤 (C #fields·field-at) (FieldAt 𝓤 H A at-mem run)) (known-after : Triple 𝓤 (C #scan·after) (After 𝓤 H A at-mem run)) where
     walk : ent 𝓤 (onEntry 𝓤 H A next.signature (κ, (κ′, tt)) (q, (q′, tt)) x at) (WpFn 𝓤 H C Λ code.function (vptr b o ∷ at .1 .0) Post)
     walk =
-        qed W ((‵ (flft κ q) ⊛ ‵ (flft κ′ q′) ⊛ ‵ ftrue) ∷ ‵ (owns (MutRef (named 0) κ (B κ′) ∷ allowed-type.the-row ∷ []) x at) ∷ []) ∵ enter ! C Λ code.function (vptr b o ∷ at .1 .0) _ $
-        alloc1 ! (λ l₀. alloc1 ! (λ l₁. alloc1 ! (λ l₂. alloc1 ! (λ l₃. alloc1 ! (λ l₄. alloc1 ! (λ l₅. alloc1 ! (λ l₆. alloc0 ! $ params1 ! $ pass1 ! (init ! 10 refl (tt, tt)) $ pass1 ! (init ! 8 refl (LL.lawful allowed-type.the-type allowed-laws.the-laws 𝓤 H A W .typed allowed _ is-allowed .0)) $ pass0 ! $
+        qed W ((‵ (flft κ q) ⊛ ‵ (flft κ′ q′) ⊛ ‵ ftrue) ∷ ‵ (owns (MutRef (named 0) κ (B κ′) ∷ passed-type.the-row ∷ []) x at) ∷ []) ∵ enter ! C Λ code.function (vptr b o ∷ at .1 .0) _ $
+        alloc1 ! (λ l₀. alloc1 ! (λ l₁. alloc1 ! (λ l₂. alloc1 ! (λ l₃. alloc1 ! (λ l₄. alloc1 ! (λ l₅. alloc1 ! (λ l₆. alloc0 ! $ params1 ! $ pass1 ! (init ! 10 refl (tt, tt)) $ pass1 ! (init ! 8 refl (LL.lawful passed-type.the-type passed-laws.the-laws 𝓤 H A W .typed passed _ is-passed .0)) $ pass0 ! $
         -- the borrow is opened
         move ! (15 ∷ []) $ fsplit ! $ fsplit3 ! $ drop ! $ move ! (17 ∷ []) $ split ! $ move ! (2 ∷ 3 ∷ 0 ∷ []) $
         opens ! tt (B κ′) {h = h} b o (λ vs. spelt ! (B κ′) (Is (B κ′)) (shows 𝓤 H A (B κ′)) (LL.vals (T.the-type (α κ′)) (T′.the-laws (α κ′))) (LL.tells (T.the-type (α κ′)) (T′.the-laws (α κ′))) fullShare h vs b o $
@@ -147,11 +147,11 @@ module _ {M : Type 1} (𝓤 : URA M) (H : Heap 𝓤) (A : Atoms 𝓤) (W : Given
         -- [the reader's cell; what the reader owns; the open borrow; obs; auth; 'a's token; what the second parameter owns; _6; …; _5; …; _4; …; _3; …; _2; …; _1; …; room for _0; …]
         assigns ! (of-opd ! (load ! (from ! (hop ! (look ! 17 refl) (fld ! refl (stop !)))) (look-in ! 0 (sub ! 0 refl (whole !))))) (from ! (stop !)) (init ! 11 refl (tt, typed was .1 .0)) $
         assigns ! (of-opd ! (load ! (from ! (hop ! (look ! 17 refl) (fld ! refl (stop !)))) (look-in ! 0 (sub ! 1 refl (whole !))))) (from ! (stop !)) (init ! 9 refl (tt, typed was .1 .1 .0)) $
-        move ! (1 ∷ 5 ∷ []) $ use2 W (raw (FieldAt 𝓤 H A at-mem run .pre to) ⊛ ‵ Own-h) (apart 𝓤 H A at-mem run (named 1) κ′ q′ h allowed W (typed was .1 .1 .0 .fits) is-allowed) $ split ! $
+        move ! (1 ∷ 5 ∷ []) $ use2 W (raw (FieldAt 𝓤 H A at-mem run .pre to) ⊛ ‵ Own-h) (apart 𝓤 H A at-mem run (named 1) κ′ q′ h passed W (typed was .1 .1 .0 .fits) is-passed) $ split ! $
         -- [what `field_at` asks; what the reader owns; the reader's cell; the open borrow; obs; auth; what the second parameter owns; _6; …]
         calls-at ! fm (FieldAt 𝓤 H A at-mem run) known-field to (and-then ! (load ! (from ! (stop !)) (look ! 11 refl)) (and-then ! (load ! (from ! (stop !)) (look ! 9 refl)) (and-then ! (load ! (from ! (stop !)) (look ! 15 refl)) (no-more !)))) (λ u.
-        use1 W (later (some (λ (r : Field). ((‵ (flft κ′ q′) ⊛ ‵ ftrue) ⊛ ‵ (field-type.the-row .own r (u ∷ []))) ⊛ raw (ensured 𝓤 H A field-at.ended (field-at.clauses 𝓤 H A at-mem run) (κ′, tt) (h .sheet, (h .at, (allowed, tt))) tt r)))) (id⊢ 𝓤 _) $ await ! tt $ pick ! (λ r.
-        split ! $ move ! (1 ∷ []) $ use1 W (raw (fact 𝓤 (r ≡ fieldOf h allowed))) (field-said 𝓤 H A at-mem run (named 1) κ′ q′ h allowed r) $ heard ! (r ≡ fieldOf h allowed) (λ e. split ! $ move ! (1 ∷ []) $
+        use1 W (later (some (λ (r : Field). ((‵ (flft κ′ q′) ⊛ ‵ ftrue) ⊛ ‵ (field-type.the-row .own r (u ∷ []))) ⊛ raw (ensured 𝓤 H A field-at.ended (field-at.clauses 𝓤 H A at-mem run) (κ′, tt) (h .sheet, (h .at, (passed, tt))) tt r)))) (id⊢ 𝓤 _) $ await ! tt $ pick ! (λ r.
+        split ! $ move ! (1 ∷ []) $ use1 W (raw (fact 𝓤 (r ≡ fieldOf h passed))) (field-said 𝓤 H A at-mem run (named 1) κ′ q′ h passed r) $ heard ! (r ≡ fieldOf h passed) (λ e. split ! $ move ! (1 ∷ []) $
         -- [what the field owns; 'a's token; what the reader owns; the reader's cell; the open borrow; obs; auth; what the second parameter owns; _6; …]
         peeks ! field-type.the-row (Is field-type.the-row) (shows 𝓤 H A field-type.the-row) r (u ∷ []) (λ is.
         land ! (from ! (stop !)) (init ! 14 refl (LL.lawful field-type.the-type field-laws.the-laws 𝓤 H A W .typed r _ is .0)) $
@@ -178,13 +178,13 @@ module _ {M : Type 1} (𝓤 : URA M) (H : Heap 𝓤) (A : Atoms 𝓤) (W : Given
   next-walks : (C : Calls 𝓤 H) (Λ : Loops 𝓤 H) → FmC 𝓤 H (W .laws) C → Triple 𝓤 (C #fields·field-at) (FieldAt 𝓤 H A mem run) → Triple 𝓤 (C #scan·after) (After 𝓤 H A mem run)
       → Walks 𝓤 H A next.ended stayed (WpFn 𝓤 H C Λ code.function) (next.clauses 𝓤 H A mem run)
   next-walks C Λ fm known-field known-after = walked 𝓤 H A next.ended stayed (next.clauses 𝓤 H A mem run) (WpFn 𝓤 H C Λ code.function)
-      (λ κs. (ptr-vals, (LL.vals allowed-type.the-type allowed-laws.the-laws, tt))) (λ κs. (mut-tells (named 0) (κs .0) (B (κs .1 .0)), (LL.tells allowed-type.the-type allowed-laws.the-laws, tt)))
+      (λ κs. (ptr-vals, (LL.vals passed-type.the-type passed-laws.the-laws, tt))) (λ κs. (mut-tells (named 0) (κs .0) (B (κs .1 .0)), (LL.tells passed-type.the-type passed-laws.the-laws, tt)))
       (λ κs qs bounds a g are. via 𝓤 _ (fst∗ 𝓤 _ (emp 𝓤)) (walk 𝓤 H A W mem run (κs .0) (κs .1 .0) (qs .0) (qs .1 .0) bounds (a .0 .ptr .0) (a .0 .ptr .1) (a .0 .name) (a .0 .now) (a .1 .0) (are .1 .0) C Λ fm known-field known-after))
 
 next-meets : {M : Type 1} (𝓤 : URA M) (H : Heap 𝓤) (A : Atoms 𝓤) (W : Given 𝓤 H A) (mem : Memory → SProp 𝓤) (run : Routine → Fun 𝓤) (𝓣 : Tables 𝓤 H)
     → Triple 𝓤 (𝓣 .C #fields·field-at) (FieldAt 𝓤 H A mem run) → Triple 𝓤 (𝓣 .C #scan·after) (After 𝓤 H A mem run)
     → Meets 𝓤 H A next.signature (WpFn 𝓤 H (𝓣 .C) (𝓣 .Λ) code.function) (next.spec 𝓤 H A mem run)
-next-meets 𝓤 H A W mem run 𝓣 known-field known-after = walk-meets 𝓤 H A next.ended stayed W (goes-ref 𝓤 H A W 2 0 tt behind, (goes-none 𝓤 H A W 2 (λ _. allowed-type.the-row) yes (λ κs x f. refl), tt)) (next.clauses 𝓤 H A mem run) (WpFn 𝓤 H (𝓣 .C) (𝓣 .Λ) code.function) (WpFn-mono 𝓤 H (W .laws) 𝓣 code.function)
+next-meets 𝓤 H A W mem run 𝓣 known-field known-after = walk-meets 𝓤 H A next.ended stayed W (goes-ref 𝓤 H A W 2 0 tt behind, (goes-none 𝓤 H A W 2 (λ _. passed-type.the-row) yes (λ κs x f. refl), tt)) (next.clauses 𝓤 H A mem run) (WpFn 𝓤 H (𝓣 .C) (𝓣 .Λ) code.function) (WpFn-mono 𝓤 H (W .laws) 𝓣 code.function)
     (next-walks 𝓤 H A W mem run (𝓣 .C) (𝓣 .Λ) (fmOf 𝓤 H (W .laws) 𝓣) known-field known-after)
 
 pub next-spec : {M : Type 1} → stated.statement M

@@ -38,10 +38,10 @@ use denote.Triple.Walked.{says, Stays, stay-none, stay-none-slice, walkOf, goes-
 use denote.Exit.{yes}
 use denote.Triple.Clauses.{ensured, lasts}
 use Rattle.fields.specs.Fields.{fieldAt}
-use Rattle.fields.specs.declared.Allowed.{Allowed}
+use Rattle.fields.specs.declared.Passed.{Passed}
 use Rattle.fields.specs.declared.Field.{Field}
-use Rattle.fields.proofs.Allowed as allowed-type
-use Rattle.fields.proofs.Allowed.Laws as allowed-laws
+use Rattle.fields.proofs.Passed as passed-type
+use Rattle.fields.proofs.Passed.Laws as passed-laws
 use Rattle.fields.proofs.Field as field-type
 use Rattle.fields.proofs.Field.Laws as field-laws
 use Rattle.scan.specs.Cursor.{stepOf, Advanced}
@@ -61,10 +61,10 @@ use Rattle.scan.proofs.step_of.Statement as stated
 use Rattle.scan.proofs.step_of.Code as code
 
 abbrev stayed : Stays (step-of.ended .signature .params) (step-of.ended .kept)
-stayed = (stay-none-slice (0 ∷ []) tt (plain (λ _. u8)) yes, (stay-none (λ _. usize) yes, (stay-none (λ _. allowed-type.the-row) yes, tt)))
+stayed = (stay-none-slice (0 ∷ []) tt (plain (λ _. u8)) yes, (stay-none (λ _. usize) yes, (stay-none (λ _. passed-type.the-row) yes, tt)))
 
-module _ {M : Type 1} (𝓤 : URA M) (H : Heap 𝓤) (A : Atoms 𝓤) (W : Given 𝓤 H A) (mem : Memory → SProp 𝓤) (run : Routine → Fun 𝓤) (κ : Lft) (q : Share) (s : RefT (List ℕ)) (n : ℕ) (allowed : Allowed)
-    (fits : n < 2 ^ 64) (is-allowed : Is allowed-type.the-row allowed (LL.vals allowed-type.the-type allowed-laws.the-laws allowed)) where
+module _ {M : Type 1} (𝓤 : URA M) (H : Heap 𝓤) (A : Atoms 𝓤) (W : Given 𝓤 H A) (mem : Memory → SProp 𝓤) (run : Routine → Fun 𝓤) (κ : Lft) (q : Share) (s : RefT (List ℕ)) (n : ℕ) (passed : Passed)
+    (fits : n < 2 ^ 64) (is-passed : Is passed-type.the-row passed (LL.vals passed-type.the-type passed-laws.the-laws passed)) where
   -- the machine value of the bytes
   abbrev v : Val
   v = sliceVal (s .ptr) (length (s .now))
@@ -80,39 +80,39 @@ module _ {M : Type 1} (𝓤 : URA M) (H : Heap 𝓤) (A : Atoms 𝓤) (W : Given
   R = T.the-row α
 
   abbrev at : Vals step-of.signature (κ, tt)
-  at = (v ∷ [], (vint w64 n ∷ [], (LL.vals allowed-type.the-type allowed-laws.the-laws allowed, tt)))
+  at = (v ∷ [], (vint w64 n ∷ [], (LL.vals passed-type.the-type passed-laws.the-laws passed, tt)))
 
   abbrev Post : Val → SProp 𝓤
-  Post = walkOf 𝓤 H A step-of.ended stayed (step-of.clauses 𝓤 H A mem run) .post (((κ, tt), (q, tt), tt, (s, (n, (allowed, tt))), at), tt)
+  Post = walkOf 𝓤 H A step-of.ended stayed (step-of.clauses 𝓤 H A mem run) .post (((κ, tt), (q, tt), tt, (s, (n, (passed, tt))), at), tt)
 
   abbrev Own-bytes : Fml
   Own-bytes = ShrSlice (named 0) κ u8 .own s (v ∷ [])
 
   abbrev Own-rest : Fml
-  Own-rest = owns (usize ∷ allowed-type.the-row ∷ []) (n, (allowed, tt)) (at .1)
+  Own-rest = owns (usize ∷ passed-type.the-row ∷ []) (n, (passed, tt)) (at .1)
 
   -- the field's machine value, written out
   field-is : (r : Field) (u : Val) → Is field-type.the-row r (u ∷ []) → Is field-type.the-row r (LL.vals field-type.the-type field-laws.the-laws r)
   field-is r u is = subst (λ (us : List Val). Is field-type.the-row r us) (LL.tells field-type.the-type field-laws.the-laws r (u ∷ []) is) is
 
   -- what `next` hands out and where it leaves the cursor make the step
-  made-step : (d : Reader) (r : Field) → Advanced made allowed d r → record { field = r; at = d .at } ≡ stepOf (now s) n allowed
-  made-step d r e = ap (λ (f : Field). record { field = f; at = d .at }) (e .handed) ∙ ap (λ (m : ℕ). record { field = fieldAt (now s) n allowed; at = m }) (e .cursor)
+  made-step : (d : Reader) (r : Field) → Advanced made passed d r → record { field = r; at = d .at } ≡ stepOf (now s) n passed
+  made-step d r e = ap (λ (f : Field). record { field = f; at = d .at }) (e .handed) ∙ ap (λ (m : ℕ). record { field = fieldAt (now s) n passed; at = m }) (e .cursor)
 
-  exits : (r : Field) (m : ℕ) → m < 2 ^ 64 → record { field = r; at = m } ≡ stepOf (now s) n allowed
+  exits : (r : Field) (m : ℕ) → m < 2 ^ 64 → record { field = r; at = m } ≡ stepOf (now s) n passed
       → ent 𝓤 (⋆ 𝓤 H A (‵ (flft κ q) ∷ ‵ (field-type.the-row .own r (LL.vals field-type.the-type field-laws.the-laws r)) ∷ ‵ Own-bytes ∷ ‵ Own-rest ∷ [])) (Post (S′.lowered (record { field = r; at = m })))
   exits r m m-fits e =
       qed W (‵ (flft κ q) ∷ ‵ (field-type.the-row .own r (LL.vals field-type.the-type field-laws.the-laws r)) ∷ ‵ Own-bytes ∷ ‵ Own-rest ∷ []) ∵
-      suffices ! _ (ends-at 𝓤 H A step-of.ended stayed (step-of.clauses 𝓤 H A mem run) W (((κ, tt), (q, tt), tt, (s, (n, (allowed, tt))), at), tt) (S′.lowered (record { field = r; at = m })) (record { field = r; at = m }) (tt, (tt, (tt, tt))) (tt, (tt, (tt, tt)))) $ says ! e $
+      suffices ! _ (ends-at 𝓤 H A step-of.ended stayed (step-of.clauses 𝓤 H A mem run) W (((κ, tt), (q, tt), tt, (s, (n, (passed, tt))), at), tt) (S′.lowered (record { field = r; at = m })) (record { field = r; at = m }) (tt, (tt, (tt, tt))) (tt, (tt, (tt, tt)))) $ says ! e $
       nothing ! $ move ! (1 ∷ 0 ∷ []) $ join ! $ frame ! $ move ! (1 ∷ 2 ∷ []) $ fjoin ! $ frame ! $
       nothing ! $ owned ! usize (Is usize) (uint-makes 𝓤 H A W w64) m _ (refl, m-fits) $ fjoin ! $ move ! (1 ∷ 0 ∷ []) $ fjoin ! $ by ! (own-shut 𝓤 H A W S.the-type S′.the-laws (r, (m, tt)))
 
   module _ (C : Calls 𝓤 H) (Λ : Loops 𝓤 H) (fm : FmC 𝓤 H (W .laws) C) (known : Triple 𝓤 (C #scan·next) (Next 𝓤 H A mem run)) where
-    walk : Is (ShrSlice (named 0) κ u8) s (v ∷ []) → ent 𝓤 (onEntry 𝓤 H A step-of.signature (κ, tt) (q, tt) (s, (n, (allowed, tt))) at) (WpFn 𝓤 H C Λ code.function (v ∷ vint w64 n ∷ at .1 .1 .0) Post)
+    walk : Is (ShrSlice (named 0) κ u8) s (v ∷ []) → ent 𝓤 (onEntry 𝓤 H A step-of.signature (κ, tt) (q, tt) (s, (n, (passed, tt))) at) (WpFn 𝓤 H C Λ code.function (v ∷ vint w64 n ∷ at .1 .1 .0) Post)
     walk p =
-        qed W ((‵ (flft κ q) ⊛ ‵ ftrue) ∷ ‵ (owns (ShrSlice (named 0) κ u8 ∷ usize ∷ allowed-type.the-row ∷ []) (s, (n, (allowed, tt))) at) ∷ []) ∵ enter ! C Λ code.function (v ∷ vint w64 n ∷ at .1 .1 .0) _ $
+        qed W ((‵ (flft κ q) ⊛ ‵ ftrue) ∷ ‵ (owns (ShrSlice (named 0) κ u8 ∷ usize ∷ passed-type.the-row ∷ []) (s, (n, (passed, tt))) at) ∷ []) ∵ enter ! C Λ code.function (v ∷ vint w64 n ∷ at .1 .1 .0) _ $
         alloc1 ! (λ l₀. alloc1 ! (λ l₁. alloc1 ! (λ l₂. alloc1 ! (λ l₃. alloc1 ! (λ l₄. alloc1 ! (λ l₅. alloc1 ! (λ l₆. alloc1 ! (λ l₇. alloc0 ! $ params1 ! $
-        pass1 ! (init ! 12 refl (shr-slice-lawful 𝓤 H A W (named 0) κ u8 .typed s (v ∷ []) p .0)) $ pass1 ! (init ! 10 refl (tt, record { fits = fits })) $ pass1 ! (init ! 8 refl (LL.lawful allowed-type.the-type allowed-laws.the-laws 𝓤 H A W .typed allowed _ is-allowed .0)) $ pass0 ! $
+        pass1 ! (init ! 12 refl (shr-slice-lawful 𝓤 H A W (named 0) κ u8 .typed s (v ∷ []) p .0)) $ pass1 ! (init ! 10 refl (tt, record { fits = fits })) $ pass1 ! (init ! 8 refl (LL.lawful passed-type.the-type passed-laws.the-laws 𝓤 H A W .typed passed _ is-passed .0)) $ pass0 ! $
         -- the reader is made, and its address is taken
         assigns ! (agg ! (and-then ! (load ! (from ! (stop !)) (look ! 12 refl)) (and-then ! (load ! (from ! (stop !)) (look ! 10 refl)) (no-more !)))) (from ! (stop !)) (init ! 6 refl (tt, (shr-slice-lawful 𝓤 H A W (named 0) κ u8 .typed s (v ∷ []) p .0 .1, (record { fits = fits }, tt)))) $
         assigns ! (addr ! (from ! (stop !))) (from ! (stop !)) (init ! 2 refl (tt, tt)) $
@@ -121,12 +121,12 @@ module _ {M : Type 1} (𝓤 : URA M) (H : Heap 𝓤) (A : Atoms 𝓤) (W : Given
         nothing ! $ owned ! usize (Is usize) (uint-makes 𝓤 H A W w64) n _ (refl, fits) $ fjoin ! $ move ! (1 ∷ 0 ∷ []) $ fjoin ! $ use1 W (‵ (Own 𝓤 H A mem run κ q l₄ made)) (own-shut 𝓤 H A W (T.the-type α) (T′.the-laws α) (s, (n, tt))) $
         -- [what the reader owns; what the bytes own; what the other parameters own; _7; …; _6; …; _5; …; _4; …; _3; …; _2; …; _1; …; room for _0; …; the token]
         move ! (19 ∷ []) $ split ! $ move ! (1 ∷ []) $ drop ! $ move ! (10 ∷ 1 ∷ 0 ∷ []) $
-        use3 W (later (some (λ (ν : ℕ). some (λ (δ : GName). raw (Next 𝓤 H A mem run .pre (to-next 𝓤 H A mem run κ q l₄ made allowed ν δ)) ⊛ Kept 𝓤 H A mem run κ q l₄ ν δ)))) (goes-next 𝓤 H A mem run κ q l₄ W made allowed is-allowed) $ await ! tt $ pick ! (λ ν. pick ! (λ δ. split ! $
+        use3 W (later (some (λ (ν : ℕ). some (λ (δ : GName). raw (Next 𝓤 H A mem run .pre (to-next 𝓤 H A mem run κ q l₄ made passed ν δ)) ⊛ Kept 𝓤 H A mem run κ q l₄ ν δ)))) (goes-next 𝓤 H A mem run κ q l₄ W made passed is-passed) $ await ! tt $ pick ! (λ ν. pick ! (λ δ. split ! $
         -- [what `next` asks; what is kept; what the bytes own; what the other parameters own; _7; …; _6; …; _5; …; _4's end; _3; …; _2; …; _1; …; room for _0; …]
-        calls-at ! fm (Next 𝓤 H A mem run) known (to-next 𝓤 H A mem run κ q l₄ made allowed ν δ) (and-then ! (load ! (from ! (stop !)) (look ! 6 refl)) (and-then ! (load ! (from ! (stop !)) (look ! 11 refl)) (no-more !))) (λ u.
-        use1 W (later (some (λ (r : Field). (Tokens 𝓤 H A mem run κ q l₄ ν ⊛ ‵ (field-type.the-row .own r (u ∷ []))) ⊛ raw (ensured 𝓤 H A next.ended (next.clauses 𝓤 H A mem run) (ν ∷ κ, (κ, tt)) (args 𝓤 H A mem run κ q l₄ made allowed δ) tt r)))) (id⊢ 𝓤 _) $ await ! tt $ pick ! (λ r.
-        split ! $ move ! (1 ∷ []) $ use1 W (some (λ (ws : Reader × (Unit {0} × Unit {0})). ‵ (lasts next.ended (ν ∷ κ, (κ, tt)) (args 𝓤 H A mem run κ q l₄ made allowed δ) ws) ⊛ raw (fact 𝓤 (Advanced made allowed (ws .0) r)))) (id⊢ 𝓤 _) $ pick ! (λ ws.
-        split ! $ move ! (1 ∷ []) $ heard ! (Advanced made allowed (ws .0) r) (λ e. fsplit ! $ move ! (1 ∷ []) $ drop ! $ move ! (1 ∷ []) $ split ! $ move ! (1 ∷ []) $
+        calls-at ! fm (Next 𝓤 H A mem run) known (to-next 𝓤 H A mem run κ q l₄ made passed ν δ) (and-then ! (load ! (from ! (stop !)) (look ! 6 refl)) (and-then ! (load ! (from ! (stop !)) (look ! 11 refl)) (no-more !))) (λ u.
+        use1 W (later (some (λ (r : Field). (Tokens 𝓤 H A mem run κ q l₄ ν ⊛ ‵ (field-type.the-row .own r (u ∷ []))) ⊛ raw (ensured 𝓤 H A next.ended (next.clauses 𝓤 H A mem run) (ν ∷ κ, (κ, tt)) (args 𝓤 H A mem run κ q l₄ made passed δ) tt r)))) (id⊢ 𝓤 _) $ await ! tt $ pick ! (λ r.
+        split ! $ move ! (1 ∷ []) $ use1 W (some (λ (ws : Reader × (Unit {0} × Unit {0})). ‵ (lasts next.ended (ν ∷ κ, (κ, tt)) (args 𝓤 H A mem run κ q l₄ made passed δ) ws) ⊛ raw (fact 𝓤 (Advanced made passed (ws .0) r)))) (id⊢ 𝓤 _) $ pick ! (λ ws.
+        split ! $ move ! (1 ∷ []) $ heard ! (Advanced made passed (ws .0) r) (λ e. fsplit ! $ move ! (1 ∷ []) $ drop ! $ move ! (1 ∷ []) $ split ! $ move ! (1 ∷ []) $
         -- [what the field owns; the tokens; the reader's last value; what was kept; what the bytes own; what the other parameters own; _7; …]
         peeks ! field-type.the-row (Is field-type.the-row) (shows 𝓤 H A field-type.the-row) r (u ∷ []) (λ is.
         land ! (from ! (stop !)) (init ! 10 refl (LL.lawful field-type.the-type field-laws.the-laws 𝓤 H A W .typed r _ is .0)) $
@@ -146,14 +146,14 @@ module _ {M : Type 1} (𝓤 : URA M) (H : Heap 𝓤) (A : Atoms 𝓤) (W : Given
   step-of-walks : (C : Calls 𝓤 H) (Λ : Loops 𝓤 H) → FmC 𝓤 H (W .laws) C → Triple 𝓤 (C #scan·next) (Next 𝓤 H A mem run)
       → Walks 𝓤 H A step-of.ended stayed (WpFn 𝓤 H C Λ code.function) (step-of.clauses 𝓤 H A mem run)
   step-of-walks C Λ fm known = walked 𝓤 H A step-of.ended stayed (step-of.clauses 𝓤 H A mem run) (WpFn 𝓤 H C Λ code.function)
-      (λ κs. (slice-vals, (uint-vals w64, (LL.vals allowed-type.the-type allowed-laws.the-laws, tt))))
-      (λ κs. (shr-slice-tells (named 0) (κs .0) u8, (uint-tells w64, (LL.tells allowed-type.the-type allowed-laws.the-laws, tt))))
+      (λ κs. (slice-vals, (uint-vals w64, (LL.vals passed-type.the-type passed-laws.the-laws, tt))))
+      (λ κs. (shr-slice-tells (named 0) (κs .0) u8, (uint-tells w64, (LL.tells passed-type.the-type passed-laws.the-laws, tt))))
       (λ κs qs bounds a g are. via 𝓤 _ (fst∗ 𝓤 _ (emp 𝓤)) (walk 𝓤 H A W mem run (κs .0) (qs .0) (a .0) (a .1 .0) (a .1 .1 .0) (are .1 .0 .1) (are .1 .1 .0) C Λ fm known (are .0)))
 
 step-of-meets : {M : Type 1} (𝓤 : URA M) (H : Heap 𝓤) (A : Atoms 𝓤) (W : Given 𝓤 H A) (mem : Memory → SProp 𝓤) (run : Routine → Fun 𝓤) (𝓣 : Tables 𝓤 H)
     → Triple 𝓤 (𝓣 .C #scan·next) (Next 𝓤 H A mem run)
     → Meets 𝓤 H A step-of.signature (WpFn 𝓤 H (𝓣 .C) (𝓣 .Λ) code.function) (step-of.spec 𝓤 H A mem run)
-step-of-meets 𝓤 H A W mem run 𝓣 known = walk-meets 𝓤 H A step-of.ended stayed W (goes-none-slice 𝓤 H A W 1 (0 ∷ []) tt (plain (λ _. u8)) yes, (goes-none 𝓤 H A W 1 (λ _. usize) yes (λ κs x f. refl), (goes-none 𝓤 H A W 1 (λ _. allowed-type.the-row) yes (λ κs x f. refl), tt)))
+step-of-meets 𝓤 H A W mem run 𝓣 known = walk-meets 𝓤 H A step-of.ended stayed W (goes-none-slice 𝓤 H A W 1 (0 ∷ []) tt (plain (λ _. u8)) yes, (goes-none 𝓤 H A W 1 (λ _. usize) yes (λ κs x f. refl), (goes-none 𝓤 H A W 1 (λ _. passed-type.the-row) yes (λ κs x f. refl), tt)))
     (step-of.clauses 𝓤 H A mem run) (WpFn 𝓤 H (𝓣 .C) (𝓣 .Λ) code.function) (WpFn-mono 𝓤 H (W .laws) 𝓣 code.function)
     (step-of-walks 𝓤 H A W mem run (𝓣 .C) (𝓣 .Λ) (fmOf 𝓤 H (W .laws) 𝓣) known)
 

@@ -1,7 +1,7 @@
 -- `put_mark` is right because three stores in a row lay a segment of three bytes.
 use native.Mathlib.Omega.{arith}
 use lib.ListN.{length-set}
-use Rattle.fields.specs.RowLaws.{laid-three}
+use Rattle.fields.proofs.SegmentLaws.{laid-three}
 use borrow.Author.Needs.{needs}
 use Rattle.sheets.proofs.bytes.put_mark.Statement.{statement}
 use Rattle.sheets.proofs.bytes.put_mark.Tie as tie

@@ -2,7 +2,7 @@
 use native.Mathlib.Omega.{arith}
 use lib.ListN.{length-set}
 use Rattle.fields.specs.Bytes.{bytesOf}
-use Rattle.fields.specs.RowLaws.{laid-four}
+use Rattle.fields.proofs.SegmentLaws.{laid-four}
 use borrow.Author.Needs.{needs}
 use Rattle.sheets.proofs.bytes.put_number.Statement.{statement}
 use Rattle.sheets.proofs.bytes.put_number.Tie as tie

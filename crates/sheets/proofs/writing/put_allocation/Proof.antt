@@ -3,7 +3,7 @@ use mathlib.Core.Path.{refl}
 use native.Mathlib.Omega.{arith}
 use Rattle.fields.specs.Bytes.{bytesOf}
 use Rattle.sheets.specs.Layout.{allocationWith}
-use Rattle.fields.specs.RowLaws.{laid-more}
+use Rattle.fields.proofs.SegmentLaws.{laid-more}
 use borrow.Author.Needs.{needs}
 use Rattle.sheets.proofs.writing.put_allocation.Statement.{statement}
 use Rattle.sheets.proofs.writing.put_allocation.Tie as tie

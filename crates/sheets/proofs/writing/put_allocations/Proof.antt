@@ -5,8 +5,9 @@ use native.Mathlib.Omega.{arith}
 use lib.ListN.{length}
 use Rattle.fields.specs.Rows.{rows, laid}
 use Rattle.sheets.specs.Layout.{allocationBytes}
-use Rattle.fields.specs.RowLaws.{rows-none, rows-then, laid-none}
-use Rattle.sheets.specs.WriteLaws.{allocation-length}
+use Rattle.fields.specs.RowLaws.{rows-none, laid-none}
+use Rattle.fields.proofs.SegmentLaws.{rows-then}
+use Rattle.sheets.proofs.WritingLaws.{allocation-length}
 use borrow.Author.Needs.{needs}
 use Rattle.sheets.proofs.writing.put_allocations.Statement.{statement}
 use Rattle.sheets.proofs.writing.put_allocations.Tie as tie

@@ -2,7 +2,7 @@
 use mathlib.Core.Path.{refl}
 use Rattle.fields.specs.Bytes.{bytesOf}
 use Rattle.sheets.specs.Layout.{headBytes}
-use Rattle.fields.specs.RowLaws.{laid-more}
+use Rattle.fields.proofs.SegmentLaws.{laid-more}
 use borrow.Author.Needs.{needs}
 use Rattle.sheets.proofs.writing.put_head.Statement.{statement}
 use Rattle.sheets.proofs.writing.put_head.Tie as tie

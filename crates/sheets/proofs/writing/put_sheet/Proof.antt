@@ -1,7 +1,7 @@
 -- `put_sheet` is right because header, stations, allocations and end are laid one behind the other.
 use native.Mathlib.Omega.{arith}
-use Rattle.fields.specs.FieldLaws.{allocations-few}
-use Rattle.sheets.specs.WriteLaws.{sheet-laid}
+use Rattle.fields.proofs.FieldLaws.{allocations-few}
+use Rattle.sheets.proofs.WritingLaws.{sheet-laid}
 use borrow.Author.Needs.{needs}
 use Rattle.sheets.proofs.writing.put_sheet.Statement.{statement}
 use Rattle.sheets.proofs.writing.put_sheet.Tie as tie

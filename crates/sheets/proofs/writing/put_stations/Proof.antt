@@ -5,8 +5,9 @@ use native.Mathlib.Omega.{arith}
 use lib.ListN.{length}
 use Rattle.fields.specs.Rows.{rows, laid}
 use Rattle.sheets.specs.Layout.{stationBytes}
-use Rattle.fields.specs.RowLaws.{rows-none, rows-then, laid-none}
-use Rattle.sheets.specs.WriteLaws.{station-length}
+use Rattle.fields.specs.RowLaws.{rows-none, laid-none}
+use Rattle.fields.proofs.SegmentLaws.{rows-then}
+use Rattle.sheets.proofs.WritingLaws.{station-length}
 use borrow.Author.Needs.{needs}
 use Rattle.sheets.proofs.writing.put_stations.Statement.{statement}
 use Rattle.sheets.proofs.writing.put_stations.Tie as tie

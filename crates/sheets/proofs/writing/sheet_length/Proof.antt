@@ -1,6 +1,6 @@
 -- `sheet_length` is right because its body is the definition.
 use native.Mathlib.Omega.{arith}
-use Rattle.fields.specs.FieldLaws.{allocations-few}
+use Rattle.fields.proofs.FieldLaws.{allocations-few}
 use borrow.Author.Needs.{needs}
 use Rattle.sheets.proofs.writing.sheet_length.Statement.{statement}
 use Rattle.sheets.proofs.writing.sheet_length.Tie as tie

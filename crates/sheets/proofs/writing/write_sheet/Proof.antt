@@ -6,8 +6,8 @@ use native.Mathlib.Omega.{arith}
 use lib.ListN.{length}
 use Rattle.sheets.specs.Layout.{sheetLength}
 use Rattle.sheets.specs.Reading.{judgedSheet}
-use Rattle.sheets.specs.WriteLaws.{number-judged, number-short, wrote-refused, wrote-all}
-use Rattle.sheets.specs.SheetLaws.{judged-kept}
+use Rattle.sheets.proofs.WritingLaws.{number-judged, number-short, wrote-refused, wrote-all}
+use Rattle.sheets.specs.ReadLaws.{judged-kept}
 use borrow.Author.Needs.{needs}
 use Rattle.sheets.proofs.writing.write_sheet.Statement.{statement}
 use Rattle.sheets.proofs.writing.write_sheet.Tie as tie

@@ -1,0 +1,4 @@
+-- The laws of rows, segments, numbers in bytes and fields, for the proofs of this layer and those above.
+pub mod SegmentLaws
+pub mod ByteLaws
+pub mod FieldLaws

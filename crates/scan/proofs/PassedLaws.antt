@@ -1,0 +1,266 @@
+-- What the fields that have passed say of the bytes: where each station and each allocation stands. And how fields that stand one behind the other pass.
+use Prim.Native.Nat.{ℕ, _+_, _*_, _≤_, _<_}
+use mathlib.Core.Path.{_≡_, refl, sym, ap, subst, _∙_}
+use mathlib.Core.Bool.{Bool, true, false, true≢false}
+use mathlib.Core.List.{List}
+use mathlib.Core.Logic.{_⊎_, inl, inr, ⊎-elim, _≢_}
+use native.Mathlib.Omega.{arith}
+use lib.Dec.{leb}
+use lib.ListN.{length}
+use borrow.Author.Count.{below-more}
+use Rattle.units.specs.JudgingLaws.{true-or-false}
+use Rattle.fields.specs.Fields.{allocationsFor, due, headed, tagAt, sizeAt, behind, allowedAt, FieldWhole}
+use Rattle.fields.proofs.FieldLaws.{Whole, allocations-few, Kind, a-head, a-station, an-allocation, an-end, allowed-kind, kind-allowed}
+use Rattle.fields.specs.declared.Passed.{Passed}
+use Rattle.scan.specs.Scanned.{nothingPassed, withField, scanned}
+use Rattle.scan.specs.FirstFault.{WellFormed, start, more, not-allowed, FirstFault, WholeSheet}
+use Rattle.scan.specs.declared.Scanned.{Scanned}
+use Rattle.scan.proofs.ScanLaws.{end-there, shape-whole}
+
+-- ---- one field more, by its tag
+
+module _ (p : Passed) (tag next : ℕ) where
+  head-more : tag ≡ 1 → withField p tag next ≡ record { plan = p .plan; head = 1; from = next; stations = p .stations; allocations = p .allocations }
+  unfolding withField
+  head-more e = rw e refl
+
+  station-more : tag ≡ 2 → withField p tag next ≡ record { plan = p .plan; head = p .head; from = p .from; stations = p .stations + 1; allocations = p .allocations }
+  unfolding withField
+  station-more e = rw e refl
+
+  allocation-more : tag ≡ 3 → withField p tag next ≡ record { plan = p .plan; head = p .head; from = p .from; stations = p .stations; allocations = p .allocations + 1 }
+  unfolding withField
+  allocation-more e = rw e refl
+
+-- ---- where the fields stand
+
+-- the header: none yet, or its first field alone
+pub data Header (bs : List ℕ) (p : Passed) : Type 0 where
+  no-header : p .head ≡ 0 → p .from ≡ 0 → p .stations ≡ 0 → Header bs p
+  a-header : p .head ≡ 1 → p .from ≡ 7 → Whole bs 0 1 4 → Header bs p
+
+pub record Through (plan : Bool) (bs : List ℕ) (p : Passed) (a : ℕ) : Type 0 where
+  pub kind : p .plan ≡ plan
+  pub header : Header bs p
+  pub place : a ≡ p .from + 19 * p .stations + 7 * p .allocations
+  pub few : p .stations ≤ 128
+  pub most : p .allocations ≤ allocationsFor plan (p .stations)
+  pub stations : (i : ℕ) → i < p .stations → Whole bs (p .from + 19 * i) 2 16
+  pub allocations : (i : ℕ) → i < p .allocations → Whole bs (p .from + 19 * p .stations + 7 * i) 3 4
+
+-- the header of fields that have one
+header-of : (bs : List ℕ) (p : Passed) → Header bs p → headed p ≡ true → (p .head ≡ 1) × ((p .from ≡ 7) × Whole bs 0 1 4)
+header-of bs p (no-header h f s) e = absurd (true≢false (sym e ∙ ap (leb 1) h))
+header-of bs p (a-header h f w) e = (h, (f, w))
+
+module _ (plan : Bool) (bs : List ℕ) (p : Passed) (a : ℕ) (t : Through plan bs p a) (w : FieldWhole bs a p) where
+  -- the field that stands here
+  here : (tag size : ℕ) → tagAt bs a ≡ tag → sizeAt bs a ≡ size → Whole bs a tag size
+  here tag size e s = record { inside = omega (arith, w .inside); has-tag = e; has-size = s }
+
+  through-head : tagAt bs a ≡ 1 → sizeAt bs a ≡ 4 → Header bs p → headed p ≡ false → Through plan bs (withField p (tagAt bs a) (behind bs a)) (behind bs a)
+  through-head e s (a-header h f x) not-begun = absurd (true≢false (ap (leb 1) (sym h) ∙ not-begun))
+  through-head e s (no-header h f n) not-begun =
+      let m : p .allocations ≡ 0 = omega (arith, t .most, allocations-few plan (p .stations)) in
+      let first : a ≡ 0 = omega (arith, t .place) in
+      let there : behind bs a ≡ 7 = omega arith in
+      subst (λ (q : Passed). Through plan bs q (behind bs a)) (sym (head-more p _ _ e))
+      (record {
+        kind = t .kind;
+        header = a-header refl there (subst (λ (b : ℕ). Whole bs b 1 4) first (here 1 4 e s));
+        place = omega arith;
+        few = t .few;
+        most = t .most;
+        stations = λ i l. absurd (omega arith);
+        allocations = λ i l. absurd (omega arith);
+      })
+
+  through-station : tagAt bs a ≡ 2 → sizeAt bs a ≡ 16 → headed p ≡ true → p .stations < 128 → p .allocations ≡ 0 → Through plan bs (withField p (tagAt bs a) (behind bs a)) (behind bs a)
+  through-station e s begun few none =
+      let h = header-of bs p (t .header) begun in
+      let there : a ≡ p .from + 19 * p .stations = omega (arith, t .place) in
+      subst (λ (q : Passed). Through plan bs q (behind bs a)) (sym (station-more p _ _ e))
+      (record {
+        kind = t .kind;
+        header = a-header (h .0) (h .1 .0) (h .1 .1);
+        place = omega (arith, there);
+        few = omega arith;
+        most = omega arith;
+        stations = below-more _ _ (t .stations) (subst (λ (b : ℕ). Whole bs b 2 16) there (here 2 16 e s));
+        allocations = λ i l. absurd (omega arith);
+      })
+
+  through-allocation : tagAt bs a ≡ 3 → sizeAt bs a ≡ 4 → headed p ≡ true → p .allocations < due p → Through plan bs (withField p (tagAt bs a) (behind bs a)) (behind bs a)
+  through-allocation e s begun room =
+      let h = header-of bs p (t .header) begun in
+      let room′ : p .allocations < allocationsFor plan (p .stations) = subst (λ (b : Bool). p .allocations < allocationsFor b (p .stations)) (t .kind) room in
+      subst (λ (q : Passed). Through plan bs q (behind bs a)) (sym (allocation-more p _ _ e))
+      (record {
+        kind = t .kind;
+        header = a-header (h .0) (h .1 .0) (h .1 .1);
+        place = omega (arith, t .place);
+        few = t .few;
+        most = omega arith;
+        stations = t .stations;
+        allocations = below-more _ _ (t .allocations) (subst (λ (b : ℕ). Whole bs b 3 4) (t .place) (here 3 4 e s));
+      })
+
+  through-more : tagAt bs a ≢ 255 → Kind p (tagAt bs a) (sizeAt bs a) → Through plan bs (withField p (tagAt bs a) (behind bs a)) (behind bs a)
+  through-more other (a-head e s not-begun) = through-head e s (t .header) not-begun
+  through-more other (a-station e s begun few none) = through-station e s begun few none
+  through-more other (an-allocation e s begun room) = through-allocation e s begun room
+  through-more other (an-end e s begun some all) = absurd (other e)
+
+pub through : (plan : Bool) (bs : List ℕ) (p : Passed) (a : ℕ) → WellFormed plan bs p a → Through plan bs p a
+through plan bs _ _ start =
+    record {
+      kind = refl;
+      header = no-header refl refl refl;
+      place = refl;
+      few = omega arith;
+      most = omega arith;
+      stations = λ i l. absurd (omega arith);
+      allocations = λ i l. absurd (omega arith);
+    }
+through plan bs _ _ (more {p} {a} before w other) =
+    through-more plan bs p a (through plan bs p a before) w other (allowed-kind p (tagAt bs a) (sizeAt bs a) (w .allowed))
+
+-- ---- a whole sheet
+
+-- the header, n stations and m allocations
+abbrev pub passedAll : Bool → ℕ → ℕ → Passed
+passedAll plan n m = record { plan = plan; head = 1; from = 7; stations = n; allocations = m }
+
+all-is : (plan : Bool) (p : Passed) → p .plan ≡ plan → p .head ≡ 1 → p .from ≡ 7 → p ≡ passedAll plan (p .stations) (p .allocations)
+all-is plan p kind head from =
+    ap (λ (b : Bool). record { plan = b; head = p .head; from = p .from; stations = p .stations; allocations = p .allocations }) kind
+    ∙ ap (λ (h : ℕ). record { plan = plan; head = h; from = p .from; stations = p .stations; allocations = p .allocations }) head
+    ∙ ap (λ (f : ℕ). record { plan = plan; head = 1; from = f; stations = p .stations; allocations = p .allocations }) from
+
+-- behind the header, at least one station and all allocations that belong to them the end field stands, and nothing follows it
+pub record Ended (plan : Bool) (bs : List ℕ) (p : Passed) : Type 0 where
+  pub is-all : p ≡ passedAll plan (p .stations) (p .allocations)
+  pub some : 1 ≤ p .stations
+  pub few : p .stations ≤ 128
+  pub all : p .allocations ≡ allocationsFor plan (p .stations)
+  pub head : Whole bs 0 1 4
+  pub stations : (i : ℕ) → i < p .stations → Whole bs (7 + 19 * i) 2 16
+  pub allocations : (i : ℕ) → i < p .allocations → Whole bs (7 + 19 * p .stations + 7 * i) 3 4
+  pub end : Whole bs (7 + 19 * p .stations + 7 * p .allocations) 255 0
+  pub last : length bs ≡ 7 + 19 * p .stations + 7 * p .allocations + 3
+
+pub whole-ended : (plan : Bool) (bs : List ℕ) (s : WholeSheet plan bs) → Ended plan bs (s .passed)
+whole-ended plan bs s = go (allowed-kind (s .passed) (tagAt bs (s .place)) (sizeAt bs (s .place)) (s .end-whole .allowed))
+  where
+    t : Through plan bs (s .passed) (s .place)
+    t = through plan bs (s .passed) (s .place) (s .before)
+
+    go : Kind (s .passed) (tagAt bs (s .place)) (sizeAt bs (s .place)) → Ended plan bs (s .passed)
+    go (a-head e z not-begun) = absurd (omega (arith, s .end-tag))
+    go (a-station e z begun few none) = absurd (omega (arith, s .end-tag))
+    go (an-allocation e z begun room) = absurd (omega (arith, s .end-tag))
+    go (an-end e z begun some all) =
+        let h = header-of bs (s .passed) (t .header) begun in
+        let from = h .1 .0 in
+        let there : s .place ≡ 7 + 19 * s .passed .stations + 7 * s .passed .allocations = omega (arith, t .place) in
+        record {
+          is-all = all-is plan (s .passed) (t .kind) (h .0) from;
+          some = some;
+          few = t .few;
+          all = all ∙ ap (λ (b : Bool). allocationsFor b (s .passed .stations)) (t .kind);
+          head = h .1 .1;
+          stations = subst (λ (f : ℕ). (i : ℕ) → i < s .passed .stations → Whole bs (f + 19 * i) 2 16) from (t .stations);
+          allocations = subst (λ (f : ℕ). (i : ℕ) → i < s .passed .allocations → Whole bs (f + 19 * s .passed .stations + 7 * i) 3 4) from (t .allocations);
+          end = subst (λ (b : ℕ). Whole bs b 255 0) there (record { inside = omega (arith, s .end-whole .inside); has-tag = e; has-size = z });
+          last = omega (arith, s .nothing-follows);
+        }
+
+-- the walk over a sheet without a fault has gone by all of it
+pub scanned-ended : (plan : Bool) (bs : List ℕ) → scanned plan bs .number ≡ 0 → Ended plan bs (scanned plan bs .passed)
+scanned-ended plan bs z =
+    let w = shape-whole plan bs z in
+    subst (λ (r : Scanned). Ended plan bs (r .passed)) (sym (end-there plan bs w)) (whole-ended plan bs w)
+
+-- ---- fields that stand one behind the other pass
+
+module _ (plan : Bool) (bs : List ℕ) where
+  -- a whole field of a kind that may stand there
+  standing : (p : Passed) (a tag size : ℕ) → Whole bs a tag size → Kind p tag size → FieldWhole bs a p
+  standing p a tag size w k =
+      record {
+        inside = omega (arith, w .inside, w .has-size);
+        allowed = rw (w .has-tag, w .has-size) (kind-allowed p tag size k);
+      }
+
+  passing : (p : Passed) (a tag size : ℕ) → WellFormed plan bs p a → Whole bs a tag size → Kind p tag size → tag ≢ 255 → WellFormed plan bs (withField p tag (a + 3 + size)) (a + 3 + size)
+  passing p a tag size before w k other =
+      let b : behind bs a ≡ a + 3 + size = omega (arith, w .has-size) in
+      let next = more before (standing p a tag size w k) (λ e. other (sym (w .has-tag) ∙ e)) in
+      rw (w .has-tag, b) at next
+
+  pub head-passes : Whole bs 0 1 4 → WellFormed plan bs (passedAll plan 0 0) 7
+  unfolding withField
+  head-passes w = passing (nothingPassed plan) 0 1 4 start w (a-head refl refl refl) (λ e. omega arith)
+
+  pub station-passes : (n a : ℕ) → WellFormed plan bs (passedAll plan n 0) a → n < 128 → Whole bs a 2 16 → WellFormed plan bs (passedAll plan (n + 1) 0) (a + 3 + 16)
+  unfolding withField
+  station-passes n a before few w = passing (passedAll plan n 0) a 2 16 before w (a-station refl refl refl few refl) (λ e. omega arith)
+
+  pub allocation-passes : (n m a : ℕ) → WellFormed plan bs (passedAll plan n m) a → m < allocationsFor plan n → Whole bs a 3 4 → WellFormed plan bs (passedAll plan n (m + 1)) (a + 3 + 4)
+  unfolding withField
+  allocation-passes n m a before room w = passing (passedAll plan n m) a 3 4 before w (an-allocation refl refl refl room) (λ e. omega arith)
+
+  -- and the walk goes by all of them, to the end
+  pub end-passes : (n m a : ℕ) → WellFormed plan bs (passedAll plan n m) a → 1 ≤ n → m ≡ allocationsFor plan n → Whole bs a 255 0 → length bs ≡ a + 3 → scanned plan bs ≡ record { number = 0; passed = passedAll plan n m; at = a }
+  end-passes n m a before some all w last =
+      end-there plan bs
+      (record {
+        passed = passedAll plan n m;
+        place = a;
+        before = before;
+        end-whole = standing (passedAll plan n m) a 255 0 w (an-end refl refl refl some all);
+        end-tag = w .has-tag;
+        nothing-follows = omega (arith, w .has-size);
+      })
+
+-- ---- a plan is no request
+
+-- the same fields in a request
+asRequest : Passed → Passed
+asRequest p = record { plan = false; head = p .head; from = p .from; stations = p .stations; allocations = p .allocations }
+
+module _ (bs : List ℕ) where
+  request-more : (p : Passed) (a : ℕ) → FieldWhole bs a p → tagAt bs a ≢ 255 → p .allocations ≡ 0 → WellFormed false bs (asRequest p) a → Kind p (tagAt bs a) (sizeAt bs a)
+      → ((withField p (tagAt bs a) (behind bs a) .allocations ≡ 0) × WellFormed false bs (asRequest (withField p (tagAt bs a) (behind bs a))) (behind bs a)) ⊎ FirstFault false bs 2
+  unfolding asRequest
+  request-more p a w other none before (a-head e s not-begun) =
+      let next = more before (record { inside = w .inside; allowed = kind-allowed (asRequest p) _ _ (a-head e s not-begun) }) other in
+      inl (rw (head-more p _ _ e) none, rw (head-more p _ _ e) (rw (head-more (asRequest p) _ _ e) at next))
+  request-more p a w other none before (a-station e s begun few none-yet) =
+      let next = more before (record { inside = w .inside; allowed = kind-allowed (asRequest p) _ _ (a-station e s begun few none-yet) }) other in
+      inl (rw (station-more p _ _ e) none, rw (station-more p _ _ e) (rw (station-more (asRequest p) _ _ e) at next))
+  request-more p a w other none before (an-allocation e s begun room) = inr (record { passed = asRequest p; place = a; before = before; fault = not-allowed (omega (arith, w .inside)) wrong })
+    where
+      in-none : Kind (asRequest p) (tagAt bs a) (sizeAt bs a) → ⊥
+      in-none (a-head d s not-begun) = absurd (omega (arith, e, d))
+      in-none (a-station d s begun few none-yet) = absurd (omega (arith, e, d))
+      in-none (an-allocation d s begun room) = absurd (omega (arith, room))
+      in-none (an-end d s begun some all) = absurd (omega (arith, e, d))
+
+      wrong : allowedAt bs a (asRequest p) ≡ false
+      wrong =
+          ⊎-elim (λ (y : allowedAt bs a (asRequest p) ≡ true). absurd (in-none (allowed-kind (asRequest p) _ _ y)))
+          (λ (n : allowedAt bs a (asRequest p) ≡ false). n)
+          (true-or-false (allowedAt bs a (asRequest p)))
+  request-more p a w other none before (an-end e s begun some all) = absurd (other e)
+
+  as-request : (p : Passed) (a : ℕ) → WellFormed true bs p a → ((p .allocations ≡ 0) × WellFormed false bs (asRequest p) a) ⊎ FirstFault false bs 2
+  unfolding asRequest
+  as-request _ _ start = inl (refl, start)
+  as-request _ _ (more {p} {a} before w other) =
+      ⊎-elim (λ so-far. request-more p a w other (so-far .0) (so-far .1) (allowed-kind p (tagAt bs a) (sizeAt bs a) (w .allowed))) (λ f. inr f) (as-request p a before)
+
+  pub plan-no-request : WholeSheet true bs → FirstFault false bs 2
+  plan-no-request s =
+      let e = whole-ended true bs s in
+      ⊎-elim (λ none. absurd (omega (arith, none .0, e .some, e .all))) (λ f. f) (as-request (s .passed) (s .place) (s .before))

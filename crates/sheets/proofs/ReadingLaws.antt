@@ -1,0 +1,35 @@
+-- The laws of reading: what has passed lies inside the bytes, and the answers of a refused reading.
+use Prim.Native.Nat.{ℕ, _+_, _*_, _≤_}
+use mathlib.Core.Path.{_≡_, sym, ap, subst, _∙_}
+use mathlib.Core.Bool.{Bool}
+use mathlib.Core.List.{List}
+use mathlib.Core.Logic.{_≢_}
+use native.Mathlib.Omega.{arith}
+use Rattle.sets.specs.Judged.{blankSet}
+use Rattle.plans.specs.Planned.{blankAlloc}
+use Rattle.fields.proofs.FieldLaws.{allocations-few}
+use Rattle.fields.specs.declared.Passed.{Passed}
+use Rattle.scan.specs.Scanned.{scanned}
+use Rattle.scan.proofs.PassedLaws.{scanned-ended}
+use Rattle.sheets.specs.Bounds.{PassedFits}
+use Rattle.sheets.specs.Reading.{setIn, allocIn, judgedSheet, readSheet}
+use Rattle.sheets.specs.ReadLaws.{then-rest, then-keeps, read-refused}
+
+module _ (plan : Bool) (bs : List ℕ) where
+  -- a sheet without a fault has room for all that is read from it
+  pub scanned-fits : scanned plan bs .number ≡ 0 → PassedFits bs (scanned plan bs .passed)
+  scanned-fits h =
+      let e = scanned-ended plan bs h in
+      let p = scanned plan bs .passed in
+      let from : scanned plan bs .passed .from ≡ 7 = ap (λ (q : Passed). q .from) (e .is-all) in
+      let few = e .few in
+      let last = e .last in
+      record { header = omega arith; few = few; fewer = omega (arith, e .all, allocations-few plan (p .stations)); inside = omega arith }
+
+  pub sheet-misshapen : scanned plan bs .number ≢ 0 → readSheet plan bs ≡ record { set = blankSet; alloc = blankAlloc; number = scanned plan bs .number }
+  unfolding readSheet
+  sheet-misshapen h = rw (then-keeps (scanned plan bs .number) (judgedSheet plan (setIn plan bs) (allocIn plan bs)) h) (read-refused _ _ _ h)
+
+  pub sheet-refused : scanned plan bs .number ≡ 0 → judgedSheet plan (setIn plan bs) (allocIn plan bs) ≢ 0 → readSheet plan bs ≡ record { set = blankSet; alloc = blankAlloc; number = judgedSheet plan (setIn plan bs) (allocIn plan bs) }
+  unfolding readSheet
+  sheet-refused e h = rw (then-rest (scanned plan bs .number) (judgedSheet plan (setIn plan bs) (allocIn plan bs)) e) (read-refused _ _ _ h)

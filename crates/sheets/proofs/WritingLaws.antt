@@ -1,0 +1,122 @@
+-- The laws of layout and writing.
+use Prim.Native.Nat.{ℕ, zero, suc, _+_, _*_, _≤_, _<_}
+use mathlib.Core.Path.{_≡_, refl, sym, _∙_}
+use mathlib.Core.Bool.{Bool}
+use mathlib.Core.List.{List, _++_}
+use mathlib.Core.Logic.{_≢_}
+use native.Mathlib.Omega.{arith}
+use lib.ListN.{length, drop, length-append}
+use borrow.Author.Tests.{le-leb, lt-leb}
+use Rattle.units.specs.JudgingLaws.{held, failed}
+use Rattle.sets.specs.declared.Head.{Head}
+use Rattle.sets.specs.declared.Set.{Set}
+use Rattle.plans.specs.declared.Alloc.{Alloc}
+use Rattle.fields.specs.Rows.{rows, laid}
+use Rattle.fields.specs.Bytes.{bytesOf}
+use Rattle.fields.specs.Fields.{allocationsFor}
+use Rattle.fields.specs.RowLaws.{laid-first}
+use Rattle.fields.proofs.SegmentLaws.{rows-length, laid-more}
+use Rattle.sheets.specs.Layout.{headBytes, stationWith, allocationWith, stationBytes, allocationBytes, endBytes, sheetOf, sheetLength}
+use Rattle.sheets.specs.Reading.{judgedSheet}
+use Rattle.sheets.specs.ReadLaws.{then-rest, then-keeps}
+use Rattle.sheets.specs.Writing.{writeNumber, writeAnswer, bufferAfter, refusedWriting, Wrote}
+
+-- ---- lengths
+
+pub head-length : (h : Head) → length (headBytes h) ≡ 7
+unfolding headBytes bytesOf
+head-length h = refl
+
+pub station-length : (w c d p : ℕ) → length (stationWith w c d p) ≡ 19
+unfolding stationWith bytesOf
+station-length w c d p = refl
+
+pub allocation-length : (s : ℕ) → length (allocationWith s) ≡ 7
+unfolding allocationWith bytesOf
+allocation-length s = refl
+
+pub stations-length : (t : Set) (n : ℕ) → length (rows n (stationBytes t)) ≡ 19 * n
+stations-length t n = rows-length n 19 (stationBytes t) (λ i. station-length _ _ _ _)
+
+pub allocations-length : (a : Alloc) (m : ℕ) → length (rows m (allocationBytes a)) ≡ 7 * m
+allocations-length a m = rows-length m 7 (allocationBytes a) (λ i. allocation-length _)
+
+pub sheet-long : (plan : Bool) (t : Set) (a : Alloc) → length (sheetOf plan t a) ≡ sheetLength plan (t .n)
+unfolding sheetOf
+sheet-long plan t a =
+    let n = t .n in
+    let m = allocationsFor plan (t .n) in
+    let h = headBytes (t .head) in
+    omega
+    (arith, length-append (h ++ rows n (stationBytes t) ++ rows m (allocationBytes a)) endBytes, length-append (h ++ rows n (stationBytes t)) (rows m (allocationBytes a)), length-append h (rows n (stationBytes t)), head-length (t .head), stations-length t n, allocations-length a m)
+
+-- ---- the fields of a sheet, laid one after another
+
+pub sheet-laid : (plan : Bool) (t : Set) (a : Alloc) (o o₁ o₂ o₃ o₄ : List ℕ) (m : ℕ) → m ≡ allocationsFor plan (t .n) → o₁ ≡ laid o 0 (headBytes (t .head)) → o₂ ≡ laid o₁ 7 (rows (t .n) (stationBytes t)) → o₃ ≡ laid o₂ (7 + 19 * t .n) (rows m (allocationBytes a)) → o₄ ≡ laid o₃ (7 + 19 * t .n + 7 * m) endBytes → sheetLength plan (t .n) ≤ length o → o₄ ≡ laid o 0 (sheetOf plan t a)
+unfolding sheetOf
+sheet-laid plan t a o o₁ o₂ o₃ o₄ m e e₁ e₂ e₃ e₄ fit =
+    let n = t .n in
+    let head = headBytes (t .head) in
+    let stations = rows n (stationBytes t) in
+    let allocations = rows m (allocationBytes a) in
+    let l₁ : length (headBytes (t .head)) ≡ 7 = head-length (t .head) in
+    let l₂ : length (rows (t .n) (stationBytes t)) ≡ 19 * t .n = stations-length t n in
+    let l₃ : length (rows m (allocationBytes a)) ≡ 7 * m = allocations-length a m in
+    let j₁ = length-append head stations in
+    let j₂ = length-append (head ++ stations) allocations in
+    let s₂ = laid-more o o₁ o₂ 0 7 head stations e₁ (omega arith) e₂ (omega arith) in
+    let s₃ = laid-more o o₂ o₃ 0 (7 + 19 * n) (head ++ stations) allocations s₂ (omega arith) e₃ (omega arith) in
+    let s₄ = laid-more o o₃ o₄ 0 (7 + 19 * n + 7 * m) (head ++ stations ++ allocations) endBytes s₃ (omega arith) e₄ (omega arith) in
+    rw (← e) s₄
+
+-- ---- answers
+
+pub answer-refused : (k size : ℕ) → k ≢ 0 → writeAnswer k size ≡ refusedWriting k
+unfolding writeAnswer
+answer-refused zero size h = absurd (h refl)
+answer-refused (suc k) size h = refl
+
+pub answer-accepted : (k size : ℕ) → k ≡ 0 → writeAnswer k size ≡ record { length = size; number = 0 }
+unfolding writeAnswer
+answer-accepted k size h = rw h
+
+pub answer-number : (k size : ℕ) → writeAnswer k size .number ≡ k
+unfolding writeAnswer
+answer-number zero size = refl
+answer-number (suc k) size = refl
+
+pub buffer-refused : (k : ℕ) (sheet out : List ℕ) → k ≢ 0 → bufferAfter k sheet out ≡ out
+unfolding bufferAfter
+buffer-refused zero sheet out h = absurd (h refl)
+buffer-refused (suc k) sheet out h = refl
+
+pub buffer-accepted : (k : ℕ) (sheet out : List ℕ) → k ≡ 0 → bufferAfter k sheet out ≡ sheet ++ drop (length sheet) out
+unfolding bufferAfter
+buffer-accepted k sheet out h = rw h
+
+module _ (plan : Bool) (t : Set) (a : Alloc) (out : List ℕ) where
+  -- the number: what was judged, then 14, then 0
+  pub number-judged : judgedSheet plan t a ≢ 0 → writeNumber plan t a (length out) ≡ judgedSheet plan t a
+  number-judged h = then-keeps _ _ h
+
+  pub number-short : judgedSheet plan t a ≡ 0 → length out < sheetLength plan (t .n) → writeNumber plan t a (length out) ≡ 14
+  number-short e h = then-rest _ _ e ∙ failed _ _ _ (lt-leb _ _ h)
+
+  pub number-none : judgedSheet plan t a ≡ 0 → sheetLength plan (t .n) ≤ length out → writeNumber plan t a (length out) ≡ 0
+  number-none e h = then-rest _ _ e ∙ held _ _ _ (le-leb _ _ h)
+
+  -- a writing that was refused with the number k
+  pub wrote-refused : (k : ℕ) → k ≢ 0 → writeNumber plan t a (length out) ≡ k → Wrote plan t a out out (refusedWriting k)
+  wrote-refused k h e =
+      record {
+        answer = rw e (sym (answer-refused k (sheetLength plan (t .n)) h));
+        buffer = rw e (sym (buffer-refused k (sheetOf plan t a) out h));
+      }
+
+  -- and one that was accepted
+  pub wrote-all : judgedSheet plan t a ≡ 0 → sheetLength plan (t .n) ≤ length out → Wrote plan t a out (laid out 0 (sheetOf plan t a)) (record { length = sheetLength plan (t .n); number = 0 })
+  wrote-all e h =
+      record {
+        answer = sym (answer-accepted _ (sheetLength plan (t .n)) (number-none e h));
+        buffer = laid-first out (sheetOf plan t a) ∙ sym (buffer-accepted _ (sheetOf plan t a) out (number-none e h));
+      }
