@@ -5,10 +5,10 @@ use crate::commands::framed_command;
 use crate::planner;
 use crate::planted::Planted;
 use crate::ring::Ring;
-use crate::rules::{Plan, Refusal, Request, Station};
+use crate::rules::{Plan, Refusal, Request, Station, MOST_STATIONS};
 use crate::sheet::{read_plan, read_request, write_plan, write_request};
-use crate::state::State;
-use crate::text::{answer_line, call, number, Call};
+use crate::state::{Place, State};
+use crate::text::{answer_line, call, number, Answer, Call};
 
 /// What is answered to a line that is no case.
 pub const NO_CASE: &str = "no case";
@@ -37,16 +37,13 @@ fn try_answer(case: &str, planted: Planted) -> Option<String> {
         "planning" => planning(rest, planted),
         "write-request" => writing_request(rest),
         "write-plan" => writing_plan(rest),
+        "open" => opening(rest, planted),
         "run" => running(rest, planted, |answers, _| answers.join("|")),
-        "ring" => running(rest, planted, |_, ring| ring_after(ring)),
-        "state" => State::read(rest).map(|state| show_numbers(state.numbers())),
+        "ring" => running(rest, planted, |_, ring| show_ring(ring)),
+        "state" => any_state(rest),
         "command" => framed_command(rest, planted),
         _ => None,
     }
-}
-
-fn show_numbers([visit, hand_in]: [u8; 2]) -> String {
-    format!("{visit} {hand_in}")
 }
 
 /// `0` and what was answered, or the number alone.
@@ -73,8 +70,8 @@ pub fn show_set(request: &Request, allocation: &[u32]) -> String {
     parts.join(";")
 }
 
-fn joined(numbers: &[u32]) -> String {
-    let words: Vec<String> = numbers.iter().map(u32::to_string).collect();
+fn joined<T: ToString>(numbers: &[T]) -> String {
+    let words: Vec<String> = numbers.iter().map(T::to_string).collect();
     words.join(",")
 }
 
@@ -98,6 +95,16 @@ fn writing_request(rest: &str) -> Option<String> {
 fn writing_plan(rest: &str) -> Option<String> {
     let mut parts = rest.split(';');
     let room = parse(parts.next()?)?;
+    let plan = read_planset(&mut parts)?;
+    Some(line(write_plan(&plan, room), |bytes| to_hex(&bytes)))
+}
+
+fn opening(rest: &str, planted: Planted) -> Option<String> {
+    let plan = read_planset(&mut rest.split(';'))?;
+    Some(line(Ring::open(&plan, planted), |ring| show_ring(&ring)))
+}
+
+fn read_planset<'a>(parts: &mut impl Iterator<Item = &'a str>) -> Option<Plan> {
     let ttrt = parse(parts.next()?)?;
     let mut plan = Plan { request: Request { ttrt, stations: vec![] }, allocation: vec![] };
     for part in parts {
@@ -105,7 +112,7 @@ fn writing_plan(rest: &str) -> Option<String> {
         plan.request.stations.push(read_station(numbers)?);
         plan.allocation.push(parse(s)?);
     }
-    Some(line(write_plan(&plan, room), |bytes| to_hex(&bytes)))
+    Some(plan)
 }
 
 fn read_set<'a>(parts: &mut impl Iterator<Item = &'a str>) -> Option<Request> {
@@ -134,15 +141,28 @@ fn running(
 ) -> Option<String> {
     let mut parts = rest.split(';');
     let plan = read_plan(&from_hex(parts.next()?)?);
-    let steps: Option<Vec<Step>> = parts.map(read_step).collect();
-    let steps = steps?;
+    let steps = read_steps(parts)?;
     let opened = plan.and_then(|plan| Ring::open(&plan, planted));
     let answered = |ring: Ring| {
         let mut ring = WatchedRing::new(ring, planted);
-        let answers = steps.iter().map(|step| step.answer(&mut ring)).collect();
+        let answers = steps.iter().map(|step| step.answer(|call| ring.answer(call))).collect();
         show(answers, ring.ring())
     };
     Some(line(opened, answered))
+}
+
+/// Makes every call on a state; shows the answers, and then the state.
+fn any_state(rest: &str) -> Option<String> {
+    let parts: Vec<&str> = rest.split(';').collect();
+    let is_call = |part: &&str| !part.starts_with(|first: char| first.is_ascii_digit());
+    let calls = parts.iter().position(is_call).unwrap_or(parts.len());
+    let mut state = State::read(&parts[..calls])?;
+    let mut shown = vec![];
+    for step in read_steps(parts[calls..].iter().copied())? {
+        shown.push(step.answer(|call| state.answer(call)));
+    }
+    shown.push(show_state(&state));
+    Some(shown.join("|"))
 }
 
 /// A call, made one or more times until it is refused; the last answer counts.
@@ -152,16 +172,20 @@ struct Step {
 }
 
 impl Step {
-    fn answer(&self, ring: &mut WatchedRing) -> String {
-        let mut answer = ring.answer(&self.call);
+    fn answer(&self, mut make: impl FnMut(&Call) -> Result<Answer, Refusal>) -> String {
+        let mut answer = make(&self.call);
         for _ in 1..self.times {
             if answer.is_err() {
                 break;
             }
-            answer = ring.answer(&self.call);
+            answer = make(&self.call);
         }
         answer_line(answer)
     }
+}
+
+fn read_steps<'a>(parts: impl Iterator<Item = &'a str>) -> Option<Vec<Step>> {
+    parts.map(read_step).collect()
 }
 
 /// A call as text, or `visits COUNT ASK`.
@@ -174,16 +198,31 @@ fn read_step(part: &str) -> Option<Step> {
     Some(Step { times: 1, call: call(&words)? })
 }
 
-/// `CLOCK TOKEN VISITS U;TRT,s,REMAINING,ARRIVAL;...`
-fn ring_after(ring: &Ring) -> String {
-    let head = format!("{} {} {} {}", ring.clock(), ring.token(), ring.visits(), ring.unused());
-    let mut parts = vec![head];
-    for index in 0..ring.size() {
-        let remaining = ring.held(index).map_or(0, |held| held.remaining);
-        let arrival = ring.last_accepted(index).map_or("-".to_string(), |time| time.to_string());
-        parts.push(format!("{},{},{remaining},{arrival}", ring.trt(index), ring.sent(index)));
-    }
+/// `CLOCK,TOKEN,VISITS,U;TRT,s,REMAINING,HAD,ARRIVAL,LAST;...`, of the first 128 places.
+fn ring_text(head: [i128; 4], places: impl Iterator<Item = [i128; 6]>) -> String {
+    let places = places.take(MOST_STATIONS).map(|place| joined(&place));
+    let parts: Vec<String> = std::iter::once(joined(&head)).chain(places).collect();
     parts.join(";")
+}
+
+/// A ring that has no time of a visit or a message yet stores 0 for it.
+fn show_ring(ring: &Ring) -> String {
+    let place = |index: usize| {
+        let remaining = ring.held(index).map_or(0, |held| held.remaining);
+        let accepted = ring.last_accepted(index);
+        let had = i128::from(accepted.is_some());
+        let times = [accepted, ring.last_start(index)].map(|time| time.unwrap_or(0).into());
+        let [trt, sent, remaining] = [ring.trt(index), ring.sent(index), remaining].map(i128::from);
+        [trt, sent, remaining, had, times[0], times[1]]
+    };
+    let (token, visits) = (ring.token() as i128, ring.visits().into());
+    let head = [ring.clock().into(), token, visits, ring.unused().into()];
+    ring_text(head, (0..ring.size()).map(place))
+}
+
+fn show_state(state: &State) -> String {
+    let head = [state.clock.into(), state.token.into(), state.visits.into(), state.unused.into()];
+    ring_text(head, state.places.iter().map(Place::numbers))
 }
 
 /// Two lower-case digits for each byte; `-` for no byte.

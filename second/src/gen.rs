@@ -11,6 +11,7 @@ use std::io::{Result, Write};
 
 use crate::frames::{show_set, to_hex};
 use crate::sheet::fields;
+use crate::state::State;
 use crate::text::Call;
 use random::Random;
 use sheets::SheetKind;
@@ -26,11 +27,13 @@ pub enum Kind {
     Late,
     States,
     Edges,
+    Openings,
+    Steps,
     Commands,
 }
 
 impl Kind {
-    pub const ALL: [Kind; 10] = [
+    pub const ALL: [Kind; 12] = [
         Kind::Requests,
         Kind::Plans,
         Kind::Planning,
@@ -40,6 +43,8 @@ impl Kind {
         Kind::Late,
         Kind::States,
         Kind::Edges,
+        Kind::Openings,
+        Kind::Steps,
         Kind::Commands,
     ];
 
@@ -54,6 +59,8 @@ impl Kind {
             Kind::Late => "late",
             Kind::States => "states",
             Kind::Edges => "edges",
+            Kind::Openings => "openings",
+            Kind::Steps => "steps",
             Kind::Commands => "commands",
         }
     }
@@ -73,8 +80,10 @@ impl Kind {
             Kind::Runs => vec![run_case(random, "run")],
             Kind::Rings => vec![run_case(random, "ring")],
             Kind::Late => vec![late_case(random)],
-            Kind::States => vec![format!("state {}", states::state(random).show())],
+            Kind::States => vec![state_case(states::state_with_calls(random))],
+            Kind::Steps => vec![state_case(states::sound_with_calls(random))],
             Kind::Edges => edge_cases(random),
+            Kind::Openings => vec![opening_case(random)],
             Kind::Commands => vec![command_case(random)],
         }
     }
@@ -136,6 +145,15 @@ fn late_case(random: &mut Random) -> String {
     };
     let visits = visits((asking, 1)) + &visits((silent, 0));
     format!("run {sheet}{visits}{}", framed_calls(&calls))
+}
+
+fn state_case((state, calls): (State, Vec<Call>)) -> String {
+    format!("state {}{}", state.show(), framed_calls(&calls))
+}
+
+fn opening_case(random: &mut Random) -> String {
+    let plan = sets::any_plan(random);
+    format!("open {}", show_set(&plan.request, &plan.allocation))
 }
 
 fn edge_cases(random: &mut Random) -> Vec<String> {

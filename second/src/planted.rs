@@ -13,10 +13,14 @@ pub enum Planted {
     UnusedFromZero,
     /// 5: a message that arrives after the visit's start is served.
     ServedAhead,
+    /// 6: TRT becomes 0 after the visit's sending, not before.
+    TrtResetLate,
+    /// 7: u is cleared whenever the token is back at station 0.
+    UnusedCleared,
 }
 
 impl Planted {
-    /// The error of a number, 1 to 5.
+    /// The error of a number, 1 to 7.
     pub fn from_number(number: u32) -> Option<Planted> {
         match number {
             1 => Some(Planted::TimeForNobody),
@@ -24,6 +28,8 @@ impl Planted {
             3 => Some(Planted::LimitWithoutUnused),
             4 => Some(Planted::UnusedFromZero),
             5 => Some(Planted::ServedAhead),
+            6 => Some(Planted::TrtResetLate),
+            7 => Some(Planted::UnusedCleared),
             _ => None,
         }
     }

@@ -61,6 +61,8 @@ pub struct Held {
 struct Memory {
     /// When the token last came, the silent rotation included.
     token_came: Ticks,
+    /// When TRT was last 0: when the token came, but for a planted error.
+    timer_began: Ticks,
     /// The synchronous time used then.
     sent: Ticks,
     held: Option<Held>,
@@ -113,7 +115,7 @@ impl Ring {
 
     /// The time since a station's last token arrival.
     pub fn trt(&self, index: usize) -> Ticks {
-        self.clock - self.memories[index].token_came
+        self.clock - self.memories[index].timer_began
     }
 
     /// The synchronous time that a station used when the token last came.
@@ -148,7 +150,12 @@ impl Ring {
     }
 
     fn unused_at(&self, index: usize) -> Ticks {
-        if self.planted == Planted::UnusedFromZero && !self.visited(index) {
+        let forgotten = match self.planted {
+            Planted::UnusedFromZero => !self.visited(index),
+            Planted::UnusedCleared => index >= self.token() && self.visited(self.size() - 1),
+            _ => false,
+        };
+        if forgotten {
             return 0;
         }
         self.allocation(index) - self.sent(index)
@@ -164,6 +171,10 @@ impl Ring {
         let (synchronous, completed) = self.serve(here);
         let asynchronous = limit.min(Ticks::from(ask));
         self.memories[here].token_came = start;
+        self.memories[here].timer_began = match self.planted {
+            Planted::TrtResetLate => start + synchronous + asynchronous,
+            _ => start,
+        };
         self.memories[here].sent = synchronous;
         let walk = Ticks::from(self.plan.request.stations[here].walk);
         self.clock = start + synchronous + asynchronous + walk;
@@ -232,7 +243,13 @@ fn silent_rotation(stations: &[Station]) -> Vec<Memory> {
     let mut now = -walk_sum;
     let mut memories = Vec::new();
     for station in stations {
-        memories.push(Memory { token_came: now, sent: 0, held: None, last_accepted: None });
+        memories.push(Memory {
+            token_came: now,
+            timer_began: now,
+            sent: 0,
+            held: None,
+            last_accepted: None,
+        });
         now += Ticks::from(station.walk);
     }
     memories

@@ -13,8 +13,8 @@ pub const ALLOCATION: RangeInclusive<u32> = 0..=1_000_000;
 /// The last arrival time, and the last clock at which a visit may start.
 pub const LAST_TIME: u64 = 1_000_000_000_000;
 
-/// The refusals by their numbers. Number 8, an unsound ring, has no place here: this program's
-/// rings come from an opening only, and what a state has to be stands apart, in `state`.
+/// The refusals by their numbers. Number 8 is given to states only (`state`): this program's
+/// rings come from an opening.
 #[derive(Clone, Copy, Debug, PartialEq, Eq)]
 #[repr(u8)]
 pub enum Refusal {
@@ -25,6 +25,7 @@ pub enum Refusal {
     WalkSum = 5,
     NoAllocation = 6,
     RuleBroken = 7,
+    Unsound = 8,
     NoSuchStation = 9,
     WrongLength = 10,
     StillHeld = 11,

@@ -2,7 +2,8 @@
  * A host in C that does the whole job with the worked run of the build definition: it reads a request, plans, writes
  * and reads the plan sheet, opens the ring, hands in messages and visits, and holds each number to the definition's.
  * Refused calls must leave every byte of the ring and of the buffers as they were, and any bytes at all in place of a
- * ring must get an answer. Prints `ok`, or the first line that failed.
+ * ring must get an answer. The header's structs and constants are held to the Rattle sources (tests/host/run says how).
+ * Prints `ok`, or the first line that failed.
  */
 #include "olivastrum.h"
 #include "fields.h"
@@ -57,6 +58,16 @@ static int layouts(void)
     return 1;
 }
 
+/* ---- the constants: a line NUMBER(NAME, VALUE) for each that the Rattle sources have */
+static int constants(void)
+{
+#define NUMBER(name, value) CHECK(name == value);
+#include "numbers.h"
+    CHECK(OLIVASTRUM_REQUEST_BYTES(1) == 29 && OLIVASTRUM_REQUEST_BYTES(128) == 2442);
+    CHECK(OLIVASTRUM_PLAN_BYTES(1) == 36 && OLIVASTRUM_PLAN_BYTES(128) == 3338);
+    return 1;
+}
+
 /* ---- the worked run's request sheet, byte by byte */
 static uint8_t *put(uint8_t *at, unsigned tag, unsigned length)
 {
@@ -95,6 +106,31 @@ static int is_the_set(const struct olivastrum_set *set)
         CHECK(set->c[i] == (i < STATIONS ? 20u : 0));
         CHECK(set->d[i] == (i < STATIONS ? 100u : 0));
         CHECK(set->p[i] == (i < STATIONS ? 100u : 0));
+    }
+    return 1;
+}
+
+/* ---- a plan sheet in which every number is another one: each is read into its own place */
+static int places(void)
+{
+    enum { count = 3, first = 1000 };
+    uint8_t plan[OLIVASTRUM_PLAN_BYTES(count)];
+    uint8_t *at = put_number(put(plan, 1, 4), first);
+    for (uint32_t i = 0; i < count; i++)
+        at = put_number(put_number(put_number(put_number(put(at, 2, 16), 10 + i), 20 + i), 3000 + i), 4000 + i);
+    for (uint32_t i = 0; i < count; i++)
+        at = put_number(put(at, 3, 4), 50 + i);
+    put(at, 255, 0);
+
+    struct olivastrum_read_plan read = read_plan_sheet(plan, sizeof plan);
+    CHECK(read.number == 0);
+    CHECK(read.set.ttrt == first && read.set.n == count);
+    for (uint32_t i = 0; i < count; i++) {
+        CHECK(read.set.w[i] == 10 + i);
+        CHECK(read.set.c[i] == 20 + i);
+        CHECK(read.set.d[i] == 3000 + i);
+        CHECK(read.set.p[i] == 4000 + i);
+        CHECK(read.alloc.s[i] == 50 + i);
     }
     return 1;
 }
@@ -224,7 +260,20 @@ static int opening(ring_t *ring, struct olivastrum_set set, struct olivastrum_al
     return 1;
 }
 
-/* visit, station, start, TRT, limit, sync, async, finish, margin */
+/* A visit that asks for less than its limit, on a ring of its own. */
+static int asked_less(ring_t ring)
+{
+    struct olivastrum_visit_answer answer = visit_lent(&ring, 5);
+    struct olivastrum_visit_record *r = &answer.record;
+    CHECK(answer.number == 0 && r->completed == 0 && r->finish.ticks == 0 && r->margin == 0);
+    CHECK(r->station.number == 0 && r->start.ticks == 0 && r->trt.ticks == 2);
+    CHECK(r->limit.ticks == 18 && r->synchronous.ticks == 0 && r->asynchronous.ticks == 5);
+    CHECK(ring.clock == 7 && ring.visits == 1 && ring.token == 1 && ring.unused == 80);
+    CHECK(ring.trt[0] == 7 && ring.trt[1] == 7 && ring.trt[STATIONS] == 0);
+    return 1;
+}
+
+/* station, start, TRT, limit, sync, async, finish, margin */
 static const int64_t rows[][8] = {
     {0, 0, 2, 18, 20, 18, 20, 80},
     {1, 40, 40, 0, 20, 0, 60, 40},
@@ -257,13 +306,17 @@ static int worked_run(ring_t *ring)
         CHECK((int64_t)r->limit.ticks == row[3] && (int64_t)r->synchronous.ticks == row[4] && (int64_t)r->asynchronous.ticks == row[5]);
         CHECK((int64_t)r->finish.ticks == row[6] && r->margin == row[7]);
         CHECK(ring->visits == k + 1 && ring->rest[row[0]] == 0 && ring->sent[row[0]] == 20);
+        CHECK(ring->last[row[0]] == (uint64_t)row[1] && ring->had[row[0]] == 1);
+        CHECK(ring->arrival[row[0]] == (k < STATIONS ? 0 : 100));
         if (k < STATIONS) {
             CHECK(hand_in_refused(ring, (uint64_t)row[0], 20, 99, OLIVASTRUM_BAD_ARRIVAL));
             CHECK(hand_in_refused(ring, (uint64_t)row[0], 20, 1000000000001u, OLIVASTRUM_BAD_ARRIVAL));
             CHECK(hand_in_lent(ring, message((uint64_t)row[0], 20, 100)) == 0);
+            CHECK(ring->arrival[row[0]] == 100 && ring->last[row[0]] == (uint64_t)row[1]);
         }
     }
-    CHECK(ring->clock == 160 && ring->token == 2);
+    CHECK(ring->clock == 160 && ring->token == 2 && ring->unused == 0);
+    CHECK(ring->last[0] == 100 && ring->last[1] == 122 && ring->last[2] == 60 && ring->last[3] == 80);
     return 1;
 }
 
@@ -329,7 +382,9 @@ int main(void)
     static ring_t ring;
     struct olivastrum_set set;
     struct olivastrum_alloc alloc;
-    if (!layouts() || !planning(&set, &alloc) || !opening(&ring, set, alloc) || !worked_run(&ring) || !any_bytes(&ring))
+    if (!layouts() || !constants() || !places() || !planning(&set, &alloc) || !opening(&ring, set, alloc))
+        return 1;
+    if (!asked_less(ring) || !worked_run(&ring) || !any_bytes(&ring))
         return 1;
     puts("ok");
     return 0;

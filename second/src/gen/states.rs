@@ -1,12 +1,127 @@
-//! States of rings: sound ones, and ones with a number at an edge or past it.
+//! States of rings, sound ones and ones with a number at an edge or past it, and calls on them.
 
 use super::random::Random;
 use super::sets;
+use crate::ring::{Message, StationNumber};
 use crate::rules::{Plan, LAST_TIME};
 use crate::state::{Place, State, LAST_CLOCK, VISITS_END};
+use crate::text::Call;
+
+/// A state, and one to three calls.
+pub fn state_with_calls(random: &mut Random) -> (State, Vec<Call>) {
+    let mut state = state(random);
+    add_histories(random, &mut state);
+    let calls = (0..random.between(1, 3)).map(|_| call(random, &state)).collect();
+    (state, calls)
+}
+
+/// A sound state of a ring in which messages take few visits, and one to six calls.
+pub fn sound_with_calls(random: &mut Random) -> (State, Vec<Call>) {
+    let plan = sets::plan_to_run(random);
+    let mut state = state_of(random, plan);
+    let ttrt = u64::from(state.plan.request.ttrt);
+    if random.once_in(8) {
+        state.clock = random.pick(&[LAST_TIME - ttrt, LAST_TIME, LAST_TIME + 1, LAST_CLOCK]);
+    }
+    for place in &mut state.places {
+        if !random.once_in(4) {
+            // About now: most messages are served at the next visit, some of them late.
+            let from = state.clock.saturating_sub(4 * ttrt);
+            place.arrival = random.between(from, state.clock + ttrt).min(LAST_TIME);
+        }
+    }
+    add_histories(random, &mut state);
+    let calls = (0..random.between(1, 6)).map(|_| call(random, &state)).collect();
+    (state, calls)
+}
+
+fn add_histories(random: &mut Random, state: &mut State) {
+    for index in 0..state.places.len() {
+        add_history(random, state, index);
+    }
+    if random.once_in(4) {
+        state.visits = random.between(0, state.places.len() as u64);
+    }
+}
+
+/// What a handing in looks at and no sound state is bound to: `had` and `last`.
+fn add_history(random: &mut Random, state: &mut State, index: usize) {
+    let clock = state.clock;
+    let place = &mut state.places[index];
+    let times = [0, place.arrival, clock.saturating_sub(1), clock, LAST_TIME, u64::MAX];
+    place.had = random.pick(&[0, 0, 0, 1, 1, 1, 2, 128, 255]);
+    place.last = if random.once_in(2) { random.between(0, clock) } else { random.pick(&times) };
+}
+
+fn call(random: &mut Random, state: &State) -> Call {
+    if random.once_in(2) {
+        return Call::Visit(ask(random, state));
+    }
+    let mut message = good_message(random, state);
+    if random.once_in(3) {
+        spoil(random, state, &mut message);
+    }
+    Call::HandIn(message)
+}
+
+fn ask(random: &mut Random, state: &State) -> u32 {
+    let asked = random.between32(0, state.plan.request.ttrt);
+    random.pick(&[0, 1, asked, u32::MAX])
+}
+
+/// A message that the state takes, if any of its stations takes one.
+fn good_message(random: &mut Random, state: &State) -> Message {
+    let count = state.places.len();
+    let from = random.index(count.max(1));
+    let mut indices = (from..from + count).map(|index| index % count);
+    let index = indices.find(|&index| is_free(state, index)).unwrap_or(from);
+    let earliest = earliest_arrival(state, index);
+    let arrival = match random.between(0, 3) {
+        0 => random.between(earliest, LAST_TIME.max(earliest)),
+        1 => state.clock.max(earliest),
+        _ => earliest,
+    };
+    let longest = longest(state, index);
+    let length = if random.once_in(2) { longest } else { random.between(1, longest) };
+    Message { station: StationNumber(index as u32), length, arrival }
+}
+
+/// Whether a station takes messages, holds none, and a next one can arrive in range.
+fn is_free(state: &State, index: usize) -> bool {
+    let free = longest(state, index) > 0 && state.places[index].remaining == 0;
+    free && earliest_arrival(state, index) <= LAST_TIME
+}
+
+fn longest(state: &State, index: usize) -> u64 {
+    state.plan.request.stations.get(index).map_or(0, |station| station.longest.into())
+}
+
+/// The earliest arrival that a station's next message may have; 0 where there is no station.
+fn earliest_arrival(state: &State, index: usize) -> u64 {
+    let Some(place) = state.places.get(index) else {
+        return 0;
+    };
+    let gap = u64::from(state.plan.request.stations[index].gap);
+    let visited = (index as u64) < state.visits;
+    let after_visit = if visited { place.last.saturating_add(1) } else { 0 };
+    let after_message = if place.had != 0 { place.arrival.saturating_add(gap) } else { 0 };
+    after_visit.max(after_message)
+}
+
+fn spoil(random: &mut Random, state: &State, message: &mut Message) {
+    let count = state.places.len() as u32;
+    let index = message.station.index();
+    match random.between(0, 4) {
+        0 => message.station = StationNumber(random.pick(&[count, count + 1, 128, u32::MAX])),
+        1 => message.length = random.pick(&[0, longest(state, index) + 1, u64::MAX]),
+        2 => message.station = StationNumber(random.between32(0, count)),
+        3 => message.arrival = random.pick(&[0, LAST_TIME, LAST_TIME + 1, u64::MAX]),
+        _ => message.arrival = earliest_arrival(state, index).saturating_sub(1),
+    }
+}
 
 /// A state, sound unless its plan is not, and then often with one or two numbers at an edge.
-pub fn state(random: &mut Random) -> State {
+fn state(random: &mut Random) -> State {
     let plan = if random.once_in(4) { sets::any_plan(random) } else { sets::sound_plan(random) };
     let mut state = state_of(random, plan);
     if !random.once_in(4) {
@@ -38,6 +153,7 @@ fn place(random: &mut Random, plan: &Plan, index: usize) -> Place {
         sent: random.between32(0, plan.allocation[index]),
         remaining: if random.once_in(2) { random.between32(0, longest) } else { 0 },
         arrival: random.between(0, LAST_TIME),
+        ..Place::default()
     }
 }
 

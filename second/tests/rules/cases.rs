@@ -48,11 +48,18 @@ fn every_frame_has_its_answer() {
         ),
         (
             format!("ring {plan};message 1 20 5;message 2 7 0;visits 3 1"),
-            "0 12 3 3 73;12,0,0,-;9,0,20,5;8,7,0,0;12,0,0,-".to_string(),
+            "0 12,3,3,73;12,0,0,0,0,0;9,0,20,1,5,3;8,7,0,1,0,4;12,0,0,0,0,0".to_string(),
         ),
-        ("state 0,0,0,0;1;1,0,1,1,0,1,0,0,0".to_string(), "0 9".to_string()),
-        ("state 1000000000001,0,0,0;1;1,0,1,1,0,1,0,0,0".to_string(), "13 9".to_string()),
-        ("state 0,1,0,0;1;1,0,1,1,0,1,0,0,0".to_string(), "8 8".to_string()),
+        (
+            format!("open {planned}"),
+            "0 0,0,0,80;2,0,0,0,0,0;0,0,0,0,0,0;0,0,0,0,0,0;0,0,0,0,0,0".to_string(),
+        ),
+        ("open 1;1,0,1,1,1".to_string(), "7".to_string()),
+        ("state 7,0,0,0;1;1,0,1,1,0,1,0,0,0,0,0".to_string(), "7,0,0,0;1,0,0,0,0,0".to_string()),
+        (
+            "state 7,0,0,0;1;1,0,1,1,0,1,0,0,0,0,0;visits 2 9;message 1 1 1".to_string(),
+            "visit 0 8 1 0 0 0 - -|refused 9|9,0,2,0;1,0,0,0,0,8".to_string(),
+        ),
         ("command plan;-".to_string(), format!("{} -", to_hex(b"refused 1\n"))),
         ("command plan-sheet;-".to_string(), format!("- {}", to_hex(b"refused 1\n"))),
         (format!("command plan-sheet;{request}"), format!("{plan} -")),
@@ -86,6 +93,9 @@ fn a_line_of_no_frame() {
         "state 0,0,0;1",
         "state 0,0,0,0",
         "state 0,0,0,0;1;1,0,1,1,0,1,0,0",
+        "state 0,0,0,0;1;1,0,1,1,0,1,0,0,256,0,0",
+        "state 0,0,0,0;1;1,0,1,1,0,1,0,0,0,0,0;visit 0;1,0,1,1,0,1,0,0,0,0,0",
+        "open 1;1,0,1,1",
         "command else;-",
         "command plan;-;-",
     ];
@@ -125,10 +135,25 @@ fn numbers(kind: Kind, count: u64) -> Vec<u8> {
         let answer = answered(case);
         answer.split(' ').next().and_then(|word| word.parse().ok()).expect("a number")
     };
-    let mut numbers: Vec<u8> = cases(kind, 11, count).iter().map(first).collect();
+    each_once(cases(kind, 11, count).iter().map(first).collect())
+}
+
+fn each_once(mut numbers: Vec<u8>) -> Vec<u8> {
     numbers.sort();
     numbers.dedup();
     numbers
+}
+
+/// The numbers that the calls of a kind's cases are refused with, and 0 for an accepted call.
+fn numbers_of_calls(kind: Kind, count: u64) -> Vec<u8> {
+    let of_calls = |case: &String| -> Vec<u8> {
+        let said = answered(case);
+        let calls = &said[..said.rfind('|').expect("a call")];
+        let number =
+            |call: &str| call.strip_prefix("refused ").map_or(0, |n| n.parse().expect("one"));
+        calls.split('|').map(number).collect()
+    };
+    each_once(cases(kind, 11, count).iter().flat_map(of_calls).collect())
 }
 
 #[test]
@@ -138,34 +163,9 @@ fn every_number_of_a_kind_is_reached() {
     assert_eq!(numbers(Kind::Edges, 3), [0, 1, 2, 3, 4, 5, 7]);
     assert_eq!(numbers(Kind::Planning, 600), [0, 2, 4, 5, 6]);
     assert_eq!(numbers(Kind::Writing, 600), [0, 2, 4, 5, 7, 14]);
-    assert_eq!(numbers(Kind::States, 600), [0, 8, 13]);
-}
-
-/// One number of a sound state moved past its end at a time, each alone unsound.
-#[test]
-fn each_line_of_the_unsound_states() {
-    let sound = "5,3,6,60;100;2,20,100,100,20,100,20,0,7;0,20,100,100,20,0,0,20,0;\
-                 0,20,100,100,20,0,0,0,1000000000000;0,20,100,100,20,0,0,1,0";
-    assert_eq!(answered(&format!("state {sound}")), "0 9");
-    let changes = [
-        ("2,20,", "2,21,"),
-        ("5,3,", "5,4,"),
-        ("20,100,20,0,7", "20,101,20,0,7"),
-        ("6,60;100;2,20,100,100,20,100,20,", "6,59;100;2,20,100,100,20,100,21,"),
-        ("6,60;", "6,61;"),
-        (",20,0;", ",21,0;"),
-        ("1000000000000;", "1000000000001;"),
-        ("5,3,", "1000002000001,3,"),
-        (",6,", ",4611686018427387904,"),
-    ];
-    for (from, to) in changes {
-        assert!(sound.contains(from), "{from}");
-        let changed = sound.replacen(from, to, 1);
-        assert_eq!(answered(&format!("state {changed}")), "8 8", "{to}");
-    }
-    let edges = [("5,3,", "1000002000000,3,", "13 9"), (",6,", ",4611686018427387903,", "0 9")];
-    for (from, to, expected) in edges {
-        assert_eq!(answered(&format!("state {}", sound.replacen(from, to, 1))), expected);
+    assert_eq!(numbers(Kind::Openings, 600), [0, 2, 4, 5, 7]);
+    for kind in [Kind::States, Kind::Steps] {
+        assert_eq!(numbers_of_calls(kind, 2_000), [0, 8, 9, 10, 11, 12, 13]);
     }
 }
 

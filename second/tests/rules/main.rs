@@ -7,6 +7,7 @@ mod program;
 mod promises;
 mod ring;
 mod sheets;
+mod states;
 mod steps;
 mod texts;
 

@@ -16,14 +16,14 @@ fn differences(kind: Kind, planted: Planted) -> usize {
 
 #[test]
 fn comparing_finds_every_planted_error() {
-    let found_by = [Kind::Planning, Kind::Planning, Kind::Runs, Kind::Runs, Kind::Runs];
-    for (number, kind) in (1..=5).zip(found_by) {
-        let planted = Planted::from_number(number).expect("1 to 5");
+    for number in 1..=7 {
+        let kind = if number <= 2 { Kind::Planning } else { Kind::Runs };
+        let planted = Planted::from_number(number).expect("1 to 7");
         assert!(differences(kind, planted) > 10, "error {number}");
         let other = if kind == Kind::Runs { Kind::Planning } else { Kind::Runs };
         assert_eq!(differences(other, planted), 0, "error {number}");
     }
-    assert_eq!([0, 6].map(Planted::from_number), [None, None]);
+    assert_eq!([0, 8].map(Planted::from_number), [None, None]);
 }
 
 /// Every promise that the runs with the error break.
@@ -47,6 +47,8 @@ fn the_promises_find_wrong_limits() {
         Broken::Unsound,
     ]);
     assert_eq!(broken(Planted::LimitWithoutUnused), late);
-    assert!(broken(Planted::UnusedFromZero).contains(&Broken::LimitNotExact));
+    for planted in [Planted::UnusedFromZero, Planted::TrtResetLate, Planted::UnusedCleared] {
+        assert!(broken(planted).contains(&Broken::LimitNotExact), "{planted:?}");
+    }
     assert_eq!(broken(Planted::Nothing), HashSet::new());
 }

@@ -141,7 +141,7 @@ fn usage_for_anything_else() {
         &["else"],
         &["plan", "more"],
         &["run"],
-        &["--planted", "6", "plan"],
+        &["--planted", "8", "plan"],
         &["--planted"],
         &["generate", "runs", "1"],
         &["generate", "runs", "1", "1", "-", "more"],

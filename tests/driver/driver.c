@@ -1,0 +1,375 @@
+/*
+ * Reads framed cases (second/README.md) on standard input, asks the exported functions, and prints a line of answer for
+ * each. What must not be and is seen all the same (lent.h) stands behind a `!` at the answer's end. A line that is no
+ * case ends the program with an error.
+ */
+#include "lent.h"
+#include "page.h"
+#include "words.h"
+#include <string.h>
+
+/* ---- sets and plans: `TTRT;W,C,D,P;..`, and for a plan `TTRT;W,C,D,P,S;..` */
+struct plan {
+    set_t set;
+    alloc_t alloc;
+};
+
+/* Nothing yet; the places are never looked at, so anything may stand there. */
+static void no_station(struct plan *plan)
+{
+    memset(plan, 0xff, sizeof *plan);
+    plan->set.ttrt = number32();
+    plan->set.n = 0;
+}
+
+/* The next station's w, C, D and P; past 128 only their count is kept. */
+static uint32_t next_station(struct plan *plan)
+{
+    uint32_t i = plan->set.n++;
+    uint32_t w = number32();
+    pass(",");
+    uint32_t c = number32();
+    pass(",");
+    uint32_t d = number32();
+    pass(",");
+    uint32_t p = number32();
+    if (i < MOST) {
+        plan->set.w[i] = w;
+        plan->set.c[i] = c;
+        plan->set.d[i] = d;
+        plan->set.p[i] = p;
+    }
+    return i;
+}
+
+static void share(struct plan *plan, uint32_t i)
+{
+    pass(",");
+    uint32_t s = number32();
+    if (i < MOST)
+        plan->alloc.s[i] = s;
+}
+
+static void stations(struct plan *plan, int with_shares)
+{
+    no_station(plan);
+    while (passed(";")) {
+        uint32_t i = next_station(plan);
+        if (with_shares)
+            share(plan, i);
+    }
+    if (!ended())
+        no_case();
+}
+
+/* `N SET`, or `N PLANSET` where there is an allocation. */
+static void put_stations(const set_t *set, const alloc_t *alloc)
+{
+    put_after(' ', set->n);
+    put_after(' ', set->ttrt);
+    for (uint32_t i = 0; i < set->n && i < MOST; i++) {
+        put_after(';', set->w[i]);
+        put_after(',', set->c[i]);
+        put_after(',', set->d[i]);
+        put_after(',', set->p[i]);
+        if (alloc)
+            put_after(',', alloc->s[i]);
+    }
+}
+
+/* ---- a ring: `CLOCK,TOKEN,VISITS,U;TRT,s,REMAINING,HAD,ARRIVAL,LAST;..` */
+static void put_ring(const ring_t *ring)
+{
+    put_number(ring->clock);
+    put_after(',', ring->token);
+    put_after(',', ring->visits);
+    put_after(',', ring->unused);
+    for (uint32_t i = 0; i < ring->set.n && i < MOST; i++) {
+        put_after(';', ring->trt[i]);
+        put_after(',', ring->sent[i]);
+        put_after(',', ring->rest[i]);
+        put_after(',', ring->had[i]);
+        put_after(',', ring->arrival[i]);
+        put_after(',', ring->last[i]);
+    }
+}
+
+/* ---- calls */
+static void put_refused(uint8_t number)
+{
+    put("refused");
+    put_after(' ', number);
+}
+
+static void put_visit(const struct olivastrum_visit_record *record)
+{
+    put("visit");
+    put_after(' ', record->station.number);
+    put_after(' ', record->start.ticks);
+    put_after(' ', record->trt.ticks);
+    put_after(' ', record->limit.ticks);
+    put_after(' ', record->synchronous.ticks);
+    put_after(' ', record->asynchronous.ticks);
+    if (!record->completed) {
+        put(" - -");
+        return;
+    }
+    put_after(' ', record->finish.ticks);
+    put_signed_after(' ', record->margin);
+}
+
+static void visits(ring_t *ring, uint64_t count, uint32_t ask, int shown)
+{
+    struct olivastrum_visit_answer answer = visiting(ring, count, ask);
+    if (!shown)
+        return;
+    if (answer.number != 0)
+        put_refused(answer.number);
+    else
+        put_visit(&answer.record);
+}
+
+static void message(ring_t *ring, int shown)
+{
+    struct olivastrum_message given;
+    given.station.number = number32();
+    pass(" ");
+    given.length.ticks = number();
+    pass(" ");
+    given.arrival.ticks = number();
+    uint8_t refusal = handing_in(ring, given);
+    if (!shown)
+        return;
+    if (refusal != 0)
+        put_refused(refusal);
+    else
+        put("taken");
+}
+
+/* The call that stands here, made on the ring; its answer, if it is to be shown. */
+static void call(ring_t *ring, int shown)
+{
+    if (passed("message ")) {
+        message(ring, shown);
+    } else if (passed("visit ")) {
+        visits(ring, 1, number32(), shown);
+    } else {
+        pass("visits ");
+        uint64_t count = number();
+        pass(" ");
+        if (count == 0)
+            no_case();
+        visits(ring, count, number32(), shown);
+    }
+}
+
+/* ---- the cases of sheets */
+static uint8_t bytes[MOST_BYTES];
+
+/* `request HEX` */
+static void request_case(void)
+{
+    size_t length = hex(bytes, MOST_BYTES);
+    if (!ended())
+        no_case();
+    struct olivastrum_read_request read = reading_request(bytes, length);
+    put_number(read.number);
+    if (read.number == 0)
+        put_stations(&read.set, 0);
+}
+
+/* `plan HEX` */
+static void plan_case(void)
+{
+    size_t length = hex(bytes, MOST_BYTES);
+    if (!ended())
+        no_case();
+    struct olivastrum_read_plan read = reading_plan(bytes, length);
+    put_number(read.number);
+    if (read.number == 0)
+        put_stations(&read.set, &read.alloc);
+}
+
+/* `write-request ROOM;SET` and `write-plan ROOM;PLANSET` */
+static void write_case(int with_shares)
+{
+    struct plan plan;
+    const uint8_t *sheet;
+    uint64_t room = number();
+    pass(";");
+    stations(&plan, with_shares);
+    if (room > MOST_BYTES)
+        room = MOST_BYTES;
+    struct olivastrum_written written =
+        with_shares ? writing_plan(&plan.set, &plan.alloc, room, &sheet) : writing_request(&plan.set, room, &sheet);
+    put_number(written.number);
+    if (written.number == 0) {
+        put(" ");
+        put_hex(sheet, written.length);
+    }
+}
+
+/* ---- the cases of sets and rings */
+
+/* `planning SET`: A* is the limit of the first visit on a ring opened with the plan. */
+static void planning_case(void)
+{
+    struct plan plan;
+    stations(&plan, 0);
+    struct olivastrum_planned planned = planning(&plan.set);
+    put_number(planned.number);
+    if (planned.number != 0)
+        return;
+    struct olivastrum_opened opened = opening(&plan.set, &planned.alloc);
+    if (opened.number != 0) {
+        put(" !not-opened");
+        return;
+    }
+    put_after(' ', visiting(&opened.ring, 1, 0).record.limit.ticks);
+    for (uint32_t i = 0; i < plan.set.n; i++)
+        put_after(i == 0 ? ' ' : ',', planned.alloc.s[i]);
+}
+
+/* `open PLANSET` */
+static void open_case(void)
+{
+    struct plan plan;
+    stations(&plan, 1);
+    struct olivastrum_opened opened = opening(&plan.set, &plan.alloc);
+    put_number(opened.number);
+    if (opened.number == 0) {
+        put(" ");
+        put_ring(&opened.ring);
+    }
+}
+
+/* The ring of a plan sheet that stands here; the number is the sheet's, or the opening's. */
+static struct olivastrum_opened opened_sheet(void)
+{
+    size_t length = hex(bytes, MOST_BYTES);
+    struct olivastrum_read_plan read = reading_plan(bytes, length);
+    struct olivastrum_opened opened = opening(&read.set, &read.alloc);
+    if (read.number != 0)
+        opened.number = read.number;
+    return opened;
+}
+
+/* `run HEX` and CALLS, and `ring HEX` and CALLS; a refused sheet is its number, and no call is made. */
+static void run_case(int answers_shown)
+{
+    struct olivastrum_opened opened = opened_sheet();
+    put_number(opened.number);
+    if (opened.number != 0)
+        return;
+    for (const char *before = " "; passed(";"); before = "|") {
+        if (answers_shown)
+            put(before);
+        call(&opened.ring, answers_shown);
+    }
+    if (!ended())
+        no_case();
+    if (!answers_shown) {
+        put(" ");
+        put_ring(&opened.ring);
+    }
+}
+
+/* What a ring stores of a station: `,TRT,s,REMAINING,HAD,ARRIVAL,LAST`. */
+static void stored(ring_t *ring, uint32_t i)
+{
+    pass(",");
+    uint32_t trt = number32();
+    pass(",");
+    uint32_t sent = number32();
+    pass(",");
+    uint32_t rest = number32();
+    pass(",");
+    uint8_t had = number8();
+    pass(",");
+    uint64_t arrival = number();
+    pass(",");
+    uint64_t last = number();
+    if (i < MOST) {
+        ring->trt[i] = trt;
+        ring->sent[i] = sent;
+        ring->rest[i] = rest;
+        ring->had[i] = had;
+        ring->arrival[i] = arrival;
+        ring->last[i] = last;
+    }
+}
+
+/* Any ring: `CLOCK,TOKEN,VISITS,U;TTRT;PLACE;..`, up to the first call. */
+static void any_ring(ring_t *ring)
+{
+    struct plan plan;
+    memset(ring, 0xff, sizeof *ring);
+    ring->clock = number();
+    pass(",");
+    ring->token = number32();
+    pass(",");
+    ring->visits = number();
+    pass(",");
+    ring->unused = number32();
+    pass(";");
+    no_station(&plan);
+    while (passed_to_digit(";")) {
+        uint32_t i = next_station(&plan);
+        share(&plan, i);
+        stored(ring, i);
+    }
+    ring->set = plan.set;
+    ring->alloc = plan.alloc;
+}
+
+/* `state STATE` and CALLS */
+static void state_case(void)
+{
+    ring_t ring;
+    any_ring(&ring);
+    while (passed(";")) {
+        call(&ring, 1);
+        put("|");
+    }
+    if (!ended())
+        no_case();
+    put_ring(&ring);
+}
+
+static void answer(void)
+{
+    if (passed("request "))
+        request_case();
+    else if (passed("plan "))
+        plan_case();
+    else if (passed("planning "))
+        planning_case();
+    else if (passed("write-request "))
+        write_case(0);
+    else if (passed("write-plan "))
+        write_case(1);
+    else if (passed("open "))
+        open_case();
+    else if (passed("run "))
+        run_case(1);
+    else if (passed("ring "))
+        run_case(0);
+    else if (passed("state "))
+        state_case();
+    else
+        no_case();
+}
+
+int main(void)
+{
+    while (next_line()) {
+        answer();
+        const char *word = seen();
+        if (word) {
+            put(" !");
+            put(word);
+        }
+        end_line();
+    }
+    return 0;
+}

@@ -1,0 +1,231 @@
+#include "lent.h"
+#include <string.h>
+
+#define GUARD 64
+
+static const char *what;
+
+const char *seen(void)
+{
+    const char *word = what;
+    what = 0;
+    return word;
+}
+
+/* Keeps the first word for what must not be. */
+static void must(int holds, const char *otherwise)
+{
+    if (!holds && !what)
+        what = otherwise;
+}
+
+static int all_zero(const void *bytes, size_t n)
+{
+    const uint8_t *at = bytes;
+    for (size_t i = 0; i < n; i++)
+        if (at[i] != 0)
+            return 0;
+    return 1;
+}
+
+static int same(const void *a, const void *b, size_t n)
+{
+    return memcmp(a, b, n) == 0;
+}
+
+/* The places from N on hold 0. */
+static int zero_past(uint32_t n, const uint32_t *places)
+{
+    return n >= MOST || all_zero(places + n, (MOST - n) * sizeof *places);
+}
+
+/* The places from N on are the same in both. */
+#define SAME_PAST(n, a, b) ((n) >= MOST || same((a) + (n), (b) + (n), (MOST - (n)) * sizeof *(a)))
+
+/* ---- bytes between guards; each guard byte depends on its place */
+static uint8_t lent[GUARD + MOST_BYTES + GUARD];
+
+static uint8_t guard_byte(size_t i)
+{
+    return (uint8_t)(37 * i + 165);
+}
+
+static void guard(size_t from, size_t to)
+{
+    for (size_t i = from; i < to; i++)
+        lent[i] = guard_byte(i);
+}
+
+static int guarded(size_t from, size_t to)
+{
+    for (size_t i = from; i < to; i++)
+        if (lent[i] != guard_byte(i))
+            return 0;
+    return 1;
+}
+
+/* ---- reading */
+static const uint8_t *lend_sheet(const uint8_t *sheet, size_t length)
+{
+    guard(0, GUARD);
+    memcpy(lent + GUARD, sheet, length);
+    guard(GUARD + length, length + 2 * GUARD);
+    return lent + GUARD;
+}
+
+static void sheet_unchanged(const uint8_t *sheet, size_t length)
+{
+    must(guarded(0, GUARD) && guarded(GUARD + length, length + 2 * GUARD), "touched");
+    must(same(lent + GUARD, sheet, length), "touched");
+}
+
+static void read_set(uint8_t number, const set_t *set)
+{
+    must(number == 0 || all_zero(set, sizeof *set), "not-blank");
+    uint32_t n = set->n;
+    must(zero_past(n, set->w) && zero_past(n, set->c) && zero_past(n, set->d) && zero_past(n, set->p), "past-n");
+}
+
+struct olivastrum_read_request reading_request(const uint8_t *sheet, size_t length)
+{
+    struct olivastrum_read_request read = read_request_sheet(lend_sheet(sheet, length), length);
+    sheet_unchanged(sheet, length);
+    read_set(read.number, &read.set);
+    return read;
+}
+
+struct olivastrum_read_plan reading_plan(const uint8_t *sheet, size_t length)
+{
+    struct olivastrum_read_plan read = read_plan_sheet(lend_sheet(sheet, length), length);
+    sheet_unchanged(sheet, length);
+    read_set(read.number, &read.set);
+    must(read.number == 0 || all_zero(&read.alloc, sizeof read.alloc), "not-blank");
+    must(zero_past(read.set.n, read.alloc.s), "past-n");
+    return read;
+}
+
+/* ---- writing: the first bytes of the room, as many as the sheet has, and not one more */
+static uint8_t *lend_room(size_t room)
+{
+    guard(0, room + 2 * GUARD);
+    return lent + GUARD;
+}
+
+static void room_kept(struct olivastrum_written written, size_t room)
+{
+    must(written.number == 0 || written.length == 0, "not-blank");
+    must(written.length <= room, "too-long");
+    must(guarded(0, GUARD) && guarded(GUARD + written.length, room + 2 * GUARD), "touched");
+}
+
+struct olivastrum_written writing_request(const set_t *set, size_t room, const uint8_t **sheet)
+{
+    struct olivastrum_written written = write_request_sheet(*set, lend_room(room), room);
+    room_kept(written, room);
+    *sheet = lent + GUARD;
+    return written;
+}
+
+struct olivastrum_written writing_plan(const set_t *set, const alloc_t *alloc, size_t room, const uint8_t **sheet)
+{
+    struct olivastrum_written written = write_plan_sheet(*set, *alloc, lend_room(room), room);
+    room_kept(written, room);
+    *sheet = lent + GUARD;
+    return written;
+}
+
+/* ---- planning and opening */
+struct olivastrum_planned planning(const set_t *set)
+{
+    struct olivastrum_planned planned = plan_set(*set);
+    must(planned.number == 0 || all_zero(&planned.alloc, sizeof planned.alloc), "not-blank");
+    must(zero_past(set->n, planned.alloc.s), "past-n");
+    return planned;
+}
+
+struct olivastrum_opened opening(const set_t *set, const alloc_t *alloc)
+{
+    struct olivastrum_opened opened = open_ring(*set, *alloc);
+    const ring_t *ring = &opened.ring;
+    if (opened.number != 0) {
+        must(all_zero(ring, sizeof *ring), "not-blank");
+        return opened;
+    }
+    must(same(&ring->set, set, sizeof *set) && same(&ring->alloc, alloc, sizeof *alloc), "changed");
+    must(zero_past(set->n, ring->trt) && all_zero(ring->sent, sizeof ring->sent), "not-blank");
+    must(all_zero(ring->rest, sizeof ring->rest) && all_zero(ring->arrival, sizeof ring->arrival), "not-blank");
+    must(all_zero(ring->had, sizeof ring->had) && all_zero(ring->last, sizeof ring->last), "not-blank");
+    return opened;
+}
+
+/* ---- the lent ring */
+static struct {
+    uint8_t before[GUARD];
+    ring_t ring;
+    uint8_t behind[GUARD];
+} host;
+
+static ring_t *lend_ring(const ring_t *ring)
+{
+    memset(host.before, 0xa5, GUARD);
+    memset(host.behind, 0x5a, GUARD);
+    host.ring = *ring;
+    return &host.ring;
+}
+
+static int guard_of(const uint8_t *bytes, uint8_t byte)
+{
+    for (int i = 0; i < GUARD; i++)
+        if (bytes[i] != byte)
+            return 0;
+    return 1;
+}
+
+/* What no call on a ring may change. */
+static void ring_kept(const ring_t *was, const ring_t *is)
+{
+    uint32_t n = was->set.n;
+    must(guard_of(host.before, 0xa5) && guard_of(host.behind, 0x5a), "touched");
+    must(same(&is->set, &was->set, sizeof is->set) && same(&is->alloc, &was->alloc, sizeof is->alloc), "changed");
+    must(SAME_PAST(n, is->trt, was->trt) && SAME_PAST(n, is->sent, was->sent) && SAME_PAST(n, is->rest, was->rest), "past-n");
+    must(SAME_PAST(n, is->arrival, was->arrival) && SAME_PAST(n, is->had, was->had) && SAME_PAST(n, is->last, was->last), "past-n");
+}
+
+/* What a refused call may not change. */
+static void refused_kept(uint8_t number, const ring_t *was, const ring_t *is)
+{
+    must(number == 0 || same(is, was, sizeof *is), "changed");
+}
+
+static void record_blank(uint8_t number, const struct olivastrum_visit_record *record)
+{
+    must(number == 0 || all_zero(record, offsetof(struct olivastrum_visit_record, completed) + 1), "not-blank");
+    must(record->completed <= 1, "flag");
+    must(record->completed == 1 || (record->finish.ticks == 0 && record->margin == 0), "not-blank");
+}
+
+struct olivastrum_visit_answer visiting(ring_t *ring, uint64_t count, uint32_t ask)
+{
+    struct olivastrum_visit_answer answer;
+    ring_t before;
+    ring_t *lent_ring = lend_ring(ring);
+    do {
+        before = *lent_ring;
+        answer = visit_lent(lent_ring, ask);
+    } while (answer.number == 0 && --count > 0);
+    ring_kept(ring, lent_ring);
+    refused_kept(answer.number, &before, lent_ring);
+    record_blank(answer.number, &answer.record);
+    *ring = *lent_ring;
+    return answer;
+}
+
+uint8_t handing_in(ring_t *ring, struct olivastrum_message message)
+{
+    ring_t *lent_ring = lend_ring(ring);
+    uint8_t number = hand_in_lent(lent_ring, message);
+    ring_kept(ring, lent_ring);
+    refused_kept(number, ring, lent_ring);
+    *ring = *lent_ring;
+    return number;
+}

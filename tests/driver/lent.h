@@ -1,0 +1,36 @@
+/*
+ * The exported functions, each called with guard bytes round what is lent to it and with a look at what must not be: a
+ * byte changed that is not the call's to change, an answer of a refusal that is not blank, a place from N on that is not
+ * as it was. What was seen is kept for the answer's line.
+ */
+#ifndef LENT_H
+#define LENT_H
+#include "olivastrum.h"
+
+#define MOST OLIVASTRUM_MOST_STATIONS
+
+/* The most bytes of a sheet to read and of room to write into. */
+#define MOST_BYTES 65536
+
+typedef struct olivastrum_set set_t;
+typedef struct olivastrum_alloc alloc_t;
+typedef struct olivastrum_ring ring_t;
+
+/* What was seen since the last time this was asked, in a word; 0 if nothing was. */
+const char *seen(void);
+
+struct olivastrum_read_request reading_request(const uint8_t *sheet, size_t length);
+struct olivastrum_read_plan reading_plan(const uint8_t *sheet, size_t length);
+
+/* The sheet that was written stands at `*sheet` until the next call. */
+struct olivastrum_written writing_request(const set_t *set, size_t room, const uint8_t **sheet);
+struct olivastrum_written writing_plan(const set_t *set, const alloc_t *alloc, size_t room, const uint8_t **sheet);
+
+struct olivastrum_planned planning(const set_t *set);
+struct olivastrum_opened opening(const set_t *set, const alloc_t *alloc);
+
+/* The ring is lent from a copy between guard bytes, and handed back. Visits are made one after another, at most as many
+ * as counted (1 or more), until one is refused; the last one's answer. */
+struct olivastrum_visit_answer visiting(ring_t *ring, uint64_t count, uint32_t ask);
+uint8_t handing_in(ring_t *ring, struct olivastrum_message message);
+#endif
