@@ -15,7 +15,7 @@ use Rattle.sheets.specs.declared.ReadRequest.{ReadRequest}
 use Rattle.sheets.specs.declared.ReadPlan.{ReadPlan}
 use Rattle.text.specs.Text.{refusedLine}
 use Rattle.text.specs.TextLaws.{text-accepted, text-refused}
-use Rattle.shows.specs.ShowText.{sheetText, planReadText, requestReadText, planShown, showPrinted}
+use Rattle.outputs.specs.ShowText.{sheetText, planReadText, requestReadText, planShown, showPrinted}
 
 answer-few : (k : ℕ) (t : Set) (a : Alloc) → t .n ≤ 128 → readAnswer k t a .set .n ≤ 128
 unfolding readAnswer

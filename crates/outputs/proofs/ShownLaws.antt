@@ -22,13 +22,13 @@ use Rattle.sheets.specs.AgainLaws.{Ended, stop-is-end, allocations-hold}
 use Rattle.sheets.specs.FaultLaws.{all-passed}
 use Rattle.sheets.proofs.Promised.{promised}
 use Rattle.text.specs.Text.{newline}
-use Rattle.shows.specs.ShowText.{sheetText, showPrinted}
-use Rattle.shows.specs.ShowLaws.{shown-request, shown-plan, shown-as-plan}
+use Rattle.outputs.specs.ShowText.{sheetText, showPrinted}
+use Rattle.outputs.proofs.ShowLaws.{shown-request, shown-plan, shown-as-plan}
 use Rattle.drafts.specs.Compose.{onNextLine, composeStart, composeAfter, composedAnswer, composedBuffer, draftOf, Composes}
 use Rattle.drafts.specs.ComposeLaws.{compose-append, newline-more}
 use Rattle.drafts.specs.declared.Draft.{Draft}
 use Rattle.drafts.specs.declared.Composing.{Composing}
-use Rattle.shows.proofs.DraftLaws.{SmallAt, kindOf, shareOf, kindBehind, draftBehind, text-drafted}
+use Rattle.outputs.proofs.DraftLaws.{SmallAt, kindOf, shareOf, kindBehind, draftBehind, text-drafted}
 
 -- ---- a plan is no request: where a request would end, its first allocation stands
 
