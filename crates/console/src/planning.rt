@@ -3,8 +3,8 @@ ghost use Prim.Native.Nat.{_+_, _*_, _≤_};
 ghost use lib.ListN.{length};
 ghost use Rattle.units.specs.Places.{at as placeAt};
 ghost use Rattle.fields.specs.Rows.{rows};
-ghost use Rattle.text.specs.Text.{PutShort, refusedLine};
-ghost use Rattle.console.specs.PlanText.{planLine, shareLine, planLines};
+ghost use Rattle.text.specs.Text.{PutShort};
+ghost use Rattle.outputs.specs.PlanText.{planLine, shareLine, planLines};
 use plans::Alloc;
 use sets::Set;
 

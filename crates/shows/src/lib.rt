@@ -4,7 +4,7 @@ mod showing;
 ghost use Prim.Native.Nat.{_≤_};
 ghost use lib.ListN.{length};
 ghost use Rattle.text.specs.Text.{PutShort, Printed, pageSize};
-ghost use Rattle.shows.specs.ShowText.{planShown, showPrinted};
+ghost use Rattle.outputs.specs.ShowText.{planShown, showPrinted};
 use text::PAGE_SIZE;
 use units::numbers;
 

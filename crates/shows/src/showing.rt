@@ -1,10 +1,9 @@
 // What `show` prints: a request or plan sheet as text.
 ghost use Prim.Native.Nat.{_+_, _*_, _<_, _≤_};
 ghost use lib.ListN.{length};
-ghost use Rattle.units.specs.Places.{at as placeAt};
 ghost use Rattle.fields.specs.Rows.{rows};
 ghost use Rattle.text.specs.Text.{PutShort, lineOn};
-ghost use Rattle.shows.specs.ShowText.{ttrtLine, shareWords, stationLine, sheetText};
+ghost use Rattle.outputs.specs.ShowText.{ttrtLine, shareWords, stationLine, sheetText};
 use plans::Alloc;
 use sets::Set;
 

@@ -1,5 +1,5 @@
 -- `plan_sheet` is right because it keeps the number of reading, then that of planning, and else writes the plan.
-use Rattle.console.specs.PlanSheetLaws.{wrote-none, wrote-plan, planning-unread, planning-refused}
+use Rattle.outputs.proofs.PlanSheetLaws.{wrote-none, wrote-plan, planning-unread, planning-refused}
 use borrow.Author.Needs.{needs}
 use Rattle.console.proofs.plan_sheet.Statement.{statement}
 use Rattle.console.proofs.plan_sheet.Tie as tie

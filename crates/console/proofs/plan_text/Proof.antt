@@ -2,7 +2,7 @@
 use mathlib.Core.Path.{_∙_}
 use native.Mathlib.Omega.{arith}
 use Rattle.text.specs.TextLaws.{refused-short, printed, not-printed}
-use Rattle.console.specs.PlanTextLaws.{reading-refused, reading-accepted, plan-refused, plan-accepted, planned-few}
+use Rattle.outputs.proofs.PlanTextLaws.{reading-refused, reading-accepted, plan-refused, plan-accepted, planned-few}
 use borrow.Author.Needs.{needs}
 use Rattle.console.proofs.plan_text.Statement.{statement}
 use Rattle.console.proofs.plan_text.Tie as tie

@@ -1,6 +1,6 @@
 -- `show_plan` is right because it puts the refusal of reading, or the text of the plan.
 use native.Mathlib.Omega.{arith}
-use Rattle.shows.specs.ShowLaws.{plan-few, shown-plan-refused, shown-plan}
+use Rattle.outputs.proofs.ShowLaws.{plan-few, shown-plan-refused, shown-plan}
 use Rattle.text.specs.TextLaws.{refused-short, put-as}
 use borrow.Author.Needs.{needs}
 use Rattle.shows.proofs.show_plan.Statement.{statement}

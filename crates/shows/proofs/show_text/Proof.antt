@@ -3,8 +3,8 @@ use mathlib.Core.Path.{ap, _∙_}
 use mathlib.Core.Bool.{false}
 use native.Mathlib.Omega.{arith}
 use Rattle.plans.specs.declared.Alloc.{Alloc}
-use Rattle.shows.specs.ShowText.{sheetText}
-use Rattle.shows.specs.ShowLaws.{request-few, shown-as-plan, shown-request-refused, shown-request}
+use Rattle.outputs.specs.ShowText.{sheetText}
+use Rattle.outputs.proofs.ShowLaws.{request-few, shown-as-plan, shown-request-refused, shown-request}
 use Rattle.text.specs.TextLaws.{refused-short, printed, not-printed}
 use borrow.Author.Needs.{needs}
 use Rattle.shows.proofs.show_text.Statement.{statement}

@@ -1,9 +1,17 @@
 -- `put_number` is right because a number has at most 20 digits.
+use Prim.Native.Nat.{ℕ, _+_, _≤_}
+use mathlib.Core.List.{List}
 use native.Mathlib.Omega.{arith}
+use lib.ListN.{length}
+use Rattle.text.specs.Text.{Room, decimalOf}
 use Rattle.text.specs.TextLaws.{within-put, within-none, decimal-short}
 use borrow.Author.Needs.{needs}
 use Rattle.text.proofs.put_number.Statement.{statement}
 use Rattle.text.proofs.put_number.Tie as tie
+
+-- 20 bytes are room for any number
+room : (page : List ℕ) (a n : ℕ) → a + 20 ≤ length page → Room page a (decimalOf n)
+room page a n h = omega (arith, decimal-short 20 n)
 
 left-requires : tie.Need-left-requires
 left-requires c κs = search needs
@@ -12,7 +20,7 @@ returns : tie.Need-returns
 returns c = within-none (λ both. omega (arith, both .0))
 
 put-decimal-requires : tie.Need-put-decimal-requires
-put-decimal-requires c κs = omega (arith, decimal-short 20 (c .before .before .before .before .args .n))
+put-decimal-requires c κs = let start = c .before .before .before .before in room (start .args .page .now) (start .args .at) _ (omega arith)
 
 same-length : tie.Need-same-length
 same-length c = search needs

@@ -1,7 +1,7 @@
 -- `put_plan` is right because the stations' lines stand behind the first line.
 use mathlib.Core.Path.{refl}
 use native.Mathlib.Omega.{arith}
-use Rattle.console.specs.PlanText.{planLines}
+use Rattle.outputs.specs.PlanText.{planLines}
 use Rattle.text.specs.TextLaws.{put-short-then, put-as}
 use borrow.Author.Needs.{needs}
 use Rattle.console.proofs.planning.put_plan.Statement.{statement}

@@ -7,7 +7,7 @@ use Rattle.units.specs.Places.{at as placeAt}
 use Rattle.fields.specs.Rows.{rows}
 use Rattle.fields.specs.RowLaws.{rows-none, rows-step}
 use Rattle.text.specs.Text.{PutShort}
-use Rattle.console.specs.PlanText.{shareLine}
+use Rattle.outputs.specs.PlanText.{shareLine}
 use Rattle.text.specs.TextLaws.{put-none, put-short-then, put-as}
 use borrow.Author.Needs.{needs}
 use Rattle.console.proofs.planning.put_shares.Statement.{statement}

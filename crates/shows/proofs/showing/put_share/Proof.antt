@@ -1,7 +1,7 @@
 -- `put_share` is right because a plan's line has S before its end.
 use native.Mathlib.Omega.{arith}
 use Rattle.text.specs.Text.{lineOn}
-use Rattle.shows.specs.ShowText.{shareWords}
+use Rattle.outputs.specs.ShowText.{shareWords}
 use Rattle.text.specs.TextLaws.{field-short, end-then, put-as}
 use borrow.Author.Needs.{needs}
 use Rattle.shows.proofs.showing.put_share.Statement.{statement}

@@ -1,6 +1,6 @@
 -- `put_sheet` is right because the stations' lines stand behind the header's.
 use native.Mathlib.Omega.{arith}
-use Rattle.shows.specs.ShowText.{sheetText}
+use Rattle.outputs.specs.ShowText.{sheetText}
 use Rattle.text.specs.TextLaws.{put-short-then, put-as}
 use borrow.Author.Needs.{needs}
 use Rattle.shows.proofs.showing.put_sheet.Statement.{statement}

@@ -1,7 +1,7 @@
 -- `put_station` is right because its words are put one behind another.
 use mathlib.Core.Path.{sym}
 use native.Mathlib.Omega.{arith}
-use Rattle.shows.specs.ShowText.{stationLine}
+use Rattle.outputs.specs.ShowText.{stationLine}
 use Rattle.text.specs.TextLaws.{put-short-then, field-then, put-as, line-five}
 use borrow.Author.Needs.{needs}
 use Rattle.shows.proofs.showing.put_station.Statement.{statement}

@@ -6,7 +6,7 @@ use lib.ListN.{length}
 use Rattle.fields.specs.Rows.{rows}
 use Rattle.fields.specs.RowLaws.{rows-none, rows-step}
 use Rattle.text.specs.Text.{PutShort}
-use Rattle.shows.specs.ShowText.{stationLine}
+use Rattle.outputs.specs.ShowText.{stationLine}
 use Rattle.text.specs.TextLaws.{put-none, put-short-then, put-as}
 use borrow.Author.Needs.{needs}
 use Rattle.shows.proofs.showing.put_stations.Statement.{statement}

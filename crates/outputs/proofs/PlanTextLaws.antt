@@ -11,7 +11,7 @@ use Rattle.plans.specs.declared.Planned.{Planned}
 use Rattle.sheets.specs.declared.ReadRequest.{ReadRequest}
 use Rattle.text.specs.Text.{refusedLine}
 use Rattle.text.specs.TextLaws.{text-accepted, text-refused}
-use Rattle.console.specs.PlanText.{planLines, plannedText, requestText}
+use Rattle.outputs.specs.PlanText.{planLines, plannedText, requestText}
 
 -- a refused reading is printed as its number
 pub reading-refused : (r q : ReadRequest) → r ≡ q → r .number ≢ 0 → refusedLine (r .number) ≡ requestText q

@@ -1,15 +1,19 @@
--- What is promised of the program's functions beside the contracts; `proofs/Promised.antt` proves it.
+-- What is promised of what `plan`, `plan-sheet` and `show` put out; `proofs/Promised.antt` proves it.
 use Prim.Native.Nat.{ℕ, _+_, _-_}
 use mathlib.Core.Path.{_≡_}
+use mathlib.Core.Bool.{Bool}
 use mathlib.Core.List.{List, [], _∷_, _++_}
 use mathlib.Core.Logic.{_≢_}
 use lib.ListN.{length, drop}
 use Rattle.plans.specs.Planned.{planned}
+use Rattle.fields.specs.Bytes.{AllBytes}
 use Rattle.sheets.specs.Layout.{planSheet}
-use Rattle.sheets.specs.Reading.{readRequest}
+use Rattle.sheets.specs.Reading.{readSheet, readRequest}
 use Rattle.text.specs.Text.{refusedLine}
-use Rattle.console.specs.PlanText.{planLines, planPrinted}
-use Rattle.console.specs.PlanSheet.{planningNumber, planSheetAnswer, planSheetBuffer}
+use Rattle.drafts.specs.Compose.{Composes}
+use Rattle.outputs.specs.PlanText.{planLines, planPrinted}
+use Rattle.outputs.specs.PlanSheet.{planningNumber, planSheetAnswer, planSheetBuffer}
+use Rattle.outputs.specs.ShowText.{showPrinted}
 
 -- ★ the request sheet of the worked ring, and what 01 prints for it
 abbrev pub workedSheet : List ℕ
@@ -39,3 +43,5 @@ pub record Promised : Type 0 where
   pub same-refusal : (sheet out : List ℕ) → planningNumber (readRequest sheet) ≢ 0
       → (planPrinted sheet ≡ refusedLine (planningNumber (readRequest sheet)))
       × ((planSheetAnswer (readRequest sheet) out .number ≡ planningNumber (readRequest sheet)) × (planSheetBuffer (readRequest sheet) out ≡ out))
+  -- `show`, then `compose`, is the identity on accepted sheets: of the text that is shown of a request or a plan, its very bytes are made again
+  pub show-compose : (plan : Bool) (sheet : List ℕ) → AllBytes sheet → readSheet plan sheet .number ≡ 0 → Composes (showPrinted sheet) sheet

@@ -20,10 +20,11 @@ use Rattle.sheets.specs.ReadLaws.{then-none}
 use Rattle.sheets.specs.Writing.{writeAnswer, bufferAfter}
 use Rattle.sheets.specs.declared.Written.{Written}
 use Rattle.text.specs.Text.{decimalWithin, lineOn, line, textOr, refusedLine}
-use Rattle.console.specs.PlanText.{planLines, plannedText, requestText, planPrinted}
+use Rattle.outputs.specs.PlanText.{planLines, plannedText, requestText, planPrinted}
 use Rattle.text.specs.TextLaws.{text-accepted, text-refused}
-use Rattle.console.specs.PlanSheet.{planningNumber, answerOr, bufferOr}
-use Rattle.console.specs.Promised.{Promised, workedSheet, workedText}
+use Rattle.outputs.specs.PlanSheet.{planningNumber, answerOr, bufferOr}
+use Rattle.outputs.specs.Promised.{Promised, workedSheet, workedText}
+use Rattle.outputs.proofs.ShownLaws.{shown-composed}
 
 -- ---- the same plan
 
@@ -97,4 +98,5 @@ promised =
             rw (refused .0, write-zero _ _ (refused .1)),
           );
       same-refusal = λ sheet out k. (refused-text sheet k, (or-refused (planningNumber (readRequest sheet)) _ k, or-kept (planningNumber (readRequest sheet)) _ out k));
+      show-compose = shown-composed;
     }

@@ -15,13 +15,13 @@ use Rattle.sheets.specs.Promised.{firstPlaces, firstAllocations}
 use Rattle.sheets.specs.ReadLaws.{then-none, read-number, sheet-accepted, Kept, judged-kept}
 use Rattle.sheets.proofs.Promised.{promised}
 use Rattle.text.specs.Text.{newline}
-use Rattle.shows.specs.ShowText.{sheetText, showPrinted}
-use Rattle.shows.specs.ShowLaws.{shown-request, shown-plan, shown-as-plan}
+use Rattle.outputs.specs.ShowText.{sheetText, showPrinted}
+use Rattle.outputs.proofs.ShowLaws.{shown-request, shown-plan, shown-as-plan}
 use Rattle.drafts.specs.Compose.{onNextLine, composeStart, composeAfter, composedAnswer, composedBuffer, draftOf, Composes}
 use Rattle.drafts.specs.ComposeLaws.{compose-append, newline-more}
 use Rattle.drafts.specs.declared.Draft.{Draft}
 use Rattle.drafts.specs.declared.Composing.{Composing}
-use Rattle.shows.proofs.DraftLaws.{SmallAt, kindOf, shareOf, kindBehind, draftBehind, text-drafted}
+use Rattle.outputs.proofs.DraftLaws.{SmallAt, kindOf, shareOf, kindBehind, draftBehind, text-drafted}
 
 -- ---- the text that is shown of an accepted sheet
 

@@ -18,7 +18,7 @@ use Rattle.text.specs.Text.{newline}
 use Rattle.lines.specs.Scan.{freshScan, letterRead, characterRead, stepped, codeOf, nextLine}
 use Rattle.lines.specs.ScanLaws.{steppedOver, withNumbers, wordScan, typed, AllSmall, small-none, small-and, typed-read, line-typed, hasNoEnd, no-end-typed}
 use Rattle.drafts.specs.Compose.{ttrtWord, stationWord, blankDraft, withTtrt, withStation, lineDrafted, onNextLine, composeStart, composeAfter}
-use Rattle.shows.specs.ShowText.{ttrtLine, shareWords, stationLine, sheetText}
+use Rattle.outputs.specs.ShowText.{ttrtLine, shareWords, stationLine, sheetText}
 use Rattle.drafts.specs.ComposeLaws.{compose-append, compose-line, atRest}
 use Rattle.lines.specs.declared.Scan.{Scan}
 use Rattle.drafts.specs.declared.Draft.{Draft}

@@ -15,7 +15,7 @@ use Rattle.sheets.specs.declared.ReadRequest.{ReadRequest}
 use Rattle.sheets.specs.declared.ReadPlan.{ReadPlan}
 use Rattle.text.specs.Text.{refusedLine}
 use Rattle.text.specs.TextLaws.{text-accepted, text-refused}
-use Rattle.shows.specs.ShowText.{sheetText, planReadText, requestReadText, planShown, showPrinted}
+use Rattle.outputs.specs.ShowText.{sheetText, planReadText, requestReadText, planShown, showPrinted}
 
 pub request-few : (r : ReadRequest) (bs : List ℕ) → r ≡ readRequest bs → r .set .n ≤ 128
 request-few r bs e = rw e (read-few false bs)

@@ -14,14 +14,14 @@ use Rattle.sheets.specs.Writing.{refusedWriting, writtenAnswer, writtenBuffer, 
 use Rattle.sheets.specs.WriteLaws.{written-fits}
 use Rattle.sheets.specs.declared.ReadRequest.{ReadRequest}
 use Rattle.sheets.specs.declared.Written.{Written}
-use Rattle.console.specs.PlanSheet.{planningNumber, answerOr, bufferOr, WrotePlan}
+use Rattle.outputs.specs.PlanSheet.{planningNumber, answerOr, bufferOr, WrotePlan}
 
 -- a refused reading or planning
 pub wrote-none : (r : ReadRequest) (before : List ℕ) (k : ℕ) (w : Written) → w ≡ refusedWriting k → planningNumber r ≡ k → k ≢ 0 → WrotePlan r before before w
 unfolding answerOr bufferOr
 wrote-none r before zero w e n z = absurd (z refl)
 wrote-none r before (suc k) w e n z =
-    rw e (record { answer = rw n; buffer = rw n; fits = omega arith; counts = refl })
+    rw e (record { answer = rw n refl; buffer = rw n refl; fits = omega arith; counts = refl })
 
 -- an accepted one, and what writing then did
 pub wrote-plan : (r q : ReadRequest) (p : Planned) (before after : List ℕ) (w : Written) → r ≡ q → r .number ≡ 0 → p ≡ planned (r .set) → p .number ≡ 0 → Wrote true (r .set) (p .alloc) before after w → length after ≡ length before → WrotePlan q before after w

@@ -1,0 +1,10 @@
+-- The promises of this layer, proved, and the laws of its definitions, for the proofs here and above.
+--     PlanTextLaws, PlanSheetLaws, ShowLaws   what is put out where reading or planning refuses, and where they accept
+--     DraftLaws      the draft of the text that `show` prints
+--     ShownLaws      `show`, then `compose`, is the identity on accepted sheets
+pub mod PlanTextLaws
+pub mod PlanSheetLaws
+pub mod ShowLaws
+pub mod DraftLaws
+pub mod ShownLaws
+pub mod Promised
