@@ -1,4 +1,4 @@
--- `visit_lent` is the walk over `Ring::visit`: what a visit gives has the contract's three parts, the last since a refused visit gives the ring back.
+-- `olivastrum_visit` is the walk over `Ring::visit`: what a visit gives has the contract's three parts, the last since a refused visit gives the ring back.
 use Prim.Native.Nat.{ℕ, zero, suc}
 use mathlib.Core.Path.{_≡_, refl}
 use mathlib.Core.Logic.{_≢_}
@@ -20,10 +20,10 @@ use Rattle.rings.proofs.Ring.visit.Symbol as visit-def
 use Rattle.rings.proofs.Ring.visit.Met as visit-thm
 use Rattle.lent.specs.Lent.{VisitLent}
 use Rattle.lent.proofs.Walk.{PlainType, TwoFields, of-uint, of-struct, meets}
-use Rattle.lent.proofs.visit_lent as lent
-use Rattle.lent.proofs.visit_lent.Key as key
-use Rattle.lent.proofs.visit_lent.Statement as stated
-use Rattle.lent.proofs.visit_lent.Code as code
+use Rattle.lent.proofs.olivastrum_visit as lent
+use Rattle.lent.proofs.olivastrum_visit.Key as key
+use Rattle.lent.proofs.olivastrum_visit.Statement as stated
+use Rattle.lent.proofs.olivastrum_visit.Code as code
 
 -- a visit's answer, and the ring with the answer
 abbrev Answer : PlainType
@@ -49,9 +49,9 @@ same-ring (suc k) r ask n = refl
 holds : (r : Ring) (ask : ℕ) → VisitLent r ask (visited r ask .ring) (visited r ask .answer)
 holds r ask = record { ring = refl; answered = refl; refused = same-ring (visitNumber r) r ask }
 
-pub visit-lent-spec : {M : Type 1} → stated.statement M
+pub olivastrum-visit-spec : {M : Type 1} → stated.statement M
 unfolding code.routine tablesOf
-visit-lent-spec 𝓤 H 𝓜 𝓖 𝓡 =
+olivastrum-visit-spec 𝓤 H 𝓜 𝓖 𝓡 =
     entered 𝓤 H (tripleOf 𝓤 H (𝓖 .A) lent.signature (lent.spec 𝓤 H (𝓖 .A) (𝓜 .mem) (𝓡 .run)))
     (tables 𝓤 H 𝓜 𝓡 code.env .C) (tables 𝓤 H 𝓜 𝓡 code.env .Λ) key.name code.function (code.unfolded 𝓤 H 𝓜 𝓡)
     (meets ring.the-type ring′.the-laws ring′.the-plain (of-uint w32) Answer RingAndAnswer visited VisitLent holds

@@ -1,4 +1,4 @@
--- `hand_in_lent` is the walk over `Ring::hand_in`: what a handing in gives has the contract's three parts, the last since a refused one gives the ring back.
+-- `olivastrum_hand_in` is the walk over `Ring::hand_in`: what a handing in gives has the contract's three parts, the last since a refused one gives the ring back.
 use Prim.Native.Nat.{ℕ, zero, suc}
 use mathlib.Core.Path.{_≡_, refl}
 use mathlib.Core.Logic.{_≢_}
@@ -21,10 +21,10 @@ use Rattle.rings.proofs.Ring.hand_in.Symbol as hand-in-def
 use Rattle.rings.proofs.Ring.hand_in.Met as hand-in-thm
 use Rattle.lent.specs.Lent.{HandInLent}
 use Rattle.lent.proofs.Walk.{PlainType, TwoFields, of-uint, of-struct, meets}
-use Rattle.lent.proofs.hand_in_lent as lent
-use Rattle.lent.proofs.hand_in_lent.Key as key
-use Rattle.lent.proofs.hand_in_lent.Statement as stated
-use Rattle.lent.proofs.hand_in_lent.Code as code
+use Rattle.lent.proofs.olivastrum_hand_in as lent
+use Rattle.lent.proofs.olivastrum_hand_in.Key as key
+use Rattle.lent.proofs.olivastrum_hand_in.Statement as stated
+use Rattle.lent.proofs.olivastrum_hand_in.Code as code
 
 -- a message to hand in, and the ring with the number
 abbrev ToHandIn : PlainType
@@ -50,9 +50,9 @@ same-ring (suc k) r m n = refl
 holds : (r : Ring) (m : Message) → HandInLent r m (handedIn r m .ring) (handedIn r m .number)
 holds r m = record { ring = refl; answered = refl; refused = same-ring (handInNumber r m) r m }
 
-pub hand-in-lent-spec : {M : Type 1} → stated.statement M
+pub olivastrum-hand-in-spec : {M : Type 1} → stated.statement M
 unfolding code.routine tablesOf
-hand-in-lent-spec 𝓤 H 𝓜 𝓖 𝓡 =
+olivastrum-hand-in-spec 𝓤 H 𝓜 𝓖 𝓡 =
     entered 𝓤 H (tripleOf 𝓤 H (𝓖 .A) lent.signature (lent.spec 𝓤 H (𝓖 .A) (𝓜 .mem) (𝓡 .run)))
     (tables 𝓤 H 𝓜 𝓡 code.env .C) (tables 𝓤 H 𝓜 𝓡 code.env .Λ) key.name code.function (code.unfolded 𝓤 H 𝓜 𝓡)
     (meets ring.the-type ring′.the-laws ring′.the-plain ToHandIn (of-uint w8) RingAndNumber handedIn HandInLent holds
