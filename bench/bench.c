@@ -60,7 +60,7 @@ static uint32_t edge(void)
 
 static int same_reading(const uint8_t *sheet, size_t length)
 {
-    struct olivastrum_read_plan proved = read_plan_sheet(sheet, length), plain;
+    struct olivastrum_read_plan proved = olivastrum_read_plan_sheet(sheet, length), plain;
     plain_read_plan(sheet, length, &plain);
     SAME(proved.number == plain.number);
     SAME(memcmp(&proved.set, &plain.set, sizeof plain.set) == 0);
@@ -72,7 +72,7 @@ static int same_sheets(uint32_t n)
 {
     static uint8_t sheet[OLIVASTRUM_PLAN_BYTES(128) + 1];
     set_t set = stations(n);
-    size_t length = write_plan_sheet(set, plan_set(set).alloc, sheet, sizeof sheet).length;
+    size_t length = olivastrum_write_plan_sheet(set, olivastrum_plan_set(set).alloc, sheet, sizeof sheet).length;
     SAME(length == OLIVASTRUM_PLAN_BYTES(n));
     for (size_t cut = 0; cut <= length + 1; cut++)
         if (!same_reading(sheet, cut))
@@ -93,7 +93,7 @@ static int same_sheets(uint32_t n)
 /* Planning, writing and opening with whatever numbers stand there. */
 static int same_plan(set_t set, alloc_t alloc)
 {
-    struct olivastrum_planned planned = plan_set(set), plain_planned;
+    struct olivastrum_planned planned = olivastrum_plan_set(set), plain_planned;
     plain_plan(&set, &plain_planned);
     SAME(planned.number == plain_planned.number);
     SAME(memcmp(&planned.alloc, &plain_planned.alloc, sizeof planned.alloc) == 0);
@@ -102,12 +102,12 @@ static int same_plan(set_t set, alloc_t alloc)
     memset(proved_out, 85, sizeof proved_out);
     memset(plain_out, 85, sizeof plain_out);
     size_t room = random_number() % 2 ? sizeof proved_out : random_number() % sizeof proved_out;
-    struct olivastrum_written proved = write_plan_sheet(set, alloc, proved_out, room);
+    struct olivastrum_written proved = olivastrum_write_plan_sheet(set, alloc, proved_out, room);
     struct olivastrum_written plain = plain_write_plan(&set, &alloc, plain_out, room);
     SAME(proved.number == plain.number && proved.length == plain.length);
     SAME(memcmp(proved_out, plain_out, sizeof plain_out) == 0);
 
-    struct olivastrum_opened opened = open_ring(set, alloc), plain_opened;
+    struct olivastrum_opened opened = olivastrum_open_ring(set, alloc), plain_opened;
     plain_open(&set, &alloc, &plain_opened);
     SAME(opened.number == plain_opened.number);
     SAME(memcmp(&opened.ring, &plain_opened.ring, sizeof opened.ring) == 0);
@@ -117,7 +117,7 @@ static int same_plan(set_t set, alloc_t alloc)
 static int same_plans(uint32_t n)
 {
     set_t set = stations(n);
-    alloc_t alloc = plan_set(set).alloc;
+    alloc_t alloc = olivastrum_plan_set(set).alloc;
     if (!same_plan(set, alloc))
         return 0;
     for (int k = 0; k < 2000; k++) {
@@ -136,7 +136,7 @@ static int same_plans(uint32_t n)
         if (random_number() % 4 == 0)
             share.s[random_number() % n] = edge();
         if (random_number() % 2 == 0)
-            share = plan_set(other).alloc;
+            share = olivastrum_plan_set(other).alloc;
         if (!same_plan(other, share))
             return 0;
     }
@@ -145,7 +145,7 @@ static int same_plans(uint32_t n)
 
 static int same_visit(ring_t *proved, ring_t *plain, uint32_t ask)
 {
-    struct olivastrum_visit_answer answer = visit_lent(proved, ask), plain_answer;
+    struct olivastrum_visit_answer answer = olivastrum_visit(proved, ask), plain_answer;
     plain_visit(plain, ask, &plain_answer);
     SAME(answer.number == plain_answer.number && answer.record.completed == plain_answer.record.completed);
     SAME(memcmp(&answer.record, &plain_answer.record, offsetof(struct olivastrum_visit_record, completed)) == 0);
@@ -155,7 +155,7 @@ static int same_visit(ring_t *proved, ring_t *plain, uint32_t ask)
 
 static int same_hand_in(ring_t *proved, ring_t *plain, message_t message)
 {
-    SAME(hand_in_lent(proved, message) == plain_hand_in(plain, &message));
+    SAME(olivastrum_hand_in(proved, message) == plain_hand_in(plain, &message));
     SAME(memcmp(proved, plain, sizeof *plain) == 0);
     return 1;
 }
@@ -174,7 +174,7 @@ static message_t any_message(const ring_t *ring)
 static int same_runs(uint32_t n)
 {
     set_t set = stations(n);
-    ring_t proved = open_ring(set, plan_set(set).alloc).ring, plain = proved;
+    ring_t proved = olivastrum_open_ring(set, olivastrum_plan_set(set).alloc).ring, plain = proved;
     for (int k = 0; k < 5000; k++) {
         uint32_t ask = random_number() % 2 ? random_number() % 1000 : random_number();
         if (!same_hand_in(&proved, &plain, any_message(&proved)) || !same_visit(&proved, &plain, ask))
@@ -218,7 +218,7 @@ struct work {
 static void read_proved(struct work *w, unsigned long calls)
 {
     while (calls-- > 0) {
-        struct olivastrum_read_plan answer = read_plan_sheet(w->sheet, w->length);
+        struct olivastrum_read_plan answer = olivastrum_read_plan_sheet(w->sheet, w->length);
         w->refused += answer.number;
     }
 }
@@ -235,7 +235,7 @@ static void read_plain(struct work *w, unsigned long calls)
 static void write_proved(struct work *w, unsigned long calls)
 {
     while (calls-- > 0)
-        w->refused += write_plan_sheet(w->set, w->alloc, w->out, sizeof w->out).number;
+        w->refused += olivastrum_write_plan_sheet(w->set, w->alloc, w->out, sizeof w->out).number;
 }
 
 static void write_plain(struct work *w, unsigned long calls)
@@ -247,7 +247,7 @@ static void write_plain(struct work *w, unsigned long calls)
 static void plan_proved(struct work *w, unsigned long calls)
 {
     while (calls-- > 0) {
-        struct olivastrum_planned answer = plan_set(w->set);
+        struct olivastrum_planned answer = olivastrum_plan_set(w->set);
         w->refused += answer.number;
     }
 }
@@ -264,7 +264,7 @@ static void plan_plain(struct work *w, unsigned long calls)
 static void open_proved(struct work *w, unsigned long calls)
 {
     while (calls-- > 0) {
-        struct olivastrum_opened answer = open_ring(w->set, w->alloc);
+        struct olivastrum_opened answer = olivastrum_open_ring(w->set, w->alloc);
         w->refused += answer.number;
     }
 }
@@ -290,7 +290,7 @@ static void visit_proved(struct work *w, unsigned long calls)
 {
     while (calls-- > 0) {
         arrive(&w->ring);
-        struct olivastrum_visit_answer answer = visit_lent(&w->ring, 50);
+        struct olivastrum_visit_answer answer = olivastrum_visit(&w->ring, 50);
         w->refused += answer.number;
     }
 }
@@ -318,7 +318,7 @@ static void hand_in_proved(struct work *w, unsigned long calls)
 {
     while (calls-- > 0) {
         message_t message = next_message(&w->ring, calls);
-        w->refused += hand_in_lent(&w->ring, message);
+        w->refused += olivastrum_hand_in(&w->ring, message);
     }
 }
 
@@ -357,9 +357,9 @@ static struct work work;
 static void prepare(uint32_t n)
 {
     work.set = stations(n);
-    work.alloc = plan_set(work.set).alloc;
-    work.opened = open_ring(work.set, work.alloc).ring;
-    work.length = write_plan_sheet(work.set, work.alloc, work.sheet, sizeof work.sheet).length;
+    work.alloc = olivastrum_plan_set(work.set).alloc;
+    work.opened = olivastrum_open_ring(work.set, work.alloc).ring;
+    work.length = olivastrum_write_plan_sheet(work.set, work.alloc, work.sheet, sizeof work.sheet).length;
 }
 
 /* The processor time of one batch, in ns. */

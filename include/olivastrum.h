@@ -1,12 +1,13 @@
 /*
- * Olivastrum for a host in C: sheets, planning, and a ring that stands in the host's memory.
+ * Olivastrum for a host in C11 or C++17: sheets, planning, and a ring that stands in the host's memory.
  *
- *     sheet bytes --read_request_sheet--> set --plan_set--> allocation --write_plan_sheet--> sheet bytes
- *     set and allocation --open_ring--> ring --visit_lent, hand_in_lent--> the same ring, moved on
+ *     sheet bytes --olivastrum_read_request_sheet--> set --olivastrum_plan_set--> allocation
+ *     set and allocation --olivastrum_write_plan_sheet--> sheet bytes
+ *     set and allocation --olivastrum_open_ring--> ring --olivastrum_visit, olivastrum_hand_in--> the same ring, moved on
  *
  * Who owns what. The host owns all memory. A function looks at what it is handed while the call runs, keeps no
- * pointer, allocates nothing, prints nothing and has no state of its own. Calls that touch different memory may
- * run at the same time.
+ * pointer, takes nothing from the heap, prints nothing and has no state of its own. So every function is reentrant:
+ * calls that touch different memory may run at the same time, in threads and in signal handlers.
  *
  * What the host owes. A pointer is never null, not even beside a length of 0. It points at as many bytes as its
  * length says, or at a whole ring, aligned for uint64_t. While a call runs nothing else reads or writes what is
@@ -20,14 +21,30 @@
  * Padding. What a host lends or passes (olivastrum_set, olivastrum_alloc, olivastrum_message, olivastrum_ring)
  * has none, so two rings can be compared by their bytes. Answers end in a byte, and bytes after it say nothing.
  *
- * The archive to link is target/staticlib/liblent.a, which `rt staticlib lent` proves and writes for x86-64. It uses
+ * Stack. OLIVASTRUM_STACK_.. before each function says how many bytes of the caller's stack a call needs: what is
+ * passed by value, and all that the function does. It is measured (tests/host/vendor). The room for the answer is not
+ * in it: that is where the caller wants it. A thread needs this, what it needs itself, and, where the C library is bound
+ * lazily, what the loader needs at the first call of a function.
+ *
+ * Linking. `./archive DIR` proves the library and writes DIR/lib/libolivastrum.a, DIR/include/olivastrum.h and
+ * DIR/lib/pkgconfig/olivastrum.pc. The archive is for x86-64. Every name that it gives begins with olivastrum_; it uses
  * memcpy, memmove and memset of the C library, and nothing else.
  */
 #ifndef OLIVASTRUM_H
 #define OLIVASTRUM_H
 
+#if !defined(__x86_64__) || !defined(__LP64__) || !defined(__ELF__)
+#error "libolivastrum.a is for x86-64, with 64-bit pointers and ELF"
+#endif
+
 #include <stddef.h>
 #include <stdint.h>
+
+/* The version of the header and the library, as `./olivastrum version` prints it. */
+#define OLIVASTRUM_VERSION_MAJOR 0
+#define OLIVASTRUM_VERSION_MINOR 2
+#define OLIVASTRUM_VERSION_PATCH 0
+#define OLIVASTRUM_VERSION "0.2.0"
 
 #ifdef __cplusplus
 extern "C" {
@@ -151,30 +168,68 @@ struct olivastrum_visit_answer {
     uint8_t number;
 };
 
+/* ---- the library was compiled with these sizes */
+#ifdef __cplusplus
+#define OLIVASTRUM_SIZE(type, bytes) static_assert(sizeof(type) == (bytes), "the size of " #type)
+#else
+#define OLIVASTRUM_SIZE(type, bytes) _Static_assert(sizeof(type) == (bytes), "the size of " #type)
+#endif
+
+OLIVASTRUM_SIZE(void *, 8);
+OLIVASTRUM_SIZE(size_t, 8);
+OLIVASTRUM_SIZE(struct olivastrum_ticks, 8);
+OLIVASTRUM_SIZE(struct olivastrum_station, 8);
+OLIVASTRUM_SIZE(struct olivastrum_set, 2056);
+OLIVASTRUM_SIZE(struct olivastrum_alloc, 512);
+OLIVASTRUM_SIZE(struct olivastrum_ring, 6304);
+OLIVASTRUM_SIZE(struct olivastrum_message, 24);
+OLIVASTRUM_SIZE(struct olivastrum_visit_record, 72);
+OLIVASTRUM_SIZE(struct olivastrum_read_request, 2060);
+OLIVASTRUM_SIZE(struct olivastrum_read_plan, 2572);
+OLIVASTRUM_SIZE(struct olivastrum_written, 16);
+OLIVASTRUM_SIZE(struct olivastrum_planned, 516);
+OLIVASTRUM_SIZE(struct olivastrum_opened, 6312);
+OLIVASTRUM_SIZE(struct olivastrum_visit_answer, 80);
+
+#undef OLIVASTRUM_SIZE
+
+/* ---- the functions */
+
 /* Reads a request sheet: the set, or 1 to 5 with the blank set. */
-struct olivastrum_read_request read_request_sheet(const uint8_t *sheet, size_t length);
+#define OLIVASTRUM_STACK_READ_REQUEST_SHEET 12800
+struct olivastrum_read_request olivastrum_read_request_sheet(const uint8_t *sheet, size_t length);
 
 /* Reads a plan sheet: the set and its allocation, or 1 to 5 or 7 with both blank. */
-struct olivastrum_read_plan read_plan_sheet(const uint8_t *sheet, size_t length);
+#define OLIVASTRUM_STACK_READ_PLAN_SHEET 13312
+struct olivastrum_read_plan olivastrum_read_plan_sheet(const uint8_t *sheet, size_t length);
 
 /* Writes a request sheet into the first bytes of out and leaves the rest: the sheet's length, or 2, 4, 5 or 14. */
-struct olivastrum_written write_request_sheet(struct olivastrum_set set, uint8_t *out, size_t length);
+#define OLIVASTRUM_STACK_WRITE_REQUEST_SHEET 7680
+struct olivastrum_written olivastrum_write_request_sheet(struct olivastrum_set set, uint8_t *out, size_t length);
 
 /* Writes a plan sheet into the first bytes of out and leaves the rest: the sheet's length, or 2, 4, 5, 7 or 14. */
-struct olivastrum_written write_plan_sheet(struct olivastrum_set set, struct olivastrum_alloc alloc, uint8_t *out, size_t length);
+#define OLIVASTRUM_STACK_WRITE_PLAN_SHEET 10240
+struct olivastrum_written olivastrum_write_plan_sheet(struct olivastrum_set set, struct olivastrum_alloc alloc, uint8_t *out, size_t length);
 
 /* Plans a set: the smallest S at each station, or 2, 4, 5 or 6. 6 is given exactly if no allocation exists. */
-struct olivastrum_planned plan_set(struct olivastrum_set set);
+#define OLIVASTRUM_STACK_PLAN_SET 4864
+struct olivastrum_planned olivastrum_plan_set(struct olivastrum_set set);
 
 /* Opens a ring: clock 0, the token at station 0, nothing held; or 2, 4, 5 or 7 with the blank ring. */
-struct olivastrum_opened open_ring(struct olivastrum_set set, struct olivastrum_alloc alloc);
+#define OLIVASTRUM_STACK_OPEN_RING 8704
+struct olivastrum_opened olivastrum_open_ring(struct olivastrum_set set, struct olivastrum_alloc alloc);
 
 /* A visit at the station that has the token, any number of asynchronous ticks asked for. The ring is changed where
  * it stands; 8 or 13 leave it as it was. */
-struct olivastrum_visit_answer visit_lent(struct olivastrum_ring *ring, uint32_t ask);
+#define OLIVASTRUM_STACK_VISIT 20992
+struct olivastrum_visit_answer olivastrum_visit(struct olivastrum_ring *ring, uint32_t ask);
 
 /* Hands in a message. The ring is changed where it stands; 8 to 12 leave it as it was. Returns the number. */
-uint8_t hand_in_lent(struct olivastrum_ring *ring, struct olivastrum_message message);
+#define OLIVASTRUM_STACK_HAND_IN 22528
+uint8_t olivastrum_hand_in(struct olivastrum_ring *ring, struct olivastrum_message message);
+
+/* The most that a call of any of them needs. */
+#define OLIVASTRUM_STACK_MOST 22528
 
 #ifdef __cplusplus
 }

@@ -7,14 +7,14 @@
 #include <stdlib.h>
 #include <string.h>
 
-struct olivastrum_read_request __real_read_request_sheet(const uint8_t *sheet, size_t length);
-struct olivastrum_read_plan __real_read_plan_sheet(const uint8_t *sheet, size_t length);
-struct olivastrum_written __real_write_request_sheet(set_t set, uint8_t *out, size_t length);
-struct olivastrum_written __real_write_plan_sheet(set_t set, alloc_t alloc, uint8_t *out, size_t length);
-struct olivastrum_planned __real_plan_set(set_t set);
-struct olivastrum_opened __real_open_ring(set_t set, alloc_t alloc);
-struct olivastrum_visit_answer __real_visit_lent(ring_t *ring, uint32_t ask);
-uint8_t __real_hand_in_lent(ring_t *ring, struct olivastrum_message message);
+struct olivastrum_read_request __real_olivastrum_read_request_sheet(const uint8_t *sheet, size_t length);
+struct olivastrum_read_plan __real_olivastrum_read_plan_sheet(const uint8_t *sheet, size_t length);
+struct olivastrum_written __real_olivastrum_write_request_sheet(set_t set, uint8_t *out, size_t length);
+struct olivastrum_written __real_olivastrum_write_plan_sheet(set_t set, alloc_t alloc, uint8_t *out, size_t length);
+struct olivastrum_planned __real_olivastrum_plan_set(set_t set);
+struct olivastrum_opened __real_olivastrum_open_ring(set_t set, alloc_t alloc);
+struct olivastrum_visit_answer __real_olivastrum_visit(ring_t *ring, uint32_t ask);
+uint8_t __real_olivastrum_hand_in(ring_t *ring, struct olivastrum_message message);
 
 static int faulty(const char *function)
 {
@@ -40,10 +40,10 @@ static void touch_sheet(const uint8_t *sheet, size_t length, unsigned which)
     touch(which == 0 ? sheet - 1 : which == 1 && length > 0 ? sheet : sheet + length);
 }
 
-struct olivastrum_read_request __wrap_read_request_sheet(const uint8_t *sheet, size_t length)
+struct olivastrum_read_request __wrap_olivastrum_read_request_sheet(const uint8_t *sheet, size_t length)
 {
-    struct olivastrum_read_request read = __real_read_request_sheet(sheet, length);
-    if (!faulty("read_request_sheet"))
+    struct olivastrum_read_request read = __real_olivastrum_read_request_sheet(sheet, length);
+    if (!faulty("olivastrum_read_request_sheet"))
         return read;
     unsigned which = turn(4);
     if (which == 3 && read.set.n < MOST)
@@ -53,10 +53,10 @@ struct olivastrum_read_request __wrap_read_request_sheet(const uint8_t *sheet, s
     return read;
 }
 
-struct olivastrum_read_plan __wrap_read_plan_sheet(const uint8_t *sheet, size_t length)
+struct olivastrum_read_plan __wrap_olivastrum_read_plan_sheet(const uint8_t *sheet, size_t length)
 {
-    struct olivastrum_read_plan read = __real_read_plan_sheet(sheet, length);
-    if (!faulty("read_plan_sheet"))
+    struct olivastrum_read_plan read = __real_olivastrum_read_plan_sheet(sheet, length);
+    if (!faulty("olivastrum_read_plan_sheet"))
         return read;
     unsigned which = turn(4);
     if (which == 3 && read.set.n < MOST)
@@ -73,38 +73,38 @@ static void touch_room(const uint8_t *out, size_t length, size_t room)
     touch(which == 0 ? out - 1 : which == 1 ? out + length : out + room);
 }
 
-struct olivastrum_written __wrap_write_request_sheet(set_t set, uint8_t *out, size_t length)
+struct olivastrum_written __wrap_olivastrum_write_request_sheet(set_t set, uint8_t *out, size_t length)
 {
-    struct olivastrum_written written = __real_write_request_sheet(set, out, length);
-    if (!faulty("write_request_sheet"))
+    struct olivastrum_written written = __real_olivastrum_write_request_sheet(set, out, length);
+    if (!faulty("olivastrum_write_request_sheet"))
         return written;
     touch_room(out, written.length, length);
     return written;
 }
 
-struct olivastrum_written __wrap_write_plan_sheet(set_t set, alloc_t alloc, uint8_t *out, size_t length)
+struct olivastrum_written __wrap_olivastrum_write_plan_sheet(set_t set, alloc_t alloc, uint8_t *out, size_t length)
 {
-    struct olivastrum_written written = __real_write_plan_sheet(set, alloc, out, length);
-    if (!faulty("write_plan_sheet"))
+    struct olivastrum_written written = __real_olivastrum_write_plan_sheet(set, alloc, out, length);
+    if (!faulty("olivastrum_write_plan_sheet"))
         return written;
     touch_room(out, written.length, length);
     return written;
 }
 
 /* Where all 128 places are used, the last S shows. */
-struct olivastrum_planned __wrap_plan_set(set_t set)
+struct olivastrum_planned __wrap_olivastrum_plan_set(set_t set)
 {
-    struct olivastrum_planned planned = __real_plan_set(set);
-    if (!faulty("plan_set"))
+    struct olivastrum_planned planned = __real_olivastrum_plan_set(set);
+    if (!faulty("olivastrum_plan_set"))
         return planned;
     planned.alloc.s[MOST - 1] ^= 1;
     return planned;
 }
 
-struct olivastrum_opened __wrap_open_ring(set_t set, alloc_t alloc)
+struct olivastrum_opened __wrap_olivastrum_open_ring(set_t set, alloc_t alloc)
 {
-    struct olivastrum_opened opened = __real_open_ring(set, alloc);
-    if (!faulty("open_ring"))
+    struct olivastrum_opened opened = __real_olivastrum_open_ring(set, alloc);
+    if (!faulty("olivastrum_open_ring"))
         return opened;
     unsigned which = turn(3);
     if (which == 0)
@@ -123,10 +123,10 @@ static void touch_ring(ring_t *ring)
     touch(which == 0 ? (uint8_t *)ring - 1 : which == 1 ? (uint8_t *)(ring + 1) : (uint8_t *)&ring->set.p[MOST - 1]);
 }
 
-struct olivastrum_visit_answer __wrap_visit_lent(ring_t *ring, uint32_t ask)
+struct olivastrum_visit_answer __wrap_olivastrum_visit(ring_t *ring, uint32_t ask)
 {
-    struct olivastrum_visit_answer answer = __real_visit_lent(ring, ask);
-    if (!faulty("visit_lent"))
+    struct olivastrum_visit_answer answer = __real_olivastrum_visit(ring, ask);
+    if (!faulty("olivastrum_visit"))
         return answer;
     if (answer.number != 0 && turn(2) == 0)
         answer.record.margin = -1;
@@ -135,10 +135,10 @@ struct olivastrum_visit_answer __wrap_visit_lent(ring_t *ring, uint32_t ask)
     return answer;
 }
 
-uint8_t __wrap_hand_in_lent(ring_t *ring, struct olivastrum_message message)
+uint8_t __wrap_olivastrum_hand_in(ring_t *ring, struct olivastrum_message message)
 {
-    uint8_t number = __real_hand_in_lent(ring, message);
-    if (!faulty("hand_in_lent"))
+    uint8_t number = __real_olivastrum_hand_in(ring, message);
+    if (!faulty("olivastrum_hand_in"))
         return number;
     if (number != 0 && turn(2) == 0)
         ring->visits++;

@@ -88,7 +88,7 @@ static void read_set(uint8_t number, const set_t *set)
 
 struct olivastrum_read_request reading_request(const uint8_t *sheet, size_t length)
 {
-    struct olivastrum_read_request read = read_request_sheet(lend_sheet(sheet, length), length);
+    struct olivastrum_read_request read = olivastrum_read_request_sheet(lend_sheet(sheet, length), length);
     sheet_unchanged(sheet, length);
     read_set(read.number, &read.set);
     return read;
@@ -96,7 +96,7 @@ struct olivastrum_read_request reading_request(const uint8_t *sheet, size_t leng
 
 struct olivastrum_read_plan reading_plan(const uint8_t *sheet, size_t length)
 {
-    struct olivastrum_read_plan read = read_plan_sheet(lend_sheet(sheet, length), length);
+    struct olivastrum_read_plan read = olivastrum_read_plan_sheet(lend_sheet(sheet, length), length);
     sheet_unchanged(sheet, length);
     read_set(read.number, &read.set);
     must(read.number == 0 || all_zero(&read.alloc, sizeof read.alloc), "not-blank");
@@ -120,7 +120,7 @@ static void room_kept(struct olivastrum_written written, size_t room)
 
 struct olivastrum_written writing_request(const set_t *set, size_t room, const uint8_t **sheet)
 {
-    struct olivastrum_written written = write_request_sheet(*set, lend_room(room), room);
+    struct olivastrum_written written = olivastrum_write_request_sheet(*set, lend_room(room), room);
     room_kept(written, room);
     *sheet = lent + GUARD;
     return written;
@@ -128,7 +128,7 @@ struct olivastrum_written writing_request(const set_t *set, size_t room, const u
 
 struct olivastrum_written writing_plan(const set_t *set, const alloc_t *alloc, size_t room, const uint8_t **sheet)
 {
-    struct olivastrum_written written = write_plan_sheet(*set, *alloc, lend_room(room), room);
+    struct olivastrum_written written = olivastrum_write_plan_sheet(*set, *alloc, lend_room(room), room);
     room_kept(written, room);
     *sheet = lent + GUARD;
     return written;
@@ -137,7 +137,7 @@ struct olivastrum_written writing_plan(const set_t *set, const alloc_t *alloc, s
 /* ---- planning and opening */
 struct olivastrum_planned planning(const set_t *set)
 {
-    struct olivastrum_planned planned = plan_set(*set);
+    struct olivastrum_planned planned = olivastrum_plan_set(*set);
     must(planned.number == 0 || all_zero(&planned.alloc, sizeof planned.alloc), "not-blank");
     must(zero_past(set->n, planned.alloc.s), "past-n");
     return planned;
@@ -145,7 +145,7 @@ struct olivastrum_planned planning(const set_t *set)
 
 struct olivastrum_opened opening(const set_t *set, const alloc_t *alloc)
 {
-    struct olivastrum_opened opened = open_ring(*set, *alloc);
+    struct olivastrum_opened opened = olivastrum_open_ring(*set, *alloc);
     const ring_t *ring = &opened.ring;
     if (opened.number != 0) {
         must(all_zero(ring, sizeof *ring), "not-blank");
@@ -211,7 +211,7 @@ struct olivastrum_visit_answer visiting(ring_t *ring, uint64_t count, uint32_t a
     ring_t *lent_ring = lend_ring(ring);
     do {
         before = *lent_ring;
-        answer = visit_lent(lent_ring, ask);
+        answer = olivastrum_visit(lent_ring, ask);
     } while (answer.number == 0 && --count > 0);
     ring_kept(ring, lent_ring);
     refused_kept(answer.number, &before, lent_ring);
@@ -223,7 +223,7 @@ struct olivastrum_visit_answer visiting(ring_t *ring, uint64_t count, uint32_t a
 uint8_t handing_in(ring_t *ring, struct olivastrum_message message)
 {
     ring_t *lent_ring = lend_ring(ring);
-    uint8_t number = hand_in_lent(lent_ring, message);
+    uint8_t number = olivastrum_hand_in(lent_ring, message);
     ring_kept(ring, lent_ring);
     refused_kept(number, ring, lent_ring);
     *ring = *lent_ring;

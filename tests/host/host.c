@@ -122,7 +122,7 @@ static int places(void)
         at = put_number(put(at, 3, 4), 50 + i);
     put(at, 255, 0);
 
-    struct olivastrum_read_plan read = read_plan_sheet(plan, sizeof plan);
+    struct olivastrum_read_plan read = olivastrum_read_plan_sheet(plan, sizeof plan);
     CHECK(read.number == 0);
     CHECK(read.set.ttrt == first && read.set.n == count);
     for (uint32_t i = 0; i < count; i++) {
@@ -153,28 +153,28 @@ static int planning(struct olivastrum_set *set, struct olivastrum_alloc *alloc)
     put(at, 255, 0);
 
     /* reading: the set, and each refusal of a sheet with the blank set */
-    struct olivastrum_read_request read = read_request_sheet(request, OLIVASTRUM_REQUEST_BYTES(STATIONS));
+    struct olivastrum_read_request read = olivastrum_read_request_sheet(request, OLIVASTRUM_REQUEST_BYTES(STATIONS));
     CHECK(read.number == 0);
     CHECK(is_the_set(&read.set));
     for (size_t n = 0; n < OLIVASTRUM_REQUEST_BYTES(STATIONS); n++) {
-        struct olivastrum_read_request cut = read_request_sheet(request, n);
+        struct olivastrum_read_request cut = olivastrum_read_request_sheet(request, n);
         CHECK(cut.number == OLIVASTRUM_SHEET_ENDS);
         CHECK(all_zero(&cut.set, sizeof cut.set));
     }
     request[OLIVASTRUM_REQUEST_BYTES(STATIONS)] = 7;
-    CHECK(read_request_sheet(request, OLIVASTRUM_REQUEST_BYTES(STATIONS) + 1).number == OLIVASTRUM_SHEET_GOES_ON);
+    CHECK(olivastrum_read_request_sheet(request, OLIVASTRUM_REQUEST_BYTES(STATIONS) + 1).number == OLIVASTRUM_SHEET_GOES_ON);
     request[0] = 2;
-    CHECK(read_request_sheet(request, OLIVASTRUM_REQUEST_BYTES(STATIONS)).number == OLIVASTRUM_SHEET_WRONG);
+    CHECK(olivastrum_read_request_sheet(request, OLIVASTRUM_REQUEST_BYTES(STATIONS)).number == OLIVASTRUM_SHEET_WRONG);
     request[0] = 1;
 
     /* planning: S is 20 at each station */
-    struct olivastrum_planned planned = plan_set(read.set);
+    struct olivastrum_planned planned = olivastrum_plan_set(read.set);
     CHECK(planned.number == 0);
     for (int i = 0; i < OLIVASTRUM_MOST_STATIONS; i++)
         CHECK(planned.alloc.s[i] == (i < STATIONS ? 20u : 0));
     struct olivastrum_set crowded = read.set;
     crowded.c[3] = 100;
-    struct olivastrum_planned refused = plan_set(crowded);
+    struct olivastrum_planned refused = olivastrum_plan_set(crowded);
     CHECK(refused.number == OLIVASTRUM_NO_ALLOCATION);
     CHECK(all_zero(&refused.alloc, sizeof refused.alloc));
 
@@ -182,29 +182,29 @@ static int planning(struct olivastrum_set *set, struct olivastrum_alloc *alloc)
     uint8_t out[200], before[200];
     memset(out, 0xa5, sizeof out);
     memset(before, 0xa5, sizeof before);
-    struct olivastrum_written written = write_plan_sheet(read.set, planned.alloc, out, sizeof out);
+    struct olivastrum_written written = olivastrum_write_plan_sheet(read.set, planned.alloc, out, sizeof out);
     CHECK(written.number == 0 && written.length == sizeof plan);
     CHECK(memcmp(out, plan, sizeof plan) == 0);
     CHECK(memcmp(out + sizeof plan, before, sizeof out - sizeof plan) == 0);
-    struct olivastrum_read_plan again = read_plan_sheet(out, sizeof plan);
+    struct olivastrum_read_plan again = olivastrum_read_plan_sheet(out, sizeof plan);
     CHECK(again.number == 0);
     CHECK(memcmp(&again.set, &read.set, sizeof read.set) == 0);
     CHECK(memcmp(&again.alloc, &planned.alloc, sizeof planned.alloc) == 0);
     memset(out, 0xa5, sizeof out);
-    written = write_request_sheet(read.set, out, sizeof out);
+    written = olivastrum_write_request_sheet(read.set, out, sizeof out);
     CHECK(written.number == 0 && written.length == OLIVASTRUM_REQUEST_BYTES(STATIONS));
     CHECK(memcmp(out, request, OLIVASTRUM_REQUEST_BYTES(STATIONS)) == 0);
     CHECK(memcmp(out + written.length, before, sizeof out - written.length) == 0);
 
     /* refused writing: no byte of the buffer changes */
     memset(out, 0xa5, sizeof out);
-    written = write_plan_sheet(read.set, planned.alloc, out, sizeof plan - 1);
+    written = olivastrum_write_plan_sheet(read.set, planned.alloc, out, sizeof plan - 1);
     CHECK(written.number == OLIVASTRUM_BUFFER_TOO_SHORT && written.length == 0);
-    written = write_request_sheet(read.set, out, OLIVASTRUM_REQUEST_BYTES(STATIONS) - 1);
+    written = olivastrum_write_request_sheet(read.set, out, OLIVASTRUM_REQUEST_BYTES(STATIONS) - 1);
     CHECK(written.number == OLIVASTRUM_BUFFER_TOO_SHORT && written.length == 0);
     struct olivastrum_alloc greedy = planned.alloc;
     greedy.s[0] = 99;
-    written = write_plan_sheet(read.set, greedy, out, sizeof out);
+    written = olivastrum_write_plan_sheet(read.set, greedy, out, sizeof out);
     CHECK(written.number == OLIVASTRUM_RULE_BROKEN && written.length == 0);
     CHECK(memcmp(out, before, sizeof out) == 0);
 
@@ -224,7 +224,7 @@ static struct olivastrum_message message(uint64_t station, uint64_t length, uint
 static int hand_in_refused(ring_t *ring, uint64_t station, uint64_t length, uint64_t arrival, uint8_t number)
 {
     ring_t before = *ring;
-    CHECK(hand_in_lent(ring, message(station, length, arrival)) == number);
+    CHECK(olivastrum_hand_in(ring, message(station, length, arrival)) == number);
     CHECK(memcmp(ring, &before, sizeof before) == 0);
     return 1;
 }
@@ -233,7 +233,7 @@ static int hand_in_refused(ring_t *ring, uint64_t station, uint64_t length, uint
 static int visit_refused(ring_t *ring, uint8_t number)
 {
     ring_t before = *ring;
-    struct olivastrum_visit_answer answer = visit_lent(ring, 1000);
+    struct olivastrum_visit_answer answer = olivastrum_visit(ring, 1000);
     CHECK(answer.number == number);
     CHECK(all_zero(&answer.record, offsetof(struct olivastrum_visit_record, completed) + 1));
     CHECK(memcmp(ring, &before, sizeof before) == 0);
@@ -245,10 +245,10 @@ static int opening(ring_t *ring, struct olivastrum_set set, struct olivastrum_al
 {
     struct olivastrum_alloc greedy = alloc;
     greedy.s[0] = 99;
-    struct olivastrum_opened refused = open_ring(set, greedy);
+    struct olivastrum_opened refused = olivastrum_open_ring(set, greedy);
     CHECK(refused.number == OLIVASTRUM_RULE_BROKEN);
     CHECK(all_zero(&refused.ring, sizeof refused.ring));
-    struct olivastrum_opened opened = open_ring(set, alloc);
+    struct olivastrum_opened opened = olivastrum_open_ring(set, alloc);
     CHECK(opened.number == 0);
     *ring = opened.ring;
     CHECK(memcmp(&ring->set, &set, sizeof set) == 0);
@@ -263,7 +263,7 @@ static int opening(ring_t *ring, struct olivastrum_set set, struct olivastrum_al
 /* A visit that asks for less than its limit, on a ring of its own. */
 static int asked_less(ring_t ring)
 {
-    struct olivastrum_visit_answer answer = visit_lent(&ring, 5);
+    struct olivastrum_visit_answer answer = olivastrum_visit(&ring, 5);
     struct olivastrum_visit_record *r = &answer.record;
     CHECK(answer.number == 0 && r->completed == 0 && r->finish.ticks == 0 && r->margin == 0);
     CHECK(r->station.number == 0 && r->start.ticks == 0 && r->trt.ticks == 2);
@@ -289,7 +289,7 @@ static int worked_run(ring_t *ring)
         CHECK(hand_in_refused(ring, i, 0, 0, OLIVASTRUM_BAD_LENGTH));
         CHECK(hand_in_refused(ring, i, 21, 0, OLIVASTRUM_BAD_LENGTH));
         ring_t before = *ring;
-        CHECK(hand_in_lent(ring, message(i, 20, 0)) == 0);
+        CHECK(olivastrum_hand_in(ring, message(i, 20, 0)) == 0);
         before.rest[i] = 20;
         before.had[i] = 1;
         CHECK(memcmp(ring, &before, sizeof before) == 0);
@@ -299,7 +299,7 @@ static int worked_run(ring_t *ring)
     CHECK(hand_in_refused(ring, UINT64_MAX, 20, 0, OLIVASTRUM_NO_SUCH_STATION));
     for (size_t k = 0; k < sizeof rows / sizeof rows[0]; k++) {
         const int64_t *row = rows[k];
-        struct olivastrum_visit_answer answer = visit_lent(ring, 1000);
+        struct olivastrum_visit_answer answer = olivastrum_visit(ring, 1000);
         struct olivastrum_visit_record *r = &answer.record;
         CHECK(answer.number == 0 && r->completed == 1);
         CHECK((int64_t)r->station.number == row[0] && (int64_t)r->start.ticks == row[1] && (int64_t)r->trt.ticks == row[2]);
@@ -311,7 +311,7 @@ static int worked_run(ring_t *ring)
         if (k < STATIONS) {
             CHECK(hand_in_refused(ring, (uint64_t)row[0], 20, 99, OLIVASTRUM_BAD_ARRIVAL));
             CHECK(hand_in_refused(ring, (uint64_t)row[0], 20, 1000000000001u, OLIVASTRUM_BAD_ARRIVAL));
-            CHECK(hand_in_lent(ring, message((uint64_t)row[0], 20, 100)) == 0);
+            CHECK(olivastrum_hand_in(ring, message((uint64_t)row[0], 20, 100)) == 0);
             CHECK(ring->arrival[row[0]] == 100 && ring->last[row[0]] == (uint64_t)row[1]);
         }
     }
@@ -370,7 +370,7 @@ static int any_bytes(const ring_t *sound)
     /* a byte that is neither 0 nor 1 in `had` is a yes, and places past N are never looked at */
     ring = *sound, ring.had[2] = 0x80, ring.trt[STATIONS] = 0xffffffffu, ring.set.w[127] = 0xffffffffu;
     ring_t other = *sound;
-    struct olivastrum_visit_answer a = visit_lent(&ring, 5), b = visit_lent(&other, 5);
+    struct olivastrum_visit_answer a = olivastrum_visit(&ring, 5), b = olivastrum_visit(&other, 5);
     CHECK(a.number == 0 && b.number == 0);
     CHECK(memcmp(&a.record, &b.record, offsetof(struct olivastrum_visit_record, completed) + 1) == 0);
     CHECK(ring.had[2] == 0x80 && ring.trt[STATIONS] == 0xffffffffu && ring.set.w[127] == 0xffffffffu);

@@ -15,7 +15,7 @@ pub const COMPOSE: u8 = 4;
 pub const SHOW: u8 = 5;
 
 // Two words are the same.
-fn same_bytes(v: &[u8], w: &[u8]) -> bool
+pub fn same_bytes(v: &[u8], w: &[u8]) -> bool
     ensures { λ r. ⌜ r ≡ sameBytes (now (v .entry)) (now (w .entry)) ⌝ }
 {
     if v.len() != w.len() {

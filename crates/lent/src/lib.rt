@@ -19,7 +19,7 @@ use sheets::Written;
 
 // Reads a request sheet from the lent bytes.
 #[no_mangle]
-pub extern "C" fn read_request_sheet(sheet: &[u8]) -> ReadRequest
+pub extern "C" fn olivastrum_read_request_sheet(sheet: &[u8]) -> ReadRequest
     ensures { λ r. ⌜ r ≡ readRequest (now (sheet .entry)) ⌝ }
 {
     sheets::read_request(sheet)
@@ -27,7 +27,7 @@ pub extern "C" fn read_request_sheet(sheet: &[u8]) -> ReadRequest
 
 // Reads a plan sheet from the lent bytes.
 #[no_mangle]
-pub extern "C" fn read_plan_sheet(sheet: &[u8]) -> ReadPlan
+pub extern "C" fn olivastrum_read_plan_sheet(sheet: &[u8]) -> ReadPlan
     ensures { λ r. ⌜ r ≡ readPlan (now (sheet .entry)) ⌝ }
 {
     sheets::read_plan(sheet)
@@ -35,7 +35,7 @@ pub extern "C" fn read_plan_sheet(sheet: &[u8]) -> ReadPlan
 
 // Writes a request sheet into the first bytes of the lent buffer.
 #[no_mangle]
-pub extern "C" fn write_request_sheet(set: Set, out: &mut [u8]) -> Written
+pub extern "C" fn olivastrum_write_request_sheet(set: Set, out: &mut [u8]) -> Written
     ensures { λ r. ⌜ Wrote false set blankAlloc (now (out .entry)) (now (out .exit)) r ⌝ }
 {
     sheets::write_request(set, out)
@@ -43,7 +43,7 @@ pub extern "C" fn write_request_sheet(set: Set, out: &mut [u8]) -> Written
 
 // Writes a plan sheet into the first bytes of the lent buffer.
 #[no_mangle]
-pub extern "C" fn write_plan_sheet(set: Set, alloc: Alloc, out: &mut [u8]) -> Written
+pub extern "C" fn olivastrum_write_plan_sheet(set: Set, alloc: Alloc, out: &mut [u8]) -> Written
     ensures { λ r. ⌜ Wrote true set alloc (now (out .entry)) (now (out .exit)) r ⌝ }
 {
     sheets::write_plan(set, alloc, out)
@@ -51,7 +51,7 @@ pub extern "C" fn write_plan_sheet(set: Set, alloc: Alloc, out: &mut [u8]) -> Wr
 
 // Plans a set: the smallest allocation, or a refusal.
 #[no_mangle]
-pub extern "C" fn plan_set(set: Set) -> Planned
+pub extern "C" fn olivastrum_plan_set(set: Set) -> Planned
     ensures { λ r. ⌜ r ≡ planned set ⌝ }
 {
     plans::plan(set)
@@ -59,7 +59,7 @@ pub extern "C" fn plan_set(set: Set) -> Planned
 
 // Opens a ring on a set and an allocation.
 #[no_mangle]
-pub extern "C" fn open_ring(set: Set, alloc: Alloc) -> Opened
+pub extern "C" fn olivastrum_open_ring(set: Set, alloc: Alloc) -> Opened
     ensures { λ r. ⌜ r ≡ opening set alloc ⌝ }
 {
     rings::open(set, alloc)
@@ -67,7 +67,7 @@ pub extern "C" fn open_ring(set: Set, alloc: Alloc) -> Opened
 
 // A visit at the station that has the token of the lent ring, with this many asynchronous ticks asked for.
 #[no_mangle]
-pub extern "C" fn visit_lent(ring: &mut Ring, ask: u32) -> VisitAnswer
+pub extern "C" fn olivastrum_visit(ring: &mut Ring, ask: u32) -> VisitAnswer
     ensures { λ answer. ⌜ VisitLent (now (ring .entry)) ask (now (ring .exit)) answer ⌝ }
 {
     let visited = Ring::visit(*ring, ask);
@@ -77,7 +77,7 @@ pub extern "C" fn visit_lent(ring: &mut Ring, ask: u32) -> VisitAnswer
 
 // Handing in a message at the lent ring.
 #[no_mangle]
-pub extern "C" fn hand_in_lent(ring: &mut Ring, message: Message) -> u8
+pub extern "C" fn olivastrum_hand_in(ring: &mut Ring, message: Message) -> u8
     ensures { λ number. ⌜ HandInLent (now (ring .entry)) message (now (ring .exit)) number ⌝ }
 {
     let taken = Ring::hand_in(*ring, message);

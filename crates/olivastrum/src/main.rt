@@ -1,84 +1,133 @@
-// The program: it reads, hands the bytes to the crates below, and writes what comes back.
+// The program: it reads, hands the bytes to the crates below, writes what comes back, and says how it ended.
 mod composing;
+mod ending;
+mod help;
+mod reading;
 mod running;
-mod usage;
 
-use console::commands;
+use ending::Ending;
 use libc::STDERR_FILENO;
 use libc::STDIN_FILENO;
 use libc::STDOUT_FILENO;
+use usage::words;
+
+// Where the status goes, if the first word asks for it.
+const STATUS_FILENO: i32 = 3;
 
 // `plan`: the plan of the request sheet on standard input, or the refusal. A sheet of 128 stations has 2,442 bytes; one more tells that a byte follows it.
-fn plan() {
+fn plan() -> Ending {
     let mut sheet: [u8; 2_443] = [0; 2_443];
-    let read = io::read_full(STDIN_FILENO, &mut sheet);
+    let filled = reading::fill(STDIN_FILENO, &mut sheet);
+    if filled.failed {
+        return ending::unread_input();
+    }
+    let read = filled.length;
     let mut page = io::large_buffer();
     let length = console::plan_text(&sheet[..read], &mut page);
-    io::write_all(STDOUT_FILENO, &page[..length]);
-}
-
-// A refusal, as text.
-fn refuse(where_to: i32, number: u8) {
-    let mut page = io::large_buffer();
-    let length = console::refusal_text(number, &mut page);
-    io::write_all(where_to, &page[..length]);
+    let refused = usage::is_refusal(&page[..length]);
+    ending::answer(&page[..length], refused)
 }
 
 // `plan-sheet`: the plan sheet of the request sheet on standard input; refused, no byte is written.
-fn plan_sheet() {
+fn plan_sheet() -> Ending {
     let mut sheet: [u8; 2_443] = [0; 2_443];
-    let read = io::read_full(STDIN_FILENO, &mut sheet);
+    let filled = reading::fill(STDIN_FILENO, &mut sheet);
+    if filled.failed {
+        return ending::unread_input();
+    }
+    let read = filled.length;
     let mut out = io::large_buffer();
     let written = console::plan_sheet(&sheet[..read], &mut out);
     let length = written.length;
     let number = written.number;
     if number != 0 {
-        refuse(STDERR_FILENO, number);
-    } else {
-        io::write_all(STDOUT_FILENO, &out[..length]);
+        return ending::refuse_sheet(number);
     }
+    ending::answer(&out[..length], false)
 }
 
 // `show`: the text of the sheet on standard input, or the refusal. A plan sheet of 128 stations has 3,338 bytes.
-fn show() {
+fn show() -> Ending {
     let mut sheet: [u8; 3_339] = [0; 3_339];
-    let read = io::read_full(STDIN_FILENO, &mut sheet);
+    let filled = reading::fill(STDIN_FILENO, &mut sheet);
+    if filled.failed {
+        return ending::unread_input();
+    }
+    let read = filled.length;
     let mut page = io::large_buffer();
     let length = shows::show_text(&sheet[..read], &mut page);
-    io::write_all(STDOUT_FILENO, &page[..length]);
+    let refused = usage::is_refusal(&page[..length]);
+    ending::answer(&page[..length], refused)
 }
 
-// How many words a command takes, the program's name and its own among them.
-fn words_of(command: u8) -> usize {
-    if command == commands::RUN {
-        return 3;
-    }
-    2
+// `version`: the version, here and nowhere else in the sources.
+fn version() -> Ending {
+    ending::answer(b"0.2.0\n", false)
 }
 
-// The command that the arguments ask for: with none, `plan`; with a word too many or too few, `help`.
-fn command() -> u8 {
-    let given = os::arg_count();
-    if given < 2 {
-        return commands::PLAN;
+// `help`.
+fn print_help() -> Ending {
+    if !help::print(STDOUT_FILENO) {
+        return ending::unwritten_output();
     }
+    ending::done(false)
+}
+
+// No command was asked for.
+fn none() -> Ending {
+    help::print(STDERR_FILENO);
+    ending::failed()
+}
+
+// Whether the first word asks for the status.
+fn status_asked() -> bool {
     let mut word = io::buffer();
     let length = os::arg(1, &mut word);
-    let named = commands::command_of(&word[..length]);
-    if given != words_of(named) {
-        return commands::HELP;
-    }
-    named
+    words::asks_for_status(&word[..length])
 }
 
-fn main() {
-    let asked = command();
+// The command that the words from this one on ask for.
+fn command(first: usize) -> u8 {
+    let count = os::arg_count();
+    if count <= first {
+        return words::asked_for(b"", 0);
+    }
+    let mut word = io::buffer();
+    let length = os::arg(first, &mut word);
+    words::asked_for(&word[..length], count - first)
+}
+
+// Does what the words from this one on ask for; the second is behind it.
+fn obey(first: usize, second: usize) -> Ending {
+    let asked = command(first);
     match asked {
         1 => plan(),
         2 => plan_sheet(),
-        3 => running::run(),
+        3 => running::run(second),
         4 => composing::compose(),
         5 => show(),
-        _ => usage::print(),
+        6 => print_help(),
+        7 => version(),
+        _ => none(),
     }
+}
+
+// Tells the status, one digit.
+fn tell(status: u8) {
+    match status {
+        0 => io::write_all(STATUS_FILENO, b"0"),
+        1 => io::write_all(STATUS_FILENO, b"1"),
+        _ => io::write_all(STATUS_FILENO, b"2"),
+    }
+    ;
+}
+
+fn main() {
+    if !status_asked() {
+        obey(1, 2);
+        return;
+    }
+    let ended = obey(2, 3);
+    let status = usage::status_of(ended.failed, ended.refused);
+    tell(status);
 }

@@ -1,101 +1,142 @@
 // `run PLAN`: the calls on standard input, answered line by line.
+use crate::ending;
+use crate::ending::Ending;
+use crate::reading;
 use calls::Run;
 use libc::STDERR_FILENO;
 use libc::STDIN_FILENO;
-use libc::STDOUT_FILENO;
 
-// The run behind one reading, and whether the input goes on.
+// The run behind one reading: whether the input goes on, whether a line could not be read, and whether reading or writing failed.
 struct Heard {
     run: Run,
     more: bool,
+    unread: bool,
+    failed: bool,
 }
 
 // Answers the lines that end in these bytes.
-fn hear(run: Run, text: &[u8]) -> Run {
+fn hear(run: Run, text: &[u8]) -> Heard {
     let mut page = io::large_buffer();
     let ran = calls::run_on(run, text, &mut page);
     let length = ran.length;
-    io::write_all(STDOUT_FILENO, &page[..length]);
-    ran.run
+    let unread = usage::names_a_line(&page[..length]);
+    let wrote = ending::say(&page[..length]);
+    let behind = ran.run;
+    Heard {
+        run: behind,
+        more: wrote,
+        unread,
+        failed: !wrote,
+    }
+}
+
+// The input has ended, or cannot be read.
+fn stopped(run: Run, failed: bool) -> Heard {
+    Heard {
+        run,
+        more: false,
+        unread: false,
+        failed,
+    }
 }
 
 // Reads once, and answers what came.
 fn turn(run: Run) -> Heard {
     let mut text: [u8; 256] = [0; 256];
     let got = libc::read(STDIN_FILENO, &mut text);
+    if got < 0 {
+        ending::unread_input();
+        return stopped(run, true);
+    }
     let length = io::count(got, &text);
     if length == 0 {
-        return Heard { run, more: false };
+        return stopped(run, false);
     }
-    let heard = hear(run, &text[..length]);
-    Heard {
-        run: heard,
-        more: true,
-    }
+    hear(run, &text[..length])
 }
 
 // All the input. A proved loop has to end, and nothing says that the input does: so the turns are counted down, from a number that no run uses up.
-fn hear_all(run: Run) -> Run {
+fn hear_all(run: Run) -> Heard {
     let mut stands = run;
+    let mut unread = false;
     let mut turns = u64::MAX;
     while turns > 0 {
         let heard = turn(stands);
         let behind = heard.run;
         stands = behind;
+        unread = unread | heard.unread;
         if !heard.more {
-            return stands;
+            return Heard {
+                run: stands,
+                more: false,
+                unread,
+                failed: heard.failed,
+            };
         }
         turns -= 1;
     }
-    stands
+    stopped(stands, true)
 }
 
 // Opens the ring of a plan sheet, and answers the calls.
-fn start(sheet: &[u8]) {
+fn start(sheet: &[u8]) -> Ending {
     let opened = calls::open_run(sheet);
     let number = opened.number;
     if number != 0 {
-        crate::refuse(STDOUT_FILENO, number);
-        return;
+        return ending::refuse(number);
     }
     let run = opened.run;
-    let behind = hear_all(run);
+    let heard = hear_all(run);
+    if heard.failed {
+        return ending::failed();
+    }
     // A last line may lack its newline.
-    hear(behind, b"\n");
+    let behind = heard.run;
+    let last = hear(behind, b"\n");
+    Ending {
+        failed: heard.unread | (last.unread | last.failed),
+        refused: false,
+    }
 }
 
 // Names the path, and what the system says of it.
-fn fail(path: &[u8]) {
+fn fail(path: &[u8]) -> Ending {
     io::write_all(STDERR_FILENO, b"run: ");
     os::fail(path);
+    ending::failed()
 }
 
 // Reads the plan sheet in an open file: one of 128 stations has 3,338 bytes; one more tells that a byte follows it.
-fn read_plan(file: i32, path: &[u8]) {
+fn read_plan(file: i32, path: &[u8]) -> Ending {
     let mut sheet: [u8; 3_339] = [0; 3_339];
-    let read = io::read_full(file, &mut sheet);
-    // Where the file has ended, a further read gives 0; where it cannot be read, as a folder, it fails again.
-    let mut further: [u8; 1] = [0; 1];
-    let got = libc::read(file, &mut further);
-    if got < 0 {
-        fail(path);
-        return;
+    let filled = reading::fill(file, &mut sheet);
+    if filled.failed {
+        return fail(path);
     }
-    start(&sheet[..read]);
+    let length = filled.length;
+    start(&sheet[..length])
 }
 
-pub(crate) fn run() {
+// Runs the plan whose path is the word at this place.
+pub(crate) fn run(word: usize) -> Ending {
     let mut path = io::buffer();
-    let length = os::arg(2, &mut path);
+    let length = os::arg(word, &mut path);
     if os::errno() != 0 {
-        fail(b"the path of the plan");
-        return;
+        return fail(b"the path of the plan");
     }
     let file = os::open_read(&path[..length]);
     if file < 0 {
-        fail(&path[..length]);
-        return;
+        return fail(&path[..length]);
     }
-    read_plan(file, &path[..length]);
+    // A plan that is opened as one of the three would be read as the calls, or written over.
+    if file <= STDERR_FILENO {
+        io::write_all(
+            STDERR_FILENO,
+            b"run: standard input, output or error is closed\n",
+        );
+        return ending::failed();
+    }
+    let ended = read_plan(file, &path[..length]);
     libc::close(file);
+    ended
 }

@@ -2,6 +2,9 @@
 #ifndef HOST_STDIO_H
 #define HOST_STDIO_H
 #include <stddef.h>
+#ifdef __cplusplus
+extern "C" {
+#endif
 typedef struct _IO_FILE FILE;
 extern FILE *stdin, *stdout, *stderr;
 int printf(const char *format, ...);
@@ -10,4 +13,7 @@ int puts(const char *line);
 long getline(char **line, size_t *room, FILE *file);
 size_t fwrite(const void *bytes, size_t size, size_t count, FILE *file);
 int fflush(FILE *file);
+#ifdef __cplusplus
+}
+#endif
 #endif

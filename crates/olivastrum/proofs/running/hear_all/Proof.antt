@@ -4,10 +4,10 @@ use Rattle.olivastrum.proofs.running.hear_all.Statement.{statement}
 use Rattle.olivastrum.proofs.running.hear_all.Tie as tie
 
 abbrev Inv-loop : tie.InvT-loop
-Inv-loop stands₀ turns₀ stands turns = Unit {0}
+Inv-loop stands₀ unread₀ turns₀ stands unread turns = Unit {0}
 
 abbrev μ-loop : tie.MeasureT-loop
-μ-loop stands₀ turns₀ stands turns = turns
+μ-loop stands₀ unread₀ turns₀ stands unread turns = turns
 
 loop-holds : tie.Need-loop-holds Inv-loop μ-loop
 loop-holds c = tt
@@ -27,6 +27,9 @@ loop-less c = search needs
 loop-again : tie.Need-loop-again Inv-loop μ-loop
 loop-again c = tt
 
+stopped-requires : tie.Need-stopped-requires Inv-loop μ-loop
+stopped-requires c κs = search needs
+
 returns-2 : tie.Need-returns-2 Inv-loop μ-loop
 returns-2 c = search needs
 
@@ -42,4 +45,5 @@ hear-all-spec =
     sub-turns
     loop-less
     loop-again
+    stopped-requires
     returns-2)

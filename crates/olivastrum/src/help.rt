@@ -1,0 +1,97 @@
+// What `help` prints, on standard output; and on standard error where no command was asked for.
+
+// Writes more of it, if all before could be written.
+fn more(before: bool, to: i32, text: &[u8]) -> bool {
+    if !before {
+        return false;
+    }
+    io::write_all(to, text)
+}
+
+fn commands(to: i32) -> bool {
+    let name = more(
+        true,
+        to,
+        b"olivastrum: plans timely-token rings, and runs them one visit at a time\n\n",
+    );
+    let plan = more(
+        name,
+        to,
+        b"  olivastrum plan < REQUEST         print the plan of a request sheet, or `refused` and a number\n",
+    );
+    let plan_sheet = more(
+        plan,
+        to,
+        b"  olivastrum plan-sheet < REQUEST   write the plan sheet of a request sheet\n",
+    );
+    let compose = more(
+        plan_sheet,
+        to,
+        b"  olivastrum compose < TEXT         write the request or plan sheet of a text\n",
+    );
+    let show = more(
+        compose,
+        to,
+        b"  olivastrum show < SHEET           print a request or plan sheet as text\n",
+    );
+    let run = more(
+        show,
+        to,
+        b"  olivastrum run PLAN < CALLS       open the ring of the plan sheet in the file PLAN, and answer each call\n",
+    );
+    let version = more(
+        run,
+        to,
+        b"  olivastrum version                print the version\n",
+    );
+    more(
+        version,
+        to,
+        b"  olivastrum help                   print this\n\n",
+    )
+}
+
+fn examples(before: bool, to: i32) -> bool {
+    let none = more(
+        before,
+        to,
+        b"With no command it is `plan`. For example:\n\n",
+    );
+    let plan = more(
+        none,
+        to,
+        b"  olivastrum plan < examples/four-stations.request\n",
+    );
+    let plan_sheet = more(
+        plan,
+        to,
+        b"  olivastrum plan-sheet < examples/four-stations.request > four.plan\n",
+    );
+    let compose = more(
+        plan_sheet,
+        to,
+        b"  olivastrum compose < examples/four-stations.txt > four.request\n",
+    );
+    let show = more(compose, to, b"  olivastrum show < four.plan\n");
+    more(
+        show,
+        to,
+        b"  olivastrum run four.plan < examples/worked-run.calls\n\n",
+    )
+}
+
+// All of it; false where it could not be written.
+pub(crate) fn print(to: i32) -> bool {
+    let first = commands(to);
+    let second = examples(first, to);
+    let calls = more(
+        second,
+        to,
+        b"The calls are lines `visit ASK` and `message STATION LENGTH ARRIVAL`.\n",
+    );
+    more(
+        calls,
+        to,
+        b"README.md says what the numbers of the refusals and the exit statuses mean.\n",
+    )
+}

@@ -1,0 +1,30 @@
+// Reading until a buffer is full.
+ghost use Rattle.io.specs.Counts.{Counts};
+
+// How many bytes came, and whether a read failed.
+pub(crate) struct Filled {
+    pub(crate) length: usize,
+    pub(crate) failed: bool,
+}
+
+// Reads until the buffer is full, the input ends or a read fails.
+pub(crate) fn fill(from: i32, buffer: &mut [u8]) -> Filled
+    ensures { λ r. ⌜ Counts (r .length) (now (buffer .exit)) ⌝ }
+{
+    let mut length: usize = 0;
+    while length < buffer.len() {
+        let got = libc::read(from, &mut buffer[length..]);
+        let came = io::count(got, &buffer[length..]);
+        if came == 0 {
+            return Filled {
+                length,
+                failed: got < 0,
+            };
+        }
+        length += came;
+    }
+    Filled {
+        length,
+        failed: false,
+    }
+}

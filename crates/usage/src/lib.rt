@@ -1,0 +1,51 @@
+// How the program is used: the words that it takes, and the status that it ends with.
+pub mod words;
+
+ghost use mathlib.Core.Path.{_≡_};
+ghost use Rattle.usage.specs.Endings.{statusOf, isRefusal, hasColon};
+
+// What was asked for was done.
+pub const DONE: u8 = 0;
+
+// It was refused, and a number was said.
+pub const REFUSED: u8 = 1;
+
+// No command was asked for, or something could not be read or written.
+pub const FAILED: u8 = 2;
+
+// The status that the program ends with.
+pub fn status_of(failed: bool, refused: bool) -> u8
+    ensures { λ r. ⌜ r ≡ statusOf failed refused ⌝ }
+{
+    if failed {
+        return FAILED;
+    }
+    if refused {
+        return REFUSED;
+    }
+    DONE
+}
+
+// What `plan` or `show` printed is a refusal.
+pub fn is_refusal(text: &[u8]) -> bool
+    ensures { λ r. ⌜ r ≡ isRefusal (now (text .entry)) ⌝ }
+{
+    if text.len() == 0 {
+        return false;
+    }
+    text[0] == b'r'
+}
+
+// One of the answers of `run` names a line that cannot be read.
+pub fn names_a_line(text: &[u8]) -> bool
+    ensures { λ r. ⌜ r ≡ hasColon (now (text .entry)) ⌝ }
+{
+    let mut found = false;
+    let mut i: usize = 0;
+    while i < text.len() {
+        let one = text[i] == b':';
+        found = found | one;
+        i += 1;
+    }
+    found
+}

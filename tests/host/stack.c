@@ -1,0 +1,188 @@
+/*
+ * How much stack each function of the library needs. Each call is made on a stack that is painted before it; how far
+ * down the paint is gone is what it needed. It must be at most what the header says, and not much less. Every function
+ * is called with what it accepts and with what it refuses, at 1 and at 128 stations. Prints a line for each function.
+ */
+#include <olivastrum.h>
+#include <stdio.h>
+#include <string.h>
+
+#define ROOM (256 * 1024)
+
+/* What the header says may be this much more than what is measured. */
+#define SLACK 1024
+
+static uint8_t stack[ROOM] __attribute__((aligned(4096)));
+
+/* Where a call puts its answer: the caller's own room, beside the stack. */
+static uint8_t answer[sizeof(struct olivastrum_opened)] __attribute__((aligned(16)));
+
+static struct olivastrum_set set;
+static struct olivastrum_alloc alloc;
+static struct olivastrum_ring ring;
+static struct olivastrum_message message;
+static uint8_t sheet[OLIVASTRUM_PLAN_BYTES(128) + 1];
+static size_t length;
+
+/* ---- the calls: what is passed by value is copied to the stack, and the answer goes where `answer` is */
+static struct olivastrum_read_request read_request(void)
+{
+    return olivastrum_read_request_sheet(sheet, length);
+}
+
+static struct olivastrum_read_plan read_plan(void)
+{
+    return olivastrum_read_plan_sheet(sheet, length);
+}
+
+static struct olivastrum_written write_request(void)
+{
+    return olivastrum_write_request_sheet(set, sheet, length);
+}
+
+static struct olivastrum_written write_plan(void)
+{
+    return olivastrum_write_plan_sheet(set, alloc, sheet, length);
+}
+
+static struct olivastrum_planned plan(void)
+{
+    return olivastrum_plan_set(set);
+}
+
+static struct olivastrum_opened open_it(void)
+{
+    return olivastrum_open_ring(set, alloc);
+}
+
+static struct olivastrum_visit_answer visit(void)
+{
+    return olivastrum_visit(&ring, 1000);
+}
+
+static uint8_t hand_in(void)
+{
+    return olivastrum_hand_in(&ring, message);
+}
+
+typedef void call(void);
+
+static struct function {
+    const char *name;
+    call *made;
+    size_t said, measured;
+} functions[] = {
+    {"olivastrum_read_request_sheet", (call *)read_request, OLIVASTRUM_STACK_READ_REQUEST_SHEET, 0},
+    {"olivastrum_read_plan_sheet", (call *)read_plan, OLIVASTRUM_STACK_READ_PLAN_SHEET, 0},
+    {"olivastrum_write_request_sheet", (call *)write_request, OLIVASTRUM_STACK_WRITE_REQUEST_SHEET, 0},
+    {"olivastrum_write_plan_sheet", (call *)write_plan, OLIVASTRUM_STACK_WRITE_PLAN_SHEET, 0},
+    {"olivastrum_plan_set", (call *)plan, OLIVASTRUM_STACK_PLAN_SET, 0},
+    {"olivastrum_open_ring", (call *)open_it, OLIVASTRUM_STACK_OPEN_RING, 0},
+    {"olivastrum_visit", (call *)visit, OLIVASTRUM_STACK_VISIT, 0},
+    {"olivastrum_hand_in", (call *)hand_in, OLIVASTRUM_STACK_HAND_IN, 0},
+};
+
+#define FUNCTIONS (sizeof functions / sizeof *functions)
+
+/* ---- a call on the painted stack */
+static size_t needed(call *made, uint8_t paint)
+{
+    memset(stack, paint, sizeof stack);
+    void *where = answer;
+    __asm__ volatile("movq %%rsp, %%rbx\n\t"
+                     "movq %[top], %%rsp\n\t"
+                     "callq *%[made]\n\t"
+                     "movq %%rbx, %%rsp"
+                     : "+D"(where)
+                     : [top] "r"(stack + sizeof stack), [made] "r"(made)
+                     : "rax", "rbx", "rcx", "rdx", "rsi", "r8", "r9", "r10", "r11", "xmm0", "xmm1", "xmm2", "xmm3", "xmm4", "xmm5", "xmm6",
+                       "xmm7", "xmm8", "xmm9", "xmm10", "xmm11", "xmm12", "xmm13", "xmm14", "xmm15", "cc", "memory");
+    size_t untouched = 0;
+    while (untouched < sizeof stack && stack[untouched] == paint)
+        untouched++;
+    return sizeof stack - untouched;
+}
+
+/* Two paints, since a call may store a byte that is the paint. */
+static void measure(struct function *f)
+{
+    struct olivastrum_ring before = ring;
+    for (int k = 0; k < 2; k++) {
+        size_t need = needed(f->made, k == 0 ? 0xa5 : 0x5a);
+        if (need > f->measured)
+            f->measured = need;
+        ring = before;
+    }
+}
+
+static void measure_all(void)
+{
+    for (size_t k = 0; k < FUNCTIONS; k++)
+        measure(&functions[k]);
+}
+
+/* ---- what the calls are made with */
+static struct olivastrum_set stations(uint32_t n)
+{
+    struct olivastrum_set made = {.ttrt = 100000, .n = n};
+    for (uint32_t i = 0; i < n && i < 128; i++) {
+        made.w[i] = 1;
+        made.c[i] = 300;
+        made.d[i] = made.p[i] = 200000;
+    }
+    return made;
+}
+
+/* A plan sheet or a request sheet; both writers and both readers get both. */
+static void with_sheets(void)
+{
+    length = olivastrum_write_plan_sheet(set, alloc, sheet, sizeof sheet).length;
+    measure_all();
+    length = olivastrum_write_request_sheet(set, sheet, sizeof sheet).length;
+    measure_all();
+    length -= 1;
+    measure_all();
+    length = 0;
+    measure_all();
+    length = sizeof sheet;
+    measure_all();
+}
+
+static void with_stations(uint32_t n)
+{
+    set = stations(n);
+    alloc = olivastrum_plan_set(set).alloc;
+    ring = olivastrum_open_ring(set, alloc).ring;
+    message = (struct olivastrum_message){{0}, {300}, {0}};
+    with_sheets();
+    olivastrum_hand_in(&ring, message);
+    with_sheets();
+    message.station.number = 200;
+    set.c[0] = 100000000; /* no plan */
+    alloc.s[0] = 99;      /* a rule broken */
+    ring.clock = 1000000000001;
+    with_sheets();
+    ring.token = 200;
+    set.n = 200;
+    with_sheets();
+}
+
+int main(void)
+{
+    int wrong = 0;
+    size_t most = 0;
+    with_stations(1);
+    with_stations(128);
+    for (size_t k = 0; k < FUNCTIONS; k++) {
+        struct function *f = &functions[k];
+        int holds = f->measured <= f->said && f->said <= f->measured + SLACK;
+        printf("%s: %zu bytes of stack, the header says %zu%s\n", f->name, f->measured, f->said, holds ? "" : ": WRONG");
+        wrong += !holds;
+        most = f->said > most ? f->said : most;
+    }
+    if (most != OLIVASTRUM_STACK_MOST) {
+        printf("OLIVASTRUM_STACK_MOST is not the most: WRONG\n");
+        wrong++;
+    }
+    return wrong != 0;
+}
