@@ -19,9 +19,9 @@ use Rattle.rings.specs.HandingIn.{handedIn}
 use Rattle.text.specs.Text.{newline, digit, decimalWithin, decimalOf, lineOn, line, textOr, cannotBeRead, unreadLine}
 use Rattle.lines.specs.Scan.{isEmptyLine}
 use Rattle.lines.specs.declared.Scan.{Scan}
-use Rattle.console.specs.PlanText.{planLines, planPrinted}
-use Rattle.console.specs.PlanSheet.{planningNumber}
-use Rattle.shows.specs.ShowText.{sheetText, showPrinted}
+use Rattle.outputs.specs.PlanText.{planLines, planPrinted}
+use Rattle.outputs.specs.PlanSheet.{planningNumber}
+use Rattle.outputs.specs.ShowText.{sheetText, showPrinted}
 use Rattle.calls.specs.RunText.{isVisit, isMessage, messageIn, signOf, signedOf, withoutSign, completion, visitLine, takenText, answerText, saidAt, saidOver, runOn}
 use Rattle.calls.specs.declared.Run.{Run}
 use Rattle.usage.specs.Endings.{isRefusal, colon, hasColon, isRefused, shownNumber, isUnread, someUnread}

@@ -3,9 +3,9 @@ use Prim.Native.Nat.{ℕ}
 use mathlib.Core.Path.{_≡_}
 use mathlib.Core.List.{List}
 use Rattle.sheets.specs.Reading.{readRequest}
-use Rattle.console.specs.PlanText.{planPrinted}
-use Rattle.console.specs.PlanSheet.{planningNumber}
-use Rattle.shows.specs.ShowText.{showPrinted}
+use Rattle.outputs.specs.PlanText.{planPrinted}
+use Rattle.outputs.specs.PlanSheet.{planningNumber}
+use Rattle.outputs.specs.ShowText.{showPrinted}
 use Rattle.calls.specs.RunText.{saidOver}
 use Rattle.calls.specs.declared.Run.{Run}
 use Rattle.usage.specs.Endings.{isRefusal, hasColon, isRefused, shownNumber, someUnread}
