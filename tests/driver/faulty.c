@@ -123,6 +123,10 @@ static void spoil_places(ring_t *ring)
 struct olivastrum_opened __wrap_open_ring(set_t set, alloc_t alloc)
 {
     struct olivastrum_opened opened = __real_open_ring(set, alloc);
+    if (is_fault("not-opened")) {
+        memset(&opened, 0, sizeof opened);
+        opened.number = OLIVASTRUM_RULE_BROKEN;
+    }
     FAULT("ring-refused", opened.number != 0, opened.ring.clock);
     if (opened.number == 0)
         spoil_places(&opened.ring);
