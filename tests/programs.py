@@ -122,7 +122,7 @@ def build_archive():
 
 
 def build_c(name, sources, flags=(), link=()):
-    """Builds target/tests/NAME of C sources and the archive, with the kit's tools alone; gives the words that run it."""
+    """Builds target/tests/NAME of C sources and the archive by the kit's tools alone; gives the words that run it."""
     build_archive()
     program = os.path.join(BUILT, name)
     compiler = [tool("bin", "clang"), "--target=x86_64-linux-gnu", "-std=c11", "-O2", "-Wall", "-Wextra", "-Werror"]

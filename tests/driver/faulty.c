@@ -1,7 +1,7 @@
 /*
- * Functions that do what the exported ones do, and beside it one thing that must not be: another one at each call. None
- * shows in what the driver prints of an answer, so that only its guard bytes and its looks can see them. The linker puts
- * these in the place of the exported functions (`--wrap`), and the variable FAULTY names the one that does wrong.
+ * Functions that do what the exported ones do, and beside it one thing that must not be: the one that the variable FAULT
+ * names. None shows in what the driver prints of an answer, so that only its guard bytes and its looks can see them. The
+ * linker puts these in the place of the exported functions (`--wrap`). tests/cases/run lists the faults.
  */
 #include "lent.h"
 #include <stdlib.h>
@@ -16,133 +16,148 @@ struct olivastrum_opened __real_olivastrum_open_ring(set_t set, alloc_t alloc);
 struct olivastrum_visit_answer __real_olivastrum_visit(ring_t *ring, uint32_t ask);
 uint8_t __real_olivastrum_hand_in(ring_t *ring, struct olivastrum_message message);
 
-static int faulty(const char *function)
+/* What is changed where the fault of that name is asked for and the condition holds. */
+#define FAULT(name, condition, place)            \
+    do {                                         \
+        if (is_fault(name) && (condition))       \
+            (place) ^= 1;                        \
+    } while (0)
+
+/* The last place, which a smaller ring does not use. */
+#define LAST (MOST - 1)
+
+static int is_fault(const char *name)
 {
-    const char *name = getenv("FAULTY");
-    return name && strcmp(name, function) == 0;
+    const char *fault = getenv("FAULT");
+    return fault && strcmp(fault, name) == 0;
 }
 
-/* Which of so many faults it is at this call. */
-static unsigned turn(unsigned faults)
+/* ---- reading */
+static void spoil_sheet(const uint8_t *sheet, size_t length)
 {
-    static unsigned calls;
-    return calls++ % faults;
+    uint8_t *bytes = (uint8_t *)sheet;
+    FAULT("sheet-before", 1, bytes[-1]);
+    FAULT("sheet-itself", length > 0, bytes[0]);
+    FAULT("sheet-behind", 1, bytes[length]);
 }
 
-static void touch(const uint8_t *byte)
+static void spoil_set(uint8_t number, set_t *set)
 {
-    *(uint8_t *)byte ^= 1;
+    FAULT("set-refused", number != 0, set->ttrt);
+    FAULT("set-w", number == 0 && set->n < MOST, set->w[LAST]);
+    FAULT("set-c", number == 0 && set->n < MOST, set->c[LAST]);
+    FAULT("set-d", number == 0 && set->n < MOST, set->d[LAST]);
+    FAULT("set-p", number == 0 && set->n < MOST, set->p[LAST]);
 }
 
-/* The byte before the sheet, one of it, or the byte behind it. */
-static void touch_sheet(const uint8_t *sheet, size_t length, unsigned which)
+static void spoil_alloc(uint8_t number, uint32_t n, alloc_t *alloc)
 {
-    touch(which == 0 ? sheet - 1 : which == 1 && length > 0 ? sheet : sheet + length);
+    FAULT("alloc-refused", number != 0, alloc->s[0]);
+    FAULT("alloc-s", number == 0 && n < MOST, alloc->s[LAST]);
 }
 
 struct olivastrum_read_request __wrap_olivastrum_read_request_sheet(const uint8_t *sheet, size_t length)
 {
     struct olivastrum_read_request read = __real_olivastrum_read_request_sheet(sheet, length);
-    if (!faulty("olivastrum_read_request_sheet"))
-        return read;
-    unsigned which = turn(4);
-    if (which == 3 && read.set.n < MOST)
-        read.set.p[MOST - 1] = 1;
-    else
-        touch_sheet(sheet, length, which);
+    spoil_sheet(sheet, length);
+    spoil_set(read.number, &read.set);
     return read;
 }
 
 struct olivastrum_read_plan __wrap_olivastrum_read_plan_sheet(const uint8_t *sheet, size_t length)
 {
     struct olivastrum_read_plan read = __real_olivastrum_read_plan_sheet(sheet, length);
-    if (!faulty("olivastrum_read_plan_sheet"))
-        return read;
-    unsigned which = turn(4);
-    if (which == 3 && read.set.n < MOST)
-        read.alloc.s[MOST - 1] = 1;
-    else
-        touch_sheet(sheet, length, which);
+    spoil_sheet(sheet, length);
+    spoil_set(read.number, &read.set);
+    spoil_alloc(read.number, read.set.n, &read.alloc);
     return read;
 }
 
-/* The byte before the room, the one behind the sheet, or the one behind the room. */
-static void touch_room(const uint8_t *out, size_t length, size_t room)
+/* ---- writing */
+static void spoil_room(struct olivastrum_written *written, uint8_t *out, size_t room)
 {
-    unsigned which = turn(3);
-    touch(which == 0 ? out - 1 : which == 1 ? out + length : out + room);
+    FAULT("room-before", 1, out[-1]);
+    FAULT("room-behind", 1, out[room]);
+    FAULT("room-left", written->length < room, out[written->length]);
+    FAULT("written-refused", written->number != 0, written->length);
+    if (is_fault("written-long") && written->number == 0)
+        written->length = room + 1;
 }
 
 struct olivastrum_written __wrap_olivastrum_write_request_sheet(set_t set, uint8_t *out, size_t length)
 {
     struct olivastrum_written written = __real_olivastrum_write_request_sheet(set, out, length);
-    if (!faulty("olivastrum_write_request_sheet"))
-        return written;
-    touch_room(out, written.length, length);
+    spoil_room(&written, out, length);
     return written;
 }
 
 struct olivastrum_written __wrap_olivastrum_write_plan_sheet(set_t set, alloc_t alloc, uint8_t *out, size_t length)
 {
     struct olivastrum_written written = __real_olivastrum_write_plan_sheet(set, alloc, out, length);
-    if (!faulty("olivastrum_write_plan_sheet"))
-        return written;
-    touch_room(out, written.length, length);
+    spoil_room(&written, out, length);
     return written;
 }
 
-/* Where all 128 places are used, the last S shows. */
+/* ---- planning and opening */
 struct olivastrum_planned __wrap_olivastrum_plan_set(set_t set)
 {
     struct olivastrum_planned planned = __real_olivastrum_plan_set(set);
-    if (!faulty("olivastrum_plan_set"))
-        return planned;
-    planned.alloc.s[MOST - 1] ^= 1;
+    spoil_alloc(planned.number, set.n, &planned.alloc);
     return planned;
+}
+
+/* Where a ring has fewer than 128 stations, the last place of each array. */
+static void spoil_places(ring_t *ring)
+{
+    int spare = ring->set.n < MOST;
+    FAULT("ring-trt", spare, ring->trt[LAST]);
+    FAULT("ring-sent", spare, ring->sent[LAST]);
+    FAULT("ring-rest", spare, ring->rest[LAST]);
+    FAULT("ring-arrival", spare, ring->arrival[LAST]);
+    FAULT("ring-had", spare, ring->had[LAST]);
+    FAULT("ring-last", spare, ring->last[LAST]);
+    FAULT("ring-set", spare, ring->set.c[LAST]);
+    FAULT("ring-alloc", spare, ring->alloc.s[LAST]);
 }
 
 struct olivastrum_opened __wrap_olivastrum_open_ring(set_t set, alloc_t alloc)
 {
     struct olivastrum_opened opened = __real_olivastrum_open_ring(set, alloc);
-    if (!faulty("olivastrum_open_ring"))
-        return opened;
-    unsigned which = turn(3);
-    if (which == 0)
-        opened.ring.set.c[MOST - 1] ^= 1;
-    else if (which == 1)
-        opened.ring.alloc.s[0] ^= 1;
-    else
-        opened.ring.last[MOST - 1] ^= 1;
+    if (is_fault("not-opened")) {
+        memset(&opened, 0, sizeof opened);
+        opened.number = OLIVASTRUM_RULE_BROKEN;
+    }
+    FAULT("ring-refused", opened.number != 0, opened.ring.clock);
+    if (opened.number == 0)
+        spoil_places(&opened.ring);
     return opened;
 }
 
-/* The byte before the ring, the one behind it, or one of its plan. */
-static void touch_ring(ring_t *ring)
+/* ---- the lent ring */
+static void spoil_ring(uint8_t number, ring_t *ring)
 {
-    unsigned which = turn(3);
-    touch(which == 0 ? (uint8_t *)ring - 1 : which == 1 ? (uint8_t *)(ring + 1) : (uint8_t *)&ring->set.p[MOST - 1]);
+    FAULT("ring-before", 1, ((uint8_t *)ring)[-1]);
+    FAULT("ring-behind", 1, *(uint8_t *)(ring + 1));
+    FAULT("ring-refused", number != 0, ring->clock);
+    if (number == 0)
+        spoil_places(ring);
 }
 
 struct olivastrum_visit_answer __wrap_olivastrum_visit(ring_t *ring, uint32_t ask)
 {
     struct olivastrum_visit_answer answer = __real_olivastrum_visit(ring, ask);
-    if (!faulty("olivastrum_visit"))
-        return answer;
-    if (answer.number != 0 && turn(2) == 0)
-        answer.record.margin = -1;
-    else
-        touch_ring(ring);
+    spoil_ring(answer.number, ring);
+    FAULT("record-refused", answer.number != 0, answer.record.limit.ticks);
+    FAULT("record-finish", answer.number == 0 && !answer.record.completed, answer.record.finish.ticks);
+    FAULT("record-margin", answer.number == 0 && !answer.record.completed, answer.record.margin);
+    if (is_fault("record-flag") && answer.record.completed)
+        answer.record.completed = 2;
     return answer;
 }
 
 uint8_t __wrap_olivastrum_hand_in(ring_t *ring, struct olivastrum_message message)
 {
     uint8_t number = __real_olivastrum_hand_in(ring, message);
-    if (!faulty("olivastrum_hand_in"))
-        return number;
-    if (number != 0 && turn(2) == 0)
-        ring->visits++;
-    else
-        touch_ring(ring);
+    spoil_ring(number, ring);
     return number;
 }
