@@ -23,7 +23,8 @@ bytes-make x small =
     let d₂ : x / 65_536 / 256 ≡ x / 16_777_216 = div-div-eq-div-mul x 65_536 256 in
     let top : x / 16_777_216 % 256 ≡ x / 16_777_216 = mod-eq-of-lt (div-lt-iff-lt-mul (omega arith) .1 (omega arith)) in
     rw top
-    (put-together x (x / 256) (x / 65_536) (x / 16_777_216) (x % 256) (x / 256 % 256) (x / 65_536 % 256) (div-add-mod' x 256) (rw d₁ at (div-add-mod' (x / 256) 256)) (rw d₂ at (div-add-mod' (x / 65_536) 256)))
+    (put-together x (x / 256) (x / 65_536) (x / 16_777_216) (x % 256) (x / 256 % 256) (x / 65_536 % 256)
+    (div-add-mod' x 256) (rw d₁ at (div-add-mod' (x / 256) 256)) (rw d₂ at (div-add-mod' (x / 65_536) 256)))
 
 -- a number stands where its four bytes do
 pub number-read : (bs : List ℕ) (a x : ℕ) → x < 2 ^ 32 → Stands bs a (bytesOf x) → numberAt bs a ≡ x
@@ -64,5 +65,6 @@ pub number-stands : (bs : List ℕ) (a : ℕ) → AllBytes bs → a + 4 ≤ leng
 unfolding numberAt bytesOf
 number-stands bs a bytes fit =
     let x = at bs a * 16_777_216 + at bs (a + 1) * 65_536 + at bs (a + 2) * 256 + at bs (a + 3) in
-    let w = four-bytes (at bs a) (at bs (a + 1)) (at bs (a + 2)) (at bs (a + 3)) x (bytes a (omega arith)) (bytes (a + 1) (omega arith)) (bytes (a + 2) (omega arith)) (bytes (a + 3) (omega arith)) refl in
+    let w = four-bytes (at bs a) (at bs (a + 1)) (at bs (a + 2)) (at bs (a + 3)) x
+    (bytes a (omega arith)) (bytes (a + 1) (omega arith)) (bytes (a + 2) (omega arith)) (bytes (a + 3) (omega arith)) refl in
     stands-four bs a _ _ _ _ fit (w .0) (w .1 .0) (w .1 .1 .0) (w .1 .1 .1)

@@ -100,7 +100,8 @@ stands-row bs a (suc n) step f long h i l =
     rw (e, ← rows-length n step f long) (stands-right bs a (rows n f) (f n) h))
     (below-or-not i n)
 
-pub rows-stand : (bs : List ℕ) (a n step : ℕ) (f : ℕ → List ℕ) → ((i : ℕ) → length (f i) ≡ step) → a + step * n ≤ length bs → ((i : ℕ) → i < n → Stands bs (a + step * i) (f i)) → Stands bs a (rows n f)
+pub rows-stand : (bs : List ℕ) (a n step : ℕ) (f : ℕ → List ℕ) → ((i : ℕ) → length (f i) ≡ step)
+    → a + step * n ≤ length bs → ((i : ℕ) → i < n → Stands bs (a + step * i) (f i)) → Stands bs a (rows n f)
 unfolding rows
 rows-stand bs a zero step f long fit h = record { fits = omega (arith, mul-zero step); same = λ i l. absurd (omega arith) }
 rows-stand bs a (suc n) step f long fit h =
@@ -116,7 +117,8 @@ laid-more o₀ o o′ a b s t e p d fit =
     d ∙ rw (e, p) (laid-then o₀ a s t (omega arith))
 
 -- the next row behind the rows that were laid
-pub rows-then : (o₀ o o′ : List ℕ) (a b n step : ℕ) (f : ℕ → List ℕ) → ((i : ℕ) → length (f i) ≡ step) → o ≡ laid o₀ a (rows n f) → b ≡ a + step * n → o′ ≡ laid o b (f n) → b + step ≤ length o₀ → o′ ≡ laid o₀ a (rows (n + 1) f)
+pub rows-then : (o₀ o o′ : List ℕ) (a b n step : ℕ) (f : ℕ → List ℕ) → ((i : ℕ) → length (f i) ≡ step)
+    → o ≡ laid o₀ a (rows n f) → b ≡ a + step * n → o′ ≡ laid o b (f n) → b + step ≤ length o₀ → o′ ≡ laid o₀ a (rows (n + 1) f)
 rows-then o₀ o o′ a b n step f long e p d fit =
     rw rows-step
     (laid-more o₀ o o′ a b (rows n f) (f n) e (omega (arith, rows-length n step f long)) d (omega (arith, long n)))

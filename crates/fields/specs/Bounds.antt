@@ -2,7 +2,8 @@
 use Prim.Native.Nat.{ℕ, _<_}
 use mathlib.Core.Path.{_≡_}
 use mathlib.Core.List.{List}
-use Rattle.fields.specs.Bytes.{shortAt}
+use lib.ListN.{length}
+use Rattle.fields.specs.Bytes.{shortAt, AllBytes}
 
 -- r is the byte b
 pub record Byte (b r : ℕ) : Type 0 where
@@ -13,3 +14,8 @@ pub record Byte (b r : ℕ) : Type 0 where
 pub record Short (bs : List ℕ) (a r : ℕ) : Type 0 where
   pub is : r ≡ shortAt bs a
   pub small : r < 65_536
+
+-- r is how many bytes were lent, and each of them is a byte
+pub record LentBytes (bs : List ℕ) (r : ℕ) : Type 0 where
+  pub count : r ≡ length bs
+  pub all : AllBytes bs

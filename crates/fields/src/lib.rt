@@ -2,7 +2,7 @@
 pub mod bytes;
 
 ghost use mathlib.Core.Path.{_≡_};
-ghost use Prim.Native.Nat.{_+_};
+ghost use Rattle.fields.specs.Bounds.{LentBytes};
 ghost use Rattle.fields.specs.Fields.{left, isAllowed, allocationsFor, fieldAt};
 use units::numbers;
 
@@ -80,6 +80,13 @@ fn left_from(bs: &[u8], at: usize) -> usize
         return 0;
     }
     bs.len() - at
+}
+
+// How many bytes a lent slice has. Each of them is below 256, as some promises ask of the bytes of a sheet.
+pub fn count_bytes(bs: &[u8]) -> usize
+    ensures { λ r. ⌜ LentBytes (now (bs .entry)) r ⌝ }
+{
+    left_from(bs, 0)
 }
 
 // A field that was refused.

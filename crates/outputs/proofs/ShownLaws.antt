@@ -11,9 +11,9 @@ use Rattle.plans.specs.declared.Alloc.{Alloc}
 use Rattle.fields.specs.Bytes.{AllBytes}
 use Rattle.sheets.specs.Reading.{setIn, allocIn, readSheet, readRequest, readPlan}
 use Rattle.sheets.specs.Writing.{writtenAnswer, writtenBuffer}
-use Rattle.sheets.specs.Promised.{firstPlaces, firstAllocations}
+use Rattle.sheet_rules.specs.Promised.{firstPlaces, firstAllocations}
 use Rattle.sheets.specs.ReadLaws.{then-none, read-number, sheet-accepted, Kept, judged-kept}
-use Rattle.sheets.proofs.Promised.{promised}
+use Rattle.sheet_rules.proofs.Promised.{promised}
 use Rattle.text.specs.Text.{newline}
 use Rattle.outputs.specs.ShowText.{sheetText, showPrinted}
 use Rattle.outputs.proofs.ShowLaws.{shown-request, shown-plan, shown-as-plan}

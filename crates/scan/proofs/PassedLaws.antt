@@ -192,7 +192,8 @@ module _ (plan : Bool) (bs : List ℕ) where
         allowed = rw (w .has-tag, w .has-size) (kind-allowed p tag size k);
       }
 
-  passing : (p : Passed) (a tag size : ℕ) → WellFormed plan bs p a → Whole bs a tag size → Kind p tag size → tag ≢ 255 → WellFormed plan bs (withField p tag (a + 3 + size)) (a + 3 + size)
+  passing : (p : Passed) (a tag size : ℕ) → WellFormed plan bs p a → Whole bs a tag size
+      → Kind p tag size → tag ≢ 255 → WellFormed plan bs (withField p tag (a + 3 + size)) (a + 3 + size)
   passing p a tag size before w k other =
       let b : behind bs a ≡ a + 3 + size = omega (arith, w .has-size) in
       let next = more before (standing p a tag size w k) (λ e. other (sym (w .has-tag) ∙ e)) in
@@ -206,12 +207,14 @@ module _ (plan : Bool) (bs : List ℕ) where
   unfolding withField
   station-passes n a before few w = passing (passedAll plan n 0) a 2 16 before w (a-station refl refl refl few refl) (λ e. omega arith)
 
-  pub allocation-passes : (n m a : ℕ) → WellFormed plan bs (passedAll plan n m) a → m < allocationsFor plan n → Whole bs a 3 4 → WellFormed plan bs (passedAll plan n (m + 1)) (a + 3 + 4)
+  pub allocation-passes : (n m a : ℕ) → WellFormed plan bs (passedAll plan n m) a
+      → m < allocationsFor plan n → Whole bs a 3 4 → WellFormed plan bs (passedAll plan n (m + 1)) (a + 3 + 4)
   unfolding withField
   allocation-passes n m a before room w = passing (passedAll plan n m) a 3 4 before w (an-allocation refl refl refl room) (λ e. omega arith)
 
   -- and the walk goes by all of them, to the end
-  pub end-passes : (n m a : ℕ) → WellFormed plan bs (passedAll plan n m) a → 1 ≤ n → m ≡ allocationsFor plan n → Whole bs a 255 0 → length bs ≡ a + 3 → scanned plan bs ≡ record { number = 0; passed = passedAll plan n m; at = a }
+  pub end-passes : (n m a : ℕ) → WellFormed plan bs (passedAll plan n m) a → 1 ≤ n → m ≡ allocationsFor plan n
+      → Whole bs a 255 0 → length bs ≡ a + 3 → scanned plan bs ≡ record { number = 0; passed = passedAll plan n m; at = a }
   end-passes n m a before some all w last =
       end-there plan bs
       (record {

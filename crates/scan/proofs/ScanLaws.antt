@@ -12,7 +12,7 @@ use Rattle.units.specs.Judging.{orElse}
 use Rattle.units.specs.JudgingLaws.{true-or-false, held, failed}
 use Rattle.units.specs.SmallLaws.{below-or-not}
 use Rattle.fields.specs.Fields.{stationTag, allocationTag, endTag, left, tagAt, sizeAt, behind, allowedAt, fieldNumber, fieldAt, FieldWhole}
-use Rattle.fields.proofs.FieldLaws.{field-short, field-wrong, field-cut, field-whole, field-says, field-refused, field-handed, handed-number}
+use Rattle.fields.proofs.FieldLaws.{field-short, field-wrong, field-cut, field-whole, field-says, field-handed, handed-number}
 use Rattle.fields.specs.declared.Field.{Field}
 use Rattle.fields.specs.declared.Passed.{Passed}
 use Rattle.scan.specs.Cursor.{cursorAfter}
@@ -165,7 +165,8 @@ module _ (plan : Bool) (bs : List ℕ) where
       scan-more bs a p (rest .0) (scanned plan bs) (rest .1 .0) w other (rest .1 .1) _ _ refl refl
 
   -- and ends at a place where it stops
-  ends-there : (p : Passed) (a k : ℕ) → WellFormed plan bs p a → (stopsAt (fieldAt bs a p) ≡ true) × (stopNumber (length bs) (fieldAt bs a p) ≡ k) → scanned plan bs ≡ record { number = k; passed = p; at = a }
+  ends-there : (p : Passed) (a k : ℕ) → WellFormed plan bs p a
+      → (stopsAt (fieldAt bs a p) ≡ true) × (stopNumber (length bs) (fieldAt bs a p) ≡ k) → scanned plan bs ≡ record { number = k; passed = p; at = a }
   ends-there p a k before stop =
       let by = comes-by p a before in
       let some : 0 < by .0 = omega (arith, by .1 .0) in

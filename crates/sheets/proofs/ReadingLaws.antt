@@ -1,6 +1,6 @@
 -- The laws of reading: what has passed lies inside the bytes, and the answers of a refused reading.
-use Prim.Native.Nat.{ℕ, _+_, _*_, _≤_}
-use mathlib.Core.Path.{_≡_, sym, ap, subst, _∙_}
+use Prim.Native.Nat.{ℕ}
+use mathlib.Core.Path.{_≡_, ap}
 use mathlib.Core.Bool.{Bool}
 use mathlib.Core.List.{List}
 use mathlib.Core.Logic.{_≢_}
@@ -30,6 +30,7 @@ module _ (plan : Bool) (bs : List ℕ) where
   unfolding readSheet
   sheet-misshapen h = rw (then-keeps (scanned plan bs .number) (judgedSheet plan (setIn plan bs) (allocIn plan bs)) h) (read-refused _ _ _ h)
 
-  pub sheet-refused : scanned plan bs .number ≡ 0 → judgedSheet plan (setIn plan bs) (allocIn plan bs) ≢ 0 → readSheet plan bs ≡ record { set = blankSet; alloc = blankAlloc; number = judgedSheet plan (setIn plan bs) (allocIn plan bs) }
+  pub sheet-refused : scanned plan bs .number ≡ 0 → judgedSheet plan (setIn plan bs) (allocIn plan bs) ≢ 0
+      → readSheet plan bs ≡ record { set = blankSet; alloc = blankAlloc; number = judgedSheet plan (setIn plan bs) (allocIn plan bs) }
   unfolding readSheet
   sheet-refused e h = rw (then-rest (scanned plan bs .number) (judgedSheet plan (setIn plan bs) (allocIn plan bs)) e) (read-refused _ _ _ h)

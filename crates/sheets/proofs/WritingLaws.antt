@@ -1,9 +1,11 @@
 -- The laws of layout and writing.
 use Prim.Native.Nat.{ℕ, zero, suc, _+_, _*_, _≤_, _<_}
-use mathlib.Core.Path.{_≡_, refl, sym, _∙_}
+use mathlib.Core.Path.{_≡_, refl, sym, ap, _∙_}
 use mathlib.Core.Bool.{Bool}
 use mathlib.Core.List.{List, _++_}
 use mathlib.Core.Logic.{_≢_}
+use native.Mathlib.Numerals.{add-one}
+use native.Mathlib.Nat.{mul-zero, mul-suc, mul-le-mul-left}
 use native.Mathlib.Omega.{arith}
 use lib.ListN.{length, drop, length-append}
 use borrow.Author.Tests.{le-leb, lt-leb}
@@ -14,8 +16,8 @@ use Rattle.plans.specs.declared.Alloc.{Alloc}
 use Rattle.fields.specs.Rows.{rows, laid}
 use Rattle.fields.specs.Bytes.{bytesOf}
 use Rattle.fields.specs.Fields.{allocationsFor}
-use Rattle.fields.specs.RowLaws.{laid-first}
-use Rattle.fields.proofs.SegmentLaws.{rows-length, laid-more}
+use Rattle.fields.specs.RowLaws.{rows-none, laid-none, laid-first}
+use Rattle.fields.proofs.SegmentLaws.{rows-length, laid-more, rows-then}
 use Rattle.sheets.specs.Layout.{headBytes, stationWith, allocationWith, stationBytes, allocationBytes, endBytes, sheetOf, sheetLength}
 use Rattle.sheets.specs.Reading.{judgedSheet}
 use Rattle.sheets.specs.ReadLaws.{then-rest, then-keeps}
@@ -47,14 +49,58 @@ sheet-long plan t a =
     let n = t .n in
     let m = allocationsFor plan (t .n) in
     let h = headBytes (t .head) in
-    omega
-    (arith, length-append (h ++ rows n (stationBytes t) ++ rows m (allocationBytes a)) endBytes, length-append (h ++ rows n (stationBytes t)) (rows m (allocationBytes a)), length-append h (rows n (stationBytes t)), head-length (t .head), stations-length t n, allocations-length a m)
+    let st = rows n (stationBytes t) in
+    let al = rows m (allocationBytes a) in
+    let l₁ = head-length (t .head) in
+    let l₂ = stations-length t n in
+    let l₃ = allocations-length a m in
+    omega (arith, length-append (h ++ st ++ al) endBytes, length-append (h ++ st) al, length-append h st)
+
+-- ---- like rows laid by a loop
+
+-- what the loop keeps: i rows of n were laid from the place on, and the next begins behind them
+pub record RowsLaid (out₀ out : List ℕ) (from at step n i : ℕ) (row : ℕ → List ℕ) : Type 0 where
+  pub counted : i ≤ n
+  pub here : at ≡ from + step * i
+  pub so-far : out ≡ laid out₀ from (rows i row)
+  pub long : length out ≡ length out₀
+
+module _ (out₀ : List ℕ) (from step n : ℕ) (row : ℕ → List ℕ) (each : (i : ℕ) → length (row i) ≡ step) where
+  pub rows-begin : RowsLaid out₀ out₀ from from step n 0 row
+  rows-begin = record { counted = omega arith; here = omega (arith, mul-zero step); so-far = sym (rw rows-none (laid-none _ _)); long = refl }
+
+  -- a turn lays the next row behind them
+  pub rows-turn : (out next : List ℕ) (at i : ℕ) → RowsLaid out₀ out from at step n i row → i < n → from + step * n ≤ length out₀
+      → next ≡ laid out at (row i) → length next ≡ length out → RowsLaid out₀ next from (at + step) step n (i + 1) row
+  rows-turn out next at i r l fits e same =
+      let room : step * suc i ≤ step * n = mul-le-mul-left step l in
+      let one-more = mul-suc step i in
+      let here = r .here in
+      record {
+        counted = omega arith;
+        here = rw add-one (omega arith);
+        so-far = rows-then out₀ out next from at i step row each (r .so-far) here e (omega arith);
+        long = same ∙ r .long;
+      }
+
+  pub rows-end : (out : List ℕ) (at i : ℕ) → RowsLaid out₀ out from at step n i row → n ≤ i → out ≡ laid out₀ from (rows n row)
+  rows-end out at i r done =
+      let all : i ≡ n = omega (arith, r .counted) in
+      r .so-far ∙ ap (λ (k : ℕ). laid out₀ from (rows k row)) all
 
 -- ---- the fields of a sheet, laid one after another
 
-pub sheet-laid : (plan : Bool) (t : Set) (a : Alloc) (o o₁ o₂ o₃ o₄ : List ℕ) (m : ℕ) → m ≡ allocationsFor plan (t .n) → o₁ ≡ laid o 0 (headBytes (t .head)) → o₂ ≡ laid o₁ 7 (rows (t .n) (stationBytes t)) → o₃ ≡ laid o₂ (7 + 19 * t .n) (rows m (allocationBytes a)) → o₄ ≡ laid o₃ (7 + 19 * t .n + 7 * m) endBytes → sheetLength plan (t .n) ≤ length o → o₄ ≡ laid o 0 (sheetOf plan t a)
+-- the buffer behind each of the four parts
+pub record PartsLaid (t : Set) (a : Alloc) (m : ℕ) (o o₁ o₂ o₃ o₄ : List ℕ) : Type 0 where
+  pub head : o₁ ≡ laid o 0 (headBytes (t .head))
+  pub stations : o₂ ≡ laid o₁ 7 (rows (t .n) (stationBytes t))
+  pub allocations : o₃ ≡ laid o₂ (7 + 19 * t .n) (rows m (allocationBytes a))
+  pub end : o₄ ≡ laid o₃ (7 + 19 * t .n + 7 * m) endBytes
+
+pub sheet-laid : (plan : Bool) (t : Set) (a : Alloc) (m : ℕ) (o o₁ o₂ o₃ o₄ : List ℕ) → PartsLaid t a m o o₁ o₂ o₃ o₄
+    → m ≡ allocationsFor plan (t .n) → sheetLength plan (t .n) ≤ length o → o₄ ≡ laid o 0 (sheetOf plan t a)
 unfolding sheetOf
-sheet-laid plan t a o o₁ o₂ o₃ o₄ m e e₁ e₂ e₃ e₄ fit =
+sheet-laid plan t a m o o₁ o₂ o₃ o₄ parts e fit =
     let n = t .n in
     let head = headBytes (t .head) in
     let stations = rows n (stationBytes t) in
@@ -64,9 +110,9 @@ sheet-laid plan t a o o₁ o₂ o₃ o₄ m e e₁ e₂ e₃ e₄ fit =
     let l₃ : length (rows m (allocationBytes a)) ≡ 7 * m = allocations-length a m in
     let j₁ = length-append head stations in
     let j₂ = length-append (head ++ stations) allocations in
-    let s₂ = laid-more o o₁ o₂ 0 7 head stations e₁ (omega arith) e₂ (omega arith) in
-    let s₃ = laid-more o o₂ o₃ 0 (7 + 19 * n) (head ++ stations) allocations s₂ (omega arith) e₃ (omega arith) in
-    let s₄ = laid-more o o₃ o₄ 0 (7 + 19 * n + 7 * m) (head ++ stations ++ allocations) endBytes s₃ (omega arith) e₄ (omega arith) in
+    let s₂ = laid-more o o₁ o₂ 0 7 head stations (parts .head) (omega arith) (parts .stations) (omega arith) in
+    let s₃ = laid-more o o₂ o₃ 0 (7 + 19 * n) (head ++ stations) allocations s₂ (omega arith) (parts .allocations) (omega arith) in
+    let s₄ = laid-more o o₃ o₄ 0 (7 + 19 * n + 7 * m) (head ++ stations ++ allocations) endBytes s₃ (omega arith) (parts .end) (omega arith) in
     rw (← e) s₄
 
 -- ---- answers
@@ -114,7 +160,8 @@ module _ (plan : Bool) (t : Set) (a : Alloc) (out : List ℕ) where
       }
 
   -- and one that was accepted
-  pub wrote-all : judgedSheet plan t a ≡ 0 → sheetLength plan (t .n) ≤ length out → Wrote plan t a out (laid out 0 (sheetOf plan t a)) (record { length = sheetLength plan (t .n); number = 0 })
+  pub wrote-all : judgedSheet plan t a ≡ 0 → sheetLength plan (t .n) ≤ length out
+      → Wrote plan t a out (laid out 0 (sheetOf plan t a)) (record { length = sheetLength plan (t .n); number = 0 })
   wrote-all e h =
       record {
         answer = sym (answer-accepted _ (sheetLength plan (t .n)) (number-none e h));

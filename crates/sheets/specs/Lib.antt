@@ -2,14 +2,12 @@
 --     Layout      the bytes of a request and of a plan
 --     Reading     what reading answers, for any bytes
 --     Writing     what writing answers, and what the buffer then holds
---     Promised    what is promised beside the contracts
 --     Bounds      what the small functions need of the bytes
 -- and, for the layers above:
 --     ReadLaws, WriteLaws
 pub mod Layout
 pub mod Reading
 pub mod Writing
-pub mod Promised
 pub mod Bounds
 pub mod ReadLaws
 pub mod WriteLaws

@@ -1,13 +1,14 @@
 -- What writing answers, and what the lent buffer then holds, for any set, any allocation and any buffer.
 use Prim.Native.Nat.{ℕ, zero, suc}
 use mathlib.Core.Path.{_≡_}
-use mathlib.Core.Bool.{Bool}
+use mathlib.Core.Bool.{Bool, true, false}
 use mathlib.Core.List.{List, _++_}
 use lib.Dec.{leb}
 use lib.ListN.{length, drop}
 use Rattle.units.specs.Numbers.{accepted, bufferTooShort}
 use Rattle.units.specs.Judging.{orElse}
 use Rattle.sets.specs.declared.Set.{Set}
+use Rattle.plans.specs.Planned.{blankAlloc}
 use Rattle.plans.specs.declared.Alloc.{Alloc}
 use Rattle.sheets.specs.Layout.{sheetOf, sheetLength}
 use Rattle.sheets.specs.Reading.{thenNumber, judgedSheet}
@@ -42,3 +43,14 @@ writtenBuffer plan t a out = bufferAfter (writeNumber plan t a (length out)) (sh
 pub record Wrote (plan : Bool) (t : Set) (a : Alloc) (before after : List ℕ) (r : Written) : Type 0 where
   pub answer : r ≡ writtenAnswer plan t a before
   pub buffer : after ≡ writtenBuffer plan t a before
+
+-- writing a request, and writing a plan: the answer, and what the buffer then holds
+pub record Writing : Type 0 where
+  pub answer : Written
+  pub buffer : List ℕ
+
+abbrev pub requestWritten : Set → List ℕ → Writing
+requestWritten t out = record { answer = writtenAnswer false t blankAlloc out; buffer = writtenBuffer false t blankAlloc out }
+
+abbrev pub planWritten : Set → Alloc → List ℕ → Writing
+planWritten t a out = record { answer = writtenAnswer true t a out; buffer = writtenBuffer true t a out }

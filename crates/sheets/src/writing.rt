@@ -1,8 +1,7 @@
 // Writing: all is judged first; then the fields are laid one after another.
 ghost use mathlib.Core.Path.{_≡_};
-ghost use Prim.Native.Nat.{_+_, _*_, _≤_, _<_};
+ghost use Prim.Native.Nat.{_+_, _*_, _≤_};
 ghost use lib.ListN.{length};
-ghost use Rattle.units.specs.Places.{at};
 ghost use Rattle.fields.specs.Rows.{laid, rows};
 ghost use Rattle.sheets.specs.Layout.{headBytes, stationWith, allocationWith, stationBytes, allocationBytes, sheetOf, sheetLength};
 ghost use Rattle.sheets.specs.Writing.{Wrote, refusedWriting};

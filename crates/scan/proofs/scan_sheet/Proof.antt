@@ -1,7 +1,7 @@
 -- `scan_sheet` is right because at each turn the walk from the cursor on is the rest of the definition's walk, and it stops where the definition stops.
 use Prim.Native.Nat.{ℕ, suc, _+_, _≤_, _<_}
 use mathlib.Core.Path.{_≡_, refl, sym, ap, _∙_}
-use mathlib.Core.Bool.{true, false}
+use mathlib.Core.Bool.{true}
 use mathlib.Core.List.{List}
 use mathlib.Core.Logic.{_≢_}
 use native.Mathlib.Omega.{arith}
@@ -55,7 +55,9 @@ passed-said : (c : tie.After-with-field Inv-loop μ-loop)
     → c .with-field .result ≡ withField (so-far (c .before)) (tagAt (bytes (c .before)) (place (c .before))) (behind (bytes (c .before)) (place (c .before)))
 passed-said c =
     let turn = c .before in
-    c .with-field .ensures ∙ ap (λ (t : ℕ). withField (so-far turn) t (turn .before .before .loop .step .at)) (next-tag turn) ∙ ap (withField (so-far turn) (tagAt (bytes turn) (place turn))) (next-place turn)
+    c .with-field .ensures
+    ∙ ap (λ (t : ℕ). withField (so-far turn) t (turn .before .before .loop .step .at)) (next-tag turn)
+    ∙ ap (withField (so-far turn) (tagAt (bytes turn) (place turn))) (next-place turn)
 
 step-of-requires : tie.Need-step-of-requires Inv-loop μ-loop
 step-of-requires c κs = search needs

@@ -1,4 +1,5 @@
 -- `number_at` is right because its body is the definition; four bytes stay below 2^32.
+use mathlib.Core.Path.{refl}
 use Rattle.fields.specs.Bytes.{numberAt}
 use borrow.Author.Needs.{needs}
 use Rattle.sheets.proofs.bytes.number_at.Statement.{statement}
@@ -57,7 +58,11 @@ add-result-3 c = search needs
 
 returns : tie.Need-returns
 unfolding numberAt
-returns c = rw (c .before .before .before .before .before .before .wide .ensures .same, c .before .before .before .before .wide2 .ensures .same, c .before .before .wide3 .ensures .same, c .wide4 .ensures .same)
+returns c =
+    let third = c .before .before in
+    let second = third .before .before in
+    let first = second .before .before in
+    rw (first .wide .ensures .same, second .wide2 .ensures .same, third .wide3 .ensures .same, c .wide4 .ensures .same) refl
 
 pub number-at-spec : {M : Type 1} → statement M
 number-at-spec =

@@ -34,7 +34,11 @@ read-column-requires-4 : tie.Need-read-column-requires-4
 read-column-requires-4 c κs = search needs
 
 returns : tie.Need-returns
-returns c = rw (c .before .before .before .before .number-at .ensures, c .before .before .before .read-column .ensures, c .before .before .read-column2 .ensures, c .before .read-column3 .ensures, c .read-column4 .ensures)
+returns c =
+    let third = c .before in
+    let second = third .before in
+    let first = second .before in
+    rw (first .before .number-at .ensures, first .read-column .ensures, second .read-column2 .ensures, third .read-column3 .ensures, c .read-column4 .ensures)
 
 pub read-set-spec : {M : Type 1} → statement M
 read-set-spec =

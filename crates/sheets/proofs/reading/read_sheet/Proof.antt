@@ -23,12 +23,16 @@ fits c =
 set-said : (c : tie.After-read-set)
     → let args = c .before .before .before .before .before .args in
     c .read-set .result ≡ setIn (args .plan) (args .bs .now)
-set-said c = c .read-set .ensures ∙ ap (λ (r : Scanned). setOf (c .before .before .before .before .before .args .bs .now) (r .passed)) (c .before .before .before .scan-sheet .ensures)
+set-said c =
+    let walked = c .before .before .before in
+    c .read-set .ensures ∙ ap (λ (r : Scanned). setOf (walked .before .before .args .bs .now) (r .passed)) (walked .scan-sheet .ensures)
 
 alloc-said : (c : tie.After-read-alloc)
     → let args = c .before .before .before .before .before .before .args in
     c .read-alloc .result ≡ allocIn (args .plan) (args .bs .now)
-alloc-said c = c .read-alloc .ensures ∙ ap (λ (r : Scanned). allocOf (c .before .before .before .before .before .before .args .bs .now) (r .passed)) (c .before .before .before .before .scan-sheet .ensures)
+alloc-said c =
+    let walked = c .before .before .before .before in
+    c .read-alloc .ensures ∙ ap (λ (r : Scanned). allocOf (walked .before .before .args .bs .now) (r .passed)) (walked .scan-sheet .ensures)
 
 judged-said : (c : tie.After-judge-sheet)
     → let args = c .before .before .before .before .before .before .before .args in

@@ -1,25 +1,22 @@
 -- `put_allocations` is right because each turn lays one more row behind the rows laid.
-use Prim.Native.Nat.{_+_, _-_, _*_, _≤_}
-use mathlib.Core.Path.{_≡_, sym, refl, _∙_}
+use Prim.Native.Nat.{_-_}
 use native.Mathlib.Omega.{arith}
-use lib.ListN.{length}
-use Rattle.fields.specs.Rows.{rows, laid}
 use Rattle.sheets.specs.Layout.{allocationBytes}
-use Rattle.fields.specs.RowLaws.{rows-none, laid-none}
-use Rattle.fields.proofs.SegmentLaws.{rows-then}
-use Rattle.sheets.proofs.WritingLaws.{allocation-length}
+use Rattle.sheets.proofs.WritingLaws.{allocation-length, RowsLaid, rows-begin, rows-turn, rows-end}
 use borrow.Author.Needs.{needs}
 use Rattle.sheets.proofs.writing.put_allocations.Statement.{statement}
 use Rattle.sheets.proofs.writing.put_allocations.Tie as tie
 
 abbrev Inv-loop : tie.InvT-loop
-Inv-loop out₀ from m a at₀ i₀ out at i = (i ≤ m) × (at ≡ from + 7 * i) × (out ≡ laid out₀ from (rows i (allocationBytes a))) × (length out ≡ length out₀)
+Inv-loop out₀ from m a at₀ i₀ out at i = RowsLaid out₀ out from at 7 m i (allocationBytes a)
 
 abbrev μ-loop : tie.MeasureT-loop
 μ-loop out₀ from m a at₀ i₀ out at i = m - i
 
 loop-holds : tie.Need-loop-holds Inv-loop μ-loop
-loop-holds c = (omega arith, omega arith, sym (rw rows-none (laid-none _ _)), refl)
+loop-holds c =
+    let args = c .before .args in
+    rows-begin (args .out .now) (args .from) 7 (args .m) (allocationBytes (args .t3)) (λ i. allocation-length _)
 
 mul-put-allocation : tie.Need-mul-put-allocation Inv-loop μ-loop
 mul-put-allocation c = search needs
@@ -44,18 +41,18 @@ loop-again c =
     let put = c .before .before in
     let at-loop = put .before .before .before .before in
     let args = at-loop .before .before .args in
-    let fit = at-loop .before .before .pre in
-    let next = rows-then (args .out .now) (at-loop .loop .out) (put .put-allocation .last .0) (args .from) (at-loop .loop .at) (at-loop .loop .i) 7 (allocationBytes (args .t3)) (λ i. allocation-length _) (at-loop .loop .inv .2) (at-loop .loop .inv .1) (put .put-allocation .ensures) (omega arith) in
-    (omega arith, omega arith, next, put .put-allocation .kept .0 ∙ at-loop .loop .inv .3)
+    let inv = at-loop .loop .inv in
+    rows-turn (args .out .now) (args .from) 7 (args .m) (allocationBytes (args .t3)) (λ i. allocation-length _) _ _ _ _ inv
+    (omega arith) (at-loop .before .before .pre .1) (put .put-allocation .ensures) (put .put-allocation .kept .0)
 
 same-length : tie.Need-same-length Inv-loop μ-loop
-same-length c = c .before .loop .inv .3
+same-length c = c .before .loop .inv .long
 
 returns : tie.Need-returns Inv-loop μ-loop
 returns c =
     let at-loop = c .before in
-    let end : at-loop .loop .i ≡ at-loop .before .before .args .m = omega arith in
-    at-loop .loop .inv .2 ∙ rw end
+    let args = at-loop .before .before .args in
+    rows-end (args .out .now) (args .from) 7 (args .m) (allocationBytes (args .t3)) (λ i. allocation-length _) _ _ _ (at-loop .loop .inv) (omega arith)
 
 pub put-allocations-spec : {M : Type 1} → statement M
 put-allocations-spec =

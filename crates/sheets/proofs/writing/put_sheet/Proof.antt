@@ -53,7 +53,14 @@ returns c =
     let headed = placed .before .before .before .before in
     let counted = headed .before .before .before in
     let start = counted .before .before .before in
-    sheet-laid (start .args .plan) (start .args .t) (start .args .a) _ _ _ _ _ _ (counted .allocations-for .ensures) (headed .put-head .ensures) (placed .put-stations .ensures) (allocated .put-allocations .ensures) (ended .put-mark .ensures) (start .pre .1)
+    sheet-laid (start .args .plan) (start .args .t) (start .args .a) _ _ _ _ _ _
+    (record {
+      head = headed .put-head .ensures;
+      stations = placed .put-stations .ensures;
+      allocations = allocated .put-allocations .ensures;
+      end = ended .put-mark .ensures;
+    })
+    (counted .allocations-for .ensures) (start .pre .1)
 
 pub put-sheet-spec : {M : Type 1} → statement M
 put-sheet-spec =

@@ -1,25 +1,22 @@
 -- `put_stations` is right because each turn lays one more row behind the rows laid.
-use Prim.Native.Nat.{_+_, _-_, _*_, _≤_}
-use mathlib.Core.Path.{_≡_, sym, refl, _∙_}
+use Prim.Native.Nat.{_-_}
 use native.Mathlib.Omega.{arith}
-use lib.ListN.{length}
-use Rattle.fields.specs.Rows.{rows, laid}
 use Rattle.sheets.specs.Layout.{stationBytes}
-use Rattle.fields.specs.RowLaws.{rows-none, laid-none}
-use Rattle.fields.proofs.SegmentLaws.{rows-then}
-use Rattle.sheets.proofs.WritingLaws.{station-length}
+use Rattle.sheets.proofs.WritingLaws.{station-length, RowsLaid, rows-begin, rows-turn, rows-end}
 use borrow.Author.Needs.{needs}
 use Rattle.sheets.proofs.writing.put_stations.Statement.{statement}
 use Rattle.sheets.proofs.writing.put_stations.Tie as tie
 
 abbrev Inv-loop : tie.InvT-loop
-Inv-loop out₀ from n t at₀ i₀ out at i = (i ≤ n) × (at ≡ from + 19 * i) × (out ≡ laid out₀ from (rows i (stationBytes t))) × (length out ≡ length out₀)
+Inv-loop out₀ from n t at₀ i₀ out at i = RowsLaid out₀ out from at 19 n i (stationBytes t)
 
 abbrev μ-loop : tie.MeasureT-loop
 μ-loop out₀ from n t at₀ i₀ out at i = n - i
 
 loop-holds : tie.Need-loop-holds Inv-loop μ-loop
-loop-holds c = (omega arith, omega arith, sym (rw rows-none (laid-none _ _)), refl)
+loop-holds c =
+    let args = c .before .args in
+    rows-begin (args .out .now) (args .from) 19 (args .n) (stationBytes (args .t3)) (λ i. station-length _ _ _ _)
 
 mul-put-station : tie.Need-mul-put-station Inv-loop μ-loop
 mul-put-station c = search needs
@@ -62,18 +59,18 @@ loop-again c =
     let put = c .before .before in
     let at-loop = put .before .before .before .before .before .before .before in
     let args = at-loop .before .before .args in
-    let fit = at-loop .before .before .pre in
-    let next = rows-then (args .out .now) (at-loop .loop .out) (put .put-station .last .0) (args .from) (at-loop .loop .at) (at-loop .loop .i) 19 (stationBytes (args .t3)) (λ i. station-length _ _ _ _) (at-loop .loop .inv .2) (at-loop .loop .inv .1) (put .put-station .ensures) (omega arith) in
-    (omega arith, omega arith, next, put .put-station .kept .0 ∙ at-loop .loop .inv .3)
+    let inv = at-loop .loop .inv in
+    rows-turn (args .out .now) (args .from) 19 (args .n) (stationBytes (args .t3)) (λ i. station-length _ _ _ _) _ _ _ _ inv
+    (omega arith) (at-loop .before .before .pre .1) (put .put-station .ensures) (put .put-station .kept .0)
 
 same-length : tie.Need-same-length Inv-loop μ-loop
-same-length c = c .before .loop .inv .3
+same-length c = c .before .loop .inv .long
 
 returns : tie.Need-returns Inv-loop μ-loop
 returns c =
     let at-loop = c .before in
-    let end : at-loop .loop .i ≡ at-loop .before .before .args .n = omega arith in
-    at-loop .loop .inv .2 ∙ rw end
+    let args = at-loop .before .before .args in
+    rows-end (args .out .now) (args .from) 19 (args .n) (stationBytes (args .t3)) (λ i. station-length _ _ _ _) _ _ _ (at-loop .loop .inv) (omega arith)
 
 pub put-stations-spec : {M : Type 1} → statement M
 put-stations-spec =

@@ -14,8 +14,9 @@ use Rattle.fields.specs.Fields.{tagAt, sizeAt}
 use Rattle.fields.proofs.SegmentLaws.{stands-left, stands-right, stands-join, stands-row, rows-stand}
 use Rattle.fields.proofs.ByteLaws.{number-read, number-stands, stands-three}
 use Rattle.fields.proofs.FieldLaws.{Whole}
+use Rattle.sheet_rules.specs.Promised.{Numbers32}
 use Rattle.sheets.specs.Layout.{mark, stationWith, allocationWith, stationBytes, allocationBytes}
 use Rattle.sheets.proofs.WritingLaws.{station-length, allocation-length}
 
 -- ---- the start of a field
 
@@ -95,13 +96,6 @@ allocation-together bs a s h = stands-join bs a (mark 3 4) (bytesOf s) (h .start
 
 -- ---- stations one after another
 
--- the numbers of the first n stations fit into four bytes each
-pub record SmallStations (t : Set) (n : ℕ) : Type 0 where
-  pub walk : (i : ℕ) → i < n → at (t .w) i < 2 ^ 32
-  pub longest : (i : ℕ) → i < n → at (t .c) i < 2 ^ 32
-  pub deadline : (i : ℕ) → i < n → at (t .d) i < 2 ^ 32
-  pub gap : (i : ℕ) → i < n → at (t .p) i < 2 ^ 32
-
 -- the numbers at the places of the stations are the set's
 pub record StationNumbers (bs : List ℕ) (from : ℕ) (t : Set) (n : ℕ) : Type 0 where
   pub walk : (i : ℕ) → i < n → numberAt bs (from + 3 + 19 * i) ≡ at (t .w) i
@@ -121,27 +115,28 @@ module _ (bs : List ℕ) (from : ℕ) (t : Set) (n : ℕ) where
       let long = station-length (at (t .w) i) (at (t .c) i) (at (t .d) i) (at (t .p) i) in
       whole-stands bs (from + 19 * i) 2 16 (station-apart bs (from + 19 * i) _ _ _ _ s .start) (omega arith)
 
-  pub stations-read : Stands bs from (rows n (stationBytes t)) → SmallStations t n → StationNumbers bs from t n
-  stations-read h small =
+  pub stations-read : Stands bs from (rows n (stationBytes t)) → n ≤ t .n → Numbers32 t → StationNumbers bs from t n
+  stations-read h most small =
       record {
         walk = λ i l.
             let e : from + 3 + 19 * i ≡ from + 19 * i + 3 = omega arith in
-            rw e (number-read bs (from + 19 * i + 3) (at (t .w) i) (small .walk i l) (parts i l .walk));
+            rw e (number-read bs (from + 19 * i + 3) (at (t .w) i) (small .walk i (omega arith)) (parts i l .walk));
         longest = λ i l.
             let e : from + 7 + 19 * i ≡ from + 19 * i + 7 = omega arith in
-            rw e (number-read bs (from + 19 * i + 7) (at (t .c) i) (small .longest i l) (parts i l .longest));
+            rw e (number-read bs (from + 19 * i + 7) (at (t .c) i) (small .longest i (omega arith)) (parts i l .longest));
         deadline = λ i l.
             let e : from + 11 + 19 * i ≡ from + 19 * i + 11 = omega arith in
-            rw e (number-read bs (from + 19 * i + 11) (at (t .d) i) (small .deadline i l) (parts i l .deadline));
+            rw e (number-read bs (from + 19 * i + 11) (at (t .d) i) (small .deadline i (omega arith)) (parts i l .deadline));
         gap = λ i l.
             let e : from + 15 + 19 * i ≡ from + 19 * i + 15 = omega arith in
-            rw e (number-read bs (from + 19 * i + 15) (at (t .p) i) (small .gap i l) (parts i l .gap));
+            rw e (number-read bs (from + 19 * i + 15) (at (t .p) i) (small .gap i (omega arith)) (parts i l .gap));
       }
     where
       parts : (i : ℕ) → i < n → StationStands bs (from + 19 * i) (at (t .w) i) (at (t .c) i) (at (t .d) i) (at (t .p) i)
       parts i l = station-apart bs (from + 19 * i) _ _ _ _ (station-of h i l)
 
-  pub stations-stand : AllBytes bs → from + 19 * n ≤ length bs → ((i : ℕ) → i < n → Whole bs (from + 19 * i) 2 16) → StationNumbers bs from t n → Stands bs from (rows n (stationBytes t))
+  pub stations-stand : AllBytes bs → from + 19 * n ≤ length bs → ((i : ℕ) → i < n → Whole bs (from + 19 * i) 2 16)
+      → StationNumbers bs from t n → Stands bs from (rows n (stationBytes t))
   stations-stand bytes fit whole numbers =
       rows-stand bs from n 19 (stationBytes t) (λ i. station-length _ _ _ _) fit
       (λ i l. station-together bs (from + 19 * i) _ _ _ _ (parts i l))
@@ -179,7 +174,8 @@ module _ (bs : List ℕ) (from : ℕ) (a : Alloc) (m : ℕ) where
       let e : from + 3 + 7 * i ≡ from + 7 * i + 3 = omega arith in
       rw e (number-read bs (from + 7 * i + 3) (at (a .s) i) (small i l) (allocation-apart bs (from + 7 * i) _ (allocation-of h i l) .share))
 
-  pub allocations-stand : AllBytes bs → from + 7 * m ≤ length bs → ((i : ℕ) → i < m → Whole bs (from + 7 * i) 3 4) → ((i : ℕ) → i < m → numberAt bs (from + 3 + 7 * i) ≡ at (a .s) i) → Stands bs from (rows m (allocationBytes a))
+  pub allocations-stand : AllBytes bs → from + 7 * m ≤ length bs → ((i : ℕ) → i < m → Whole bs (from + 7 * i) 3 4)
+      → ((i : ℕ) → i < m → numberAt bs (from + 3 + 7 * i) ≡ at (a .s) i) → Stands bs from (rows m (allocationBytes a))
   allocations-stand bytes fit whole numbers =
       rows-stand bs from m 7 (allocationBytes a) (λ i. allocation-length _) fit
       (λ i l. allocation-together bs (from + 7 * i) _ (parts i l))

@@ -1,5 +1,5 @@
 -- What was read is written again the same: the fields by which the walk went stand in the bytes with the numbers that were read from them.
-use Prim.Native.Nat.{ℕ, _+_, _*_, _≤_, _<_}
+use Prim.Native.Nat.{ℕ, _+_, _*_, _<_}
 use mathlib.Core.Path.{_≡_, sym, subst, _∙_}
 use mathlib.Core.Bool.{Bool}
 use mathlib.Core.List.{List}
@@ -16,11 +16,11 @@ use Rattle.fields.proofs.FieldLaws.{allocations-few}
 use Rattle.fields.specs.declared.Passed.{Passed}
 use Rattle.scan.specs.Scanned.{scanned}
 use Rattle.scan.proofs.PassedLaws.{passedAll, Ended, scanned-ended}
 use Rattle.sheets.specs.Layout.{mark, headBytes, allocationBytes, sheetOf}
 use Rattle.sheets.specs.Reading.{headIn, setOf, allocOf, setIn, allocIn, judgedSheet, readSheet}
 use Rattle.sheets.specs.ReadLaws.{then-none, read-number}
-use Rattle.sheets.proofs.StandLaws.{mark-stands, StationNumbers, stations-stand, allocations-stand}
-use Rattle.sheets.proofs.BackLaws.{SheetParts, parts-sheet}
+use Rattle.sheet_rules.proofs.StandLaws.{mark-stands, StationNumbers, stations-stand, allocations-stand}
+use Rattle.sheet_rules.proofs.BackLaws.{SheetParts, parts-sheet}
 
 module _ (plan : Bool) (bs : List ℕ) (bytes : AllBytes bs) (n m : ℕ) (ended : Ended plan bs (passedAll plan n m)) where
   read-header : Stands bs 0 (headBytes (headIn bs))
@@ -51,7 +51,8 @@ module _ (plan : Bool) (bs : List ℕ) (bytes : AllBytes bs) (n m : ℕ) (ended 
       record {
         header = read-header;
         stations = stations-stand bs 7 (setOf bs (passedAll plan n m)) n bytes (omega arith) (ended .stations) read-numbers;
-        allocations = subst (λ (k : ℕ). Stands bs (7 + 19 * n) (rows k share)) all (allocations-stand bs (7 + 19 * n) (allocOf bs (passedAll plan n m)) m bytes (omega arith) (ended .allocations) read-allocations);
+        allocations = subst (λ (k : ℕ). Stands bs (7 + 19 * n) (rows k share)) all
+            (allocations-stand bs (7 + 19 * n) (allocOf bs (passedAll plan n m)) m bytes (omega arith) (ended .allocations) read-allocations);
         ending = subst (λ (k : ℕ). Stands bs (7 + 19 * n + 7 * k) (mark 255 0)) all (mark-stands bs (7 + 19 * n + 7 * m) 255 0 bytes (omega arith) (ended .end));
         long = omega arith;
       }

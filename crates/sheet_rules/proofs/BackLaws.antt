@@ -8,7 +8,7 @@ use native.Mathlib.Omega.{arith}
 use lib.ListN.{length, length-append}
 use Rattle.units.specs.Places.{at}
 use Rattle.units.specs.PlaceLaws.{fill-same, fill-inside}
-use Rattle.sets.specs.Rules.{SameSet}
+use Rattle.sets.specs.Rules.{SameSet, CountAllowed}
 use Rattle.sets.specs.Judged.{zeros}
 use Rattle.sets.specs.SetLaws.{judged-same}
 use Rattle.sets.specs.declared.Set.{Set}
@@ -23,12 +23,12 @@ use Rattle.scan.specs.Scanned.{scanned}
 use Rattle.scan.specs.FirstFault.{WellFormed}
 use Rattle.scan.specs.declared.Scanned.{Scanned}
 use Rattle.scan.proofs.PassedLaws.{passedAll, head-passes, station-passes, allocation-passes, end-passes}
 use Rattle.sheets.specs.Layout.{mark, headBytes, stationBytes, allocationBytes, endBytes, sheetOf}
 use Rattle.sheets.specs.Reading.{setOf, allocOf, setIn, allocIn, judgedSheet, readSheet}
 use Rattle.sheets.specs.ReadLaws.{then-rest, read-number, sheet-accepted, Kept, judged-kept}
-use Rattle.sheets.specs.Promised.{firstPlaces, firstAllocations}
+use Rattle.sheet_rules.specs.Promised.{firstPlaces, firstAllocations, Numbers32}
 use Rattle.sheets.proofs.WritingLaws.{head-length, stations-length, allocations-length, sheet-long}
-use Rattle.sheets.proofs.StandLaws.{whole-stands, SmallStations, stations-whole, stations-read, allocations-whole, allocations-read}
+use Rattle.sheet_rules.proofs.StandLaws.{whole-stands, stations-whole, stations-read, allocations-whole, allocations-read}
 
 -- ---- the parts of a sheet stand one behind the other
 
@@ -105,11 +105,13 @@ module _ (plan : Bool) (bs : List ℕ) (t : Set) (a : Alloc) (parts : SheetParts
       let e : 7 + 19 * t .n ≡ 7 + 19 * t .n + 7 * 0 = omega arith in
       rw e at (stations-pass few (t .n) (omega arith))
   allocations-pass few (suc j) l =
-      let next = allocation-passes plan bs (t .n) j (7 + 19 * t .n + 7 * j) (allocations-pass few j (omega arith)) (omega arith) (allocations-whole bs (7 + 19 * t .n) a (allocationsFor plan (t .n)) (parts .allocations) j (omega arith)) in
+      let whole = allocations-whole bs (7 + 19 * t .n) a (allocationsFor plan (t .n)) (parts .allocations) j (omega arith) in
+      let next = allocation-passes plan bs (t .n) j (7 + 19 * t .n + 7 * j) (allocations-pass few j (omega arith)) (omega arith) whole in
       let e : 7 + 19 * t .n + 7 * j + 3 + 4 ≡ 7 + 19 * t .n + 7 * suc j = omega arith in
       rw (add-one, e) at next
 
-  parts-scanned : 1 ≤ t .n → t .n ≤ 128 → scanned plan bs ≡ record { number = 0; passed = passedAll plan (t .n) (allocationsFor plan (t .n)); at = 7 + 19 * t .n + 7 * allocationsFor plan (t .n) }
+  parts-scanned : 1 ≤ t .n → t .n ≤ 128
+      → scanned plan bs ≡ record { number = 0; passed = passedAll plan (t .n) (allocationsFor plan (t .n)); at = 7 + 19 * t .n + 7 * allocationsFor plan (t .n) }
   parts-scanned some few =
       let m = allocationsFor plan (t .n) in
       end-passes plan bs (t .n) m (7 + 19 * t .n + 7 * m) (allocations-pass few m (omega arith)) some refl (whole-stands bs _ 255 0 (parts .ending) (omega (arith, parts .long))) (parts .long)
@@ -120,13 +122,17 @@ module _ (plan : Bool) (bs : List ℕ) (t : Set) (a : Alloc) (parts : SheetParts
   unfolding headBytes bytesOf
   parts-ttrt small = number-read bs 3 (t .head .ttrt) small (stands-right bs 0 (mark 1 4) (bytesOf (t .head .ttrt)) (parts .header))
 
-  parts-set : (m : ℕ) → t .head .ttrt < 2 ^ 32 → SmallStations t (t .n) → setOf bs (passedAll plan (t .n) m) ≡ firstPlaces t
-  parts-set m small smalls =
-      let numbers = stations-read bs 7 t (t .n) (parts .stations) smalls in
-      rw
-      (parts-ttrt small, fill-same (t .n) _ (at (t .w)) zeros (numbers .walk), fill-same (t .n) _ (at (t .c)) zeros (numbers .longest), fill-same (t .n) _ (at (t .d)) zeros (numbers .deadline), fill-same (t .n) _ (at (t .p)) zeros (numbers .gap))
+  parts-set : (m : ℕ) → Numbers32 t → setOf bs (passedAll plan (t .n) m) ≡ firstPlaces t
+  parts-set m small =
+      let numbers = stations-read bs 7 t (t .n) (parts .stations) (omega arith) small in
+      let w = fill-same (t .n) _ (at (t .w)) zeros (numbers .walk) in
+      let c = fill-same (t .n) _ (at (t .c)) zeros (numbers .longest) in
+      let d = fill-same (t .n) _ (at (t .d)) zeros (numbers .deadline) in
+      let p = fill-same (t .n) _ (at (t .p)) zeros (numbers .gap) in
+      rw (parts-ttrt (small .header), w, c, d, p)
 
-  parts-alloc : ((i : ℕ) → i < allocationsFor plan (t .n) → at (a .s) i < 2 ^ 32) → allocOf bs (passedAll plan (t .n) (allocationsFor plan (t .n))) ≡ firstAllocations (allocationsFor plan (t .n)) a
+  parts-alloc : ((i : ℕ) → i < allocationsFor plan (t .n) → at (a .s) i < 2 ^ 32)
+      → allocOf bs (passedAll plan (t .n) (allocationsFor plan (t .n))) ≡ firstAllocations (allocationsFor plan (t .n)) a
   parts-alloc small =
       let m = allocationsFor plan (t .n) in
       rw (fill-same m _ (at (a .s)) zeros (allocations-read bs (7 + 19 * t .n) a m (parts .allocations) small))
@@ -154,24 +160,22 @@ judged-first false t a few = sym (judged-same t (firstPlaces t) 0 (first-same t 
 
 -- ---- what was laid out, judged or not
 
--- the numbers of a sheet fit into four bytes each
-pub record Fits32 (plan : Bool) (t : Set) (a : Alloc) : Type 0 where
-  pub header : t .head .ttrt < 2 ^ 32
-  pub stations : SmallStations t (t .n)
-  pub allocations : (i : ℕ) → i < allocationsFor plan (t .n) → at (a .s) i < 2 ^ 32
+-- the allocations that belong to the sheet are 32-bit numbers
+abbrev pub Shares32 : Bool → Set → Alloc → Type 0
+Shares32 plan t a = (i : ℕ) → i < allocationsFor plan (t .n) → at (a .s) i < 2 ^ 32
 
-module _ (plan : Bool) (t : Set) (a : Alloc) (some : 1 ≤ t .n) (few : t .n ≤ 128) (small : Fits32 plan t a) where
+module _ (plan : Bool) (t : Set) (a : Alloc) (count : CountAllowed t) (small : Numbers32 t) (shares : Shares32 plan t a) where
   laid-scanned : scanned plan (sheetOf plan t a) ≡ record { number = 0; passed = passedAll plan (t .n) (allocationsFor plan (t .n)); at = 7 + 19 * t .n + 7 * allocationsFor plan (t .n) }
-  laid-scanned = parts-scanned plan (sheetOf plan t a) t a (sheet-parts plan t a) some few
+  laid-scanned = parts-scanned plan (sheetOf plan t a) t a (sheet-parts plan t a) (count .0) (count .1)
 
   laid-set : setIn plan (sheetOf plan t a) ≡ firstPlaces t
-  laid-set = ap (λ (r : Scanned). setOf (sheetOf plan t a) (r .passed)) laid-scanned ∙ parts-set plan (sheetOf plan t a) t a (sheet-parts plan t a) (allocationsFor plan (t .n)) (small .header) (small .stations)
+  laid-set = ap (λ (r : Scanned). setOf (sheetOf plan t a) (r .passed)) laid-scanned ∙ parts-set plan (sheetOf plan t a) t a (sheet-parts plan t a) (allocationsFor plan (t .n)) small
 
   laid-alloc : allocIn plan (sheetOf plan t a) ≡ firstAllocations (allocationsFor plan (t .n)) a
-  laid-alloc = ap (λ (r : Scanned). allocOf (sheetOf plan t a) (r .passed)) laid-scanned ∙ parts-alloc plan (sheetOf plan t a) t a (sheet-parts plan t a) (small .allocations)
+  laid-alloc = ap (λ (r : Scanned). allocOf (sheetOf plan t a) (r .passed)) laid-scanned ∙ parts-alloc plan (sheetOf plan t a) t a (sheet-parts plan t a) shares
 
   laid-judged : judgedSheet plan (setIn plan (sheetOf plan t a)) (allocIn plan (sheetOf plan t a)) ≡ judgedSheet plan t a
-  laid-judged = rw (laid-set, laid-alloc) (judged-first plan t a few)
+  laid-judged = rw (laid-set, laid-alloc) (judged-first plan t a (count .1))
 
   -- reading what was laid out gives the number of its judgement
   pub laid-number : readSheet plan (sheetOf plan t a) .number ≡ judgedSheet plan t a
@@ -185,20 +189,22 @@ module _ (plan : Bool) (t : Set) (a : Alloc) (some : 1 ≤ t .n) (few : t .n ≤
 -- ---- read back as written
 
 -- what is judged 0 fits into four bytes
-kept-small : (plan : Bool) (t : Set) (a : Alloc) → Kept plan t a → SmallStations t (t .n)
+kept-small : (plan : Bool) (t : Set) (a : Alloc) → Kept plan t a → Numbers32 t
 kept-small plan t a k =
     record {
+      header = omega (arith, k .numbers .header .1);
       walk = λ i l. omega (arith, k .numbers .stations i l .walk);
       longest = λ i l. omega (arith, k .numbers .stations i l .longest);
       deadline = λ i l. omega (arith, k .numbers .stations i l .deadline .1);
       gap = λ i l. omega (arith, k .numbers .stations i l .gap .1);
     }
 
-kept-allocations : (plan : Bool) (t : Set) (a : Alloc) → Kept plan t a → (i : ℕ) → i < allocationsFor plan (t .n) → at (a .s) i < 2 ^ 32
+kept-allocations : (plan : Bool) (t : Set) (a : Alloc) → Kept plan t a → Shares32 plan t a
 kept-allocations true t a k i l = omega (arith, k .allocations refl i l)
 kept-allocations false t a k i l = absurd (omega arith)
 
-pub read-back : (plan : Bool) (t : Set) (a : Alloc) → judgedSheet plan t a ≡ 0 → readSheet plan (sheetOf plan t a) ≡ record { set = firstPlaces t; alloc = firstAllocations (allocationsFor plan (t .n)) a; number = 0 }
+pub read-back : (plan : Bool) (t : Set) (a : Alloc) → judgedSheet plan t a ≡ 0
+    → readSheet plan (sheetOf plan t a) ≡ record { set = firstPlaces t; alloc = firstAllocations (allocationsFor plan (t .n)) a; number = 0 }
 read-back plan t a h =
     let k = judged-kept plan t a h in
-    laid-read plan t a (k .count .0) (k .count .1) (record { header = omega (arith, k .numbers .header .1); stations = kept-small plan t a k; allocations = kept-allocations plan t a k }) h
+    laid-read plan t a (k .count) (kept-small plan t a k) (kept-allocations plan t a k) h

@@ -1,5 +1,5 @@
 -- The promises hold because a sheet's parts stand one behind the other, are counted where they stand, and hold the numbers that were written.
-use Prim.Native.Nat.{ℕ, zero, suc, _+_, _*_, _≤_, _<_}
+use Prim.Native.Nat.{ℕ, zero, suc, _+_, _*_, _^_, _≤_, _<_}
 use mathlib.Core.Path.{_≡_, refl, sym, ap, _∙_}
 use mathlib.Core.Bool.{Bool, true, false}
 use mathlib.Core.List.{List, [], _∷_, _++_}
@@ -23,23 +23,22 @@ use Rattle.fields.specs.Rows.{rows}
 use Rattle.fields.specs.Bytes.{bytesOf, AllBytes}
 use Rattle.fields.specs.Fields.{allocationsFor}
 use Rattle.fields.proofs.SegmentLaws.{rows-same}
-use Rattle.fields.proofs.FieldLaws.{allocations-few}
 use Rattle.fields.specs.declared.Passed.{Passed}
 use Rattle.scan.specs.Scanned.{scanned}
 use Rattle.scan.specs.FirstFault.{Fault, no-start, not-allowed, cut-body, follows, FirstFault, WholeSheet}
 use Rattle.scan.specs.declared.Scanned.{Scanned}
 use Rattle.scan.proofs.ScanLaws.{zero-or-not, fault-there, end-there, stopped, shape-fault, shape-whole}
 use Rattle.scan.proofs.PassedLaws.{scanned-ended, through, plan-no-request}
 use Rattle.sheets.specs.Layout.{headBytes, stationWith, stationBytes, allocationBytes, sheetOf, requestSheet, planSheet, sheetLength}
 use Rattle.sheets.specs.Reading.{thenNumber, setIn, allocIn, judgedSheet, readSheet, readRequest, readPlan}
-use Rattle.sheets.specs.Writing.{writtenAnswer, writtenBuffer}
-use Rattle.sheets.specs.Promised.{Promised, ZeroPast, GivenRequest, GivenPlan, firstPlaces, firstAllocations, smallSet}
+use Rattle.sheets.specs.Writing.{writtenAnswer, writtenBuffer, requestWritten, planWritten}
+use Rattle.sheet_rules.specs.Promised.{Promised, ZeroPast, GivenRequest, GivenPlan, firstPlaces, firstAllocations, smallSet, Numbers32}
 use Rattle.sheets.specs.ReadLaws.{then-rest, then-keeps, then-none, read-refused, read-accepted, read-number, sheet-accepted}
-use Rattle.sheets.proofs.WritingLaws.{sheet-long, answer-accepted, answer-number, buffer-accepted, buffer-refused, number-none}
-use Rattle.sheets.proofs.BackLaws.{read-back, first-same, first-allocations}
-use Rattle.sheets.proofs.AgainLaws.{read-again}
+use Rattle.sheets.proofs.WritingLaws.{sheet-long, answer-accepted, answer-number, buffer-accepted, buffer-refused, number-none, number-short, number-judged as written-judged}
+use Rattle.sheet_rules.proofs.BackLaws.{read-back, laid-number, first-same, first-allocations}
+use Rattle.sheet_rules.proofs.AgainLaws.{read-again}
 use Rattle.sheets.specs.declared.ReadPlan.{ReadPlan}
 use Rattle.sheets.specs.declared.Written.{Written}
 
 -- ---- writing, then reading
 
@@ -62,7 +61,8 @@ accepted-says plan t a out h =
     (both .0, leb-true _ _ (passed _ 14 _ (omega arith) (both .1) .0))
 
 -- bytes that writing gave are read back
-given-read : (plan : Bool) (t : Set) (a : Alloc) (out bs : List ℕ) → writtenAnswer plan t a out .number ≡ 0 → bs ≡ take (writtenAnswer plan t a out .length) (writtenBuffer plan t a out) → readSheet plan bs .number ≡ 0
+given-read : (plan : Bool) (t : Set) (a : Alloc) (out bs : List ℕ) → writtenAnswer plan t a out .number ≡ 0
+    → bs ≡ take (writtenAnswer plan t a out .length) (writtenBuffer plan t a out) → readSheet plan bs .number ≡ 0
 given-read plan t a out bs h e =
     let said = accepted-says plan t a out h in
     let long : writtenAnswer plan t a out .length ≡ sheetLength plan (t .n) = ap (λ (r : Written). r .length) (answered plan t a out (said .0) (said .1)) in
@@ -86,8 +86,8 @@ no-allocation t a b = refl
 
 module _ (bs : List ℕ) (bytes : AllBytes bs) where
   request-same : (out : List ℕ) → readRequest bs .number ≡ 0 → length bs ≤ length out
-      → (writtenAnswer false (readRequest bs .set) blankAlloc out ≡ record { length = length bs; number = 0 })
-      × (writtenBuffer false (readRequest bs .set) blankAlloc out ≡ bs ++ drop (length bs) out)
+      → (requestWritten (readRequest bs .set) out .answer ≡ record { length = length bs; number = 0 })
+      × (requestWritten (readRequest bs .set) out .buffer ≡ bs ++ drop (length bs) out)
   unfolding judgedSheet
   request-same out h fits =
       let said = read-again false bs bytes h in
@@ -95,8 +95,8 @@ module _ (bs : List ℕ) (bytes : AllBytes bs) where
       (same-bytes false (setIn false bs) blankAlloc bs out (said .0) (said .1 .0 ∙ no-allocation (setIn false bs) (allocIn false bs) blankAlloc) fits)
 
   plan-same : (out : List ℕ) → readPlan bs .number ≡ 0 → length bs ≤ length out
-      → (writtenAnswer true (readPlan bs .set) (readPlan bs .alloc) out ≡ record { length = length bs; number = 0 })
-      × (writtenBuffer true (readPlan bs .set) (readPlan bs .alloc) out ≡ bs ++ drop (length bs) out)
+      → (planWritten (readPlan bs .set) (readPlan bs .alloc) out .answer ≡ record { length = length bs; number = 0 })
+      × (planWritten (readPlan bs .set) (readPlan bs .alloc) out .buffer ≡ bs ++ drop (length bs) out)
   plan-same out h fits =
       let said = read-again true bs bytes h in
       rw (sheet-accepted true bs (said .1 .1) (said .0))
@@ -178,6 +178,47 @@ whole-else plan bs h =
     above zero z = absurd (z refl)
     above (suc k) z = omega arith
 
+-- the sheet has no fault, both ways
+whole-exactly : (plan : Bool) (bs : List ℕ) → ((k : ℕ) → 1 ≤ k → k ≤ 3 → readSheet plan bs .number ≢ k) ↔ WholeSheet plan bs
+whole-exactly plan bs = (
+  whole-else plan bs,
+  λ w k low high h.
+      let z : scanned plan bs .number ≡ 0 = ap (λ (r : Scanned). r .number) (end-there plan bs w) in
+      not-low plan (setIn plan bs) (allocIn plan bs) k (count-read plan bs z) low high (sym (number-judged plan bs z) ∙ h),
+)
+
+counted : (plan : Bool) (bs : List ℕ) (w : WholeSheet plan bs) → (setIn plan bs .n ≡ w .passed .stations) × CountAllowed (setIn plan bs)
+counted plan bs w =
+    let e = end-there plan bs w in
+    (ap (λ (r : Scanned). r .passed .stations) e, count-read plan bs (ap (λ (r : Scanned). r .number) e))
+
+-- ---- the numbers of writing
+
+-- no judgement is 14
+not-fourteen : (plan : Bool) (t : Set) (a : Alloc) → judgedSheet plan t a ≢ 14
+unfolding judgedSheet judgedPlan judgedThen
+not-fourteen true t a =
+    not-given _ 2 _ 14 (omega arith) (not-given _ 4 _ 14 (omega arith) (not-given _ 5 _ 14 (omega arith) (not-given _ 7 0 14 (omega arith) (omega arith))))
+not-fourteen false t a = not-given _ 2 _ 14 (omega arith) (not-given _ 4 _ 14 (omega arith) (not-given _ 5 0 14 (omega arith) (omega arith)))
+
+module _ (plan : Bool) (t : Set) (a : Alloc) (out : List ℕ) where
+  keeps-judgement : judgedSheet plan t a ≢ 0 → writtenAnswer plan t a out .number ≡ judgedSheet plan t a
+  keeps-judgement h = answer-number _ _ ∙ written-judged plan t a out h
+
+  fourteen : (writtenAnswer plan t a out .number ≡ 14) ↔ ((judgedSheet plan t a ≡ 0) × (length out < sheetLength plan (t .n)))
+  fourteen = (
+    λ h.
+        ⊎-elim (λ (z : judgedSheet plan t a ≡ 0).
+        ⊎-elim (λ (short : length out < sheetLength plan (t .n)). (z, short))
+        (λ (fits : sheetLength plan (t .n) ≤ length out).
+        let accepted : writtenAnswer plan t a out .number ≡ 0 = answer-number _ _ ∙ number-none plan t a out z fits in
+        absurd (omega arith))
+        (below-or-not (length out) (sheetLength plan (t .n))))
+        (λ (some : judgedSheet plan t a ≢ 0). absurd (not-fourteen plan t a (sym (keeps-judgement some) ∙ h)))
+        (zero-or-not (judgedSheet plan t a)),
+    λ h. answer-number _ _ ∙ number-short plan t a out (h .0) (h .1),
+  )
+
 -- ---- blank, and 0 past N
 
 blank : (plan : Bool) (bs : List ℕ) → readSheet plan bs .number ≢ 0 → readSheet plan bs ≡ record { set = blankSet; alloc = blankAlloc; number = readSheet plan bs .number }
@@ -236,41 +277,44 @@ sheet-same plan t u a b same each =
     rows-same (allocationsFor plan (t .n)) (allocationBytes a) (allocationBytes b) (λ i l. rw (each i l)) in
     rw (stations, allocations, same .header, same .count)
 
-written-same : (plan : Bool) (t u : Set) (a b : Alloc) (out : List ℕ) → SameSet t u → ((i : ℕ) → i < allocationsFor plan (t .n) → at (a .s) i ≡ at (b .s) i) → judgedSheet plan t a ≡ judgedSheet plan u b
+written-same : (plan : Bool) (t u : Set) (a b : Alloc) (out : List ℕ) → SameSet t u
+    → ((i : ℕ) → i < allocationsFor plan (t .n) → at (a .s) i ≡ at (b .s) i) → judgedSheet plan t a ≡ judgedSheet plan u b
     → (writtenAnswer plan t a out ≡ writtenAnswer plan u b out) × (writtenBuffer plan t a out ≡ writtenBuffer plan u b out)
 written-same plan t u a b out same each judged = (rw (judged, same .count), rw (judged, sheet-same plan t u a b same each, same .count))
 
 request-places : (t u : Set) (out : List ℕ) → SameSet t u
-    → (writtenAnswer false t blankAlloc out ≡ writtenAnswer false u blankAlloc out) × (writtenBuffer false t blankAlloc out ≡ writtenBuffer false u blankAlloc out)
+    → (requestWritten t out .answer ≡ requestWritten u out .answer) × (requestWritten t out .buffer ≡ requestWritten u out .buffer)
 unfolding judgedSheet
 request-places t u out same = written-same false t u blankAlloc blankAlloc out same (λ i l. refl) (judged-same t u 0 same)
 
 plan-places : (t u : Set) (a b : Alloc) (out : List ℕ) → SameSet t u → ((i : ℕ) → i < t .n → at (a .s) i ≡ at (b .s) i)
-    → (writtenAnswer true t a out ≡ writtenAnswer true u b out) × (writtenBuffer true t a out ≡ writtenBuffer true u b out)
+    → (planWritten t a out .answer ≡ planWritten u b out .answer) × (planWritten t a out .buffer ≡ planWritten u b out .buffer)
 unfolding judgedSheet
 plan-places t u a b out same each = written-same true t u a b out same each (judged-plan-same t u a b same each)
 
 -- ---- the promises
 
 request-written : (t : Set) (out : List ℕ) → judged t ≡ 0 → 10 + 19 * t .n ≤ length out
-    → (writtenAnswer false t blankAlloc out ≡ record { length = 10 + 19 * t .n; number = 0 })
-    × (readRequest (take (10 + 19 * t .n) (writtenBuffer false t blankAlloc out)) ≡ record { set = firstPlaces t; number = 0 })
+    → (requestWritten t out .answer ≡ record { length = 10 + 19 * t .n; number = 0 })
+    × (readRequest (take (10 + 19 * t .n) (requestWritten t out .buffer)) ≡ record { set = firstPlaces t; number = 0 })
 unfolding judgedSheet
 request-written t out h fits =
     let e : 10 + 19 * t .n ≡ sheetLength false (t .n) = omega arith in
     let fit : sheetLength false (t .n) ≤ length out = omega arith in
-    let bytes : take (10 + 19 * t .n) (writtenBuffer false t blankAlloc out) ≡ requestSheet t = ap (λ (k : ℕ). take k (writtenBuffer false t blankAlloc out)) e ∙ first-bytes false t blankAlloc out h fit in
-    let back = read-back false t blankAlloc h in
-    (answered false t blankAlloc out h fit ∙ ap (λ (k : ℕ). record { length = k; number = 0 }) (sym e), ap readRequest bytes ∙ ap (λ (r : ReadPlan). record { set = r .set; number = r .number }) back)
+    let bytes : take (10 + 19 * t .n) (requestWritten t out .buffer) ≡ requestSheet t = ap (λ (k : ℕ). take k (requestWritten t out .buffer)) e ∙ first-bytes false t blankAlloc out h fit in
+    let back = read-back false t blankAlloc h in (
+      answered false t blankAlloc out h fit ∙ ap (λ (k : ℕ). record { length = k; number = 0 }) (sym e),
+      ap readRequest bytes ∙ ap (λ (r : ReadPlan). record { set = r .set; number = r .number }) back,
+    )
 
 plan-written : (t : Set) (a : Alloc) (out : List ℕ) → judgedPlan t a ≡ 0 → 10 + 26 * t .n ≤ length out
-    → (writtenAnswer true t a out ≡ record { length = 10 + 26 * t .n; number = 0 })
-    × (readPlan (take (10 + 26 * t .n) (writtenBuffer true t a out)) ≡ record { set = firstPlaces t; alloc = firstAllocations (t .n) a; number = 0 })
+    → (planWritten t a out .answer ≡ record { length = 10 + 26 * t .n; number = 0 })
+    × (readPlan (take (10 + 26 * t .n) (planWritten t a out .buffer)) ≡ record { set = firstPlaces t; alloc = firstAllocations (t .n) a; number = 0 })
 unfolding judgedSheet
 plan-written t a out h fits =
     let e : 10 + 26 * t .n ≡ sheetLength true (t .n) = omega arith in
     let fit : sheetLength true (t .n) ≤ length out = omega arith in
-    let bytes : take (10 + 26 * t .n) (writtenBuffer true t a out) ≡ planSheet t a = ap (λ (k : ℕ). take k (writtenBuffer true t a out)) e ∙ first-bytes true t a out h fit in
+    let bytes : take (10 + 26 * t .n) (planWritten t a out .buffer) ≡ planSheet t a = ap (λ (k : ℕ). take k (planWritten t a out .buffer)) e ∙ first-bytes true t a out h fit in
     (answered true t a out h fit ∙ ap (λ (k : ℕ). record { length = k; number = 0 }) (sym e), ap readPlan bytes ∙ read-back true t a h)
 
 request-judgement : (bs : List ℕ) → WholeSheet false bs → readRequest bs .number ≡ judged (setIn false bs)
@@ -288,6 +332,30 @@ no-request bs h =
     let whole = shape-whole true bs (then-none _ _ (sym (read-number _ _ _) ∙ h) .0) in
     fault-given false bs 2 (omega arith) (omega arith) .1 (plan-no-request bs whole)
 
+request-short : (t : Set) (out : List ℕ) → (requestWritten t out .answer .number ≡ 14) ↔ ((judged t ≡ 0) × (length out < 10 + 19 * t .n))
+unfolding judgedSheet
+request-short t out = (λ h. let said = fourteen false t blankAlloc out .0 h in (said .0, omega (arith, said .1)), λ h. fourteen false t blankAlloc out .1 (h .0, omega (arith, h .1)))
+
+plan-short : (t : Set) (a : Alloc) (out : List ℕ) → (planWritten t a out .answer .number ≡ 14) ↔ ((judgedPlan t a ≡ 0) × (length out < 10 + 26 * t .n))
+unfolding judgedSheet
+plan-short t a out = (λ h. let said = fourteen true t a out .0 h in (said .0, omega (arith, said .1)), λ h. fourteen true t a out .1 (h .0, omega (arith, h .1)))
+
+request-kept : (t : Set) (out : List ℕ) → judged t ≢ 0 → requestWritten t out .answer .number ≡ judged t
+unfolding judgedSheet
+request-kept t out h = keeps-judgement false t blankAlloc out h
+
+plan-kept : (t : Set) (a : Alloc) (out : List ℕ) → judgedPlan t a ≢ 0 → planWritten t a out .answer .number ≡ judgedPlan t a
+unfolding judgedSheet
+plan-kept t a out h = keeps-judgement true t a out h
+
+request-laid-out : (t : Set) → CountAllowed t → Numbers32 t → readRequest (requestSheet t) .number ≡ judged t
+unfolding judgedSheet
+request-laid-out t count small = laid-number false t blankAlloc count small (λ i l. absurd (omega arith))
+
+plan-laid-out : (t : Set) (a : Alloc) → CountAllowed t → Numbers32 t → ((i : ℕ) → i < t .n → at (a .s) i < 2 ^ 32) → readPlan (planSheet t a) .number ≡ judgedPlan t a
+unfolding judgedSheet
+plan-laid-out t a count small shares = laid-number true t a count small shares
+
 small-written : requestSheet smallSet ≡ 1 ∷ 0 ∷ 4 ∷ 0 ∷ 0 ∷ 0 ∷ 1 ∷ 2 ∷ 0 ∷ 16 ∷ 0 ∷ 0 ∷ 0 ∷ 1 ∷ 0 ∷ 0 ∷ 0 ∷ 0 ∷ 0 ∷ 0 ∷ 0 ∷ 1 ∷ 0 ∷ 0 ∷ 0 ∷ 1 ∷ 255 ∷ 0 ∷ 0 ∷ []
 unfolding sheetOf headBytes stationWith rows bytesOf fill
 small-written = refl
@@ -304,6 +372,8 @@ promised =
       plan-back = plan-written;
       back-same = first-same;
       back-allocations = first-allocations;
+      request-laid = request-laid-out;
+      plan-laid = plan-laid-out;
       request-again = λ bs out bytes h fits. request-same bs bytes out h fits;
       plan-again = λ bs out bytes h fits. plan-same bs bytes out h fits;
       request-exactly = request-given;
@@ -313,8 +383,9 @@ promised =
       one-fault = λ plan bs j k f g.
           let e = sym (fault-there plan bs j f) ∙ fault-there plan bs k g in
           (ap (λ (r : Scanned). r .number) e, ap (λ (r : Scanned). r .at) e);
-      request-whole = λ bs h. whole-else false bs h;
-      plan-whole = λ bs h. whole-else true bs h;
+      request-whole = whole-exactly false;
+      plan-whole = whole-exactly true;
+      stations-passed = counted;
       request-judged = request-judgement;
       plan-judged = plan-judgement;
       plan-no-request = no-request;
@@ -323,7 +394,12 @@ promised =
       request-past = past false;
       plan-past = past true;
       allocations-past = past-allocations;
-      unchanged = λ plan t a out h. buffer-refused _ (sheetOf plan t a) out (λ e. h (answer-number _ _ ∙ e));
+      request-refused = request-kept;
+      plan-refused = plan-kept;
+      request-fourteen = request-short;
+      plan-fourteen = plan-short;
+      request-unchanged = λ t out h. buffer-refused _ (requestSheet t) out (λ e. h (answer-number _ _ ∙ e));
+      plan-unchanged = λ t a out h. buffer-refused _ (planSheet t a) out (λ e. h (answer-number _ _ ∙ e));
       request-first-places = request-places;
       plan-first-places = plan-places;
     }

@@ -1,21 +1,21 @@
--- What is promised of reading and writing beside the contracts; `proofs/Promised.antt` proves it.
-use Prim.Native.Nat.{ℕ, _+_, _*_, _≤_, _<_}
+-- What is promised of reading and writing sheets beside the contracts; `proofs/Promised.antt` proves it.
+use Prim.Native.Nat.{ℕ, _+_, _*_, _^_, _≤_, _<_}
 use mathlib.Core.Path.{_≡_}
 use mathlib.Core.Bool.{Bool, true, false}
 use mathlib.Core.List.{List, [], _∷_, _++_}
 use mathlib.Core.Logic.{_↔_, _≢_}
 use lib.ListN.{length, take, drop}
 use Rattle.units.specs.Places.{at, fill}
-use Rattle.sets.specs.Rules.{SameSet}
+use Rattle.sets.specs.Rules.{SameSet, CountAllowed}
 use Rattle.sets.specs.Judged.{judged, blankSet, zeros}
 use Rattle.sets.specs.declared.Set.{Set}
 use Rattle.plans.specs.Planned.{judgedPlan, blankAlloc}
 use Rattle.plans.specs.declared.Alloc.{Alloc}
 use Rattle.fields.specs.Bytes.{AllBytes}
 use Rattle.scan.specs.FirstFault.{FirstFault, WholeSheet}
 use Rattle.sheets.specs.Layout.{requestSheet, planSheet}
 use Rattle.sheets.specs.Reading.{setIn, allocIn, readRequest, readPlan}
-use Rattle.sheets.specs.Writing.{writtenAnswer, writtenBuffer}
+use Rattle.sheets.specs.Writing.{requestWritten, planWritten}
 
 -- ---- over the first N places
 
@@ -42,19 +42,27 @@ pub record ZeroPast (t : Set) : Type 0 where
   pub deadline : (i : ℕ) → t .n ≤ i → at (t .d) i ≡ 0
   pub gap : (i : ℕ) → t .n ≤ i → at (t .p) i ≡ 0
 
+-- TTRT and the numbers of the first N stations are 32-bit numbers, as those of every set of the code are
+pub record Numbers32 (t : Set) : Type 0 where
+  pub header : t .head .ttrt < 2 ^ 32
+  pub walk : (i : ℕ) → i < t .n → at (t .w) i < 2 ^ 32
+  pub longest : (i : ℕ) → i < t .n → at (t .c) i < 2 ^ 32
+  pub deadline : (i : ℕ) → i < t .n → at (t .d) i < 2 ^ 32
+  pub gap : (i : ℕ) → i < t .n → at (t .p) i < 2 ^ 32
+
 -- ---- the bytes that writing gives
 
 -- these bytes are what writing some set into some buffer gave
 abbrev pub GivenRequest : List ℕ → Type 0
 GivenRequest bs =
     (t : Set) × (out : List ℕ)
-    × ((writtenAnswer false t blankAlloc out .number ≡ 0) × (bs ≡ take (writtenAnswer false t blankAlloc out .length) (writtenBuffer false t blankAlloc out)))
+    × ((requestWritten t out .answer .number ≡ 0) × (bs ≡ take (requestWritten t out .answer .length) (requestWritten t out .buffer)))
 
 -- these bytes are what writing some plan into some buffer gave
 abbrev pub GivenPlan : List ℕ → Type 0
 GivenPlan bs =
     (t : Set) × (a : Alloc) × (out : List ℕ)
-    × ((writtenAnswer true t a out .number ≡ 0) × (bs ≡ take (writtenAnswer true t a out .length) (writtenBuffer true t a out)))
+    × ((planWritten t a out .answer .number ≡ 0) × (bs ≡ take (planWritten t a out .answer .length) (planWritten t a out .buffer)))
 
 -- ---- an example
 
@@ -79,23 +87,26 @@ pub record Promised : Type 0 where
       ∷ 255 ∷ 0 ∷ 0 ∷ []
   -- read back as written: a request
   pub request-back : (t : Set) (out : List ℕ) → judged t ≡ 0 → 10 + 19 * t .n ≤ length out
-      → (writtenAnswer false t blankAlloc out ≡ record { length = 10 + 19 * t .n; number = 0 })
-      × (readRequest (take (10 + 19 * t .n) (writtenBuffer false t blankAlloc out)) ≡ record { set = firstPlaces t; number = 0 })
+      → (requestWritten t out .answer ≡ record { length = 10 + 19 * t .n; number = 0 })
+      × (readRequest (take (10 + 19 * t .n) (requestWritten t out .buffer)) ≡ record { set = firstPlaces t; number = 0 })
   -- and a plan
   pub plan-back : (t : Set) (a : Alloc) (out : List ℕ) → judgedPlan t a ≡ 0 → 10 + 26 * t .n ≤ length out
-      → (writtenAnswer true t a out ≡ record { length = 10 + 26 * t .n; number = 0 })
-      × (readPlan (take (10 + 26 * t .n) (writtenBuffer true t a out)) ≡ record { set = firstPlaces t; alloc = firstAllocations (t .n) a; number = 0 })
+      → (planWritten t a out .answer ≡ record { length = 10 + 26 * t .n; number = 0 })
+      × (readPlan (take (10 + 26 * t .n) (planWritten t a out .buffer)) ≡ record { set = firstPlaces t; alloc = firstAllocations (t .n) a; number = 0 })
   -- what is read back is the same over the first N places
   pub back-same : (t : Set) → t .n ≤ 128 → SameSet t (firstPlaces t)
   pub back-allocations : (n : ℕ) (a : Alloc) → n ≤ 128 → (i : ℕ) → i < n → at (a .s) i ≡ at (firstAllocations n a .s) i
-  -- written again the same: a request
+  -- reading the bytes of any sheet that is laid out gives the number of its judgement, whatever that is
+  pub request-laid : (t : Set) → CountAllowed t → Numbers32 t → readRequest (requestSheet t) .number ≡ judged t
+  pub plan-laid : (t : Set) (a : Alloc) → CountAllowed t → Numbers32 t → ((i : ℕ) → i < t .n → at (a .s) i < 2 ^ 32) → readPlan (planSheet t a) .number ≡ judgedPlan t a
+  -- written again the same: a request. `AllBytes` holds of any slice that is lent: `fields::count_bytes` ensures it
   pub request-again : (bs out : List ℕ) → AllBytes bs → readRequest bs .number ≡ 0 → length bs ≤ length out
-      → (writtenAnswer false (readRequest bs .set) blankAlloc out ≡ record { length = length bs; number = 0 })
-      × (writtenBuffer false (readRequest bs .set) blankAlloc out ≡ bs ++ drop (length bs) out)
+      → (requestWritten (readRequest bs .set) out .answer ≡ record { length = length bs; number = 0 })
+      × (requestWritten (readRequest bs .set) out .buffer ≡ bs ++ drop (length bs) out)
   -- and a plan
   pub plan-again : (bs out : List ℕ) → AllBytes bs → readPlan bs .number ≡ 0 → length bs ≤ length out
-      → (writtenAnswer true (readPlan bs .set) (readPlan bs .alloc) out ≡ record { length = length bs; number = 0 })
-      × (writtenBuffer true (readPlan bs .set) (readPlan bs .alloc) out ≡ bs ++ drop (length bs) out)
+      → (planWritten (readPlan bs .set) (readPlan bs .alloc) out .answer ≡ record { length = length bs; number = 0 })
+      × (planWritten (readPlan bs .set) (readPlan bs .alloc) out .buffer ≡ bs ++ drop (length bs) out)
   -- reading accepts exactly the bytes that writing gives
   pub request-exactly : (bs : List ℕ) → AllBytes bs → (readRequest bs .number ≡ 0) ↔ GivenRequest bs
   pub plan-exactly : (bs : List ℕ) → AllBytes bs → (readPlan bs .number ≡ 0) ↔ GivenPlan bs
@@ -104,10 +115,12 @@ pub record Promised : Type 0 where
   pub plan-fault : (bs : List ℕ) (k : ℕ) → 1 ≤ k → k ≤ 3 → (readPlan bs .number ≡ k) ↔ FirstFault true bs k
   -- there is one first fault: one number, at one place
   pub one-fault : (plan : Bool) (bs : List ℕ) (j k : ℕ) (f : FirstFault plan bs j) (g : FirstFault plan bs k) → (j ≡ k) × (f .place ≡ g .place)
-  -- and only a sheet with no fault gets another number
-  pub request-whole : (bs : List ℕ) → ((k : ℕ) → 1 ≤ k → k ≤ 3 → readRequest bs .number ≢ k) → WholeSheet false bs
-  pub plan-whole : (bs : List ℕ) → ((k : ℕ) → 1 ≤ k → k ≤ 3 → readPlan bs .number ≢ k) → WholeSheet true bs
-  -- with no such fault the number is the judgement of what the bytes hold: 4 or 5, and 7 for plans, or 0
+  -- a sheet with no fault, and only such a one, gets another number: never 1, 2 or 3
+  pub request-whole : (bs : List ℕ) → ((k : ℕ) → 1 ≤ k → k ≤ 3 → readRequest bs .number ≢ k) ↔ WholeSheet false bs
+  pub plan-whole : (bs : List ℕ) → ((k : ℕ) → 1 ≤ k → k ≤ 3 → readPlan bs .number ≢ k) ↔ WholeSheet true bs
+  -- its N is the number of the stations that passed, 1 to 128
+  pub stations-passed : (plan : Bool) (bs : List ℕ) (w : WholeSheet plan bs) → (setIn plan bs .n ≡ w .passed .stations) × CountAllowed (setIn plan bs)
+  -- and its number is the judgement of what the bytes hold: 4 or 5, and 7 for plans, or 0
   pub request-judged : (bs : List ℕ) → WholeSheet false bs → readRequest bs .number ≡ judged (setIn false bs)
   pub plan-judged : (bs : List ℕ) → WholeSheet true bs → readPlan bs .number ≡ judgedPlan (setIn true bs) (allocIn true bs)
   -- a plan sheet that is accepted is no request: its first allocation may not stand there
@@ -119,10 +132,17 @@ pub record Promised : Type 0 where
   pub request-past : (bs : List ℕ) → ZeroPast (readRequest bs .set)
   pub plan-past : (bs : List ℕ) → ZeroPast (readPlan bs .set)
   pub allocations-past : (bs : List ℕ) (i : ℕ) → readPlan bs .set .n ≤ i → at (readPlan bs .alloc .s) i ≡ 0
+  -- writing gives the judgement's number where that is not 0
+  pub request-refused : (t : Set) (out : List ℕ) → judged t ≢ 0 → requestWritten t out .answer .number ≡ judged t
+  pub plan-refused : (t : Set) (a : Alloc) (out : List ℕ) → judgedPlan t a ≢ 0 → planWritten t a out .answer .number ≡ judgedPlan t a
+  -- and 14 exactly if it is 0 and the buffer is shorter than the sheet
+  pub request-fourteen : (t : Set) (out : List ℕ) → (requestWritten t out .answer .number ≡ 14) ↔ ((judged t ≡ 0) × (length out < 10 + 19 * t .n))
+  pub plan-fourteen : (t : Set) (a : Alloc) (out : List ℕ) → (planWritten t a out .answer .number ≡ 14) ↔ ((judgedPlan t a ≡ 0) × (length out < 10 + 26 * t .n))
   -- refused writing changes no byte
-  pub unchanged : (plan : Bool) (t : Set) (a : Alloc) (out : List ℕ) → writtenAnswer plan t a out .number ≢ 0 → writtenBuffer plan t a out ≡ out
+  pub request-unchanged : (t : Set) (out : List ℕ) → requestWritten t out .answer .number ≢ 0 → requestWritten t out .buffer ≡ out
+  pub plan-unchanged : (t : Set) (a : Alloc) (out : List ℕ) → planWritten t a out .answer .number ≢ 0 → planWritten t a out .buffer ≡ out
   -- writing looks at the first N places only
   pub request-first-places : (t u : Set) (out : List ℕ) → SameSet t u
-      → (writtenAnswer false t blankAlloc out ≡ writtenAnswer false u blankAlloc out) × (writtenBuffer false t blankAlloc out ≡ writtenBuffer false u blankAlloc out)
+      → (requestWritten t out .answer ≡ requestWritten u out .answer) × (requestWritten t out .buffer ≡ requestWritten u out .buffer)
   pub plan-first-places : (t u : Set) (a b : Alloc) (out : List ℕ) → SameSet t u → ((i : ℕ) → i < t .n → at (a .s) i ≡ at (b .s) i)
-      → (writtenAnswer true t a out ≡ writtenAnswer true u b out) × (writtenBuffer true t a out ≡ writtenBuffer true u b out)
+      → (planWritten t a out .answer ≡ planWritten u b out .answer) × (planWritten t a out .buffer ≡ planWritten u b out .buffer)

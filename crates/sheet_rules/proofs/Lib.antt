@@ -1,0 +1,4 @@
+pub mod StandLaws
+pub mod BackLaws
+pub mod AgainLaws
+pub mod Promised
