@@ -1,12 +1,12 @@
 -- `deadlines_fit` is right because its flag is the rule over the stations passed, and what is away from a station is the time lost and the others' S.
-use Prim.Native.Nat.{_+_, _-_, _≤_}
-use mathlib.Core.Path.{_≡_, refl, sym, _∙_}
+use Prim.Native.Nat.{ℕ, _+_, _-_, _≤_}
+use mathlib.Core.Path.{_≡_, refl, sym, ap, _∙_}
 use native.Mathlib.Omega.{arith}
 use borrow.Author.Needs.{needs}
 use lib.ListN.{length}
 use Rattle.units.specs.Places.{at, allBelow}
 use Rattle.units.specs.PlaceLaws.{all-step, all-none}
-use Rattle.fddi.specs.Rules.{stations, lost, others, deadlineFitsAt}
+use Rattle.fddi.specs.Rules.{stations, lost, others, leastTime, timeAt, deadlineFitsAt}
 use Rattle.fddi.proofs.Laws.{others-own, sum-stations}
 use Rattle.fddi.proofs.deadlines_fit.Statement.{statement}
 use Rattle.fddi.proofs.deadlines_fit.Tie as tie
@@ -82,12 +82,21 @@ away-is c =
     let long : length (start .args .t2) ≡ 128 = search needs in
     omega (arith, c .room .ensures, sum-stations (start .args .t1) (start .args .t2) long, others-own (stations (start .args .t1)) (at (start .args .t2)) (at-loop .loop .i) (omega arith))
 
+-- so the time that the code asks for is X at the station
+time-is : (c : tie.After-least-time Inv-loop μ-loop) → c .least-time .result ≡ timeAt (c .before .before .before .before .before .before .before .before .before .args .t1) (at (c .before .before .before .before .before .before .before .before .before .args .t2)) (c .before .before .before .before .before .loop .i)
+time-is c =
+    let at-loop = c .before .before .before .before .before in
+    let l = at-loop .before .before .before .before .args .t1 in
+    let s = at-loop .before .before .before .before .args .t2 in
+    c .least-time .ensures ∙
+    ap (λ (away : ℕ). leastTime (l .ttrt) (at (l .d) (at-loop .loop .i)) away (at s (at-loop .loop .i))) (away-is (c .before .before))
+
 loop-again : tie.Need-loop-again Inv-loop μ-loop
 loop-again c =
     let at-loop = c .before .before .before .before .before .before .before in
     let start = at-loop .before .before .before .before in
     let all : at-loop .loop .all ≡ allBelow (at-loop .loop .i) (deadlineFitsAt (start .args .t1) (at (start .args .t2))) = at-loop .loop .inv .1 in
-    (omega arith, rw (all-step, all, c .wide2 .ensures .same, c .before .before .least-time .ensures, away-is (c .before .before .before .before)) refl)
+    (omega arith, rw (all-step, all, c .wide2 .ensures .same, time-is (c .before .before)) refl)
 
 returns : tie.Need-returns Inv-loop μ-loop
 returns c =

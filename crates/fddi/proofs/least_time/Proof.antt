@@ -28,7 +28,8 @@ rotations-said c = c .whole .ensures .is ∙ rw (c .before .before .wide2 .ensur
 returns : tie.Need-returns
 returns c =
     let args = c .before .before .before .before .before .args in
-    sym (time-none (wholeRotations (args .ttrt) (args .d)) _ (args .s) (sym (rotations-said (c .before)) ∙ c .if1 .taken))
+    let none = time-none (wholeRotations (args .ttrt) (args .d)) (rest (args .ttrt) (args .d) - args .away) (args .s) (sym (rotations-said (c .before)) ∙ c .if1 .taken) in
+    rw none refl
 
 mul-room : tie.Need-mul-room
 mul-room c = search needs

@@ -27,8 +27,7 @@ stepped-is c = rw (c .rounded-up .ensures, c .before .wide2 .ensures .same, c .b
 mul-result : tie.Need-mul-result
 mul-result c =
     let args = c .before .before .before .args in
-    let is = stepped-is c in
-    rw is (omega (arith, step-small (args .grid) (args .q) (args .x)))
+    omega (arith, stepped-is c, step-small (args .grid) (args .q) (args .x))
 
 returns : tie.Need-returns
 returns c =
