@@ -3,23 +3,23 @@ use Prim.Native.Nat.{ℕ, zero, suc, _+_, _-_, _*_, _/_, _≤_, _<_}
 use mathlib.Core.Path.{_≡_, refl, sym, ap, _∙_}
 use mathlib.Core.Bool.{true, false, true≢false, false≢true}
 use mathlib.Core.List.{List}
-use mathlib.Core.Logic.{⊎-elim, _↔_}
+use mathlib.Core.Logic.{_⊎_, inl, inr, ⊎-elim, _↔_}
 use native.Mathlib.Omega.{arith}
-use native.Mathlib.Nat.{suc-mul, mul-div-cancel, mul-zero}
+use native.Mathlib.Nat.{suc-mul, mul-le-mul-right, mul-div-cancel, mul-zero}
 use borrow.Author.Tests.{eqb-true, eq-eqb}
 use lib.Seq.{ext-getD}
 use Rattle.units.specs.Places.{at, sumBelow, allBelow}
 use Rattle.units.specs.PlaceLaws.{decides-all, sum-same, all-same}
 use Rattle.units.specs.SmallLaws.{below-or-not}
-use Rattle.units.specs.JudgingLaws.{Decides, decides-le, decides-both}
-use Rattle.fddi.specs.Rules.{stations, wholeRotations, rest, lost, others, timeAt, MultipleOf, MeetsRules, SameLoad, deadlineFitsAt, tokenFits, onGrid, gridFitsAt, rulesKept}
-use Rattle.fddi.specs.Climb.{zeros, none, climbFrom, leastPlan}
+use Rattle.units.specs.JudgingLaws.{Decides, decides-le, decides-both, iff-then}
+use Rattle.fddi.specs.Rules.{stations, wholeRotations, rest, lost, others, timeAt, MultipleOf, MeetsFddi, SameLoad, deadlineFitsAt, tokenFits, onGrid, gridFitsAt, rulesKept}
+use Rattle.fddi.specs.Climb.{rotationsAt, zeros, none, climbFrom, leastPlan}
 use Rattle.fddi.specs.Answer.{IsLeast, Fitting}
 use Rattle.fddi.specs.Promised.{Regions, Promised}
 use Rattle.fddi.specs.declared.Load.{Load}
 use Rattle.fddi.specs.declared.Found.{Found}
 use Rattle.fddi.proofs.Laws.{time-some, others-own}
-use Rattle.fddi.proofs.Station.{decides-holds}
+use Rattle.fddi.proofs.Station.{Holds, decides-holds}
 use Rattle.fddi.proofs.Rounds.{rule-holds, Right, climbing-start, climb-right, plan-right}
 
 -- ---- X in its three regions
@@ -36,6 +36,16 @@ regions ttrt d away s some =
     let whole : wholeRotations ttrt d * s ≡ (wholeRotations ttrt d - 1) * s + s = one-share (wholeRotations ttrt d) s some in
     record { first = λ h. omega arith; second = λ h k. omega arith; third = λ h. omega arith }
 
+-- ---- the rule in products
+
+-- with r the rest of D and z all that is taken
+products : (q c r z s : ℕ) → Holds q c (c + (z - r)) s ↔ ((c ≤ q * s) × ((c ≤ (q - 1) * s) ⊎ (c + z ≤ q * s + r)))
+products q c r z s =
+    let less : (q - 1) * s ≤ q * s = mul-le-mul-right s (omega arith) in (
+      ⊎-elim (λ h. (omega arith, inl h)) (λ h. (omega arith, inr (omega arith))),
+      λ h. ⊎-elim (λ k. inl k) (λ k. inr (omega arith)) (h .1),
+    )
+
 -- ---- each test decides its rule
 
 -- the steps of a multiple are its own; on a grid of 0 only 0 is one
@@ -46,7 +56,7 @@ whole-steps (suc g) k x e = rw e (ap (λ (z : ℕ). z * suc g) (mul-div-cancel k
 on-grid : (g x : ℕ) → Decides (onGrid g x) (MultipleOf g x)
 on-grid g x = (λ h. (x / g, sym (eqb-true (x / g * g) x h)), λ m. eq-eqb (x / g * g) x (whole-steps g (m .0) x (m .1)))
 
-test : (l : Load) (s : ℕ → ℕ) → Decides (rulesKept l s) (MeetsRules l s)
+test : (l : Load) (s : ℕ → ℕ) → Decides (rulesKept l s) (MeetsFddi l s)
 test l s =
     let n = stations l in
     let token = decides-le (sumBelow n s + lost l) (l .ttrt) in
@@ -63,7 +73,7 @@ found : (l : Load) → leastPlan l .found ≡ true → IsLeast l (leastPlan l .s
 found l h =
     ⊎-elim (λ r. r .1) (λ r. absurd (false≢true (sym (ap (λ (a : Found). a .found) (r .0)) ∙ h))) (plan-right l)
 
-missing : (l : Load) → (leastPlan l .found ≡ false) ↔ ((v : ℕ → ℕ) → ¬ MeetsRules l v)
+missing : (l : Load) → (leastPlan l .found ≡ false) ↔ ((v : ℕ → ℕ) → ¬ MeetsFddi l v)
 missing l = (
   λ h. ⊎-elim (λ r. absurd (true≢false (sym (r .0) ∙ h))) (λ r. r .1) (plan-right l),
   λ h. ⊎-elim (λ r. absurd (h (at (leastPlan l .s)) (r .1 .meets))) (λ r. ap (λ (a : Found). a .found) (r .0)) (plan-right l),
@@ -120,7 +130,7 @@ module _ (a b : Load) (same : SameLoad a b) where
       let away : others (stations a) s i ≡ others (stations a) v i = omega (arith, each i l, others-own (stations a) s i l, others-own (stations a) v i l) in
       rw (away, lost-same, stations-same, same .ttrt, same .deadline i l, each i l)
 
-  rules-same : (s : ℕ → ℕ) → MeetsRules a s → MeetsRules b s
+  rules-same : (s : ℕ → ℕ) → MeetsFddi a s → MeetsFddi b s
   rules-same s m =
       let inside : (i : ℕ) → i < stations b → i < stations a = λ i l. rw stations-same l in
       record {
@@ -176,6 +186,8 @@ promised =
     record {
       regions = regions;
       all-stations = λ l. others-own (stations l);
+      in-products = λ l s i b.
+          iff-then (rule-holds l s i b) (products (rotationsAt l i) (at (l .c) i) (rest (l .ttrt) (at (l .d) i)) (sumBelow (stations l) s + lost l) (s i));
       another-way = λ l s i b.
           let rule = rule-holds l s i b in
           let decided = decides-holds _ _ _ (s i) in

@@ -12,7 +12,7 @@ use Rattle.units.specs.Places.{at, sumBelow}
 use Rattle.units.specs.PlaceLaws.{sum-mono, sum-part, sum-same, fill-length, fill-inside, fill-outside}
 use Rattle.units.specs.SmallLaws.{below-or-not}
 use Rattle.units.specs.JudgingLaws.{true-or-false}
-use Rattle.fddi.specs.Rules.{stations, rest, lost, others, timeAt, tokenFits, MultipleOf, MeetsRules}
+use Rattle.fddi.specs.Rules.{stations, rest, lost, others, timeAt, tokenFits, MultipleOf, MeetsFddi}
 use Rattle.fddi.specs.Climb.{holds, rotationsAt, moreAt, nextAt, heldAt, zeros, none, sumOf, after, climbFrom, leastPlan}
 use Rattle.fddi.specs.Answer.{IsLeast}
 use Rattle.fddi.specs.declared.Load.{Load}
@@ -57,7 +57,7 @@ module _ (l : Load) where
   within-ttrt s h i b = omega (arith, sum-part (stations l) s i b)
 
   -- the next S is at most that of every vector that meets the rules and is nowhere smaller
-  pub next-in-plans : (s : List ℕ) (v : ℕ → ℕ) → MeetsRules l v → ((j : ℕ) → j < stations l → at s j ≤ v j) → (i : ℕ) → i < stations l → nextAt l (sumOf l s + lost l) s i ≤ v i
+  pub next-in-plans : (s : List ℕ) (v : ℕ → ℕ) → MeetsFddi l v → ((j : ℕ) → j < stations l → at s j ≤ v j) → (i : ℕ) → i < stations l → nextAt l (sumOf l s + lost l) s i ≤ v i
   next-in-plans s v m h i b =
       let n = stations l in
       let q = rotationsAt l i in
@@ -77,7 +77,7 @@ pub record Climbing (l : Load) (s : List ℕ) : Type 0 where
   pub grid : (i : ℕ) → i < stations l → MultipleOf (l .grid) (at s i)
   pub token : sumOf l s + lost l ≤ l .ttrt
   -- no S is above that of any vector that meets the rules
-  pub below : (v : ℕ → ℕ) → MeetsRules l v → (i : ℕ) → i < stations l → at s i ≤ v i
+  pub below : (v : ℕ → ℕ) → MeetsFddi l v → (i : ℕ) → i < stations l → at s i ≤ v i
 
 zero-at : (i : ℕ) → at zeros i ≡ 0
 zero-at i =
@@ -106,7 +106,7 @@ module _ (l : Load) where
     after-up = sum-mono (stations l) (at s) (nextAt l (sumOf l s + lost l) s) up-at
 
     -- the sum after a round is at most that of every vector that meets the rules
-    pub after-below : (v : ℕ → ℕ) → MeetsRules l v → after l s .sum ≤ sumBelow (stations l) v
+    pub after-below : (v : ℕ → ℕ) → MeetsFddi l v → after l s .sum ≤ sumBelow (stations l) v
     after-below v m = sum-mono (stations l) (nextAt l (sumOf l s + lost l) s) v (next-in-plans l s v m (now .below v m))
 
     -- where the sum stays, every rule holds
@@ -174,7 +174,7 @@ module _ (k : ℕ) (l : Load) (s : List ℕ) where
 
 -- the answer is the least vector, or there is none
 abbrev pub Right : Load → Found → Type 0
-Right l a = ((a .found ≡ true) × IsLeast l (a .s)) ⊎ ((a ≡ none) × ((v : ℕ → ℕ) → ¬ MeetsRules l v))
+Right l a = ((a .found ≡ true) × IsLeast l (a .s)) ⊎ ((a ≡ none) × ((v : ℕ → ℕ) → ¬ MeetsFddi l v))
 
 equal-or-not : (a b : ℕ) → (a ≡ b) ⊎ (a ≡ b → ⊥)
 equal-or-not a b =

@@ -2,10 +2,10 @@
 use Prim.Native.Nat.{ℕ, _+_, _-_, _*_, _≤_, _<_}
 use mathlib.Core.Path.{_≡_}
 use mathlib.Core.Bool.{true, false}
-use mathlib.Core.Logic.{_↔_}
+use mathlib.Core.Logic.{_⊎_, _↔_}
 use Rattle.units.specs.Places.{at, sumBelow}
 use Rattle.units.specs.JudgingLaws.{Decides}
-use Rattle.fddi.specs.Rules.{stations, wholeRotations, rest, leastTime, lost, others, timeAt, MeetsRules, tokenFits, rulesKept, SameLoad}
+use Rattle.fddi.specs.Rules.{stations, wholeRotations, rest, leastTime, lost, others, timeAt, MeetsFddi, tokenFits, rulesKept, SameLoad}
 use Rattle.fddi.specs.Climb.{holds, rotationsAt, moreAt, zeros, none, climbFrom, leastPlan}
 use Rattle.fddi.specs.Answer.{IsLeast, Fitting}
 use Rattle.fddi.specs.declared.Load.{Load}
@@ -25,15 +25,18 @@ pub record Promised : Type 0 where
   pub regions : (ttrt d away s : ℕ) → 0 < wholeRotations ttrt d → Regions ttrt d away s
   -- the others' S and the station's own are all S
   pub all-stations : (l : Load) (s : ℕ → ℕ) (i : ℕ) → i < stations l → others (stations l) s i + s i ≡ sumBelow (stations l) s
-  -- the deadline rule put another way: the test by products that the climb makes decides it
+  -- the deadline rule in products: q shares are enough for C, and q − 1 are, or q shares and the rest of D are enough for C and all that is taken
+  pub in-products : (l : Load) (s : ℕ → ℕ) (i : ℕ) → i < stations l
+      → (at (l .c) i ≤ timeAt l s i) ↔ ((at (l .c) i ≤ rotationsAt l i * s i) × ((at (l .c) i ≤ (rotationsAt l i - 1) * s i) ⊎ (at (l .c) i + (sumBelow (stations l) s + lost l) ≤ rotationsAt l i * s i + rest (l .ttrt) (at (l .d) i))))
+  -- the test by products that the climb makes decides it
   pub another-way : (l : Load) (s : ℕ → ℕ) (i : ℕ) → i < stations l
       → Decides (holds (rotationsAt l i) (at (l .c) i) (moreAt l (sumBelow (stations l) s + lost l) i) (s i)) (at (l .c) i ≤ timeAt l s i)
   -- the test of a given vector decides the rules
-  pub test : (l : Load) (s : ℕ → ℕ) → Decides (rulesKept l s) (MeetsRules l s)
+  pub test : (l : Load) (s : ℕ → ℕ) → Decides (rulesKept l s) (MeetsFddi l s)
   -- a plan that is found meets the rules, and is at most every vector that does, at every station
   pub found : (l : Load) → leastPlan l .found ≡ true → IsLeast l (leastPlan l .s)
   -- none is found exactly if no vector whatever meets the rules
-  pub missing : (l : Load) → (leastPlan l .found ≡ false) ↔ ((v : ℕ → ℕ) → ¬ MeetsRules l v)
+  pub missing : (l : Load) → (leastPlan l .found ≡ false) ↔ ((v : ℕ → ℕ) → ¬ MeetsFddi l v)
   -- then the answer is zeros
   pub blank : (l : Load) → leastPlan l .found ≡ false → leastPlan l ≡ none
   -- a plan that is found passes the test

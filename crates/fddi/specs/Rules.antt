@@ -46,7 +46,7 @@ abbrev pub MultipleOf : ℕ → ℕ → Type 0
 MultipleOf g x = (k : ℕ) × (x ≡ k * g)
 
 -- the rules, of any vector of numbers whatever
-pub record MeetsRules (l : Load) (s : ℕ → ℕ) : Type 0 where
+pub record MeetsFddi (l : Load) (s : ℕ → ℕ) : Type 0 where
   -- the deadline rule at every station: X at least C
   pub deadlines : (i : ℕ) → i < stations l → at (l .c) i ≤ timeAt l s i
   -- the token rule: the sum of all S at most TTRT − τ − (F − 1), written without a difference
