@@ -1,0 +1,40 @@
+-- `meets_rules` is right because it asks the three tests of the definition, the token rule first.
+use Prim.Native.Nat.{_+_, _≤_}
+use mathlib.Core.Path.{_≡_, refl, sym, _∙_}
+use mathlib.Core.Bool.{true, false}
+use native.Mathlib.Omega.{arith}
+use borrow.Author.Tests.{not-true, not-false, leb-true}
+use Rattle.units.specs.Places.{at, sumBelow}
+use Rattle.fddi.specs.Rules.{stations, lost, tokenFits}
+use borrow.Author.Needs.{needs}
+use Rattle.fddi.proofs.meets_rules.Statement.{statement}
+use Rattle.fddi.proofs.meets_rules.Tie as tie
+
+token-fits-requires : tie.Need-token-fits-requires
+token-fits-requires c κs = search needs
+
+token-broken : (c : tie.Then1) → tokenFits (c .before .before .args .l) (at (c .before .before .args .s)) ≡ false
+token-broken c = sym (c .before .token-fits .ensures) ∙ not-true _ (c .if1 .taken)
+
+token-kept : (c : tie.Else1) → tokenFits (c .before .before .args .l) (at (c .before .before .args .s)) ≡ true
+token-kept c = sym (c .before .token-fits .ensures) ∙ not-false _ (c .if1 .left)
+
+returns : tie.Need-returns
+returns c = rw (token-broken c) refl
+
+deadlines-fit-requires : tie.Need-deadlines-fit-requires
+deadlines-fit-requires c κs =
+    let args = c .before .before .args in
+    let fits : sumBelow (stations (args .l)) (at (args .s)) + lost (args .l) ≤ args .l .ttrt = leb-true _ _ (token-kept c) in
+    omega arith
+
+grid-fits-requires : tie.Need-grid-fits-requires
+grid-fits-requires c κs = search needs
+
+returns-2 : tie.Need-returns-2
+returns-2 c = rw (token-kept (c .before .before), c .before .deadlines-fit .ensures, c .grid-fits .ensures) refl
+
+pub meets-rules-spec : {M : Type 1} → statement M
+meets-rules-spec =
+    tie.close
+    (tie.spec token-fits-requires returns deadlines-fit-requires grid-fits-requires returns-2)

@@ -1,0 +1,149 @@
+// FDDI plans: X over the whole vector, the test of a given vector, and the least vector that meets the rules.
+mod climb;
+mod shares;
+
+ghost use mathlib.Core.Path.{_≡_};
+ghost use Prim.Native.Nat.{_≤_};
+ghost use Rattle.units.specs.Places.{at};
+ghost use Rattle.fddi.specs.Rules.{leastTime, lost, deadlinesFit, tokenFits, onGrid, gridFits, rulesKept};
+ghost use Rattle.fddi.specs.Climb.{none, leastPlan};
+ghost use Rattle.fddi.specs.Bounds.{Lost};
+
+// What a plan is made for: TTRT, F, the grid, τ, and C and D at each station. Only the first N places are ever looked at.
+pub struct Load {
+    pub n: u32,
+    pub ttrt: u32,
+    pub frame: u32,
+    pub grid: u32,
+    pub tau: u64,
+    pub c: [u32; 128],
+    pub d: [u32; 128],
+}
+
+// Planning's answer: the least vector, or none with zeros.
+pub struct Found {
+    pub s: [u32; 128],
+    pub found: bool,
+}
+
+// X, the least synchronous time in any interval D, where `away` ticks of a rotation are not the station's own.
+pub fn least_time(ttrt: u32, d: u32, away: u64, s: u32) -> u64
+    ensures { λ r. ⌜ r ≡ leastTime ttrt d away s ⌝ }
+{
+    let rotation = units::wide(ttrt);
+    let long = units::wide(d);
+    let own = units::wide(s);
+    let q = shares::whole(long, rotation);
+    if q == 0 {
+        return 0;
+    }
+    let rest = units::room(long, q * rotation);
+    (q - 1) * own + units::least(units::room(rest, away), own)
+}
+
+// τ and F − 1: what no station may plan with.
+fn lost(l: Load) -> u64
+    requires { ⌜ l .tau ≤ l .ttrt ⌝ }
+    ensures { λ r. ⌜ Lost l r ⌝ }
+{
+    l.tau + units::room(units::wide(l.frame), 1)
+}
+
+// The token rule holds.
+fn token_fits(l: Load, s: [u32; 128]) -> bool
+    ensures { λ r. ⌜ r ≡ tokenFits l (at s) ⌝ }
+{
+    if units::wide(l.ttrt) < l.tau {
+        return false;
+    }
+    let sum = units::sum_first(s, l.n);
+    sum + lost(l) <= units::wide(l.ttrt)
+}
+
+// The deadline rule holds at every station.
+fn deadlines_fit(l: Load, s: [u32; 128]) -> bool
+    requires { ⌜ l .tau ≤ l .ttrt ⌝ }
+    ensures { λ r. ⌜ r ≡ deadlinesFit l (at s) ⌝ }
+{
+    let taken = units::sum_first(s, l.n) + lost(l);
+    let end = units::places(l.n);
+    let mut all = true;
+    let mut i: usize = 0;
+    while i < end {
+        let away = units::room(taken, units::wide(s[i]));
+        let time = least_time(l.ttrt, l.d[i], away, s[i]);
+        let one = units::wide(l.c[i]) <= time;
+        all = all & one;
+        i += 1;
+    }
+    all
+}
+
+// S is a multiple of the grid.
+fn on_grid(grid: u32, s: u32) -> bool
+    ensures { λ r. ⌜ r ≡ onGrid grid s ⌝ }
+{
+    let own = units::wide(s);
+    let step = units::wide(grid);
+    shares::whole(own, step) * step == own
+}
+
+// Every S is a multiple of the grid.
+fn grid_fits(l: Load, s: [u32; 128]) -> bool
+    ensures { λ r. ⌜ r ≡ gridFits l (at s) ⌝ }
+{
+    let end = units::places(l.n);
+    let mut all = true;
+    let mut i: usize = 0;
+    while i < end {
+        let one = on_grid(l.grid, s[i]);
+        all = all & one;
+        i += 1;
+    }
+    all
+}
+
+// The test of a given vector: the token rule, the deadline rule at every station, and the grid.
+pub fn meets_rules(l: Load, s: [u32; 128]) -> bool
+    ensures { λ r. ⌜ r ≡ rulesKept l (at s) ⌝ }
+{
+    if !token_fits(l, s) {
+        return false;
+    }
+    deadlines_fit(l, s) & grid_fits(l, s)
+}
+
+// There is no such vector: zeros.
+fn none() -> Found
+    ensures { λ r. ⌜ r ≡ none ⌝ }
+{
+    Found {
+        s: [0; 128],
+        found: false,
+    }
+}
+
+// The least vector that meets the rules, or none. Each round raises the stations whose rule does not hold any more, until the vector stays.
+pub fn least_plan(l: Load) -> Found
+    ensures { λ r. ⌜ r ≡ leastPlan l ⌝ }
+{
+    let ttrt = units::wide(l.ttrt);
+    let mut s: [u32; 128] = [0; 128];
+    if !token_fits(l, s) {
+        return none();
+    }
+    let away = lost(l);
+    let q = climb::rotations(l);
+    let mut sum: u64 = 0;
+    loop {
+        let next = climb::round(l, q, sum + away, s);
+        if ttrt < next.sum + away {
+            return none();
+        }
+        if next.sum == sum {
+            return Found { s, found: true };
+        }
+        sum = next.sum;
+        s = next.s;
+    }
+}
