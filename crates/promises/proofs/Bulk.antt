@@ -22,13 +22,13 @@ use Rattle.promises.specs.Run.{Ask, Call, visit, message, Run, noted, af
 use Rattle.promises.specs.History.{Each, Somewhere}
 use Rattle.promises.specs.Facts.{Timing, timing}
 use Rattle.promises.specs.Valid.{InTurn}
-use Rattle.promises.specs.Bulk.{visitsAmong, Asks, AlwaysAsks, Offered, BulkServed}
+use Rattle.promises.specs.Bulk.{visitsAmong, Asks, AlwaysAsks, Offered, longestWait, BulkServed}
 use Rattle.promises.proofs.Course.{Plan}
 use Rattle.promises.proofs.Timing.{latest-within}
 use Rattle.promises.proofs.Opening.{plan-of}
 use Rattle.promises.proofs.Runs.{made, heldRun, visit-goes, visit-stops, course-facts, message-facts, after-message, steady-after, steady-run}
 use Rattle.promises.proofs.Timely.{TimelyVisit, Timely, steady, timely}
-use Rattle.promises.proofs.Lists.{each-append, each-both}
+use Rattle.promises.proofs.Lists.{somewhere-of, each-append, each-both}
 use Rattle.promises.proofs.Rotations.{InOrder, soon}
 use Rattle.promises.proofs.Waits.{offered, offered-soon}
 
@@ -112,7 +112,7 @@ module _ (t : Set) (a : Alloc) (P : Plan t a) (s : Run) (K : Timely t a s) where
       ⊎-elim (λ (n : AddsNone c). rw (n .none) tt)
       (λ (w : AddsVisit c).
       let enough = rw (visit-goes (s .ring) (w .ask) (K .common .sound) (w .early)) at (rw (w .call) at asks) in
-      rw (w .one) (λ e. all-sent (w .ask) (w .early) (enough refl e), tt))
+      rw (w .one) (λ e. all-sent (w .ask) (w .early) (omega (arith, enough (omega arith) (omega (arith, e)))), tt))
       (adds c)
 
 -- ---- along further calls
@@ -173,21 +173,22 @@ module _ (t : Set) (a : Alloc) (P : Plan t a) where
     sooner long = offered t a i known (s .records) (visitsAmong s later) left long (rw (visits-added s later) at in-order)
 
     -- where the clock has come further than N + 1 rotations, there were N·(N + 1) visits
-    begun-ticks : (b : Begun s later) → s .ring .clock + (t .n + 1) * t .head .ttrt < run s later .ring .clock → Somewhere (λ v before. Offered i v × (v .start .0 ≤ s .ring .clock + (t .n + 1) * t .head .ttrt)) (b .newer ++ b .first ∷ [])
+    begun-ticks : (b : Begun s later) → s .ring .clock + (t .n + 1) * t .head .ttrt < run s later .ring .clock → Somewhere (λ v before. Offered i v × (v .start .0 ≤ b .first .start .0 + (t .n + 1) * t .head .ttrt)) (b .newer ++ b .first ∷ [])
     begun-ticks b far =
         let same : run s later .records ≡ b .newer ++ b .first ∷ s .records = visits-added s later ∙ rw (b .visits, append-assoc) in
         let E = rw same at in-order in
         ⊎-elim (λ (few : length (b .newer) + 1 < t .n * (t .n + 1)).
         let near = soon t a (b .first) (s .records) (t .n + 1) (b .newer) (omega (arith, mul-comm (t .n + 1) (t .n))) E (run s later .ring .clock) (rw same at (latest-within t a (timing (run s later .ring)) (run s later .records) (now .timed))) in
         absurd (omega (arith, b .start)))
-        (λ (long : t .n * (t .n + 1) ≤ length (b .newer) + 1).
-        rw (← b .start) (offered-soon t a i known left (b .first) (s .records) (b .newer) long E))
+        (λ (long : t .n * (t .n + 1) ≤ length (b .newer) + 1). offered-soon t a i known left (b .first) (s .records) (b .newer) long E)
         (below-or-not (length (b .newer) + 1) (t .n * (t .n + 1)))
 
-    in-ticks : s .ring .clock + (t .n + 1) * t .head .ttrt < run s later .ring .clock → Somewhere (λ v before. Offered i v × (v .start .0 ≤ s .ring .clock + (t .n + 1) * t .head .ttrt)) (visitsAmong s later)
+    in-ticks : s .ring .clock + longestWait t < run s later .ring .clock → Somewhere (λ v before. Offered i v × (v .start .0 ≤ s .ring .clock + longestWait t)) (visitsAmong s later)
     in-ticks far =
         ⊎-elim (λ (b : NotBegun s later). absurd (omega (arith, b .clock)))
-        (λ (b : Begun s later). rw (b .visits) (begun-ticks b far))
+        (λ (b : Begun s later).
+        rw (b .visits)
+        (somewhere-of (λ v before k. (k .0, omega (arith, b .start, k .1))) (b .newer ++ b .first ∷ []) (begun-ticks b (omega arith))))
         (begun later s K)
 
 pub bulk : (t : Set) (a : Alloc) → judgedPlan t a ≡ 0 → 1 ≤ spareTime t (at (a .s)) → BulkServed t a
@@ -195,7 +196,7 @@ bulk t a h left =
     let P = plan-of t a h in
     record {
       served = λ calls later i known long asks. sooner t a P left i known (runOf t a calls) (timely t a h calls) later (omega (arith, one-more (t .n) (t .n + 1)));
-      sooner = λ calls later i known. sooner t a P left i known (runOf t a calls) (timely t a h calls) later;
+      sooner = λ calls later i known long. sooner t a P left i known (runOf t a calls) (timely t a h calls) later (omega arith);
       in-ticks = λ calls later i known. in-ticks t a P left i known (runOf t a calls) (timely t a h calls) later;
       sends = λ calls later i. sends t a P i later (runOf t a calls) (timely t a h calls);
     }

@@ -19,6 +19,7 @@
 --     Waits        among enough visits a station is offered a limit above 0
 --     Bulk         the same of the visits among further calls
 --     Witness      the run in which the promises are called upon
+--     BulkWitness  the run in which bulk data waits long
 --     Promised     the promises
 pub mod Sums
 pub mod Lists
@@ -40,4 +41,5 @@ pub mod Rotations
 pub mod Waits
 pub mod Bulk
 pub mod Witness
+pub mod BulkWitness
 pub mod Promised

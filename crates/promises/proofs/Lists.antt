@@ -9,6 +9,11 @@ pub each-of : {A B : VisitRecord → List VisitRecord → Type 0} → ((v : Visi
 each-of f [] E = tt
 each-of f (v ∷ h) E = (f v h (E .0), each-of f h (E .1))
 
+pub somewhere-of : {A B : VisitRecord → List VisitRecord → Type 0} → ((v : VisitRecord) (before : List VisitRecord) → A v before → B v before) → (h : List VisitRecord) → Somewhere A h → Somewhere B h
+somewhere-of f [] e = e
+somewhere-of f (v ∷ h) (inl e) = inl (f v h e)
+somewhere-of f (v ∷ h) (inr e) = inr (somewhere-of f h e)
+
 -- of two lists, where the visits before do not matter
 pub each-append : (A : VisitRecord → Type 0) (h old : List VisitRecord) → Each (λ v before. A v) h → Each (λ v before. A v) old → Each (λ v before. A v) (h ++ old)
 each-append A [] old E F = F

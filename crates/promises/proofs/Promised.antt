@@ -41,6 +41,7 @@ use Rattle.promises.proofs.Followed.{Follows, followed-from}
 use Rattle.promises.proofs.Common.{common, answer-of}
 use Rattle.promises.proofs.Bulk.{bulk}
 use Rattle.promises.proofs.Witness.{happens}
+use Rattle.promises.proofs.BulkWitness.{bulk-waits}
 
 module _ (t : Set) (a : Alloc) (P : Plan t a) (s : Run) (K : Timely t a s) where
   -- ---- visits
@@ -206,6 +207,7 @@ promised =
       sheet-judged = sheet-judged;
       sheet-valid = λ bytes h. valid (readPlan bytes .set) (readPlan bytes .alloc) (sheet-judged bytes h);
       request-valid = λ bytes _ h. valid (readRequest bytes .set) (planned (readRequest bytes .set) .alloc) (plan-judged (readRequest bytes .set) h);
-      bulk = bulk;
+      bulk = λ t a h left. bulk t a h (omega arith);
       happens = happens;
+      bulk-waits = bulk-waits;
     }

@@ -62,7 +62,7 @@ module _ (t : Set) (a : Alloc) where
         let rest = since ++ old in
         let own = own-now t i known v rest (E .0 .0) (one-less-ago t i known v rest (E .0 .0) 0 ago) in
         let L = E .0 .1 .limit in
-        ⊎-elim (λ (b : 0 < v .limit .0). inl (inl (record { station = own; limit = b })))
+        ⊎-elim (λ (b : 0 < v .limit .0). inl (inl (record { station = omega (arith, own); limit = omega arith })))
         (λ (b : v .limit .0 ≤ 0).
         ⊎-elim (λ (f : Somewhere (λ v before. Offered i v) since). inl (inr f))
         (λ (f : k * spare + asyncOf (t .n) rest ≤ asyncOf (k * t .n + t .n) rest).

@@ -12,7 +12,7 @@ use Rattle.rings.specs.declared.VisitRecord.{VisitRecord}
 use Rattle.promises.specs.Run.{Call, visit, message, Run, after, run, runOf}
 use Rattle.promises.specs.History.{Each, Somewhere}
 
--- the run s with nothing told of it yet
+-- the ring of this run, with no visit and no message told yet
 abbrev pub anew : Run → Run
 anew s = record { ring = s .ring; records = []; messages = [] }
 
@@ -35,6 +35,10 @@ pub record Offered (i : ℕ) (v : VisitRecord) : Type 0 where
   pub station : v .station .0 ≡ i
   pub limit : 0 < v .limit .0
 
+-- the longest wait in ticks: (N + 1)·TTRT
+abbrev pub longestWait : Set → ℕ
+longestWait t = (t .n + 1) * t .head .ttrt
+
 -- what is promised of a plan with A* at least 1: after any calls, and whatever is asked for by the others, handed in or refused among the further ones
 pub record BulkServed (t : Set) (a : Alloc) : Type 0 where
   -- No. 3: a station that asks for at least A* at each of its visits is offered a limit above 0 within any (N + 1)·(N + 1) successive visits
@@ -48,11 +52,11 @@ pub record BulkServed (t : Set) (a : Alloc) : Type 0 where
       → i < t .n
       → t .n * (t .n + 1) ≤ length (visitsAmong (runOf t a calls) later)
       → Somewhere (λ v before. Offered i v) (visitsAmong (runOf t a calls) later)
-  -- in ticks: from any moment at which a visit may start, it is offered a limit above 0 at a start within (N + 1)·TTRT, or the clock has not come further yet
+  -- in ticks: from any moment at which a visit may start, it is offered a limit above 0 by a visit that starts within (N + 1)·TTRT, once the clock has passed that
   pub in-ticks : (calls later : List Call) (i : ℕ)
       → i < t .n
-      → runOf t a calls .ring .clock + (t .n + 1) * t .head .ttrt < run (runOf t a calls) later .ring .clock
-      → Somewhere (λ v before. Offered i v × (v .start .0 ≤ runOf t a calls .ring .clock + (t .n + 1) * t .head .ttrt)) (visitsAmong (runOf t a calls) later)
+      → runOf t a calls .ring .clock + longestWait t < run (runOf t a calls) later .ring .clock
+      → Somewhere (λ v before. Offered i v × (v .start .0 ≤ runOf t a calls .ring .clock + longestWait t)) (visitsAmong (runOf t a calls) later)
   -- and if it asks for at least A*, it sends all that it is offered
   pub sends : (calls later : List Call) (i : ℕ)
       → AlwaysAsks i (spareTime t (at (a .s))) (runOf t a calls) later

@@ -5,6 +5,7 @@
 --     Bulk        how long bulk data can wait
 --     Promised    the promises
 --     Witness     a run in which all that the promises speak of happens
+--     BulkWitness a run in which bulk data waits long
 -- and, for the proofs:
 --     Facts       what a visit and a handing in do, as records of facts that add up
 pub mod Run
@@ -14,3 +15,4 @@ pub mod Valid
 pub mod Bulk
 pub mod Promised
 pub mod Witness
+pub mod BulkWitness
