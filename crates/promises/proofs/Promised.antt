@@ -145,7 +145,7 @@ module _ (t : Set) (a : Alloc) (h : judgedPlan t a ≡ 0) where
 
   never-late-kept : NeverLate t a (t .head .ttrt)
   never-late-kept =
-      record { apart = λ calls. each (λ v before k. k .apart) calls; since = λ calls. latest-within t a (timing (ringOf t a calls)) (recordsOf t a calls) (every calls .timed) }
+      record { apart = λ calls. each (λ v before k. k .apart) calls; since = λ calls i l u e. omega (arith, latest-within t a (timing (ringOf t a calls)) (recordsOf t a calls) (every calls .timed) i l u e) }
 
   limits-kept : ExactLimits t a
   limits-kept = record { limits = λ calls. each (λ v before k. k .limit) calls; spare = omega (arith, plan .token) }
