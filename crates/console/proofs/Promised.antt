@@ -9,7 +9,7 @@ use Rattle.units.specs.Judging.{orElse, allHold}
 use Rattle.sets.specs.Rules.{headInRange, stationInRange}
 use Rattle.sets.specs.Judged.{judgedThen, zeros}
 use Rattle.sets.specs.declared.Set.{Set}
-use Rattle.plans.specs.Planned.{planned, smallestWith, answered}
+use Rattle.plans.specs.Planned.{planned, smallestWith, answered, leastAlloc}
 use Rattle.fields.specs.Rows.{rows, lead}
 use Rattle.fields.specs.Bytes.{shortAt, numberAt}
 use Rattle.fields.specs.Fields.{allowedNext, isAllowed, fieldNumber, wholeAt}
@@ -71,7 +71,7 @@ unfolding workedSet readSheet readAnswer thenNumber shapeNumber fieldNumber isAl
 worked-read = refl
 
 worked-planned : planned workedSet ≡ record { alloc = record { s = fill 4 (λ i. 20) zeros }; number = 0 }
-unfolding workedSet answered smallestWith orElse fill judgedThen allHold allBelow sumBelow headInRange stationInRange
+unfolding workedSet answered leastAlloc smallestWith orElse fill judgedThen allHold allBelow sumBelow headInRange stationInRange
 worked-planned = refl
 
 worked-lines : planLines workedSet (record { s = fill 4 (λ i. 20) zeros }) ≡ workedText

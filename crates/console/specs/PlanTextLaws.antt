@@ -5,7 +5,7 @@ use mathlib.Core.Logic.{_≢_}
 use native.Mathlib.Omega.{arith}
 use Rattle.sets.specs.SetLaws.{allowed, judged-later}
 use Rattle.sets.specs.declared.Set.{Set}
-use Rattle.plans.specs.Planned.{planned, planNumber, smallestAlloc}
+use Rattle.plans.specs.Planned.{planned, planNumber, leastAlloc}
 use Rattle.plans.specs.PlanLaws.{answered-number}
 use Rattle.plans.specs.declared.Planned.{Planned}
 use Rattle.sheets.specs.declared.ReadRequest.{ReadRequest}
@@ -32,6 +32,6 @@ plan-accepted t p q e k = sym (text-accepted (p .number) _ k) ∙ ap (plannedTex
 -- a set that has a plan has at most 128 stations
 pub planned-few : (t : Set) (p : Planned) → p ≡ planned t → p .number ≡ 0 → t .n ≤ 128
 planned-few t p e k =
-    let number : planNumber t ≡ 0 = sym (answered-number (planNumber t) (smallestAlloc t)) ∙ sym (ap (λ (q : Planned). q .number) e) ∙ k in
+    let number : planNumber t ≡ 0 = sym (answered-number (planNumber t) (leastAlloc t)) ∙ sym (ap (λ (q : Planned). q .number) e) ∙ k in
     let fine = judged-later t _ 0 (λ x. absurd (omega arith)) (λ x. absurd (omega arith)) (λ x. absurd (omega arith)) .0 number .0 in
     omega (arith, allowed t .0 fine .0)

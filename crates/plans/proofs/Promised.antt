@@ -14,11 +14,11 @@ use Rattle.sets.specs.Rules.{countAllowed, numbersAllowed, walkTimeAllowed}
 use Rattle.sets.specs.Judged.{judged}
 use Rattle.sets.specs.SetLaws.{decides-count, decides-numbers, decides-walk, allowed, judged-two, judged-four, judged-five, judged-later}
 use Rattle.sets.specs.declared.Set.{Set}
-use Rattle.plans.specs.Rules.{MeetsRules}
-use Rattle.plans.specs.Planned.{smallestFor, smallestAt, smallestAlloc, tokenFits, blankAlloc, planNumber, planned}
+use Rattle.plans.specs.Rules.{MeetsRules, tokenFits}
+use Rattle.plans.specs.Planned.{smallestFor, leastAlloc, blankAlloc, planNumber, planned}
 use Rattle.plans.specs.Answer.{IsPlan, Fitting}
 use Rattle.plans.specs.Promised.{KeptBy, Promised}
-use Rattle.plans.specs.PlanLaws.{smallest-meets, smallest-least, smallest-is, smallest-one, smallest-inside, smallest-past, smallest-long, smallest-below, smallest-rules, token-needed, decides-token, answered-number, answered-refused, plan-refused-set, plan-none, plan-found, plan-judged, is-plan, planned-same, judged-plan-same, given-two, given-four, given-five, given-seven, given-none}
+use Rattle.plans.specs.PlanLaws.{smallest-meets, smallest-least, smallest-is, smallest-one, smallest-past, smallest-long, smallest-each, smallest-rules, token-needed, decides-token, answered-number, answered-refused, plan-refused-set, plan-none, plan-found, plan-judged, is-plan, planned-same, judged-plan-same, given-two, given-four, given-five, given-seven, given-none}
 use Rattle.plans.specs.declared.Planned.{Planned}
 
 -- ---- the smallest S
@@ -32,42 +32,41 @@ at-zero c d =
 
 module _ (t : Set) where
   -- planning answers 6 or a plan exactly where the set is judged 0, and the token rule decides which
-  six-says : planned t .number ≡ 6 → (judged t ≡ 0) × (tokenFits t (smallestAt t) ≡ false)
+  six-says : planned t .number ≡ 6 → (judged t ≡ 0) × (tokenFits t (at (leastAlloc t .s)) ≡ false)
   six-says h =
-      let said = judged-later t _ 6 (omega arith) (omega arith) (omega arith) .0 (sym (answered-number (planNumber t) (smallestAlloc t)) ∙ h) in
-      let d = decides-token t (smallestAt t) in
+      let said = judged-later t _ 6 (omega arith) (omega arith) (omega arith) .0 (sym (answered-number (planNumber t) (leastAlloc t)) ∙ h) in
+      let d = decides-token t (at (leastAlloc t .s)) in
       (said .0, decides-not _ _ d .1 (given _ _ 6 0 d (omega arith) .0 (said .1)))
 
-  plan-says : planned t .number ≡ 0 → (judged t ≡ 0) × (tokenFits t (smallestAt t) ≡ true)
+  plan-says : planned t .number ≡ 0 → (judged t ≡ 0) × (tokenFits t (at (leastAlloc t .s)) ≡ true)
   plan-says h =
-      let said = judged-later t _ 0 (omega arith) (omega arith) (omega arith) .0 (sym (answered-number (planNumber t) (smallestAlloc t)) ∙ h) in
-      let d = decides-token t (smallestAt t) in
+      let said = judged-later t _ 0 (omega arith) (omega arith) (omega arith) .0 (sym (answered-number (planNumber t) (leastAlloc t)) ∙ h) in
+      let d = decides-token t (at (leastAlloc t .s)) in
       (said .0, d .1 (given-later _ _ 6 0 0 d (omega arith) .0 (said .1) .0))
 
   -- where no vector meets the rules, the smallest S break the token rule
-  none-token : judged t ≡ 0 → ((s : List ℕ) → ¬ MeetsRules t (at s)) → tokenFits t (smallestAt t) ≡ false
+  none-token : judged t ≡ 0 → ((s : List ℕ) → ¬ MeetsRules t (at s)) → tokenFits t (at (leastAlloc t .s)) ≡ false
   none-token h none =
-      ⊎-elim (λ f. absurd (none (smallestAlloc t .s) (smallest-rules t (allowed t .0 h .0 .1) f))) (λ f. f)
-      (true-or-false (tokenFits t (smallestAt t)))
+      ⊎-elim (λ f. absurd (none (leastAlloc t .s) (smallest-rules t (allowed t .0 h .0 .1) f))) (λ f. f)
+      (true-or-false (tokenFits t (at (leastAlloc t .s))))
 
   six : (planned t .number ≡ 6) ↔ ((judged t ≡ 0) × ((s : List ℕ) → ¬ MeetsRules t (at s)))
   six = (
     λ h.
         let said = six-says h in
-        (said .0, λ s m. true≢false (sym (token-needed t (at s) m) ∙ said .1)),
+        (said .0, λ s m. true≢false (sym (token-needed t (allowed t .0 (said .0) .0 .1) (at s) m) ∙ said .1)),
     λ h. ap (λ (a : Planned). a .number) (plan-none t (h .0) (none-token (h .0) (h .1))),
   )
 
   refused-set : judged t ≢ 0 → planned t .number ≡ judged t
   refused-set h = ap (λ (a : Planned). a .number) (plan-refused-set t h)
 
-  kept-found : judged t ≡ 0 → tokenFits t (smallestAt t) ≡ true → KeptBy t (record { alloc = smallestAlloc t; number = 0 })
+  kept-found : judged t ≡ 0 → tokenFits t (at (leastAlloc t .s)) ≡ true → KeptBy t (record { alloc = leastAlloc t; number = 0 })
   kept-found h f =
       let few = allowed t .0 h .0 .1 in
       record {
-        plan = is-plan t few;
-        meets = smallest-rules t few f;
-        least = λ v m i l. rw (smallest-inside t few i l) (smallest-below t v m i l);
+        plan = is-plan t few f;
+        smallest = smallest-each t few;
         judged = plan-judged t h f;
       }
 
@@ -76,13 +75,14 @@ module _ (t : Set) where
 
   -- ---- exactly one answer
 
-  -- a plan in 01's words is the smallest allocation
-  one-plan : t .n ≤ 128 → (a : Planned) → IsPlan t a → a ≡ record { alloc = smallestAlloc t; number = 0 }
-  one-plan few a p =
-      let same : a .alloc .s ≡ smallestAlloc t .s =
-      ext-getD 0 (a .alloc .s) (smallestAlloc t .s) (p .places ∙ sym (smallest-long t)) (λ i _.
+  -- a plan in 01's words is the least allocation: each is at most the other
+  one-plan : t .n ≤ 128 → tokenFits t (at (leastAlloc t .s)) ≡ true → (a : Planned) → IsPlan t a → a ≡ record { alloc = leastAlloc t; number = 0 }
+  one-plan few token a p =
+      let own = is-plan t few token .least in
+      let same : a .alloc .s ≡ leastAlloc t .s =
+      ext-getD 0 (a .alloc .s) (leastAlloc t .s) (p .places ∙ sym (smallest-long t)) (λ i _.
       ⊎-elim (λ (b : i < t .n).
-      smallest-one (t .head .ttrt) (at (t .c) i) (at (t .d) i) (at (a .alloc .s) i) (p .smallest i b) ∙ sym (smallest-inside t few i b))
+      omega (arith, p .least .least (at (leastAlloc t .s)) (own .meets) i b, own .least (at (a .alloc .s)) (p .least .meets) i b))
       (λ (b : t .n ≤ i). p .past i b ∙ sym (smallest-past t i b))
       (below-or-not i (t .n))) in
       λ i. record { alloc = record { s = same i }; number = p .accepted i }
@@ -103,7 +103,8 @@ module _ (t : Set) where
             let j = allowed t .1 (c, (n, w)) in
             plan-none t j (none-token j (λ s m. none (s, m)));
         plan = λ c n w some.
-            rw (plan-found t (allowed t .1 (c, (n, w))) (token-needed t (at (some .0)) (some .1))) (is-plan t (c .1));
+            let token = token-needed t (c .1) (at (some .0)) (some .1) in
+            rw (plan-found t (allowed t .1 (c, (n, w))) token) (is-plan t (c .1) token);
       }
 
   only-one : (a : Planned) → Fitting t a → a ≡ planned t
@@ -116,10 +117,10 @@ module _ (t : Set) where
       let walk = decides-walk t .0 w in
       let j = allowed t .1 (count, (numbers, walk)) in
       ⊎-elim (λ token.
-      one-plan (count .1) a (f .plan count numbers walk (smallestAlloc t .s, smallest-rules t (count .1) token)) ∙ sym (plan-found t j token))
+      one-plan (count .1) token a (f .plan count numbers walk (leastAlloc t .s, smallest-rules t (count .1) token)) ∙ sym (plan-found t j token))
       (λ token.
-      f .six count numbers walk (λ some. true≢false (sym (token-needed t (at (some .0)) (some .1)) ∙ token)) ∙ sym (plan-none t j token))
-      (true-or-false (tokenFits t (smallestAt t))))
+      f .six count numbers walk (λ some. true≢false (sym (token-needed t (count .1) (at (some .0)) (some .1)) ∙ token)) ∙ sym (plan-none t j token))
+      (true-or-false (tokenFits t (at (leastAlloc t .s)))))
       (λ w.
       let count = decides-count t .0 c in
       let numbers = decides-numbers t .0 n in
@@ -136,8 +137,8 @@ module _ (t : Set) where
 
 blank : (t : Set) → planned t .number ≢ 0 → planned t .alloc ≡ blankAlloc
 blank t h =
-    let k : planNumber t ≢ 0 = λ e. h (answered-number (planNumber t) (smallestAlloc t) ∙ e) in
-    ap (λ (a : Planned). a .alloc) (answered-refused (planNumber t) (smallestAlloc t) k)
+    let k : planNumber t ≢ 0 = λ e. h (answered-number (planNumber t) (leastAlloc t) ∙ e) in
+    ap (λ (a : Planned). a .alloc) (answered-refused (planNumber t) (leastAlloc t) k)
 
 pub promised : Promised
 promised =

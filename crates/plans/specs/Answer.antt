@@ -6,7 +6,7 @@ use lib.ListN.{length}
 use Rattle.units.specs.Places.{at}
 use Rattle.sets.specs.Rules.{CountAllowed, NumbersAllowed, WalkTimeAllowed}
 use Rattle.sets.specs.declared.Set.{Set}
-use Rattle.plans.specs.Rules.{MeetsRules, IsSmallest}
+use Rattle.plans.specs.Rules.{MeetsRules, IsLeast}
 use Rattle.plans.specs.Planned.{blankAlloc}
 use Rattle.plans.specs.declared.Planned.{Planned}
 
@@ -18,11 +18,11 @@ AllocationExists t = (s : List ℕ) × MeetsRules t (at s)
 abbrev pub Refused : ℕ → Planned → Type 0
 Refused number a = a ≡ record { alloc = blankAlloc; number = number }
 
--- the answer is the plan: at each station the smallest whole S that meets its deadline rule, and 0 in the places from N on
+-- the answer is the plan: the least vector that meets the rules, and 0 in the places from N on
 pub record IsPlan (t : Set) (a : Planned) : Type 0 where
   pub accepted : a .number ≡ 0
   pub places : length (a .alloc .s) ≡ 128
-  pub smallest : (i : ℕ) → i < t .n → IsSmallest (t .head .ttrt) (at (t .c) i) (at (t .d) i) (at (a .alloc .s) i)
+  pub least : IsLeast t (at (a .alloc .s))
   pub past : (i : ℕ) → t .n ≤ i → at (a .alloc .s) i ≡ 0
 
 -- the answer fits the set

@@ -1,7 +1,7 @@
 -- What a plan is: the rules of 01, "Allocations", the judgement of a given plan, planning, and what is promised of them.
---     Rules       the deadline rule, the token rule, A*, and what "the smallest S" means
+--     Rules       the deadline rule, the token rule, A*, and what "the smallest S" means; and the rules as tests
 --     Planned     the smallest S as a formula, the judgement of a given plan, and planning
---     Bounds      how large the small functions' results can be
+--     Bounds      how large the numbers of the divisions are
 --     Answer      planning as a relation from 01's sentences alone, with no way to compute it
 --     Promised    what is promised beside the contracts
 -- and, for the proofs of the layers above:

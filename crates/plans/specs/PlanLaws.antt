@@ -1,7 +1,8 @@
 -- The laws of plans, for the proofs of this layer and those above. No rule stands here.
-use Prim.Native.Nat.{ℕ, zero, suc, _+_, _-_, _*_, _/_, _≤_, _<_}
+use Prim.Native.Nat.{ℕ, zero, suc, _+_, _-_, _*_, _≤_, _<_}
 use mathlib.Core.Path.{_≡_, refl, ap, _∙_}
 use mathlib.Core.Bool.{true, false, _&&_}
+use mathlib.Core.List.{List}
 use mathlib.Core.Logic.{_↔_, _≢_, ⊎-elim}
 use native.Mathlib.Omega.{arith}
 use native.Mathlib.Nat.{mul-le-mul-left, div-mul-le-self, div-zero, le-mul-of-pos-right, mul-comm, zero-mul}
@@ -13,13 +14,13 @@ use Rattle.units.specs.Places.{at, sumBelow, allBelow, fill}
 use Rattle.units.specs.PlaceLaws.{sum-mono, sum-part, all-same, fill-same, sum-same, decides-all, fill-length, fill-inside, fill-outside}
 use Rattle.units.specs.Judging.{orElse}
 use Rattle.units.specs.JudgingLaws.{true-and, Decides, decides-le, decides-both, held, failed, given, given-later, not-given, iff-then, iff-under}
-use Rattle.sets.specs.Rules.{tau, SameSet, CountAllowed, NumbersAllowed, WalkTimeAllowed, countAllowed, numbersAllowed, walkTimeAllowed}
+use Rattle.sets.specs.Rules.{tau, SameSet, CountAllowed, WalkTimeAllowed, countAllowed, numbersAllowed, walkTimeAllowed}
 use Rattle.sets.specs.Judged.{judged, zeros}
 use Rattle.sets.specs.SetLaws.{decides-count, decides-numbers, decides-walk, allowed, judged-rest, judged-keeps, judged-same, tau-same, stations-same}
 use Rattle.sets.specs.declared.Set.{Set}
 use Rattle.units.specs.SmallLaws.{below-or-not, one-more, shares-enough, shares-least}
-use Rattle.plans.specs.Rules.{wholeRotations, alpha, timeWith, leastTime, MeetsDeadlineAt, MeetsRules, AllocInRange, IsSmallest}
-use Rattle.plans.specs.Planned.{smallestWith, smallestFor, smallestAt, inRangeS, deadlineFitsAt, deadlinesFit, tokenFits, allocInRange, judgedPlan, blankAlloc, smallestAlloc, answered, planned}
+use Rattle.plans.specs.Rules.{wholeRotations, alpha, timeWith, leastTime, MeetsDeadlines, MeetsDeadlineAt, MeetsRules, AllocInRange, IsSmallest, InRange, KeepsRules, inRangeS, deadlineFitsAt, deadlinesFit, tokenFits, allocInRange}
+use Rattle.plans.specs.Planned.{smallestWith, smallestFor, smallestAt, judgedPlan, blankAlloc, leastAlloc, answered, planned}
 use Rattle.plans.specs.Answer.{IsPlan}
 use Rattle.plans.specs.declared.Alloc.{Alloc}
 
@@ -117,7 +118,7 @@ smallest-small ttrt c d =
 pub decides-alloc : (t : Set) (s : ℕ → ℕ) → Decides (allocInRange t s) (AllocInRange t s)
 decides-alloc t s = decides-all (t .n) (inRangeS s) (λ i. s i ≤ mostS) (λ i. decides-le (s i) mostS)
 
-pub decides-deadlines : (t : Set) (s : ℕ → ℕ) → Decides (deadlinesFit t s) ((i : ℕ) → i < t .n → MeetsDeadlineAt t i (s i))
+pub decides-deadlines : (t : Set) (s : ℕ → ℕ) → Decides (deadlinesFit t s) (MeetsDeadlines t s)
 decides-deadlines t s =
     decides-all (t .n) (deadlineFitsAt t s) (λ i. MeetsDeadlineAt t i (s i))
     (λ i. decides-le (at (t .c) i) (leastTime (t .head .ttrt) (at (t .d) i) (s i)))
@@ -155,22 +156,22 @@ module _ (t : Set) (a : Alloc) where
 
 -- ---- planning, test by test
 
--- a place of the smallest allocation
-pub smallest-inside : (t : Set) → t .n ≤ 128 → (i : ℕ) → i < t .n → at (smallestAlloc t .s) i ≡ smallestAt t i
+-- a place of the least allocation
+pub smallest-inside : (t : Set) → t .n ≤ 128 → (i : ℕ) → i < t .n → at (leastAlloc t .s) i ≡ smallestAt t i
+unfolding leastAlloc
 smallest-inside t m i l = fill-inside (t .n) (smallestAt t) zeros i l m
 
-pub smallest-past : (t : Set) (i : ℕ) → t .n ≤ i → at (smallestAlloc t .s) i ≡ 0
+pub smallest-past : (t : Set) (i : ℕ) → t .n ≤ i → at (leastAlloc t .s) i ≡ 0
+unfolding leastAlloc
 smallest-past t i l =
     fill-outside (t .n) (smallestAt t) zeros i l ∙
     ⊎-elim (λ (b : i < 128). getD-replicate 128 i 0 0 b)
     (λ (b : 128 ≤ i). List·getD-eq-default zeros 0 b)
     (below-or-not i 128)
 
-pub smallest-long : (t : Set) → length (smallestAlloc t .s) ≡ 128
+pub smallest-long : (t : Set) → length (leastAlloc t .s) ≡ 128
+unfolding leastAlloc
 smallest-long t = fill-length (t .n) (smallestAt t) zeros
-
-pub token-stored : (t : Set) → t .n ≤ 128 → tokenFits t (at (smallestAlloc t .s)) ≡ tokenFits t (smallestAt t)
-token-stored t m = rw (sum-same (t .n) (at (smallestAlloc t .s)) (smallestAt t) (smallest-inside t m))
 
 pub answered-refused : (k : ℕ) (a : Alloc) → k ≢ 0 → answered k a ≡ record { alloc = blankAlloc; number = k }
 unfolding answered
@@ -187,31 +188,32 @@ unfolding answered
 answered-plan k a h = rw h
 
 pub plan-refused-set : (t : Set) → judged t ≢ 0 → planned t ≡ record { alloc = blankAlloc; number = judged t }
-plan-refused-set t h = rw (judged-keeps t (orElse (tokenFits t (smallestAt t)) 6 0) h) (answered-refused (judged t) (smallestAlloc t) h)
+plan-refused-set t h = rw (judged-keeps t (orElse (tokenFits t (at (leastAlloc t .s))) 6 0) h) (answered-refused (judged t) (leastAlloc t) h)
 
-pub plan-none : (t : Set) → judged t ≡ 0 → tokenFits t (smallestAt t) ≡ false → planned t ≡ record { alloc = blankAlloc; number = 6 }
-plan-none t h f = rw (judged-rest t (orElse (tokenFits t (smallestAt t)) 6 0) h, failed (tokenFits t (smallestAt t)) 6 0 f) (answered-refused 6 (smallestAlloc t) (omega arith))
+pub plan-none : (t : Set) → judged t ≡ 0 → tokenFits t (at (leastAlloc t .s)) ≡ false → planned t ≡ record { alloc = blankAlloc; number = 6 }
+plan-none t h f = rw (judged-rest t (orElse (tokenFits t (at (leastAlloc t .s))) 6 0) h, failed (tokenFits t (at (leastAlloc t .s))) 6 0 f) (answered-refused 6 (leastAlloc t) (omega arith))
 
-pub plan-found : (t : Set) → judged t ≡ 0 → tokenFits t (smallestAt t) ≡ true → planned t ≡ record { alloc = smallestAlloc t; number = 0 }
-plan-found t h f = rw (judged-rest t (orElse (tokenFits t (smallestAt t)) 6 0) h, held (tokenFits t (smallestAt t)) 6 0 f) (answered-plan 0 (smallestAlloc t) refl)
+pub plan-found : (t : Set) → judged t ≡ 0 → tokenFits t (at (leastAlloc t .s)) ≡ true → planned t ≡ record { alloc = leastAlloc t; number = 0 }
+plan-found t h f = rw (judged-rest t (orElse (tokenFits t (at (leastAlloc t .s))) 6 0) h, held (tokenFits t (at (leastAlloc t .s))) 6 0 f) (answered-plan 0 (leastAlloc t) refl)
 
 -- ---- the smallest S against every vector
 
 -- a vector that meets the rules is at least as large at every station
-pub smallest-below : (t : Set) (v : ℕ → ℕ) → MeetsRules t v → (i : ℕ) → i < t .n → smallestAt t i ≤ v i
-smallest-below t v m i l = smallest-is (t .head .ttrt) (at (t .c) i) (at (t .d) i) .least (v i) (m .deadlines i l)
+pub least-below : (t : Set) → t .n ≤ 128 → (v : ℕ → ℕ) → MeetsRules t v → (i : ℕ) → i < t .n → at (leastAlloc t .s) i ≤ v i
+least-below t few v m i l =
+    rw (smallest-inside t few i l) (smallest-is (t .head .ttrt) (at (t .c) i) (at (t .d) i) .least (v i) (m .deadlines i l))
 
 -- so where the smallest S break the token rule, every vector breaks a rule
-pub token-needed : (t : Set) (v : ℕ → ℕ) → MeetsRules t v → tokenFits t (smallestAt t) ≡ true
-token-needed t v m =
-    decides-token t (smallestAt t) .1 (omega (arith, sum-mono (t .n) (smallestAt t) v (smallest-below t v m), m .token))
+pub token-needed : (t : Set) → t .n ≤ 128 → (v : ℕ → ℕ) → MeetsRules t v → tokenFits t (at (leastAlloc t .s)) ≡ true
+token-needed t few v m =
+    decides-token t (at (leastAlloc t .s)) .1 (omega (arith, sum-mono (t .n) (at (leastAlloc t .s)) v (least-below t few v m), m .token))
 
 -- and where they keep it, the smallest allocation meets both rules
-pub smallest-rules : (t : Set) → t .n ≤ 128 → tokenFits t (smallestAt t) ≡ true → MeetsRules t (at (smallestAlloc t .s))
+pub smallest-rules : (t : Set) → t .n ≤ 128 → tokenFits t (at (leastAlloc t .s)) ≡ true → MeetsRules t (at (leastAlloc t .s))
 smallest-rules t few h =
     record {
       deadlines = λ i l. rw (smallest-inside t few i l) (smallest-is (t .head .ttrt) (at (t .c) i) (at (t .d) i) .meets);
-      token = decides-token t (at (smallestAlloc t .s)) .0 (token-stored t few ∙ h);
+      token = decides-token t (at (leastAlloc t .s)) .0 h;
     }
 
 -- each S of an allocation that meets the rules is at most TTRT
@@ -220,29 +222,32 @@ alloc-small t v m i l = omega (arith, sum-part (t .n) v i l, m .token)
 
 -- ---- a plan that planning answered
 
-pub is-plan : (t : Set) → t .n ≤ 128 → IsPlan t (record { alloc = smallestAlloc t; number = 0 })
-is-plan t few =
+pub is-plan : (t : Set) → t .n ≤ 128 → tokenFits t (at (leastAlloc t .s)) ≡ true → IsPlan t (record { alloc = leastAlloc t; number = 0 })
+is-plan t few h =
     record {
       accepted = refl;
       places = smallest-long t;
-      smallest = λ i l. rw (smallest-inside t few i l) (smallest-is (t .head .ttrt) (at (t .c) i) (at (t .d) i));
+      least = record { meets = smallest-rules t few h; least = least-below t few };
       past = smallest-past t;
     }
 
-pub plan-judged : (t : Set) → judged t ≡ 0 → tokenFits t (smallestAt t) ≡ true → judgedPlan t (smallestAlloc t) ≡ 0
+pub smallest-each : (t : Set) → t .n ≤ 128 → (i : ℕ) → i < t .n → IsSmallest (t .head .ttrt) (at (t .c) i) (at (t .d) i) (at (leastAlloc t .s) i)
+smallest-each t few i l = rw (smallest-inside t few i l) (smallest-is (t .head .ttrt) (at (t .c) i) (at (t .d) i))
+
+pub plan-judged : (t : Set) → judged t ≡ 0 → tokenFits t (at (leastAlloc t .s)) ≡ true → judgedPlan t (leastAlloc t) ≡ 0
 plan-judged t h f =
     let all = allowed t .0 h in
     let meets = smallest-rules t (all .0 .1) f in
-    let small : AllocInRange t (at (smallestAlloc t .s)) = λ i l. omega (arith, alloc-small t (at (smallestAlloc t .s)) meets i l, all .1 .0 .header .1) in
-    given-0 t (smallestAlloc t) (decides-count t .1 (all .0))
-    (true-and _ _ (decides-numbers t .1 (all .1 .0)) (decides-alloc t (at (smallestAlloc t .s)) .1 small))
+    let small : AllocInRange t (at (leastAlloc t .s)) = λ i l. omega (arith, alloc-small t (at (leastAlloc t .s)) meets i l, all .1 .0 .header .1) in
+    given-0 t (leastAlloc t) (decides-count t .1 (all .0))
+    (true-and _ _ (decides-numbers t .1 (all .1 .0)) (decides-alloc t (at (leastAlloc t .s)) .1 small))
     (decides-walk t .1 (all .1 .1))
-    (decides-rules t (at (smallestAlloc t .s)) .1 meets)
+    (decides-rules t (at (leastAlloc t .s)) .1 meets)
 
 -- ---- the judgement of a given plan, number by number
 
 module _ (t : Set) (a : Alloc) where
-  decides-given : Decides (numbersAllowed t && allocInRange t (at (a .s))) (NumbersAllowed t × AllocInRange t (at (a .s)))
+  decides-given : Decides (numbersAllowed t && allocInRange t (at (a .s))) (InRange t a)
   decides-given = decides-both _ _ _ _ (decides-numbers t) (decides-alloc t (at (a .s)))
 
   pub given-two : (judgedPlan t a ≡ 2) ↔ ¬ CountAllowed t
@@ -251,13 +256,13 @@ module _ (t : Set) (a : Alloc) where
       given _ _ 2 _ (decides-count t)
       (not-given _ 4 _ 2 (omega arith) (not-given _ 5 _ 2 (omega arith) (not-given _ 7 0 2 (omega arith) (omega arith))))
 
-  pub given-four : (judgedPlan t a ≡ 4) ↔ (CountAllowed t × ¬ (NumbersAllowed t × AllocInRange t (at (a .s))))
+  pub given-four : (judgedPlan t a ≡ 4) ↔ (CountAllowed t × ¬ InRange t a)
   unfolding judgedPlan
   given-four =
       iff-then (given-later _ _ 2 _ 4 (decides-count t) (omega arith))
       (iff-under (given _ _ 4 _ decides-given (not-given _ 5 _ 4 (omega arith) (not-given _ 7 0 4 (omega arith) (omega arith)))))
 
-  pub given-five : (judgedPlan t a ≡ 5) ↔ (CountAllowed t × ((NumbersAllowed t × AllocInRange t (at (a .s))) × ¬ WalkTimeAllowed t))
+  pub given-five : (judgedPlan t a ≡ 5) ↔ (CountAllowed t × (InRange t a × ¬ WalkTimeAllowed t))
   unfolding judgedPlan
   given-five =
       iff-then (given-later _ _ 2 _ 5 (decides-count t) (omega arith))
@@ -265,7 +270,7 @@ module _ (t : Set) (a : Alloc) where
       (iff-then (given-later _ _ 4 _ 5 decides-given (omega arith))
       (iff-under (given _ _ 5 _ (decides-walk t) (not-given _ 7 0 5 (omega arith) (omega arith))))))
 
-  pub given-seven : (judgedPlan t a ≡ 7) ↔ (CountAllowed t × ((NumbersAllowed t × AllocInRange t (at (a .s))) × (WalkTimeAllowed t × ¬ MeetsRules t (at (a .s)))))
+  pub given-seven : (judgedPlan t a ≡ 7) ↔ (CountAllowed t × (InRange t a × (WalkTimeAllowed t × ¬ KeepsRules t a)))
   unfolding judgedPlan
   given-seven =
       iff-then (given-later _ _ 2 _ 7 (decides-count t) (omega arith))
@@ -275,7 +280,7 @@ module _ (t : Set) (a : Alloc) where
       (iff-then (given-later _ _ 5 _ 7 (decides-walk t) (omega arith))
       (iff-under (given _ _ 7 0 (decides-rules t (at (a .s))) (omega arith)))))))
 
-  pub given-none : (judgedPlan t a ≡ 0) ↔ (CountAllowed t × ((NumbersAllowed t × AllocInRange t (at (a .s))) × (WalkTimeAllowed t × MeetsRules t (at (a .s)))))
+  pub given-none : (judgedPlan t a ≡ 0) ↔ (CountAllowed t × (InRange t a × (WalkTimeAllowed t × KeepsRules t a)))
   unfolding judgedPlan
   given-none =
       iff-then (given-later _ _ 2 _ 0 (decides-count t) (omega arith))
@@ -296,12 +301,16 @@ token-same a b s v same each =
 pub smallest-same : (a b : Set) → SameSet a b → (i : ℕ) → i < a .n → smallestAt a i ≡ smallestAt b i
 smallest-same a b same i l = rw (same .header, same .longest i l, same .deadline i l)
 
+least-same : (a b : Set) → SameSet a b → leastAlloc a ≡ leastAlloc b
+unfolding leastAlloc
+least-same a b same =
+    ap (λ (s : List ℕ). record { s = s })
+    (fill-same (a .n) (smallestAt a) (smallestAt b) zeros (smallest-same a b same) ∙ ap (λ (n : ℕ). fill n (smallestAt b) zeros) (same .count))
+
 pub planned-same : (a b : Set) → SameSet a b → planned a ≡ planned b
 planned-same a b same =
-    let filled : fill (a .n) (smallestAt a) zeros ≡ fill (b .n) (smallestAt b) zeros =
-    fill-same (a .n) (smallestAt a) (smallestAt b) zeros (smallest-same a b same) ∙ ap (λ (n : ℕ). fill n (smallestAt b) zeros) (same .count) in
-    let token = token-same a b (smallestAt a) (smallestAt b) same (smallest-same a b same) in
-    rw (filled, token, judged-same a b (orElse (tokenFits b (smallestAt b)) 6 0) same)
+    let token = token-same a b (at (leastAlloc b .s)) (at (leastAlloc b .s)) same (λ i l. refl) in
+    rw (least-same a b same, token, judged-same a b (orElse (tokenFits b (at (leastAlloc b .s))) 6 0) same)
 
 pub judged-plan-same : (t u : Set) (a b : Alloc) → SameSet t u → ((i : ℕ) → i < t .n → at (a .s) i ≡ at (b .s) i) → judgedPlan t a ≡ judgedPlan u b
 unfolding judgedPlan

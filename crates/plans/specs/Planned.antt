@@ -1,15 +1,15 @@
 -- The smallest S as a formula, the judgement of a given plan, and planning.
 use Prim.Native.Nat.{ℕ, zero, suc, _+_, _*_}
-use mathlib.Core.Bool.{Bool, cond, _&&_}
+use mathlib.Core.Bool.{cond, _&&_}
 use lib.Dec.{leb}
-use Rattle.units.specs.Numbers.{accepted, wrongShape, outOfRange, badWalkTime, noAllocation, rulesBroken, mostS}
+use Rattle.units.specs.Numbers.{accepted, wrongShape, outOfRange, badWalkTime, noAllocation, rulesBroken}
 use Rattle.units.specs.Small.{roundedUp}
-use Rattle.units.specs.Places.{at, sumBelow, allBelow, fill}
+use Rattle.units.specs.Places.{at, fill}
 use Rattle.units.specs.Judging.{orElse}
-use Rattle.sets.specs.Rules.{tau, countAllowed, numbersAllowed, walkTimeAllowed}
+use Rattle.sets.specs.Rules.{countAllowed, numbersAllowed, walkTimeAllowed}
 use Rattle.sets.specs.Judged.{judgedThen, zeros}
 use Rattle.sets.specs.declared.Set.{Set}
-use Rattle.plans.specs.Rules.{wholeRotations, alpha, leastTime}
+use Rattle.plans.specs.Rules.{wholeRotations, alpha, deadlinesFit, tokenFits, allocInRange}
 use Rattle.plans.specs.declared.Alloc.{Alloc}
 use Rattle.plans.specs.declared.Planned.{Planned}
 
@@ -27,23 +27,6 @@ smallestFor ttrt c d = smallestWith (wholeRotations ttrt d) (alpha ttrt d) c
 abbrev pub smallestAt : Set → ℕ → ℕ
 smallestAt t i = smallestFor (t .head .ttrt) (at (t .c) i) (at (t .d) i)
 
--- ---- the rules as tests, of any vector of numbers
-
-abbrev pub deadlineFitsAt : Set → (ℕ → ℕ) → ℕ → Bool
-deadlineFitsAt t s i = leb (at (t .c) i) (leastTime (t .head .ttrt) (at (t .d) i) (s i))
-
-abbrev pub deadlinesFit : Set → (ℕ → ℕ) → Bool
-deadlinesFit t s = allBelow (t .n) (deadlineFitsAt t s)
-
-abbrev pub tokenFits : Set → (ℕ → ℕ) → Bool
-tokenFits t s = leb (sumBelow (t .n) s + tau t) (t .head .ttrt)
-
-abbrev pub inRangeS : (ℕ → ℕ) → ℕ → Bool
-inRangeS s i = leb (s i) mostS
-
-abbrev pub allocInRange : Set → (ℕ → ℕ) → Bool
-allocInRange t s = allBelow (t .n) (inRangeS s)
-
 -- ---- the judgement of a given plan: 0, or the lowest of 2, 4, 5 and 7 that applies
 
 unfoldable pub judgedPlan : Set → Alloc → ℕ
@@ -59,13 +42,13 @@ judgedPlan t a =
 abbrev pub blankAlloc : Alloc
 blankAlloc = record { s = zeros }
 
--- the smallest S at each of the N stations, 0 past them
-abbrev pub smallestAlloc : Set → Alloc
-smallestAlloc t = record { s = fill (t .n) (smallestAt t) zeros }
+-- what planning tries: the smallest S at each of the N stations, 0 past them
+unfoldable pub leastAlloc : Set → Alloc
+leastAlloc t = record { s = fill (t .n) (smallestAt t) zeros }
 
--- the lowest of 2, 4, 5 and 6 that applies; 6 where the smallest S together break the token rule
+-- the lowest of 2, 4, 5 and 6 that applies; 6 where what it tries breaks the token rule
 abbrev pub planNumber : Set → ℕ
-planNumber t = judgedThen t (orElse (tokenFits t (smallestAt t)) noAllocation accepted)
+planNumber t = judgedThen t (orElse (tokenFits t (at (leastAlloc t .s))) noAllocation accepted)
 
 -- a refused answer is blank
 unfoldable pub answered : ℕ → Alloc → Planned
@@ -74,4 +57,4 @@ answered (suc k) a = record { alloc = blankAlloc; number = suc k }
 
 -- planning's answer
 abbrev pub planned : Set → Planned
-planned t = answered (planNumber t) (smallestAlloc t)
+planned t = answered (planNumber t) (leastAlloc t)

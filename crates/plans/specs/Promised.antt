@@ -1,13 +1,13 @@
 -- What is promised of planning and of the judgement of a given plan, beside the contracts; `proofs/Promised.antt` proves it.
-use Prim.Native.Nat.{ℕ, _≤_, _<_}
+use Prim.Native.Nat.{ℕ, _<_}
 use mathlib.Core.Path.{_≡_}
 use mathlib.Core.List.{List}
 use mathlib.Core.Logic.{_↔_, _≢_}
 use Rattle.units.specs.Places.{at}
-use Rattle.sets.specs.Rules.{CountAllowed, NumbersAllowed, WalkTimeAllowed, SameSet}
+use Rattle.sets.specs.Rules.{CountAllowed, WalkTimeAllowed, SameSet}
 use Rattle.sets.specs.Judged.{judged}
 use Rattle.sets.specs.declared.Set.{Set}
-use Rattle.plans.specs.Rules.{MeetsRules, AllocInRange, IsSmallest}
+use Rattle.plans.specs.Rules.{MeetsRules, IsSmallest, InRange, KeepsRules}
 use Rattle.plans.specs.Planned.{smallestFor, judgedPlan, planned, blankAlloc}
 use Rattle.plans.specs.Answer.{Fitting, IsPlan}
 use Rattle.plans.specs.declared.Alloc.{Alloc}
@@ -15,12 +15,10 @@ use Rattle.plans.specs.declared.Planned.{Planned}
 
 -- what a plan that planning answered keeps
 pub record KeptBy (t : Set) (a : Planned) : Type 0 where
-  -- it holds the smallest S at each station, and 0 from N on
+  -- it is the least vector that meets the rules, and 0 from N on
   pub plan : IsPlan t a
-  -- it meets the deadline rule at every station and the token rule
-  pub meets : MeetsRules t (at (a .alloc .s))
-  -- every vector that meets the rules is at least as large at every station
-  pub least : (other : ℕ → ℕ) → MeetsRules t other → (i : ℕ) → i < t .n → at (a .alloc .s) i ≤ other i
+  -- at each station it holds the smallest whole S that meets the station's deadline rule
+  pub smallest : (i : ℕ) → i < t .n → IsSmallest (t .head .ttrt) (at (t .c) i) (at (t .d) i) (at (a .alloc .s) i)
   -- the judgement of that set with that allocation is 0
   pub judged : judgedPlan t (a .alloc) ≡ 0
 
@@ -48,14 +46,10 @@ pub record Promised : Type 0 where
   -- 2 for a given plan, exactly if the count of stations is wrong
   pub given-two : (t : Set) (a : Alloc) → (judgedPlan t a ≡ 2) ↔ ¬ CountAllowed t
   -- 4, exactly if the count is right and a number of the set or an S is out of its range
-  pub given-four : (t : Set) (a : Alloc)
-      → (judgedPlan t a ≡ 4) ↔ (CountAllowed t × ¬ (NumbersAllowed t × AllocInRange t (at (a .s))))
+  pub given-four : (t : Set) (a : Alloc) → (judgedPlan t a ≡ 4) ↔ (CountAllowed t × ¬ InRange t a)
   -- 5, exactly if all numbers are in range and τ is 0 or above TTRT
-  pub given-five : (t : Set) (a : Alloc)
-      → (judgedPlan t a ≡ 5) ↔ (CountAllowed t × ((NumbersAllowed t × AllocInRange t (at (a .s))) × ¬ WalkTimeAllowed t))
+  pub given-five : (t : Set) (a : Alloc) → (judgedPlan t a ≡ 5) ↔ (CountAllowed t × (InRange t a × ¬ WalkTimeAllowed t))
   -- 7, exactly if all that is right and the allocation breaks the token or the deadline rule
-  pub given-seven : (t : Set) (a : Alloc)
-      → (judgedPlan t a ≡ 7) ↔ (CountAllowed t × ((NumbersAllowed t × AllocInRange t (at (a .s))) × (WalkTimeAllowed t × ¬ MeetsRules t (at (a .s)))))
+  pub given-seven : (t : Set) (a : Alloc) → (judgedPlan t a ≡ 7) ↔ (CountAllowed t × (InRange t a × (WalkTimeAllowed t × ¬ KeepsRules t a)))
   -- 0, exactly if all that is right and the allocation meets the rules
-  pub given-none : (t : Set) (a : Alloc)
-      → (judgedPlan t a ≡ 0) ↔ (CountAllowed t × ((NumbersAllowed t × AllocInRange t (at (a .s))) × (WalkTimeAllowed t × MeetsRules t (at (a .s)))))
+  pub given-none : (t : Set) (a : Alloc) → (judgedPlan t a ≡ 0) ↔ (CountAllowed t × (InRange t a × (WalkTimeAllowed t × KeepsRules t a)))

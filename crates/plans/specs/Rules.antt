@@ -1,9 +1,12 @@
--- 01, "Allocations": the deadline rule, the token rule and the spare time. An allocation is any vector of numbers, S at each station.
+-- 01, "Allocations": the deadline rule, the token rule and the spare time, first as sentences, then as tests that can be run; `PlanLaws` proves that each test decides its sentence. An allocation is any vector of numbers, S at each station.
 use Prim.Native.Nat.{ℕ, _+_, _-_, _*_, _/_, _≤_, _<_}
+use mathlib.Core.Bool.{Bool}
+use lib.Dec.{leb}
 use Rattle.units.specs.Numbers.{mostS}
-use Rattle.units.specs.Places.{at, sumBelow}
-use Rattle.sets.specs.Rules.{tau}
+use Rattle.units.specs.Places.{at, sumBelow, allBelow}
+use Rattle.sets.specs.Rules.{tau, NumbersAllowed}
 use Rattle.sets.specs.declared.Set.{Set}
+use Rattle.plans.specs.declared.Alloc.{Alloc}
 
 -- m = D / TTRT rounded down
 abbrev pub wholeRotations : ℕ → ℕ → ℕ
@@ -34,12 +37,20 @@ pub record IsSmallest (ttrt c d s : ℕ) : Type 0 where
 abbrev pub MeetsDeadlineAt : Set → ℕ → ℕ → Type 0
 MeetsDeadlineAt t i s = MeetsDeadline (t .head .ttrt) (at (t .c) i) (at (t .d) i) s
 
+-- the deadline rule of a whole vector: at every station
+abbrev pub MeetsDeadlines : Set → (ℕ → ℕ) → Type 0
+MeetsDeadlines t s = (i : ℕ) → i < t .n → MeetsDeadlineAt t i (s i)
+
 -- both rules, of any vector of numbers whatever
 pub record MeetsRules (t : Set) (s : ℕ → ℕ) : Type 0 where
-  -- the deadline rule at every station
-  pub deadlines : (i : ℕ) → i < t .n → MeetsDeadlineAt t i (s i)
+  pub deadlines : MeetsDeadlines t s
   -- the token rule: the sum of all S at most TTRT − τ, written without a difference
   pub token : sumBelow (t .n) s + tau t ≤ t .head .ttrt
+
+-- s is the least vector: it meets the rules, and is at most every vector that does, at every station
+pub record IsLeast (t : Set) (s : ℕ → ℕ) : Type 0 where
+  pub meets : MeetsRules t s
+  pub least : (other : ℕ → ℕ) → MeetsRules t other → (i : ℕ) → i < t .n → s i ≤ other i
 
 -- A*, the spare time: TTRT − τ − the sum of S
 abbrev pub spareTime : Set → (ℕ → ℕ) → ℕ
@@ -48,3 +59,28 @@ spareTime t s = t .head .ttrt - tau t - sumBelow (t .n) s
 -- every S of a plan is 0 to 1,000,000
 abbrev pub AllocInRange : Set → (ℕ → ℕ) → Type 0
 AllocInRange t s = (i : ℕ) → i < t .n → s i ≤ mostS
+
+-- of a set with a given allocation: every number of the set and every S is in its range
+abbrev pub InRange : Set → Alloc → Type 0
+InRange t a = NumbersAllowed t × AllocInRange t (at (a .s))
+
+-- and the allocation keeps both rules
+abbrev pub KeepsRules : Set → Alloc → Type 0
+KeepsRules t a = MeetsRules t (at (a .s))
+
+-- ---- the rules as tests
+
+abbrev pub deadlineFitsAt : Set → (ℕ → ℕ) → ℕ → Bool
+deadlineFitsAt t s i = leb (at (t .c) i) (leastTime (t .head .ttrt) (at (t .d) i) (s i))
+
+abbrev pub deadlinesFit : Set → (ℕ → ℕ) → Bool
+deadlinesFit t s = allBelow (t .n) (deadlineFitsAt t s)
+
+abbrev pub tokenFits : Set → (ℕ → ℕ) → Bool
+tokenFits t s = leb (sumBelow (t .n) s + tau t) (t .head .ttrt)
+
+abbrev pub inRangeS : (ℕ → ℕ) → ℕ → Bool
+inRangeS s i = leb (s i) mostS
+
+abbrev pub allocInRange : Set → (ℕ → ℕ) → Bool
+allocInRange t s = allBelow (t .n) (inRangeS s)

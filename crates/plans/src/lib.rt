@@ -2,12 +2,12 @@
 mod shares;
 
 ghost use mathlib.Core.Path.{_≡_};
-ghost use Prim.Native.Nat.{_≤_};
+ghost use Prim.Native.Nat.{_+_, _≤_};
 ghost use Rattle.units.specs.Places.{at, allBelow};
 ghost use Rattle.sets.specs.Rules.{CountAllowed, NumbersAllowed};
-ghost use Rattle.plans.specs.Rules.{leastTime, spareTime};
-ghost use Rattle.plans.specs.Planned.{blankAlloc, smallestAlloc, inRangeS, deadlinesFit, tokenFits, judgedPlan, planned};
-ghost use Rattle.plans.specs.Bounds.{Smallest};
+ghost use Rattle.units.specs.Small.{UpTo};
+ghost use Rattle.plans.specs.Rules.{leastTime, spareTime, inRangeS, deadlinesFit, tokenFits};
+ghost use Rattle.plans.specs.Planned.{blankAlloc, smallestFor, leastAlloc, judgedPlan, planned};
 use sets::Set;
 use units::numbers;
 
@@ -43,7 +43,7 @@ pub fn least_time(ttrt: u32, d: u32, s: u32) -> u64
 
 // The smallest S that meets the deadline rule.
 pub fn smallest(ttrt: u32, c: u32, d: u32) -> u64
-    ensures { λ r. ⌜ Smallest ttrt c d r ⌝ }
+    ensures { λ r. ⌜ UpTo (c + ttrt) (smallestFor ttrt c d) r ⌝ }
 {
     let m = shares::whole_rotations(ttrt, d);
     let a = shares::alpha(ttrt, d);
@@ -132,10 +132,10 @@ pub fn judge_plan(t: Set, a: Alloc) -> u8
     numbers::ACCEPTED
 }
 
-// The smallest S at each station of an allowed set.
-fn smallest_alloc(t: Set) -> Alloc
+// What planning tries: the smallest S at each station of an allowed set.
+fn least_alloc(t: Set) -> Alloc
     requires { ⌜ CountAllowed t × NumbersAllowed t ⌝ }
-    ensures { λ r. ⌜ r ≡ smallestAlloc t ⌝ }
+    ensures { λ r. ⌜ r ≡ leastAlloc t ⌝ }
 {
     let end = units::places(t.n);
     let mut s: [u32; 128] = [0; 128];
@@ -167,7 +167,7 @@ pub fn plan(t: Set) -> Planned
     if number != numbers::ACCEPTED {
         return refused(number);
     }
-    let alloc = smallest_alloc(t);
+    let alloc = least_alloc(t);
     if !token_fits(t, alloc) {
         return refused(numbers::NO_ALLOCATION);
     }

@@ -1,7 +1,7 @@
 // The divisions of planning, all in this place: how many whole rotations fit into a deadline, and a share rounded up.
-ghost use mathlib.Core.Path.{_≡_};
-ghost use Prim.Native.Nat.{_<_, _≤_, _^_};
-ghost use Rattle.plans.specs.Bounds.{Rotations, Alpha, Sharable, Share};
+ghost use Rattle.units.specs.Small.{UpTo, roundedUp};
+ghost use Rattle.plans.specs.Rules.{alpha};
+ghost use Rattle.plans.specs.Bounds.{Rotations, Sharable};
 
 // m = D / TTRT rounded down; 0 at TTRT 0.
 pub(crate) fn whole_rotations(ttrt: u32, d: u32) -> u64
@@ -15,7 +15,7 @@ pub(crate) fn whole_rotations(ttrt: u32, d: u32) -> u64
 
 // α = (m + 1)·TTRT − D; 0 at TTRT 0.
 pub(crate) fn alpha(ttrt: u32, d: u32) -> u64
-    ensures { λ r. ⌜ Alpha ttrt d r ⌝ }
+    ensures { λ r. ⌜ UpTo ttrt (alpha ttrt d) r ⌝ }
 {
     let m = whole_rotations(ttrt, d);
     let up = (m + 1) * units::wide(ttrt);
@@ -25,7 +25,7 @@ pub(crate) fn alpha(ttrt: u32, d: u32) -> u64
 // a / b rounded up; 0 at b = 0.
 pub(crate) fn rounded_up(a: u64, b: u64) -> u64
     requires { ⌜ Sharable a b ⌝ }
-    ensures { λ r. ⌜ Share a b r ⌝ }
+    ensures { λ r. ⌜ UpTo a (roundedUp a b) r ⌝ }
 {
     if b == 0 {
         return 0;

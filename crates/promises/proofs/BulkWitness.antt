@@ -5,7 +5,7 @@ use Rattle.units.specs.Places.{sumBelow, allBelow, fill, raise}
 use Rattle.units.specs.Judging.{orElse, allHold}
 use Rattle.sets.specs.Rules.{headInRange, stationInRange}
 use Rattle.sets.specs.Judged.{judgedThen}
-use Rattle.plans.specs.Planned.{smallestWith, answered, judgedPlan}
+use Rattle.plans.specs.Planned.{smallestWith, answered, leastAlloc, judgedPlan}
 use Rattle.rings.specs.Opening.{openedRing, openedWith}
 use Rattle.rings.specs.Sound.{isSound}
 use Rattle.rings.specs.Steps.{syncSent, nextToken, moved, recordOf, visitedWith}
@@ -14,7 +14,7 @@ use Rattle.promises.specs.Run.{noted, after, run}
 use Rattle.promises.specs.BulkWitness.{BulkWaits}
 
 pub bulk-waits : BulkWaits
-unfolding smallestWith judgedThen orElse answered sumBelow allBelow fill raise headInRange stationInRange allHold judgedPlan openedRing openedWith isSound syncSent nextToken moved recordOf visitedWith arrivalAllowed holding takenWith noted after run
+unfolding smallestWith judgedThen orElse answered leastAlloc sumBelow allBelow fill raise headInRange stationInRange allHold judgedPlan openedRing openedWith isSound syncSent nextToken moved recordOf visitedWith arrivalAllowed holding takenWith noted after run
 bulk-waits =
     record {
       plan = refl;

@@ -3,7 +3,7 @@ use Prim.Native.Nat.{ℕ, zero, suc, _+_, _-_, _≤_, _<_}
 use mathlib.Core.Path.{_≡_, refl}
 use mathlib.Core.Logic.{_≢_, ⊎-elim}
 use native.Mathlib.Omega.{arith}
-use Rattle.units.specs.Places.{at, sumBelow}
+use Rattle.units.specs.Places.{sumBelow}
 use Rattle.units.specs.PlaceLaws.{sum-same}
 use Rattle.units.specs.SmallLaws.{below-or-not}
 

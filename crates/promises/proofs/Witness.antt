@@ -7,7 +7,7 @@ use Rattle.units.specs.Places.{at, sumBelow, allBelow, fill, raise}
 use Rattle.units.specs.Judging.{orElse, allHold}
 use Rattle.sets.specs.Rules.{headInRange, stationInRange}
 use Rattle.sets.specs.Judged.{judgedThen}
-use Rattle.plans.specs.Planned.{smallestWith, answered, judgedPlan}
+use Rattle.plans.specs.Planned.{smallestWith, answered, leastAlloc, judgedPlan}
 use Rattle.rings.specs.Opening.{openedRing, openedWith}
 use Rattle.rings.specs.Sound.{isSound}
 use Rattle.rings.specs.Steps.{syncSent, nextToken, moved, recordOf, visitedWith}
@@ -21,7 +21,7 @@ use Rattle.promises.specs.Witness.{pair, shares, thirty, waited, row, Ha
 
 -- station 0 may get its second message: the first arrived 250 before, and its last visit started at 202
 regular : Regular pair (runOf pair shares waited) (thirty 250)
-unfolding judgedThen orElse answered sumBelow allBelow fill raise headInRange stationInRange allHold judgedPlan openedRing openedWith isSound syncSent nextToken moved recordOf visitedWith arrivalAllowed holding takenWith noted after run latest
+unfolding judgedThen orElse answered leastAlloc sumBelow allBelow fill raise headInRange stationInRange allHold judgedPlan openedRing openedWith isSound syncSent nextToken moved recordOf visitedWith arrivalAllowed holding takenWith noted after run latest
 regular =
     let message : latestFor 0 (runOf pair shares waited .messages) ≡ some (thirty 0) = refl in
     let visit : latestOf 0 (runOf pair shares waited .records) ≡ some (row 0 202 2 83 0 83 0 (pos 0) 0) = refl in
@@ -40,7 +40,7 @@ regular =
     }
 
 pub happens : Happens
-unfolding smallestWith judgedThen orElse answered sumBelow allBelow fill raise headInRange stationInRange allHold judgedPlan openedRing openedWith isSound syncSent nextToken moved recordOf visitedWith arrivalAllowed holding takenWith noted after run
+unfolding smallestWith judgedThen orElse answered leastAlloc sumBelow allBelow fill raise headInRange stationInRange allHold judgedPlan openedRing openedWith isSound syncSent nextToken moved recordOf visitedWith arrivalAllowed holding takenWith noted after run
 happens =
     record {
       plan = refl;

@@ -1,8 +1,8 @@
 // A ring's set: its header and, station by station, walk time w, longest message C, deadline D and least gap P; and the judgement of any set.
 ghost use mathlib.Core.Path.{_≡_};
 ghost use Prim.Native.Nat.{_≤_};
-ghost use Rattle.units.specs.Places.{Sum, at, allBelow};
-ghost use Rattle.sets.specs.Rules.{stationInRange, headInRange, stationsInRange};
+ghost use Rattle.units.specs.Places.{Sum};
+ghost use Rattle.sets.specs.Rules.{tau, stationInRange, headInRange, stationsInRange};
 ghost use Rattle.sets.specs.Judged.{judged, blankSet};
 use units::numbers;
 
@@ -39,7 +39,7 @@ pub fn blank_set() -> Set
 
 // τ, the sum of all w.
 pub fn walk_time(t: Set) -> u64
-    ensures { λ r. ⌜ Sum (t .w) (t .n) r ⌝ }
+    ensures { λ r. ⌜ Sum (tau t) r ⌝ }
 {
     let w = t.w;
     units::sum_first(w, t.n)

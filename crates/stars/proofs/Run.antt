@@ -4,7 +4,7 @@ use Rattle.units.specs.Places.{sumBelow, allBelow, fill, raise}
 use Rattle.units.specs.Judging.{orElse, allHold}
 use Rattle.sets.specs.Rules.{headInRange, stationInRange}
 use Rattle.sets.specs.Judged.{judgedThen}
-use Rattle.plans.specs.Planned.{smallestWith, judgedPlan, answered}
+use Rattle.plans.specs.Planned.{smallestWith, judgedPlan, answered, leastAlloc}
 use Rattle.rings.specs.Opening.{openedRing, openedWith}
 use Rattle.rings.specs.Sound.{isSound}
 use Rattle.rings.specs.Steps.{syncSent, nextToken, moved, recordOf, visitedWith}
@@ -12,7 +12,7 @@ use Rattle.rings.specs.HandingIn.{arrivalAllowed, holding, takenWith}
 use Rattle.stars.specs.Run.{WorkedRun}
 
 pub workedRun : WorkedRun
-unfolding sumBelow allBelow fill raise orElse allHold headInRange stationInRange judgedThen smallestWith judgedPlan answered openedRing openedWith isSound syncSent nextToken moved recordOf visitedWith arrivalAllowed holding takenWith
+unfolding sumBelow allBelow fill raise orElse allHold headInRange stationInRange judgedThen smallestWith judgedPlan answered leastAlloc openedRing openedWith isSound syncSent nextToken moved recordOf visitedWith arrivalAllowed holding takenWith
 workedRun =
     record {
       plan = refl;

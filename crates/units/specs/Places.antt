@@ -32,7 +32,7 @@ sumFrom i n f = sumBelow (n - i) (λ k. f (i + k))
 unfoldable pub raise : ℕ → ℕ → List ℕ → List ℕ
 raise n x xs = fill n (λ i. at xs i + x) xs
 
--- r is the sum of the first n places of xs; 128 places of 32-bit numbers sum to less than 2 ^ 40
-pub record Sum (xs : List ℕ) (n r : ℕ) : Type 0 where
-  pub sum : r ≡ sumBelow n (at xs)
+-- r is this sum, and has room to add: 128 places of 32-bit numbers sum to less than 2 ^ 40
+pub record Sum (total r : ℕ) : Type 0 where
+  pub sum : r ≡ total
   pub small : r < 2 ^ 40

@@ -2,8 +2,8 @@
 pub mod numbers;
 
 ghost use mathlib.Core.Path.{_≡_};
-ghost use Prim.Native.Nat.{_-_, _<_, _^_, min};
-ghost use Rattle.units.specs.Places.{Sum};
+ghost use Prim.Native.Nat.{_-_, min};
+ghost use Rattle.units.specs.Places.{at, sumBelow, Sum};
 ghost use Rattle.units.specs.Small.{Same};
 
 // A count of ticks. No station number is one.
@@ -48,7 +48,7 @@ pub fn places(n: u32) -> usize
 
 // The sum over the first n places; a place past the end counts as 0.
 pub fn sum_first(xs: [u32; 128], n: u32) -> u64
-    ensures { λ r. ⌜ Sum xs n r ⌝ }
+    ensures { λ r. ⌜ Sum (sumBelow n (at xs)) r ⌝ }
 {
     let end = places(n);
     let mut sum: u64 = 0;

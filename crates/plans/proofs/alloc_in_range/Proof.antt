@@ -4,7 +4,7 @@ use mathlib.Core.Path.{_≡_, refl, sym, _∙_}
 use native.Mathlib.Omega.{arith}
 use Rattle.units.specs.Places.{at, allBelow}
 use Rattle.units.specs.PlaceLaws.{all-then, all-none}
-use Rattle.plans.specs.Planned.{inRangeS}
+use Rattle.plans.specs.Rules.{inRangeS}
 use borrow.Author.Needs.{needs}
 use Rattle.plans.proofs.alloc_in_range.Statement.{statement}
 use Rattle.plans.proofs.alloc_in_range.Tie as tie

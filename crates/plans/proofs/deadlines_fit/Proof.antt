@@ -5,7 +5,7 @@ use native.Mathlib.Omega.{arith}
 use lib.Dec.{leb}
 use Rattle.units.specs.Places.{at, allBelow}
 use Rattle.units.specs.PlaceLaws.{all-then, all-none}
-use Rattle.plans.specs.Planned.{deadlineFitsAt}
+use Rattle.plans.specs.Rules.{deadlineFitsAt}
 use borrow.Author.Needs.{needs}
 use Rattle.plans.proofs.deadlines_fit.Statement.{statement}
 use Rattle.plans.proofs.deadlines_fit.Tie as tie

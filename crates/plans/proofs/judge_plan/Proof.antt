@@ -1,6 +1,6 @@
 -- `judge_plan` is right because it asks the definition's tests in the definition's order; the judgement of the set answers three of them at once.
-use Prim.Native.Nat.{_≤_}
-use mathlib.Core.Path.{_≡_, sym, _∙_}
+use Prim.Native.Nat.{ℕ, _≤_}
+use mathlib.Core.Path.{_≡_, refl, sym, _∙_}
 use mathlib.Core.Bool.{true, false, _&&_}
 use mathlib.Core.Logic.{_≢_}
 use borrow.Author.Tests.{not-true, not-false}
@@ -10,7 +10,7 @@ use Rattle.sets.specs.Rules.{countAllowed, numbersAllowed, walkTimeAllowed}
 use Rattle.sets.specs.Judged.{judged}
 use Rattle.sets.specs.SetLaws.{decides-count, decides-numbers, decides-walk, count-held, numbers-held, walk-held, judged-two, judged-four, judged-five}
 use Rattle.sets.specs.declared.Set.{Set}
-use Rattle.plans.specs.Planned.{allocInRange, deadlinesFit, tokenFits}
+use Rattle.plans.specs.Rules.{allocInRange, deadlinesFit, tokenFits}
 use Rattle.plans.specs.PlanLaws.{given-2, given-4, given-5, given-7, given-0}
 use borrow.Author.Needs.{needs}
 use Rattle.plans.proofs.judge_plan.Statement.{statement}
@@ -25,28 +25,35 @@ numbers-false t h = decides-not _ _ (decides-numbers t) .1 (judged-four t .0 h .
 walk-false : (t : Set) → judged t ≡ 5 → walkTimeAllowed t ≡ false
 walk-false t h = decides-not _ _ (decides-walk t) .1 (judged-five t .0 h .1 .1)
 
+-- the set, and S at each station, as they were given
+abbrev set-of : tie.Else2 → Set
+set-of c = c .before .before .before .args .t
+
+abbrev share-of : tie.Else2 → ℕ → ℕ
+share-of c = at (c .before .before .before .args .a .s)
+
 -- neither 2 nor 4 was given
-past-4 : (c : tie.Else2) → (judged (c .before .before .before .args .t) ≢ 2) × (judged (c .before .before .before .args .t) ≢ 4)
+past-4 : (c : tie.Else2) → (judged (set-of c) ≢ 2) × (judged (set-of c) ≢ 4)
 past-4 c =
     let said = c .before .before .judge .ensures in
     (λ e. c .before .if1 .left (said ∙ e), λ e. c .if2 .left (said ∙ e))
 
-few : (c : tie.Else2) → c .before .before .before .args .t .n ≤ 128
-few c = decides-count (c .before .before .before .args .t) .0 (count-held (c .before .before .before .args .t) (past-4 c .0)) .1
+few : (c : tie.Else2) → set-of c .n ≤ 128
+few c = decides-count (set-of c) .0 (count-held (set-of c) (past-4 c .0)) .1
 
 -- every number is in range
-in-range : (c : tie.Else3) → (numbersAllowed (c .before .before .before .before .before .args .t) && allocInRange (c .before .before .before .before .before .args .t) (at (c .before .before .before .before .before .args .a .s))) ≡ true
+in-range : (c : tie.Else3) → (numbersAllowed (set-of (c .before .before)) && allocInRange (set-of (c .before .before)) (share-of (c .before .before))) ≡ true
 in-range c =
-    let t = c .before .before .before .before .before .args .t in
     let past = past-4 (c .before .before) in
-    true-and _ _ (numbers-held t (past .0) (past .1)) (sym (c .before .alloc-in-range .ensures) ∙ not-false _ (c .if3 .left))
+    true-and _ _ (numbers-held (set-of (c .before .before)) (past .0) (past .1)) (sym (c .before .alloc-in-range .ensures) ∙ not-false _ (c .if3 .left))
 
 -- nor was 5
-past-5 : (c : tie.Else4) → judged (c .before .before .before .before .before .before .args .t) ≢ 5
+past-5 : (c : tie.Else4) → judged (set-of (c .before .before .before)) ≢ 5
 past-5 c e = c .if4 .left (c .before .before .before .before .before .judge .ensures ∙ e)
 
-rules-said : (c : tie.After-token-fits) → (c .before .deadlines-fit .result && c .token-fits .result) ≡ (deadlinesFit (c .before .before .before .before .before .before .before .before .args .t) (at (c .before .before .before .before .before .before .before .before .args .a .s)) && tokenFits (c .before .before .before .before .before .before .before .before .args .t) (at (c .before .before .before .before .before .before .before .before .args .a .s)))
-rules-said c = rw (c .before .deadlines-fit .ensures, c .token-fits .ensures)
+-- the rules were asked of them
+rules-said : (c : tie.After-token-fits) → let e = c .before .before .before .before .before in (c .before .deadlines-fit .result && c .token-fits .result) ≡ (deadlinesFit (set-of e) (share-of e) && tokenFits (set-of e) (share-of e))
+rules-said c = rw (c .before .deadlines-fit .ensures, c .token-fits .ensures) refl
 
 judge-requires : tie.Need-judge-requires
 judge-requires c κs = search needs

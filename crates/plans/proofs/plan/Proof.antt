@@ -1,11 +1,13 @@
--- `plan` is right because it keeps the set's number, stores the smallest S at each station, and lets the token rule decide.
-use mathlib.Core.Path.{_≡_, sym, _∙_}
+-- `plan` is right because it keeps the set's number, tries the smallest S at each station, and lets the token rule decide.
+use mathlib.Core.Path.{_≡_, sym, ap, _∙_}
 use borrow.Author.Tests.{not-true, not-false}
-use Rattle.units.specs.Places.{at}
 use Rattle.sets.specs.Judged.{judged}
 use Rattle.sets.specs.SetLaws.{allowed}
-use Rattle.plans.specs.Planned.{tokenFits, smallestAt}
-use Rattle.plans.specs.PlanLaws.{token-stored, plan-refused-set, plan-none, plan-found}
+use Rattle.plans.specs.Rules.{tokenFits}
+use Rattle.plans.specs.Planned.{leastAlloc}
+use Rattle.plans.specs.declared.Alloc.{Alloc}
+use Rattle.units.specs.Places.{at}
+use Rattle.plans.specs.PlanLaws.{plan-refused-set, plan-none, plan-found}
 use borrow.Author.Needs.{needs}
 use Rattle.plans.proofs.plan.Statement.{statement}
 use Rattle.plans.proofs.plan.Tie as tie
@@ -13,11 +15,9 @@ use Rattle.plans.proofs.plan.Tie as tie
 judged-0 : (c : tie.Else1) → judged (c .before .before .args .t) ≡ 0
 judged-0 c = sym (c .before .judge .ensures) ∙ c .if1 .left
 
--- what the token rule says of the stored allocation it says of the smallest S
-token-said : (c : tie.After-token-fits) → c .token-fits .result ≡ tokenFits (c .before .before .before .before .args .t) (smallestAt (c .before .before .before .before .args .t))
-token-said c =
-    let t = c .before .before .before .before .args .t in
-    c .token-fits .ensures ∙ rw (c .before .smallest-alloc .ensures) (token-stored t (allowed t .0 (judged-0 (c .before .before)) .0 .1))
+-- what the token rule says of what planning tries
+token-said : (c : tie.After-token-fits) → c .token-fits .result ≡ tokenFits (c .before .before .before .before .args .t) (at (leastAlloc (c .before .before .before .before .args .t) .s))
+token-said c = c .token-fits .ensures ∙ ap (λ (a : Alloc). tokenFits (c .before .before .before .before .args .t) (at (a .s))) (c .before .least-alloc .ensures)
 
 judge-requires : tie.Need-judge-requires
 judge-requires c κs = search needs
@@ -31,8 +31,8 @@ returns c =
     let number : c .before .before .judge .result ≡ judged t = c .before .before .judge .ensures in
     c .refused .ensures ∙ rw number (sym (plan-refused-set t (λ e. c .before .if1 .taken (number ∙ e))))
 
-smallest-alloc-requires : tie.Need-smallest-alloc-requires
-smallest-alloc-requires c κs =
+least-alloc-requires : tie.Need-least-alloc-requires
+least-alloc-requires c κs =
     let all = allowed (c .before .before .args .t) .0 (judged-0 c) in
     (all .0, all .1 .0)
 
@@ -52,7 +52,7 @@ returns-3 : tie.Need-returns-3
 returns-3 c =
     let t = c .before .before .before .before .before .args .t in
     let at-token = c .before in
-    rw (at-token .before .smallest-alloc .ensures)
+    rw (at-token .before .least-alloc .ensures)
     (sym (plan-found t (judged-0 (at-token .before .before)) (sym (token-said at-token) ∙ not-false _ (c .if2 .left))))
 
 pub plan-spec : {M : Type 1} → statement M
@@ -62,7 +62,7 @@ plan-spec =
     judge-requires
     refused-requires
     returns
-    smallest-alloc-requires
+    least-alloc-requires
     token-fits-requires
     refused-requires-2
     returns-2

@@ -1,10 +1,10 @@
 -- `smallest` is right because its branch is the definition's own; m·α is at most D, so nothing wraps.
-use Prim.Native.Nat.{ℕ}
+use Prim.Native.Nat.{ℕ, _+_}
 use mathlib.Core.Path.{_≡_, sym, _∙_}
 use native.Mathlib.Omega.{arith}
 use native.Mathlib.Nat.{mul-le-mul-left}
+use Rattle.units.specs.Small.{UpTo}
 use Rattle.plans.specs.Planned.{smallestWith, smallestFor}
-use Rattle.plans.specs.Bounds.{Smallest}
 use Rattle.plans.specs.PlanLaws.{smallest-small, smallest-whole, smallest-part}
 use borrow.Author.Needs.{needs}
 use Rattle.plans.proofs.smallest.Statement.{statement}
@@ -20,11 +20,14 @@ wide-requires : tie.Need-wide-requires
 wide-requires c κs = search needs
 
 -- m, α and C as the code has them are the definition's
-smallest-by : (w : tie.After-wide) (r : ℕ) → r ≡ smallestWith (w .before .before .whole-rotations .result) (w .before .alpha .result) (w .wide .result) → Smallest (w .before .before .before .args .ttrt) (w .before .before .before .args .c) (w .before .before .before .args .d) r
-smallest-by w r h =
-    let args = w .before .before .before .args in
-    let is : r ≡ smallestFor (args .ttrt) (args .c) (args .d) = h ∙ rw (w .before .before .whole-rotations .ensures .is, w .before .alpha .ensures .is, w .wide .ensures .same) in
-    record { is = is; small = rw is (smallest-small (args .ttrt) (args .c) (args .d)) }
+abbrev computed : tie.After-wide → ℕ
+computed w = smallestWith (w .before .before .whole-rotations .result) (w .before .alpha .result) (w .wide .result)
+
+said : (w : tie.After-wide) → let args = w .before .before .before .args in computed w ≡ smallestFor (args .ttrt) (args .c) (args .d)
+said w = rw (w .before .before .whole-rotations .ensures .is, w .before .alpha .ensures .is, w .wide .ensures .same)
+
+bounded : (ttrt c d r : ℕ) → r ≡ smallestFor ttrt c d → UpTo (c + ttrt) (smallestFor ttrt c d) r
+bounded ttrt c d r is = record { is = is; small = rw is (smallest-small ttrt c d) }
 
 mul-if1 : tie.Need-mul-if1
 mul-if1 c =
@@ -48,13 +51,13 @@ returns : tie.Need-returns
 returns c =
     let w = c .before .before in
     let whole = smallest-whole (w .before .before .whole-rotations .result) (w .before .alpha .result) (w .wide .result) (c .before .if1 .taken) in
-    smallest-by w (c .rounded-up .result) (c .rounded-up .ensures .is ∙ sym whole)
+    bounded _ _ _ _ (c .rounded-up .ensures .is ∙ sym whole ∙ said w)
 
 returns-2 : tie.Need-returns-2
 returns-2 c =
     let w = c .before .before in
     let part = smallest-part (w .before .before .whole-rotations .result) (w .before .alpha .result) (w .wide .result) (c .before .if1 .left) in
-    smallest-by w (c .rounded-up2 .result) (c .rounded-up2 .ensures .is ∙ sym part)
+    bounded _ _ _ _ (c .rounded-up2 .ensures .is ∙ sym part ∙ said w)
 
 pub smallest-spec : {M : Type 1} → statement M
 smallest-spec =

@@ -15,7 +15,7 @@ count-held c = not-false _ (c .if1 .left)
 numbers-said : (c : tie.After-stations-in-range) → (c .before .head-in-range .result && c .stations-in-range .result) ≡ numbersAllowed (c .before .before .before .before .before .before .args .t)
 numbers-said c = rw (c .before .head-in-range .ensures, c .stations-in-range .ensures)
 
-walk-said : (c : tie.After-wide) → (leb 1 (c .before .walk-time .result) && leb (c .before .walk-time .result) (c .wide .result)) ≡ walkTimeAllowed (c .before .before .before .before .before .before .before .before .args .t)
+walk-said : (c : tie.After-wide) → let τ = c .before .walk-time .result in (leb 1 τ && leb τ (c .wide .result)) ≡ walkTimeAllowed (c .before .before .before .before .before .before .before .before .args .t)
 walk-said c = rw (c .before .walk-time .ensures .sum, c .wide .ensures .same)
 
 returns : tie.Need-returns

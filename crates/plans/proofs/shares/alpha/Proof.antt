@@ -1,5 +1,4 @@
 -- `alpha` is right because its body is the definition; (m + 1)·TTRT is at most D + TTRT, so nothing wraps.
-use Prim.Native.Nat.{_+_}
 use mathlib.Core.Path.{_≡_, refl, _∙_}
 use native.Mathlib.Omega.{arith}
 use Rattle.units.specs.SmallLaws.{one-more}

@@ -1,4 +1,4 @@
--- `smallest_alloc` is right because the places passed hold the smallest S; in an allowed set it is far below 2^32.
+-- `least_alloc` is right because the places passed hold the smallest S; in an allowed set it is far below 2^32.
 use Prim.Native.Nat.{ℕ, _-_, _≤_}
 use mathlib.Core.Path.{_≡_, sym, ap, _∙_}
 use mathlib.Core.List.{List}
@@ -6,10 +6,10 @@ use native.Mathlib.Omega.{arith}
 use Rattle.units.specs.Places.{fill}
 use Rattle.units.specs.PlaceLaws.{fill-then, fill-none}
 use Rattle.sets.specs.Judged.{zeros}
-use Rattle.plans.specs.Planned.{smallestAt}
+use Rattle.plans.specs.Planned.{smallestAt, leastAlloc}
 use borrow.Author.Needs.{needs}
-use Rattle.plans.proofs.smallest_alloc.Statement.{statement}
-use Rattle.plans.proofs.smallest_alloc.Tie as tie
+use Rattle.plans.proofs.least_alloc.Statement.{statement}
+use Rattle.plans.proofs.least_alloc.Tie as tie
 
 abbrev Inv-loop : tie.InvT-loop
 Inv-loop t end s₀ i₀ s i = (i ≤ end) × (s ≡ fill i (smallestAt t) zeros)
@@ -62,12 +62,13 @@ loop-again c =
     (omega arith, fill-then (at-loop .loop .i) least zeros (at-loop .loop .s) (c .smallest .result) (at-loop .loop .inv .1) (c .smallest .ensures .is))
 
 returns : tie.Need-returns Inv-loop μ-loop
+unfolding leastAlloc
 returns c =
     let end : c .before .loop .i ≡ c .before .before .before .args .t1 .n = omega arith in
     ap (λ (s : List ℕ). record { s = s }) (c .before .loop .inv .1 ∙ rw end)
 
-pub smallest-alloc-spec : {M : Type 1} → statement M
-smallest-alloc-spec =
+pub least-alloc-spec : {M : Type 1} → statement M
+least-alloc-spec =
     tie.close
     (tie.spec
     Inv-loop
