@@ -14,6 +14,7 @@ use crate::ring::Ring;
 use crate::rules::{Plan, Refusal};
 use crate::sheet::{read_either, read_plan, read_request, write_plan, PLAN_READ, REQUEST_READ};
 use crate::text::{self, answer_line, number, read_call, Fault};
+use crate::waits;
 
 const USAGE: &str = "\
 usage: second [--planted K] [COMMAND]
@@ -32,6 +33,9 @@ usage: second [--planted K] [COMMAND]
                 second generate requests 1 20000 > cases
   answers     framed cases in, one line of answer for each out
                 second answers < cases
+  waits SEED COUNT
+              the longest waits for asynchronous time in so many random runs
+                second waits 1 10000
   help        this text
 ";
 
@@ -154,6 +158,16 @@ fn generate(arguments: &[&str]) -> io::Result<bool> {
     Ok(true)
 }
 
+fn waits(seed: &str, count: &str) -> io::Result<bool> {
+    let (Some(seed), Some(count)) = (number(seed.as_bytes()), number(count.as_bytes())) else {
+        return usage();
+    };
+    for (size, longest) in waits::longest(seed, count) {
+        writeln!(io::stdout(), "{}", waits::Line(size, longest))?;
+    }
+    Ok(true)
+}
+
 /// Where generated cases go: standard output, or a file of the folder named by kind and seed.
 fn destination(kind: Kind, seed: u64, folder: Option<&str>) -> io::Result<Box<dyn Write>> {
     let Some(folder) = folder else {
@@ -194,6 +208,7 @@ fn command(arguments: &[&str], planted: Planted) -> io::Result<bool> {
         ["run", plan] => run(&at_most(File::open(plan)?, PLAN_READ)?, input, planted, &mut out)?,
         ["answers"] => answers(input, planted, &mut out)?,
         ["generate", rest @ ..] => return generate(rest),
+        ["waits", seed, count] => return waits(seed, count),
         [] | [_] => {
             let name = arguments.first().unwrap_or(&"plan");
             return simple(name, input, planted)?.map_or_else(usage, say);

@@ -12,3 +12,4 @@ pub mod rules;
 pub mod sheet;
 pub mod state;
 pub mod text;
+pub mod waits;

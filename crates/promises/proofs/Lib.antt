@@ -1,5 +1,6 @@
 -- The proofs of what `specs/Promised.antt` promises, from the ground up.
 --     Sums         prefix sums: of one vector, and of two of which one is below the other
+--     Lists        each visit of a list, and some visit
 --     Windows      the asynchronous time of the latest visits
 --     Deadlines    the arithmetic of a held message
 --     Course       what every visit keeps, whatever its timers are
@@ -13,9 +14,15 @@
 --     Timely       every run of a timely-token ring
 --     Followed     one message, from its handing in on
 --     Common       what every kind of ring promises
+--     Turns        how many visits ago a station had its turn
+--     Rotations    how long rotations take
+--     Waits        among enough visits a station is offered a limit above 0
+--     Bulk         the same of the visits among further calls
 --     Witness      the run in which the promises are called upon
+--     BulkWitness  the run in which bulk data waits long
 --     Promised     the promises
 pub mod Sums
+pub mod Lists
 pub mod Windows
 pub mod Deadlines
 pub mod Course
@@ -29,5 +36,10 @@ pub mod Runs
 pub mod Timely
 pub mod Followed
 pub mod Common
+pub mod Turns
+pub mod Rotations
+pub mod Waits
+pub mod Bulk
 pub mod Witness
+pub mod BulkWitness
 pub mod Promised

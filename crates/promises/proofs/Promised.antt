@@ -2,9 +2,8 @@
 use Prim.Native.Nat.{ℕ, _+_, _≤_, _<_}
 use mathlib.Core.Path.{_≡_, refl, sym, ap, _∙_}
 use mathlib.Core.Bool.{true}
-use mathlib.Core.List.{List, [], _∷_}
+use mathlib.Core.List.{List}
 use mathlib.Core.Logic.{_≢_, _↔_, ⊎-elim}
-use mathlib.Core.Option.{none, some}
 use native.Mathlib.Omega.{arith}
 use borrow.Author.Tests.{ltb-true, lt-ltb, eqb-true, eq-eqb}
 use Rattle.units.specs.Numbers.{mostClock}
@@ -27,34 +26,26 @@ use Rattle.rings.specs.declared.Ring.{Ring}
 use Rattle.rings.specs.declared.Message.{Message}
 use Rattle.rings.specs.declared.VisitRecord.{VisitRecord}
 use Rattle.promises.specs.Run.{Call, Run, runOf, ringOf, recordsOf}
-use Rattle.promises.specs.History.{syncStartOf, latestOf, Each}
+use Rattle.promises.specs.History.{syncStartOf, Each}
 use Rattle.promises.specs.Facts.{timing, Completing, Leaving}
 use Rattle.promises.specs.Valid.{AheadOf, Regular, FinishesInTime, dueBy, NeverLate, ExactLimits, DeadlinesKept, Valid}
 use Rattle.promises.specs.Promised.{Promised}
+use Rattle.promises.proofs.Lists.{each-of}
 use Rattle.promises.proofs.Course.{Plan, Unvisited, Since}
 use Rattle.promises.proofs.Stores.{Latest, Never}
-use Rattle.promises.proofs.Timing.{never-late}
+use Rattle.promises.proofs.Timing.{latest-within}
 use Rattle.promises.proofs.Messages.{Waiting, deadlineAt, clock-ahead, held-in-time, completed-in-time}
 use Rattle.promises.proofs.Opening.{plan-of}
 use Rattle.promises.proofs.Runs.{made, movedRun, visit-goes, visit-stops, course-facts, message-parts, message-facts, message-number}
 use Rattle.promises.proofs.Timely.{TimelyVisit, Timely, timer-facts, margin-made, steady, timely}
 use Rattle.promises.proofs.Followed.{Follows, followed-from}
-use Rattle.promises.proofs.Common.{common, answer-of, last-is}
+use Rattle.promises.proofs.Common.{common, answer-of}
+use Rattle.promises.proofs.Bulk.{bulk}
 use Rattle.promises.proofs.Witness.{happens}
-
--- ---- records
-
-each-of : {A B : VisitRecord → List VisitRecord → Type 0} → ((v : VisitRecord) (before : List VisitRecord) → A v before → B v before) → (h : List VisitRecord) → Each A h → Each B h
-each-of f [] e = tt
-each-of f (v ∷ h) e = (f v h (e .0), each-of f h (e .1))
+use Rattle.promises.proofs.BulkWitness.{bulk-waits}
 
 module _ (t : Set) (a : Alloc) (P : Plan t a) (s : Run) (K : Timely t a s) where
   -- ---- visits
-
-  -- the time since the latest visit of a station is its TRT
-  since-latest : (i : ℕ) → i < t .n → (u : VisitRecord) → latestOf i (s .records) ≡ some u → s .ring .clock ≤ u .start .0 + t .head .ttrt
-  since-latest i l u e =
-      omega (arith, K .timed .since i l u e, never-late t a (timing (s .ring)) (s .records) (K .timed) i l, K .common .course .sents i l)
 
   -- a message that a visit completes is finished by its deadline
   finished : (ask : Ask) → Completing t (s .ring) (movedRun s ask .ring) (syncStartOf t (made s ask)) (made s ask) → made s ask .finish .0 ≤ deadlineAt t (s .ring) (s .ring .token)
@@ -155,7 +146,7 @@ module _ (t : Set) (a : Alloc) (h : judgedPlan t a ≡ 0) where
 
   never-late-kept : NeverLate t a (t .head .ttrt)
   never-late-kept =
-      record { apart = λ calls. each (λ v before k. k .apart) calls; since = λ calls. since-latest t a plan (runOf t a calls) (every calls) }
+      record { apart = λ calls. each (λ v before k. k .apart) calls; since = λ calls i l u e. omega (arith, latest-within t a (timing (ringOf t a calls)) (recordsOf t a calls) (every calls .timed) i l u e) }
 
   limits-kept : ExactLimits t a
   limits-kept = record { limits = λ calls. each (λ v before k. k .limit) calls; spare = omega (arith, plan .token) }
@@ -212,5 +203,7 @@ promised =
       sheet-judged = sheet-judged;
       sheet-valid = λ bytes h. valid (readPlan bytes .set) (readPlan bytes .alloc) (sheet-judged bytes h);
       request-valid = λ bytes _ h. valid (readRequest bytes .set) (planned (readRequest bytes .set) .alloc) (plan-judged (readRequest bytes .set) h);
+      bulk = λ t a h left. bulk t a h (omega arith);
       happens = happens;
+      bulk-waits = bulk-waits;
     }

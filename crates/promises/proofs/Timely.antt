@@ -23,7 +23,7 @@ use Rattle.promises.specs.History.{syncStartOf, latestOf, Each}
 use Rattle.promises.specs.Facts.{timing, VisitCourse, VisitTimers, VisitOffer, VisitMessages, Completing, Leaving}
 use Rattle.promises.specs.Valid.{Apart, TimerIsGap, ExactLimit, NoneLate}
 use Rattle.promises.proofs.Course.{Plan}
-use Rattle.promises.proofs.Timing.{Timed, token-timer, never-late, rise-small, timed-kept}
+use Rattle.promises.proofs.Timing.{Timed, token-timer, never-late, latest-within, rise-small, timed-kept}
 use Rattle.promises.proofs.Messages.{Messaged, deadlineAt, messaged-kept, messaged-taken, completed-in-time}
 use Rattle.promises.proofs.Steps.{visit-timers, visit-offer}
 use Rattle.promises.proofs.Opening.{plan-of, opened-places, opened-timed, opened-stored, opened-told, opened-messaged}
@@ -34,6 +34,8 @@ use Rattle.promises.proofs.Runs.{Kept, made, movedRun, heldRun, course-
 
 pub record TimelyVisit (t : Set) (a : Alloc) (v : VisitRecord) (before : List VisitRecord) : Type 0 where
   pub apart : Apart (t .head .ttrt) v before
+  -- and so of every other station's latest visit
+  pub since : (i : ℕ) → i < t .n → (u : VisitRecord) → latestOf i before ≡ some u → v .start .0 ≤ u .start .0 + t .head .ttrt
   pub timer : TimerIsGap t v before
   pub limit : ExactLimit t a v before
   pub none-late : NoneLate v before
@@ -79,6 +81,7 @@ module _ (t : Set) (a : Alloc) (r q : Ring) (v : VisitRecord) (h : List VisitRec
     visit-made O =
         record {
           apart = λ u e. omega (arith, gap-since u e, timer-within);
+          since = λ i l u e. omega (arith, C .start, latest-within t a (timing r) h T i l u e);
           timer = timer-made;
           limit = limit-made O;
           none-late = none-late-made;

@@ -68,6 +68,10 @@ module _ (t : Set) (a : Alloc) (r : Timing) (h : List VisitRecord) (T : Timed t 
       (arith, T .coming i l b, async-grows (r .token + t .n - i) (t .n) h (omega arith), sum-grows i (r .token) (at (t .w)) b, sum-grows i (r .token) (at (r .sent)) b, sum-mono i (at (r .sent)) (at (a .s)) (λ j m. T .course .sents j (omega arith)), sum-between (t .n) i (at (r .sent)) (at (a .s)) l (λ j m. T .course .sents j m)))
       (below-or-not i (r .token))
 
+  -- so a station's latest visit started at most TTRT ago
+  pub latest-within : (i : ℕ) → i < t .n → (u : VisitRecord) → latestOf i h ≡ some u → r .clock ≤ u .start .0 + t .head .ttrt
+  latest-within i l u e = omega (arith, T .since i l u e, never-late i l, T .course .sents i l)
+
 -- ---- one visit more
 
 module _ (t : Set) (a : Alloc) (r q : Timing) (v : VisitRecord) (h : List VisitRecord) (P : Plan t a) (T : Timed t a r h) (C : VisitCourse t a r q v) (F : VisitTimers t r q v) where

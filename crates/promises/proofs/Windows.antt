@@ -2,6 +2,7 @@
 use Prim.Native.Nat.{ℕ, zero, suc, _+_, _≤_}
 use mathlib.Core.Path.{_≡_, refl}
 use mathlib.Core.List.{List, [], _∷_}
+use native.Mathlib.Nat.{add-suc}
 use native.Mathlib.Numerals.{add-one}
 use native.Mathlib.Omega.{arith}
 use Rattle.rings.specs.declared.VisitRecord.{VisitRecord}
@@ -11,6 +12,11 @@ use Rattle.promises.specs.History.{asyncOf}
 pub async-step : (n : ℕ) (v : VisitRecord) (before : List VisitRecord) → asyncOf (n + 1) (v ∷ before) ≡ v .asynchronous .0 + asyncOf n before
 unfolding asyncOf
 async-step n v before = rw add-one
+
+-- the same, of a window that is m longer
+pub async-past : (m n : ℕ) (v : VisitRecord) (before : List VisitRecord) → asyncOf (m + suc n) (v ∷ before) ≡ v .asynchronous .0 + asyncOf (m + n) before
+unfolding asyncOf
+async-past m n v before = rw add-suc
 
 -- no visit in an empty window
 pub async-none : (before : List VisitRecord) → asyncOf 0 before ≡ 0

@@ -1,15 +1,19 @@
--- Demand 3: what is promised of every run, for every set and allocation that meet the rules, whatever calls are made, accepted and refused ones, and whatever is asked for; `proofs/Promised.antt` proves it.
-use Prim.Native.Nat.{ℕ}
+-- Demand 3, and request No. 3: what is promised of every run, for every set and allocation that meet the rules, whatever calls are made, accepted and refused ones, and whatever is asked for; `proofs/Promised.antt` proves it.
+use Prim.Native.Nat.{ℕ, _≤_}
 use mathlib.Core.Path.{_≡_}
 use mathlib.Core.List.{List}
 use mathlib.Core.Logic.{_↔_}
+use Rattle.units.specs.Places.{at}
 use Rattle.sets.specs.declared.Set.{Set}
+use Rattle.plans.specs.Rules.{spareTime}
 use Rattle.plans.specs.Planned.{judgedPlan, planned}
 use Rattle.plans.specs.declared.Alloc.{Alloc}
 use Rattle.sheets.specs.Reading.{readRequest, readPlan}
 use Rattle.rings.specs.Opening.{opening}
 use Rattle.promises.specs.Valid.{Valid}
+use Rattle.promises.specs.Bulk.{BulkServed}
 use Rattle.promises.specs.Witness.{Happens}
+use Rattle.promises.specs.BulkWitness.{BulkWaits}
 
 pub record Promised : Type 0 where
   -- whatever set and allocation meet the rules, they are valid
@@ -26,5 +30,9 @@ pub record Promised : Type 0 where
   pub request-valid : (bytes : List ℕ)
       → readRequest bytes .number ≡ 0 → planned (readRequest bytes .set) .number ≡ 0
       → Valid (readRequest bytes .set) (planned (readRequest bytes .set) .alloc)
+  -- request No. 3: where A* is at least 1, no station waits long for asynchronous time
+  pub bulk : (t : Set) (a : Alloc) → judgedPlan t a ≡ 0 → 1 ≤ spareTime t (at (a .s)) → BulkServed t a
   -- none of it is kept by never being called upon: there is a run in which all that is promised happens
   pub happens : Happens
+  -- nor is the promise of bulk data larger than need be: there is a run in which a station waits all but the last of those visits
+  pub bulk-waits : BulkWaits

@@ -74,6 +74,14 @@ fn refusals_beside_bytes_go_to_standard_error() {
 }
 
 #[test]
+fn the_longest_waits() {
+    let text = said(&["waits", "1", "300"], b"");
+    let seen =
+        |line: &str| line.starts_with("N 2, ") && line.contains("6 of 6 visits (No. 3: 9), ");
+    assert!(text.lines().any(seen), "{text}");
+}
+
+#[test]
 fn every_line_is_answered() {
     let longest = ["request ", &"0".repeat(65_526), "0"].concat();
     let lines = [&longest[1..], &longest, &longest[..65_534], "", " ", "request -"];

@@ -9,6 +9,7 @@ use second::planted::Planted;
 use second::ring::Ring;
 use second::rules::{Refusal, LAST_TIME};
 use second::text::{Answer, Call};
+use second::waits;
 
 /// How often each answer was given: its number, or 0 for taken and 100 for a completion.
 type Counts = HashMap<u8, usize>;
@@ -81,6 +82,20 @@ fn count_edges(ring: &mut Ring, call: &Call, reached: &mut [usize; 7]) {
             reached[5] += usize::from(before_visit);
             reached[6] += usize::from(early && !before_visit);
         }
+    }
+}
+
+/// No station waits longer for asynchronous time than is proved, and small rings wait as long.
+#[test]
+fn waits_for_asynchronous_time() {
+    let sizes = waits::longest(1, 3_000);
+    for (&size, longest) in &sizes {
+        let rotations = size as u64 + 1;
+        assert!(longest.visits <= size as u64 * rotations, "N {size}: {longest:?}");
+        assert!(longest.ticks <= rotations as i64 * longest.ttrt, "N {size}: {longest:?}");
+    }
+    for size in 1..=5 {
+        assert_eq!(sizes[&size].visits, size as u64 * (size as u64 + 1));
     }
 }
 

@@ -1,0 +1,63 @@
+-- Request No. 3: how long bulk data can wait. It is said of timely-token rings whose frames may stop at any tick: every ring of today. Where a plan names its mode and F, that they are 1 becomes a premise of `Promised.bulk`, beside A* at least 1.
+use Prim.Native.Nat.{ℕ, _+_, _*_, _≤_, _<_}
+use mathlib.Core.Path.{_≡_}
+use mathlib.Core.List.{List, [], _∷_}
+use lib.ListN.{length}
+use Rattle.units.specs.Places.{at}
+use Rattle.sets.specs.declared.Set.{Set}
+use Rattle.plans.specs.Rules.{spareTime}
+use Rattle.plans.specs.declared.Alloc.{Alloc}
+use Rattle.rings.specs.Steps.{visited}
+use Rattle.rings.specs.declared.VisitRecord.{VisitRecord}
+use Rattle.promises.specs.Run.{Call, visit, message, Run, after, run, runOf}
+use Rattle.promises.specs.History.{Each, Somewhere}
+
+-- the ring of this run, with no visit and no message told yet
+abbrev pub anew : Run → Run
+anew s = record { ring = s .ring; records = []; messages = [] }
+
+-- the accepted visits among these further calls, the latest first
+abbrev pub visitsAmong : Run → List Call → List VisitRecord
+visitsAmong s later = run (anew s) later .records
+
+-- if this call is an accepted visit of station i, it asks for at least so much
+abbrev pub Asks : ℕ → ℕ → Run → Call → Type 0
+Asks i least s (visit ask) = visited (s .ring) ask .answer .number ≡ 0 → visited (s .ring) ask .answer .«record» .station .0 ≡ i → least ≤ ask
+Asks i least s (message m) = Unit {0}
+
+-- each accepted visit of station i among these further calls asks for at least so much
+abbrev pub AlwaysAsks : ℕ → ℕ → Run → List Call → Type 0
+AlwaysAsks i least s [] = Unit {0}
+AlwaysAsks i least s (c ∷ later) = Asks i least s c × AlwaysAsks i least (after s c) later
+
+-- a visit of station i that was offered a limit above 0
+pub record Offered (i : ℕ) (v : VisitRecord) : Type 0 where
+  pub station : v .station .0 ≡ i
+  pub limit : 0 < v .limit .0
+
+-- the longest wait in ticks: (N + 1)·TTRT
+abbrev pub longestWait : Set → ℕ
+longestWait t = (t .n + 1) * t .head .ttrt
+
+-- what is promised of a plan with A* at least 1: after any calls, and whatever is asked for by the others, handed in or refused among the further ones
+pub record BulkServed (t : Set) (a : Alloc) : Type 0 where
+  -- No. 3: a station that asks for at least A* at each of its visits is offered a limit above 0 within any (N + 1)·(N + 1) successive visits
+  pub served : (calls later : List Call) (i : ℕ)
+      → i < t .n
+      → (t .n + 1) * (t .n + 1) ≤ length (visitsAmong (runOf t a calls) later)
+      → AlwaysAsks i (spareTime t (at (a .s))) (runOf t a calls) later
+      → Somewhere (λ v before. Offered i v) (visitsAmong (runOf t a calls) later)
+  -- N·(N + 1) visits are enough, and whatever it asks for
+  pub sooner : (calls later : List Call) (i : ℕ)
+      → i < t .n
+      → t .n * (t .n + 1) ≤ length (visitsAmong (runOf t a calls) later)
+      → Somewhere (λ v before. Offered i v) (visitsAmong (runOf t a calls) later)
+  -- in ticks: from any moment at which a visit may start, it is offered a limit above 0 by a visit that starts within (N + 1)·TTRT, once the clock has passed that
+  pub in-ticks : (calls later : List Call) (i : ℕ)
+      → i < t .n
+      → runOf t a calls .ring .clock + longestWait t < run (runOf t a calls) later .ring .clock
+      → Somewhere (λ v before. Offered i v × (v .start .0 ≤ runOf t a calls .ring .clock + longestWait t)) (visitsAmong (runOf t a calls) later)
+  -- and if it asks for at least A*, it sends all that it is offered
+  pub sends : (calls later : List Call) (i : ℕ)
+      → AlwaysAsks i (spareTime t (at (a .s))) (runOf t a calls) later
+      → Each (λ v before. v .station .0 ≡ i → v .asynchronous .0 ≡ v .limit .0) (visitsAmong (runOf t a calls) later)
