@@ -16,8 +16,9 @@
  *
  * Refusals. `number` is 0 for accepted, or the refusal; the numbers are below, and within one call the lowest
  * that applies is given (1, 2 and 3: the first fault from the left of the sheet). A refused call changes nothing:
- * not a byte of a lent ring, not a byte of a lent buffer. What it returns is blank, every number in it 0. On a ring
- * it stores the same bytes again, so a refused call too is one that writes.
+ * not a byte of a lent ring, not a byte of a lent buffer. What it returns beside `number` is blank, every number in
+ * it 0. On a ring it stores the same bytes again, so a refused call too is one that writes: a ring that two threads
+ * share is locked for it.
  *
  * Padding. What a host lends or passes (olivastrum_set, olivastrum_alloc, olivastrum_message, olivastrum_ring)
  * has none, so two rings can be compared by their bytes. Answers end in a byte, and bytes after it say nothing.

@@ -2,7 +2,7 @@
 use Prim.Native.Nat.{ℕ, _+_, _≤_, _<_}
 use mathlib.Core.Path.{_≡_, refl, sym, ap, _∙_}
 use mathlib.Core.Bool.{true}
-use mathlib.Core.List.{List}
+use mathlib.Core.List.{List, []}
 use mathlib.Core.Logic.{_≢_, _↔_, ⊎-elim}
 use native.Mathlib.Omega.{arith}
 use borrow.Author.Tests.{ltb-true, lt-ltb, eqb-true, eq-eqb}
@@ -21,11 +21,11 @@ use Rattle.sheets.specs.ReadLaws.{then-none, read-accepted, read-number}
 use Rattle.rings.specs.Opening.{openedRing, opening}
 use Rattle.rings.specs.Steps.{Ask, visited}
 use Rattle.rings.specs.HandingIn.{stationKnown, lengthAllowed, nothingHeld, arrivalAllowed, messageNumber, handedIn}
-use Rattle.rings.specs.RingLaws.{opened-number, decides-arrival}
-use Rattle.rings.specs.declared.Ring.{Ring}
+use Rattle.rings.specs.RingLaws.{opened-number, opened-accepted, decides-arrival}
+use Rattle.rings.specs.declared.Opened.{Opened}
 use Rattle.rings.specs.declared.Message.{Message}
 use Rattle.rings.specs.declared.VisitRecord.{VisitRecord}
-use Rattle.promises.specs.Run.{Call, Run, runOf, ringOf, recordsOf}
+use Rattle.promises.specs.Run.{Call, Run, run, runOf, ringOf, recordsOf}
 use Rattle.promises.specs.History.{syncStartOf, Each}
 use Rattle.promises.specs.Facts.{timing, Completing, Leaving}
 use Rattle.promises.specs.Valid.{AheadOf, Regular, FinishesInTime, dueBy, NeverLate, ExactLimits, DeadlinesKept, Valid}
@@ -60,6 +60,7 @@ module _ (t : Set) (a : Alloc) (P : Plan t a) (s : Run) (K : Timely t a s) where
       let G = message-parts t a P s (K .common) ask in
       ⊎-elim (λ (c : Completing t r q (syncStartOf t v) v).
       record {
+        start = course-facts t a P s (K .common) ask .start;
         finish = c .finish;
         in-time = finished ask c;
         margin = margin-made t a r q v (s .records) P (K .timed) (course-facts t a P s (K .common) ask) (timer-facts t a P s K ask) G (K .messaged (s .ring .token) (K .common .course .token)) c;
@@ -182,6 +183,10 @@ opens t a =
     let e = opened-number (judgedPlan t a) (openedRing t a) in
     (λ h. sym e ∙ h, λ h. e ∙ h)
 
+opened : (t : Set) (a : Alloc) → opening t a .number ≡ 0 → opening t a .ring ≡ runOf t a [] .ring
+unfolding run
+opened t a h = ap (λ (o : Opened). o .ring) (opened-accepted (judgedPlan t a) (openedRing t a) (opens t a .0 h))
+
 plan-judged : (t : Set) → planned t .number ≡ 0 → judgedPlan t (planned t .alloc) ≡ 0
 plan-judged t h = plans-promised .kept t h .judged
 
@@ -198,6 +203,7 @@ promised =
     record {
       judged = valid;
       opens = opens;
+      opened = opened;
       plan-judged = plan-judged;
       plan-valid = λ t h. valid t (planned t .alloc) (plan-judged t h);
       sheet-judged = sheet-judged;

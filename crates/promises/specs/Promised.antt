@@ -1,7 +1,7 @@
 -- Demand 3, and request No. 3: what is promised of every run, for every set and allocation that meet the rules, whatever calls are made, accepted and refused ones, and whatever is asked for; `proofs/Promised.antt` proves it.
 use Prim.Native.Nat.{ℕ, _≤_}
 use mathlib.Core.Path.{_≡_}
-use mathlib.Core.List.{List}
+use mathlib.Core.List.{List, []}
 use mathlib.Core.Logic.{_↔_}
 use Rattle.units.specs.Places.{at}
 use Rattle.sets.specs.declared.Set.{Set}
@@ -10,6 +10,7 @@ use Rattle.plans.specs.Planned.{judgedPlan, planned}
 use Rattle.plans.specs.declared.Alloc.{Alloc}
 use Rattle.sheets.specs.Reading.{readRequest, readPlan}
 use Rattle.rings.specs.Opening.{opening}
+use Rattle.promises.specs.Run.{runOf}
 use Rattle.promises.specs.Valid.{Valid}
 use Rattle.promises.specs.Bulk.{BulkServed}
 use Rattle.promises.specs.Witness.{Happens}
@@ -20,6 +21,8 @@ pub record Promised : Type 0 where
   pub judged : (t : Set) (a : Alloc) → judgedPlan t a ≡ 0 → Valid t a
   -- these are the ones that opening accepts
   pub opens : (t : Set) (a : Alloc) → (opening t a .number ≡ 0) ↔ (judgedPlan t a ≡ 0)
+  -- and the ring that it hands out is the one with which the runs begin
+  pub opened : (t : Set) (a : Alloc) → opening t a .number ≡ 0 → opening t a .ring ≡ runOf t a [] .ring
   -- a plan that planning made meets the rules, and so it is valid
   pub plan-judged : (t : Set) → planned t .number ≡ 0 → judgedPlan t (planned t .alloc) ≡ 0
   pub plan-valid : (t : Set) → planned t .number ≡ 0 → Valid t (planned t .alloc)

@@ -97,6 +97,7 @@ FollowedInTime t m then now = Followed t m (λ r. AheadOf r (dueBy t m)) (λ v. 
 -- ---- what a visit finishes, of the message that the ring holds
 
 pub record FinishesInTime (t : Set) (r : Ring) (v : VisitRecord) : Type 0 where
+  pub start : v .start .0 ≡ r .clock
   pub finish : v .finish .0 ≡ syncStartOf t v + v .synchronous .0
   pub in-time : v .finish .0 ≤ at (r .arrival) (r .token) + at (t .d) (r .token)
   pub margin : v .margin ≡ pos (at (r .arrival) (r .token) + at (t .d) (r .token) - v .finish .0)

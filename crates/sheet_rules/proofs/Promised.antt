@@ -36,6 +36,7 @@ use Rattle.sheet_rules.specs.Promised.{Promised, ZeroPast, GivenRequest,
 use Rattle.sheets.specs.ReadLaws.{then-rest, then-keeps, then-none, read-refused, read-accepted, read-number, sheet-accepted}
 use Rattle.sheets.proofs.WritingLaws.{sheet-long, answer-accepted, answer-number, buffer-accepted, buffer-refused, number-none, number-short, number-judged as written-judged}
 use Rattle.sheet_rules.proofs.BackLaws.{read-back, laid-number, first-same, first-allocations}
+use Rattle.sheet_rules.proofs.StandingLaws.{may-stand}
 use Rattle.sheet_rules.proofs.AgainLaws.{read-again}
 use Rattle.sheets.specs.declared.ReadPlan.{ReadPlan}
 use Rattle.sheets.specs.declared.Written.{Written}
@@ -363,6 +364,7 @@ small-written = refl
 pub promised : Promised
 promised =
     record {
+      may-stand = may-stand;
       request-length = λ t. let e = sheet-long false t blankAlloc in omega arith;
       plan-length = λ t a. let e = sheet-long true t a in omega arith;
       shortest = λ t one. let e = sheet-long false t blankAlloc in omega arith;

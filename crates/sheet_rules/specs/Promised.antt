@@ -12,10 +12,13 @@ use Rattle.sets.specs.declared.Set.{Set}
 use Rattle.plans.specs.Planned.{judgedPlan, blankAlloc}
 use Rattle.plans.specs.declared.Alloc.{Alloc}
 use Rattle.fields.specs.Bytes.{AllBytes}
+use Rattle.fields.specs.Fields.{isAllowed}
+use Rattle.fields.specs.declared.Passed.{Passed}
 use Rattle.scan.specs.FirstFault.{FirstFault, WholeSheet}
 use Rattle.sheets.specs.Layout.{requestSheet, planSheet}
 use Rattle.sheets.specs.Reading.{setIn, allocIn, readRequest, readPlan}
 use Rattle.sheets.specs.Writing.{requestWritten, planWritten}
+use Rattle.sheet_rules.specs.Standing.{MayStand}
 
 -- ---- over the first N places
 
@@ -74,6 +77,8 @@ smallSet =
 -- ---- the promises
 
 pub record Promised : Type 0 where
+  -- what may stand where is what 01 says of each tag: the table that the reader goes by decides the sentence
+  pub may-stand : (p : Passed) (tag size : ℕ) → (isAllowed p tag size ≡ true) ↔ MayStand p tag size
   -- a request sheet has 10 + 19N bytes, a plan sheet 10 + 26N
   pub request-length : (t : Set) → length (requestSheet t) ≡ 10 + 19 * t .n
   pub plan-length : (t : Set) (a : Alloc) → length (planSheet t a) ≡ 10 + 26 * t .n
