@@ -65,8 +65,10 @@ def running(program):
 
 
 def build_proved(name):
-    """`rt check` proves and builds a program of crates/, again only if something changed."""
+    """`rt check` proves and builds a program of crates/, again only if something changed. ./check says when it has."""
     kit()
+    if os.environ.get("OLIVASTRUM_BUILT"):
+        return
     made(["rt", "check", name], ROOT)
 
 
