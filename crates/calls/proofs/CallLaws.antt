@@ -7,7 +7,7 @@ use mathlib.Core.Logic.{_≢_}
 use native.Mathlib.Omega.{arith}
 use borrow.Author.Tests.{lt-ltb}
 use lib.ListN.{length}
-use Rattle.rings.specs.Steps.{visited}
+use Rattle.rings.specs.Steps.{Ask, visited}
 use Rattle.rings.specs.HandingIn.{handedIn}
 use Rattle.rings.specs.declared.Message.{Message}
 use Rattle.text.specs.Text.{newline, decimalOf, line}
@@ -43,15 +43,15 @@ typed-says u word ns fresh e w inside few small =
 
 -- ---- `visit ASK`
 
-visitScan : ℕ → Scan
+visitScan : Ask → Scan
 visitScan ask = withNumbers (wordScan visitWord) (ask ∷ [])
 
-visit-answered : (u : Run) (ask : ℕ) → ask < 2 ^ 32
+visit-answered : (u : Run) (ask : Ask) → ask < 2 ^ 32
     → (visitText (visited (u .ring) ask .answer) ≡ answerText (u .ring) (visitScan ask) (u .line)) × (visited (u .ring) ask .ring ≡ ringAfter (u .ring) (visitScan ask))
 unfolding visitScan withNumbers
 visit-answered u ask l = answered-visit (u .ring) (visitScan ask) (u .line) (visited (u .ring) ask) refl (rw (lt-ltb ask (2 ^ 32) l)) refl
 
-pub visit-called : (u : Run) (ask : ℕ) → u .scan ≡ freshScan → ask < 2 ^ 32
+pub visit-called : (u : Run) (ask : Ask) → u .scan ≡ freshScan → ask < 2 ^ 32
     → Says u (line (visitWord ∷ decimalOf ask ∷ [])) (visitText (visited (u .ring) ask .answer)) (visited (u .ring) ask .ring)
 unfolding hasNoEnd visitScan
 visit-called u ask fresh l =

@@ -4,7 +4,7 @@ use mathlib.Core.Path.{_≡_}
 use mathlib.Core.Bool.{true, false}
 use mathlib.Core.List.{List, [], _∷_, _++_}
 use Rattle.units.specs.Places.{at}
-use Rattle.rings.specs.Steps.{visited}
+use Rattle.rings.specs.Steps.{Ask, visited}
 use Rattle.rings.specs.HandingIn.{handedIn}
 use Rattle.rings.specs.declared.Ring.{Ring}
 use Rattle.rings.specs.declared.Message.{Message}
@@ -34,7 +34,7 @@ pub record Promised : Type 0 where
   pub unread-named : (u : Run) → isEmptyLine (u .scan) ≡ false → isVisit (u .scan) ≡ false → isMessage (u .scan) ≡ false
       → (saidAt u newline ≡ unreadLine (u .line)) × (runOn u newline .ring ≡ u .ring)
   -- the text of a call is that call: `visit ASK` is the ring's visit with that ask
-  pub visit-typed : (u : Run) (ask : ℕ) → u .scan ≡ freshScan → ask < 2 ^ 32
+  pub visit-typed : (u : Run) (ask : Ask) → u .scan ≡ freshScan → ask < 2 ^ 32
       → Says u (line (visitWord ∷ decimalOf ask ∷ [])) (visitText (visited (u .ring) ask .answer)) (visited (u .ring) ask .ring)
   -- `message STATION LENGTH ARRIVAL` is the handing in of that message
   pub message-typed : (u : Run) (m : Message) → u .scan ≡ freshScan → m .station .0 < 2 ^ 32 → m .length .0 < 2 ^ 64 → m .arrival .0 < 2 ^ 64

@@ -7,9 +7,9 @@ use mathlib.Core.Logic.{_⊎_, inl, inr, ⊎-elim, _↔_}
 use native.Mathlib.Omega.{arith}
 use native.Mathlib.Nat.{zero-mul}
 use borrow.Author.Tests.{leb-true, leb-false, le-leb, lt-leb, eq-eqb, ne-eqb}
-use lib.ListN.{length, getD-replicate, List·getD-eq-default}
+use lib.ListN.{length}
 use Rattle.units.specs.Places.{at, sumBelow}
-use Rattle.units.specs.PlaceLaws.{sum-mono, sum-part, sum-same, fill-length, fill-inside, fill-outside}
+use Rattle.units.specs.PlaceLaws.{zero-at, sum-mono, sum-part, sum-same, fill-length, fill-inside, fill-outside}
 use Rattle.units.specs.SmallLaws.{below-or-not}
 use Rattle.units.specs.JudgingLaws.{true-or-false}
 use Rattle.fddi.specs.Rules.{stations, rest, lost, others, timeAt, tokenFits, MultipleOf, MeetsFddi}
@@ -78,10 +78,6 @@ pub record Climbing (l : Load) (s : List ℕ) : Type 0 where
   pub token : sumOf l s + lost l ≤ l .ttrt
   -- no S is above that of any vector that meets the rules
   pub below : (v : ℕ → ℕ) → MeetsFddi l v → (i : ℕ) → i < stations l → at s i ≤ v i
-
-zero-at : (i : ℕ) → at zeros i ≡ 0
-zero-at i =
-    ⊎-elim (λ (b : i < 128). getD-replicate 128 i 0 0 b) (λ (b : 128 ≤ i). List·getD-eq-default zeros 0 b) (below-or-not i 128)
 
 sum-zeros : (l : Load) → 0 ≡ sumOf l zeros
 sum-zeros l = sym (all-zero (stations l) (at zeros) zero-at)

@@ -2,14 +2,14 @@
 use Prim.Native.Nat.{ℕ, zero, suc}
 use mathlib.Core.Path.{_≡_, refl}
 use mathlib.Core.Logic.{_≢_}
-use Rattle.rings.specs.Steps.{visitNumber, visitedWith}
+use Rattle.rings.specs.Steps.{Ask, visitNumber, visitedWith}
 use Rattle.rings.specs.HandingIn.{handInNumber, takenWith}
 use Rattle.rings.specs.declared.Ring.{Ring}
 use Rattle.rings.specs.declared.Message.{Message}
 use Rattle.lending.specs.Promised.{Promised}
 
 -- a visit that is not answered 0 gives the ring back
-visit-refused : (k : ℕ) (r : Ring) (ask : ℕ) → visitedWith k r ask .answer .number ≢ 0 → visitedWith k r ask .ring ≡ r
+visit-refused : (k : ℕ) (r : Ring) (ask : Ask) → visitedWith k r ask .answer .number ≢ 0 → visitedWith k r ask .ring ≡ r
 unfolding visitedWith
 visit-refused zero r ask n = absurd (n refl)
 visit-refused (suc k) r ask n = refl

@@ -9,7 +9,7 @@ use Rattle.rings.specs.declared.Message.{Message}
 use Rattle.rings.specs.declared.VisitAnswer.{VisitAnswer}
 
 -- a visit at the lent ring, with this many asynchronous ticks asked for
-pub record VisitLent (entry : Ring) (ask : ℕ) (exit : Ring) (answer : VisitAnswer) : Type 0 where
+pub record VisitLent (entry : Ring) (ask : Steps.Ask) (exit : Ring) (answer : VisitAnswer) : Type 0 where
   -- the ring in the host's memory is the ring after the visit
   pub ring : exit ≡ Steps.visited entry ask .ring
   -- the number and the record are the visit's

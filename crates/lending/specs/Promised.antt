@@ -1,6 +1,5 @@
 -- What is promised of a call on a lent ring; `proofs/Promised.antt` proves it, and `lent` stands on it.
-use Prim.Native.Nat.{ℕ}
-use Rattle.rings.specs.Steps.{visited}
+use Rattle.rings.specs.Steps.{Ask, visited}
 use Rattle.rings.specs.HandingIn.{handedIn}
 use Rattle.rings.specs.declared.Ring.{Ring}
 use Rattle.rings.specs.declared.Message.{Message}
@@ -8,6 +7,6 @@ use Rattle.lending.specs.Lent.{VisitLent, HandInLent}
 
 pub record Promised : Type 0 where
   -- the ring and the answer of a visit by value are what the host finds behind a visit at its ring
-  pub visit : (ring : Ring) (ask : ℕ) → VisitLent ring ask (visited ring ask .ring) (visited ring ask .answer)
+  pub visit : (ring : Ring) (ask : Ask) → VisitLent ring ask (visited ring ask .ring) (visited ring ask .answer)
   -- and those of a handing in by value are what it finds behind a handing in
   pub hand-in : (ring : Ring) (message : Message) → HandInLent ring message (handedIn ring message .ring) (handedIn ring message .number)

@@ -5,7 +5,7 @@ use mathlib.Core.List.{[]}
 use mathlib.Core.Logic.{inl, ⊎-elim}
 use native.Mathlib.Omega.{arith}
 use Rattle.units.specs.Places.{at, sumBelow}
-use Rattle.units.specs.PlaceLaws.{sum-none, sum-split, fill-inside, fill-length}
+use Rattle.units.specs.PlaceLaws.{zero-at, sum-none, sum-split, fill-inside, fill-length}
 use Rattle.units.specs.SmallLaws.{below-or-not}
 use Rattle.sets.specs.Judged.{zeros}
 use Rattle.sets.specs.declared.Set.{Set}
@@ -15,7 +15,6 @@ use Rattle.plans.specs.declared.Alloc.{Alloc}
 use Rattle.rings.specs.State.{Shaped}
 use Rattle.rings.specs.Timers.{silentTrt, silentTimers}
 use Rattle.rings.specs.Opening.{openedRing}
-use Rattle.rings.specs.RingLaws.{zero-at}
 use Rattle.rings.specs.declared.Ring.{Ring}
 use Rattle.promises.specs.History.{asyncOf, latest, due}
 use Rattle.promises.specs.Facts.{timing}

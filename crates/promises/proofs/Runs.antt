@@ -11,10 +11,10 @@ use Rattle.units.specs.SmallLaws.{below-or-not}
 use Rattle.sets.specs.declared.Set.{Set}
 use Rattle.plans.specs.declared.Alloc.{Alloc}
 use Rattle.rings.specs.State.{Shaped}
-use Rattle.rings.specs.Sound.{isSound}
+use Rattle.rings.specs.Sound.{Sound, isSound}
 use Rattle.rings.specs.Steps.{Ask, syncSent, asyncSent, moved, recordOf, visitNumber, refusedVisit, acceptedVisit, visited}
 use Rattle.rings.specs.HandingIn.{holding, handInNumber, handedIn}
-use Rattle.rings.specs.RingLaws.{visit-0, visit-13, visit-accepted, visit-refused, taken-number, taken-accepted, taken-refused}
+use Rattle.rings.specs.RingLaws.{sound-sentences, visit-0, visit-13, visit-accepted, visit-refused, taken-number, taken-accepted, taken-refused}
 use Rattle.rings.specs.declared.Ring.{Ring}
 use Rattle.rings.specs.declared.Message.{Message}
 use Rattle.rings.specs.declared.VisitRecord.{VisitRecord}
@@ -24,7 +24,7 @@ use Rattle.promises.specs.Facts.{timing, VisitCourse, VisitMessages, Acc
 use Rattle.promises.specs.Valid.{InTurn, ShareKept}
 use Rattle.promises.proofs.Course.{Plan, Course, course-kept, same-or-not}
 use Rattle.promises.proofs.Stores.{Stored, Told, stored-kept, told-kept, stored-taken, told-taken}
-use Rattle.promises.proofs.Steps.{visit-places, visit-course, visit-messages, holding-places, message-accepts}
+use Rattle.promises.proofs.Steps.{visit-places, visit-course, visit-messages, holding-places, holding-sound, message-accepts}
 
 -- ---- the answers
 
@@ -67,14 +67,17 @@ pub record Kept (t : Set) (a : Alloc) (s : Run) : Type 0 where
   pub sound : isSound (s .ring) ≡ true
 
 module _ (t : Set) (a : Alloc) (P : Plan t a) (s : Run) (K : Kept t a s) where
+  pub sound-ring : Sound (s .ring)
+  sound-ring = sound-sentences (s .ring) (K .sound)
+
   pub course-facts : (ask : Ask) → VisitCourse t a (timing (s .ring)) (timing (movedRun s ask .ring)) (made s ask)
-  course-facts ask = visit-course t a (s .ring) (s .records) P (K .course) (K .places) ask
+  course-facts ask = visit-course (s .ring) (K .places) sound-ring ask t a (K .course .set) (K .course .alloc)
 
   pub message-parts : (ask : Ask) → VisitMessages t a (s .ring) (movedRun s ask .ring) (made s ask)
-  message-parts ask = visit-messages t a (s .ring) (s .records) P (K .course) (K .places) ask
+  message-parts ask = visit-messages (s .ring) (K .places) sound-ring ask t a (K .course .set) (K .course .alloc)
 
   pub next-places : (ask : Ask) → Shaped (movedRun s ask .ring)
-  next-places ask = visit-places t a (s .ring) (s .records) P (K .course) (K .places) ask
+  next-places ask = visit-places (s .ring) (K .places) sound-ring ask
 
   pub next-stored : (ask : Ask) (i : ℕ) → i < t .n → Stored t (movedRun s ask .ring) i
   next-stored ask = stored-kept t a (s .ring) (movedRun s ask .ring) (made s ask) (message-parts ask) (K .stored)
@@ -94,26 +97,20 @@ module _ (t : Set) (a : Alloc) (P : Plan t a) (s : Run) (K : Kept t a s) where
       }
 
   pub message-facts : (m : Message) → handInNumber (s .ring) m ≡ 0 → Accepting t (s .ring) (holding (s .ring) m) m
-  message-facts m e = message-accepts t a (s .ring) (s .records) m P (K .course) (K .places) e
+  message-facts m e = message-accepts (s .ring) (K .places) m e t (K .course .set)
 
-  pub held-places : (m : Message) → Shaped (heldRun s m .ring)
-  held-places m = holding-places (s .ring) m (K .places)
-
-  pub held-stored : (m : Message) → handInNumber (s .ring) m ≡ 0 → (i : ℕ) → i < t .n → Stored t (heldRun s m .ring) i
-  held-stored m e = stored-taken t (s .ring) (holding (s .ring) m) m (message-facts m e) (K .stored)
-
-  -- and an accepted handing in, if it leaves the ring sound
-  pub kept-held : (m : Message) → handInNumber (s .ring) m ≡ 0 → isSound (heldRun s m .ring) ≡ true → Kept t a (heldRun s m)
-  kept-held m e sound =
+  -- and an accepted handing in
+  pub kept-held : (m : Message) → handInNumber (s .ring) m ≡ 0 → Kept t a (heldRun s m)
+  kept-held m e =
       let A = message-facts m e in
       record {
-        places = held-places m;
+        places = holding-places (s .ring) (K .places) m e;
         course = rw (A .timing-same) (K .course);
-        stored = held-stored m e;
+        stored = stored-taken t (s .ring) (holding (s .ring) m) m A (K .stored);
         told = λ i. told-taken t (s .ring) (holding (s .ring) m) m A (s .messages) i (K .told i);
         turns = K .turns;
         shares = K .shares;
-        sound = sound;
+        sound = holding-sound (s .ring) (K .places) m e;
       }
 
   -- ---- what one call more makes of the run

@@ -4,9 +4,9 @@ use mathlib.Core.Path.{_≡_}
 use mathlib.Core.Bool.{true}
 use mathlib.Core.List.{List}
 use native.Mathlib.Omega.{arith}
+use Rattle.units.specs.Places.{at}
 use Rattle.sets.specs.declared.Set.{Set}
 use Rattle.plans.specs.declared.Alloc.{Alloc}
-use Rattle.rings.specs.State.{Shaped}
 use Rattle.rings.specs.Sound.{Sound, isSound}
 use Rattle.rings.specs.RingLaws.{sound-tests}
 use Rattle.rings.specs.declared.Ring.{Ring}
@@ -15,11 +15,11 @@ use Rattle.promises.specs.Facts.{timing}
 use Rattle.promises.proofs.Course.{Plan}
 use Rattle.promises.proofs.Stores.{Stored}
 use Rattle.promises.proofs.Timing.{Timed, never-late}
-use Rattle.promises.proofs.Steps.{unused-is}
+use Rattle.promises.proofs.Sums.{sum-lacking}
 
 module _ (t : Set) (a : Alloc) (r : Ring) (h : List VisitRecord) (P : Plan t a) (T : Timed t a (timing r) h) where
-  sound-of : Shaped r → ((i : ℕ) → i < t .n → Stored t r i) → Sound r
-  sound-of L K =
+  sound-of : ((i : ℕ) → i < t .n → Stored t r i) → Sound r
+  sound-of K =
       let C = T .course in
       record {
         plan = rw (C .set, C .alloc) (P .judged);
@@ -27,7 +27,7 @@ module _ (t : Set) (a : Alloc) (r : Ring) (h : List VisitRecord) (P : Plan t a) 
         timers =
             record {
               trts = rw (C .set) (λ i l. omega (arith, never-late t a (timing r) h T i l, C .sents i l));
-              unused = unused-is t a r h P C L 0 (T .unused);
+              unused = rw (C .set, C .alloc) (omega (arith, T .unused, sum-lacking (t .n) (at (r .sent)) (at (a .s)) (C .sents)));
             };
         sents = rw (C .set, C .alloc) (C .sents);
         rests = rw (C .set) (λ i l. K i l .small);
@@ -36,5 +36,5 @@ module _ (t : Set) (a : Alloc) (r : Ring) (h : List VisitRecord) (P : Plan t a) 
         visits = omega (arith, C .bounded);
       }
 
-  pub is-sound : Shaped r → ((i : ℕ) → i < t .n → Stored t r i) → isSound r ≡ true
-  is-sound L K = sound-tests r (sound-of L K)
+  pub is-sound : ((i : ℕ) → i < t .n → Stored t r i) → isSound r ≡ true
+  is-sound K = sound-tests r (sound-of K)

@@ -1,226 +1,142 @@
--- The rings' own steps give the facts: a visit its two halves, a handing in what it asks and does.
-use Prim.Native.Nat.{ℕ, _+_, _-_, _≤_, _<_}
-use mathlib.Core.Path.{_≡_, refl, subst, subst₂, _∙_}
-use mathlib.Core.Bool.{Bool, true, false, _&&_}
-use mathlib.Core.List.{List}
-use mathlib.Core.Logic.{_⊎_, inl, inr, _≢_, ⊎-elim}
+-- What the promises need of the rings' own steps: `ring_rules` promises what an accepted visit (`Done`) and an accepted handing in (`Held`) do, and here that is put as the facts that add up. Nothing else of `promises` looks into a step.
+use Prim.Native.Nat.{_+_, _≤_, _<_}
+use mathlib.Core.Path.{_≡_, refl, sym, subst, subst₂, _∙_}
+use mathlib.Core.Bool.{true}
+use mathlib.Core.Logic.{_⊎_, inl, inr, ⊎-elim}
 use native.Mathlib.Omega.{arith}
-use borrow.Author.Tests.{ltb-true, ltb-false, leb-true, leb-false, eqb-true, eqb-false}
-use lib.Dec.{leb, eqb}
-use lib.ListN.{set, length-set}
-use lib.Seq.{getD-set-same, getD-set-other}
-use Rattle.units.specs.Places.{at, sumBelow}
-use Rattle.units.specs.PlaceLaws.{sum-part, raise-inside, raise-length}
-use Rattle.units.specs.JudgingLaws.{true-or-false, and-true}
+use Rattle.units.specs.Places.{at}
+use Rattle.units.specs.SmallLaws.{below-or-not}
 use Rattle.sets.specs.declared.Set.{Set}
 use Rattle.plans.specs.declared.Alloc.{Alloc}
-use Rattle.rings.specs.State.{count, share, unusedAt, holds, Shaped}
-use Rattle.rings.specs.Timers.{limit, rise, timersAfter}
-use Rattle.rings.specs.Steps.{Ask, serves, syncSent, asyncSent, moved, completes, recordOf}
+use Rattle.rings.specs.State.{count, following, Shaped}
+use Rattle.rings.specs.Sound.{Sound, isSound}
+use Rattle.rings.specs.Steps.{Ask, syncSent, asyncSent, moved, recordOf}
 use Rattle.rings.specs.HandingIn.{Takes, holding, handInNumber}
-use Rattle.rings.specs.RingLaws.{served, not-served, sync-within, taken-passed}
+use Rattle.rings.specs.RingLaws.{sound-tests, sync-within, taken-passed}
 use Rattle.rings.specs.declared.Ring.{Ring}
 use Rattle.rings.specs.declared.Message.{Message}
 use Rattle.rings.specs.declared.VisitRecord.{VisitRecord}
+use Rattle.ring_rules.specs.Promised.{Done, Held}
+use Rattle.ring_rules.proofs.MovedLaws.{done}
+use Rattle.ring_rules.proofs.HeldLaws.{held, held-sound}
 use Rattle.promises.specs.Facts.{timing, VisitCourse, VisitTimers, VisitOffer, VisitMessages, Sending, Silent, Completing, Leaving, Accepting}
-use Rattle.promises.proofs.Sums.{sum-lacking}
-use Rattle.promises.proofs.Course.{Plan, Course}
+use Rattle.promises.proofs.Course.{following-is}
 
--- ---- tests
+-- ---- a visit, of the ring's own plan
 
-and-false : (a b : Bool) → (a && b) ≡ false → (a ≡ false) ⊎ (b ≡ false)
-and-false true b h = inr h
-and-false false b h = inl refl
-
--- ---- a visit that sends these two amounts
-
-module _ (r : Ring) (sync async : ℕ) (L : Shaped r) (few : count r ≤ 128) (below : r .token < count r) where
-  pub moved-places : Shaped (moved r sync async)
-  unfolding moved timersAfter
-  moved-places =
-      record {
-        trt = raise-length (count r) (rise r sync async) (set (r .trt) (r .token) 0) ∙ length-set (r .trt) (r .token) 0 ∙ L .trt;
-        sent = length-set (r .sent) (r .token) sync ∙ L .sent;
-        rest = length-set (r .rest) (r .token) (at (r .rest) (r .token) - sync) ∙ L .rest;
-        arrival = L .arrival;
-        had = L .had;
-        last = length-set (r .last) (r .token) (r .clock) ∙ L .last;
-      }
-
-  trt-here : at (moved r sync async .trt) (r .token) ≡ rise r sync async
-  unfolding moved timersAfter
-  trt-here =
-      omega
-      (arith, raise-inside (count r) (rise r sync async) (set (r .trt) (r .token) 0) (r .token) below (omega (arith, length-set (r .trt) (r .token) 0, L .trt)), getD-set-same (r .trt) (r .token) 0 0 (omega (arith, L .trt)))
-
-  trt-there : (i : ℕ) → i < count r → i ≢ r .token → at (moved r sync async .trt) i ≡ at (r .trt) i + rise r sync async
-  unfolding moved timersAfter
-  trt-there i l b =
-      omega
-      (arith, raise-inside (count r) (rise r sync async) (set (r .trt) (r .token) 0) i l (omega (arith, length-set (r .trt) (r .token) 0, L .trt)), getD-set-other (r .trt) (r .token) i 0 0 b)
-
-  -- the course, of the ring's own plan
-  moved-course : sync ≤ share r (r .token) → VisitCourse (r .set) (r .alloc) (timing r) (timing (moved r sync async)) (recordOf r sync async)
-  unfolding moved recordOf
-  moved-course within =
-      record {
-        station = refl;
-        start = refl;
-        set = refl;
-        alloc = refl;
-        within = within;
-        sent-here = getD-set-same (r .sent) (r .token) sync 0 (omega (arith, L .sent));
-        sent-there = λ i b. getD-set-other (r .sent) (r .token) i sync 0 b;
-        clock = refl;
-        last-here = getD-set-same (r .last) (r .token) (r .clock) 0 (omega (arith, L .last));
-        last-there = λ i b. getD-set-other (r .last) (r .token) i (r .clock) 0 b;
-        token = refl;
-        visits = refl;
-      }
-
-  -- the timers
-  moved-timers : async ≤ limit r → at (r .sent) (r .token) ≤ share r (r .token) → unusedAt r (r .token) ≤ r .unused → sync ≤ share r (r .token) → VisitTimers (r .set) (timing r) (timing (moved r sync async)) (recordOf r sync async)
-  unfolding moved recordOf timersAfter
-  moved-timers offered old enough within =
-      record {
-        timer = refl;
-        room = λ fits. omega arith;
-        unused = omega arith;
-        trt-here = trt-here;
-        trt-there = trt-there;
-      }
-
--- the offer, of the ring's own plan
-moved-offer : (r : Ring) (sync ask : ℕ) → VisitOffer (r .set) (timing r) (recordOf r sync (asyncSent r ask))
-unfolding recordOf
-moved-offer r sync ask = record { limit = omega arith; kept = omega arith }
-
--- ---- the message half, of the ring's own plan
-
-module _ (r : Ring) (async : ℕ) (L : Shaped r) (few : count r ≤ 128) (below : r .token < count r) where
-  sending : Sending (r .alloc) r (r .clock) (recordOf r (syncSent r async) async) ⊎ Silent r (r .clock) (recordOf r (syncSent r async) async)
-  unfolding recordOf
-  sending =
-      ⊎-elim (λ (h : serves r async ≡ true).
-      let both = and-true (holds r (r .token)) (leb (at (r .arrival) (r .token)) (r .clock)) h in
-      inl (record { held = ltb-true _ _ (both .0); arrived = leb-true _ _ (both .1); amount = served r async h }))
-      (λ (h : serves r async ≡ false).
-      inr
-      (record {
-        nothing = not-served r async h;
-        reason =
-            ⊎-elim (λ (z : holds r (r .token) ≡ false). let l : at (r .rest) (r .token) ≤ 0 = ltb-false _ _ z in inl (omega arith))
-            (λ (z : leb (at (r .arrival) (r .token)) (r .clock) ≡ false). inr (leb-false _ _ z))
-            (and-false (holds r (r .token)) (leb (at (r .arrival) (r .token)) (r .clock)) h);
-      }))
-      (true-or-false (serves r async))
-
-  rest-here : at (moved r (syncSent r async) async .rest) (r .token) ≡ at (r .rest) (r .token) - syncSent r async
-  unfolding moved
-  rest-here = getD-set-same (r .rest) (r .token) (at (r .rest) (r .token) - syncSent r async) 0 (omega (arith, L .rest))
-
-  completing : Completing (r .set) r (moved r (syncSent r async) async) (r .clock) (recordOf r (syncSent r async) async) ⊎ Leaving r (moved r (syncSent r async) async) (recordOf r (syncSent r async) async)
-  unfolding recordOf
-  completing =
-      ⊎-elim (λ (h : completes r (syncSent r async) ≡ true).
-      let both = and-true (holds r (r .token)) (eqb (at (r .rest) (r .token) - syncSent r async) 0) h in
-      inl
-      (record {
-        flag = rw h;
-        held = ltb-true _ _ (both .0);
-        finish = rw h;
-        margin = rw h;
-        over = rest-here ∙ eqb-true _ _ (both .1);
-      }))
-      (λ (h : completes r (syncSent r async) ≡ false).
-      inr
-      (record {
-        flag = rw h;
-        left =
-            ⊎-elim (λ (z : holds r (r .token) ≡ false). let l : at (r .rest) (r .token) ≤ 0 = ltb-false _ _ z in inl (omega arith))
-            (λ (z : eqb (at (r .rest) (r .token) - syncSent r async) 0 ≡ false).
-            let n : at (r .rest) (r .token) - syncSent r async ≢ 0 = eqb-false _ _ z in
-            inr (omega (arith, rest-here)))
-            (and-false (holds r (r .token)) (eqb (at (r .rest) (r .token) - syncSent r async) 0) h);
-      }))
-      (true-or-false (completes r (syncSent r async)))
-
-  moved-messages : VisitMessages (r .set) (r .alloc) r (moved r (syncSent r async) async) (recordOf r (syncSent r async) async)
-  unfolding moved recordOf
-  moved-messages =
-      record {
-        rest-here = omega (arith, rest-here, sync-within r async .1);
-        rest-there = λ i b. getD-set-other (r .rest) (r .token) i (at (r .rest) (r .token) - syncSent r async) 0 b;
-        arrival = refl;
-        had = refl;
-        sending = sending;
-        completing = completing;
-      }
-
--- ---- both halves, of the plan with which the ring was opened
-
-module _ (t : Set) (a : Alloc) (r : Ring) (h : List VisitRecord) (P : Plan t a) (C : Course t a (timing r) h) (L : Shaped r) (ask : Ask) where
+module _ (r : Ring) (L : Shaped r) (s : Sound r) (ask : Ask) where
   abbrev next : Ring
   next = moved r (syncSent r (asyncSent r ask)) (asyncSent r ask)
 
   abbrev made : VisitRecord
   made = recordOf r (syncSent r (asyncSent r ask)) (asyncSent r ask)
 
-  few : count r ≤ 128
-  few = rw (C .set) (P .few)
+  does : Done r ask next made
+  does = done r ask L s
 
-  below : r .token < count r
-  below = rw (C .set) (C .token)
+  own-course : VisitCourse (r .set) (r .alloc) (timing r) (timing next) made
+  unfolding recordOf
+  own-course =
+      let M = does .moved in
+      record {
+        station = does .station;
+        start = does .start;
+        set = M .set;
+        alloc = M .alloc;
+        within = sync-within r (asyncSent r ask) .0;
+        sent-here = M .sent;
+        sent-there = M .sents;
+        clock = M .clock;
+        last-here = M .last;
+        last-there = M .lasts;
+        token = ⊎-elim (λ (b : (r .token + 1 < count r) × (following (count r) (r .token) ≡ r .token + 1)). M .on (b .0) ∙ sym (b .1)) (λ (b : (r .token + 1 ≡ count r) × (following (count r) (r .token) ≡ 0)). M .round (b .0) ∙ sym (b .1)) (following-is (count r) (r .token) (s .token));
+        visits = M .visits;
+      }
 
-  old : at (r .sent) (r .token) ≤ share r (r .token)
-  old = rw (C .alloc) (C .sents (r .token) (C .token))
+  own-timers : VisitTimers (r .set) (timing r) (timing next) made
+  unfolding recordOf
+  own-timers =
+      let M = does .moved in
+      record {
+        timer = does .trt;
+        room = λ fits. omega (arith, does .amounts .limit, does .amounts .offered);
+        unused = M .unused;
+        trt-here = M .trt-here;
+        trt-there = M .trt-there;
+      }
+
+  own-offer : VisitOffer (r .set) (timing r) made
+  own-offer = record { limit = does .amounts .limit; kept = omega (arith, does .amounts .offered) }
+
+  sending : Sending (r .alloc) r (r .clock) made ⊎ Silent r (r .clock) made
+  sending =
+      let A = does .amounts in
+      ⊎-elim (λ (held : 0 < at (r .rest) (r .token)).
+      ⊎-elim (λ (late : r .clock < at (r .arrival) (r .token)). inr (record { nothing = A .early late; reason = inr late }))
+      (λ (here : at (r .arrival) (r .token) ≤ r .clock). inl (record { held = held; arrived = here; amount = A .served held here }))
+      (below-or-not (r .clock) (at (r .arrival) (r .token))))
+      (λ (none : at (r .rest) (r .token) ≤ 0). inr (record { nothing = A .none (omega arith); reason = inl (omega arith) }))
+      (below-or-not 0 (at (r .rest) (r .token)))
+
+  completing : Completing (r .set) r next (r .clock) made ⊎ Leaving r next made
+  completing =
+      ⊎-elim (λ (held : 0 < at (r .rest) (r .token)).
+      ⊎-elim (λ (left : 0 < at (next .rest) (r .token)). inr (record { flag = does .left (inr left) .flag; left = inr left }))
+      (λ (over : at (next .rest) (r .token) ≤ 0).
+      let C = does .completed held (omega arith) in
+      inl (record { flag = C .flag; held = held; finish = C .finish; margin = C .margin; over = omega arith }))
+      (below-or-not 0 (at (next .rest) (r .token))))
+      (λ (none : at (r .rest) (r .token) ≤ 0).
+      let empty : at (r .rest) (r .token) ≡ 0 = omega arith in
+      inr (record { flag = does .left (inl empty) .flag; left = inl empty }))
+      (below-or-not 0 (at (r .rest) (r .token)))
+
+  own-messages : VisitMessages (r .set) (r .alloc) r next made
+  unfolding recordOf
+  own-messages =
+      let M = does .moved in
+      record {
+        rest-here = M .rest;
+        rest-there = M .rests;
+        arrival = M .arrival;
+        had = M .had;
+        sending = sending;
+        completing = completing;
+      }
 
   pub visit-places : Shaped next
-  visit-places = moved-places r (syncSent r (asyncSent r ask)) (asyncSent r ask) L few below
+  visit-places = does .moved .shaped
 
-  pub visit-course : VisitCourse t a (timing r) (timing next) made
-  visit-course =
-      subst₂ (λ (x : Set) (y : Alloc). VisitCourse x y (timing r) (timing next) made) (C .set) (C .alloc)
-      (moved-course r (syncSent r (asyncSent r ask)) (asyncSent r ask) L few below (sync-within r (asyncSent r ask) .0))
+  -- of the plan with which the ring was opened
+  module _ (t : Set) (a : Alloc) (set : r .set ≡ t) (alloc : r .alloc ≡ a) where
+    pub visit-course : VisitCourse t a (timing r) (timing next) made
+    visit-course = subst₂ (λ (x : Set) (y : Alloc). VisitCourse x y (timing r) (timing next) made) set alloc own-course
 
-  pub visit-messages : VisitMessages t a r next made
-  visit-messages =
-      subst₂ (λ (x : Set) (y : Alloc). VisitMessages x y r next made) (C .set) (C .alloc)
-      (moved-messages r (asyncSent r ask) L few below)
+    pub visit-messages : VisitMessages t a r next made
+    visit-messages = subst₂ (λ (x : Set) (y : Alloc). VisitMessages x y r next made) set alloc own-messages
 
-  pub visit-offer : VisitOffer t (timing r) made
-  visit-offer = subst (λ (x : Set). VisitOffer x (timing r) made) (C .set) (moved-offer r (syncSent r (asyncSent r ask)) ask)
+    pub visit-offer : VisitOffer t (timing r) made
+    visit-offer = subst (λ (x : Set). VisitOffer x (timing r) made) set own-offer
 
-  -- u is the sum of S − s
-  pub unused-is : r .unused + sumBelow (t .n) (at (r .sent)) ≡ sumBelow (t .n) (at (a .s)) → r .unused ≡ sumBelow (count r) (unusedAt r)
-  unused-is whole =
-      rw (C .set, C .alloc)
-      (omega (arith, sum-lacking (t .n) (at (r .sent)) (at (a .s)) (C .sents)))
-
-  pub visit-timers : r .unused + sumBelow (t .n) (at (r .sent)) ≡ sumBelow (t .n) (at (a .s)) → VisitTimers t (timing r) (timing next) made
-  visit-timers whole =
-      let enough : unusedAt r (r .token) ≤ r .unused = rw (unused-is whole) (sum-part (count r) (unusedAt r) (r .token) below) in
-      subst (λ (x : Set). VisitTimers x (timing r) (timing next) made) (C .set)
-      (moved-timers r (syncSent r (asyncSent r ask)) (asyncSent r ask) L few below (omega arith) old enough (sync-within r (asyncSent r ask) .0))
+    pub visit-timers : VisitTimers t (timing r) (timing next) made
+    visit-timers = subst (λ (x : Set). VisitTimers x (timing r) (timing next) made) set own-timers
 
 -- ---- a handing in
 
-module _ (r : Ring) (m : Message) where
-  pub holding-places : Shaped r → Shaped (holding r m)
-  unfolding holding
-  holding-places L =
-      record {
-        trt = L .trt;
-        sent = L .sent;
-        rest = length-set (r .rest) (m .station .0) (m .length .0) ∙ L .rest;
-        arrival = length-set (r .arrival) (m .station .0) (m .arrival .0) ∙ L .arrival;
-        had = length-set (r .had) (m .station .0) 1 ∙ L .had;
-        last = L .last;
-      }
+module _ (r : Ring) (L : Shaped r) (m : Message) (e : handInNumber r m ≡ 0) where
+  stores : Held r m (holding r m)
+  stores = held r m L (taken-passed r m e .0) (taken-passed r m e .1)
 
-  holding-accepts : Shaped r → count r ≤ 128 → Takes r m → Accepting (r .set) r (holding r m) m
+  pub holding-places : Shaped (holding r m)
+  holding-places = stores .shaped
+
+  pub holding-sound : isSound (holding r m) ≡ true
+  holding-sound = sound-tests (holding r m) (held-sound r m L (taken-passed r m e .0) (taken-passed r m e .1))
+
+  own-accepts : Accepting (r .set) r (holding r m) m
   unfolding holding
-  holding-accepts L few A =
+  own-accepts =
+      let A = taken-passed r m e .1 in
       record {
         known = A .known;
         length = A .length;
@@ -229,15 +145,14 @@ module _ (r : Ring) (m : Message) where
         later = A .arrival .later;
         gap = A .arrival .gap;
         timing-same = refl;
-        rest-here = getD-set-same (r .rest) (m .station .0) (m .length .0) 0 (omega (arith, A .known, L .rest));
-        rest-there = λ i b. getD-set-other (r .rest) (m .station .0) i (m .length .0) 0 b;
-        arrival-here = getD-set-same (r .arrival) (m .station .0) (m .arrival .0) 0 (omega (arith, A .known, L .arrival));
-        arrival-there = λ i b. getD-set-other (r .arrival) (m .station .0) i (m .arrival .0) 0 b;
-        had-here = omega (arith, getD-set-same (r .had) (m .station .0) 1 0 (omega (arith, A .known, L .had)));
-        had-there = λ i b. getD-set-other (r .had) (m .station .0) i 1 0 b;
+        rest-here = stores .rest;
+        rest-there = stores .rests;
+        arrival-here = stores .arrival;
+        arrival-there = stores .arrivals;
+        had-here = omega (arith, stores .had);
+        had-there = stores .hads;
       }
 
--- of the plan with which the ring was opened
-pub message-accepts : (t : Set) (a : Alloc) (r : Ring) (h : List VisitRecord) (m : Message) → Plan t a → Course t a (timing r) h → Shaped r → handInNumber r m ≡ 0 → Accepting t r (holding r m) m
-message-accepts t a r h m P C L e =
-    subst (λ (x : Set). Accepting x r (holding r m) m) (C .set) (holding-accepts r m L (rw (C .set) (P .few)) (taken-passed r m e .1))
+  -- of the plan with which the ring was opened
+  pub message-accepts : (t : Set) → r .set ≡ t → Accepting t r (holding r m) m
+  message-accepts t set = subst (λ (x : Set). Accepting x r (holding r m) m) set own-accepts

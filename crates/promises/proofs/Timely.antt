@@ -28,7 +28,7 @@ use Rattle.promises.proofs.Messages.{Messaged, deadlineAt, messaged-kep
 use Rattle.promises.proofs.Steps.{visit-timers, visit-offer}
 use Rattle.promises.proofs.Opening.{plan-of, opened-places, opened-timed, opened-stored, opened-told, opened-messaged}
 use Rattle.promises.proofs.Soundness.{is-sound}
-use Rattle.promises.proofs.Runs.{Kept, made, movedRun, heldRun, course-facts, message-parts, next-places, next-stored, kept-moved, message-facts, held-places, held-stored, kept-held, Steady, steady-run}
+use Rattle.promises.proofs.Runs.{Kept, made, movedRun, heldRun, course-facts, message-parts, sound-ring, next-stored, kept-moved, message-facts, kept-held, Steady, steady-run}
 
 -- ---- what a new record keeps
 
@@ -97,7 +97,7 @@ pub record Timely (t : Set) (a : Alloc) (s : Run) : Type 0 where
 
 module _ (t : Set) (a : Alloc) (P : Plan t a) (s : Run) (K : Timely t a s) where
   pub timer-facts : (ask : Ask) → VisitTimers t (timing (s .ring)) (timing (movedRun s ask .ring)) (made s ask)
-  timer-facts ask = visit-timers t a (s .ring) (s .records) P (K .common .course) (K .common .places) ask (K .timed .unused)
+  timer-facts ask = visit-timers (s .ring) (K .common .places) (sound-ring t a P s (K .common)) ask t a (K .common .course .set) (K .common .course .alloc)
 
   timely-moved : (ask : Ask) → s .ring .clock ≤ mostClock → Timely t a (movedRun s ask)
   timely-moved ask early =
@@ -109,21 +109,20 @@ module _ (t : Set) (a : Alloc) (P : Plan t a) (s : Run) (K : Timely t a s) where
       let G = message-parts t a P s (K .common) ask in
       let token = K .common .course .token in
       let timed = timed-kept t a (timing r) (timing q) v (s .records) P (K .timed) C F early in
-      let sound = is-sound t a q (movedRun s ask .records) P timed (next-places t a P s (K .common) ask) (next-stored t a P s (K .common) ask) in
+      let sound = is-sound t a q (movedRun s ask .records) P timed (next-stored t a P s (K .common) ask) in
       record {
         common = kept-moved t a P s (K .common) ask (omega (arith, rise-small t a (timing r) (timing q) v (s .records) P (K .timed) C F)) early sound;
         timed = timed;
         messaged = messaged-kept t a r q v (s .records) P (K .timed) C F G (K .common .stored (r .token) token) (K .messaged);
-        each = (visit-made t a r q v (s .records) P (K .timed) C F G (K .messaged (r .token) token) (visit-offer t a r (s .records) P (K .common .course) (K .common .places) ask), K .each);
+        each = (visit-made t a r q v (s .records) P (K .timed) C F G (K .messaged (r .token) token) (visit-offer r (K .common .places) (sound-ring t a P s (K .common)) ask t a (K .common .course .set) (K .common .course .alloc)), K .each);
       }
 
   timely-held : (m : Message) → handInNumber (s .ring) m ≡ 0 → Timely t a (heldRun s m)
   timely-held m e =
       let A = message-facts t a P s (K .common) m e in
-      let timed : Timed t a (timing (holding (s .ring) m)) (s .records) = rw (A .timing-same) (K .timed) in
       record {
-        common = kept-held t a P s (K .common) m e (is-sound t a (holding (s .ring) m) (s .records) P timed (held-places t a P s (K .common) m) (held-stored t a P s (K .common) m e));
-        timed = timed;
+        common = kept-held t a P s (K .common) m e;
+        timed = rw (A .timing-same) (K .timed);
         messaged = messaged-taken t a (s .ring) (holding (s .ring) m) m (s .records) P (K .timed) A (K .messaged);
         each = K .each;
       }
@@ -145,7 +144,7 @@ timely-opened t a P =
             told = opened-told t a P;
             turns = tt;
             shares = tt;
-            sound = is-sound t a (opened t a .ring) (opened t a .records) P timed (opened-places t a P) (opened-stored t a P);
+            sound = is-sound t a (opened t a .ring) (opened t a .records) P timed (opened-stored t a P);
           };
       timed = timed;
       messaged = opened-messaged t a P;

@@ -1,4 +1,4 @@
--- What an accepted visit and an accepted handing in do, as facts that add up. The promises are proved of these records alone: another step function that gives them keeps the same promises. Every kind of ring gives `VisitCourse` and `VisitMessages`; the timers' half is that of a timely-token ring.
+-- What an accepted visit and an accepted handing in do, as facts that add up: `ring_rules` promises it of the rings' steps (`Done`, `Held`), and `proofs/Steps.antt` reads these records off that. The promises are proved of these records alone: another step function that gives them keeps the same promises. Every kind of ring gives `VisitCourse` and `VisitMessages`; the timers' half is that of a timely-token ring.
 use Prim.Native.Nat.{ℕ, _+_, _-_, _≤_, _<_, min}
 use mathlib.Core.Path.{_≡_}
 use mathlib.Core.List.{List}

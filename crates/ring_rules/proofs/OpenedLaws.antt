@@ -3,7 +3,7 @@ use Prim.Native.Nat.{ℕ, _-_, _≤_, _<_}
 use mathlib.Core.Path.{_≡_, refl}
 use native.Mathlib.Omega.{arith}
 use Rattle.units.specs.Places.{at}
-use Rattle.units.specs.PlaceLaws.{sum-same, sum-split, fill-length, fill-inside}
+use Rattle.units.specs.PlaceLaws.{zero-at, sum-same, sum-split, fill-length, fill-inside}
 use Rattle.sets.specs.Judged.{zeros}
 use Rattle.sets.specs.declared.Set.{Set}
 use Rattle.plans.specs.Planned.{judgedPlan}
@@ -11,7 +11,6 @@ use Rattle.plans.specs.PlanLaws.{given-none}
 use Rattle.plans.specs.declared.Alloc.{Alloc}
 use Rattle.rings.specs.Timers.{silentTrt, silentTimers}
 use Rattle.rings.specs.Opening.{openedRing}
-use Rattle.rings.specs.RingLaws.{zero-at}
 use Rattle.rings.specs.Sound.{Sound}
 use Rattle.ring_rules.specs.Promised.{Fresh}
 

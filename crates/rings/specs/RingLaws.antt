@@ -7,7 +7,6 @@ use mathlib.Core.Logic.{_≢_, ⊎-elim}
 use native.Mathlib.Omega.{arith}
 use borrow.Author.Tests.{leb-true, ltb-true, eqb-true, eqb-false, le-leb, lt-leb, lt-ltb, le-ltb, eq-eqb}
 use lib.IntN.{pos, subℕ, _-ℤ_}
-use lib.ListN.{getD-replicate, List·getD-eq-default}
 use mir.Syntax.{w64}
 use mir.Val.{SFits}
 use Rattle.units.specs.SmallLaws.{below-or-not}
@@ -17,7 +16,6 @@ use Rattle.units.specs.Places.{at, sumBelow}
 use Rattle.units.specs.PlaceLaws.{all-at, all-of, decides-all, sum-part, sum-mono}
 use Rattle.units.specs.Judging.{orElse}
 use Rattle.units.specs.JudgingLaws.{Decides, true-or-false, decides-le, decides-both, decides-between, pick, all-hold, none-hold, held, failed, passed}
-use Rattle.sets.specs.Judged.{zeros}
 use Rattle.sets.specs.Rules.{tau, CountAllowed, NumbersAllowed, WalkTimeAllowed}
 use Rattle.plans.specs.Rules.{MeetsRules, AllocInRange}
 use Rattle.plans.specs.PlanLaws.{given-none}
@@ -25,7 +23,7 @@ use Rattle.rings.specs.State.{count, ttrt, share, unusedAt, beforeFirstV
 use Rattle.rings.specs.Opening.{openedWith, blankRing}
 use Rattle.rings.specs.Timers.{TimersSound, trtSoundAt, unusedSound, timersSound}
 use Rattle.rings.specs.Sound.{Sound, sentSoundAt, restSoundAt, arrivalSoundAt, planSound, numberTests, isSound}
-use Rattle.rings.specs.Steps.{serves, syncSent, visitNumber, refusedVisit, acceptedVisit, visitedWith}
+use Rattle.rings.specs.Steps.{Ask, serves, syncSent, visitNumber, refusedVisit, acceptedVisit, visitedWith}
 use Rattle.rings.specs.HandingIn.{ArrivalAllowed, Takes, stationKnown, lengthAllowed, nothingHeld, arrivalInRange, laterThanLastStart, gapKept, arrivalAllowed, handInNumber, holding, messageNumber, takenWith}
 use Rattle.rings.specs.Bounds.{Safe, SafeTimers, Holdable}
 use Rattle.rings.specs.declared.Ring.{Ring}
@@ -134,17 +132,12 @@ unfolding openedWith
 opened-number zero r = refl
 opened-number (suc k) r = refl
 
--- every place of a blank array is 0
-pub zero-at : (i : ℕ) → at zeros i ≡ 0
-zero-at i =
-    ⊎-elim (λ (b : i < 128). getD-replicate 128 i 0 0 b) (λ (b : 128 ≤ i). List·getD-eq-default zeros 0 b) (below-or-not i 128)
-
-pub visit-refused : (k : ℕ) (r : Ring) (ask : ℕ) → k ≢ 0 → visitedWith k r ask ≡ refusedVisit r k
+pub visit-refused : (k : ℕ) (r : Ring) (ask : Ask) → k ≢ 0 → visitedWith k r ask ≡ refusedVisit r k
 unfolding visitedWith
 visit-refused zero r ask h = absurd (h refl)
 visit-refused (suc k) r ask h = refl
 
-pub visit-accepted : (k : ℕ) (r : Ring) (ask : ℕ) → k ≡ 0 → visitedWith k r ask ≡ acceptedVisit r ask
+pub visit-accepted : (k : ℕ) (r : Ring) (ask : Ask) → k ≡ 0 → visitedWith k r ask ≡ acceptedVisit r ask
 unfolding visitedWith
 visit-accepted k r ask h = rw h
 

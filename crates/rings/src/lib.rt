@@ -129,6 +129,7 @@ pub fn open(set: Set, alloc: Alloc) -> Opened
     }
 }
 
+// By value: each method takes the ring and hands out the next one inside its answer.
 impl Ring {
     // A visit at the station that has the token, with this many asynchronous ticks asked for: the moved ring and the record, or 8 or 13 with the ring as it was.
     pub fn visit(mut self, ask: u32) -> Visited
@@ -148,8 +149,8 @@ impl Ring {
             record,
             number: numbers::ACCEPTED,
         };
-        self = steps::moved_on(self, sync, asynchronous);
-        Visited { ring: self, answer }
+        let ring = steps::moved_on(self, sync, asynchronous);
+        Visited { ring, answer }
     }
 
     // Handing in a message: the ring that holds it, or the lowest of 8 to 12 that applies with the ring as it was.
@@ -161,7 +162,8 @@ impl Ring {
             number = messages::message_number(self, message);
         }
         if number == numbers::ACCEPTED {
-            self = messages::held(self, message);
+            let ring = messages::held(self, message);
+            return Taken { ring, number };
         }
         Taken { ring: self, number }
     }
