@@ -5,6 +5,7 @@
  */
 #include "olivastrum.h"
 #include "plain.h"
+#include "sets.h"
 #include "system.h"
 #include <stdio.h>
 #include <string.h>
@@ -13,20 +14,6 @@ typedef struct olivastrum_set set_t;
 typedef struct olivastrum_alloc alloc_t;
 typedef struct olivastrum_ring ring_t;
 typedef struct olivastrum_message message_t;
-
-/* ---- the stations that are planned, written, read and run */
-
-static set_t stations(uint32_t n)
-{
-    set_t set = {.ttrt = 100000, .n = n};
-    for (uint32_t i = 0; i < n; i++) {
-        set.w[i] = 10 + i % 3;
-        set.c[i] = 300 + 37 * i % 400;
-        set.d[i] = i % 16 == 5 ? 99900 : 100000 * (1 + i % 7) + 13337 * (i % 5);
-        set.p[i] = set.d[i] + 1000 * (i % 2);
-    }
-    return set;
-}
 
 /* ---- do both give the same answers? */
 
@@ -40,16 +27,6 @@ static unsigned long compared;
             return 0;                                                               \
         }                                                                           \
     } while (0)
-
-static uint64_t seed = 1;
-
-static uint32_t random_number(void)
-{
-    seed ^= seed << 13;
-    seed ^= seed >> 7;
-    seed ^= seed << 17;
-    return (uint32_t)(seed >> 16);
-}
 
 /* A number near one of the ends of the ranges. */
 static uint32_t edge(void)
@@ -68,12 +45,32 @@ static int same_reading(const uint8_t *sheet, size_t length)
     return 1;
 }
 
-static int same_sheets(uint32_t n)
+#define MOST_PLAN_BYTES (OLIVASTRUM_PLAN_BYTES(128) + OLIVASTRUM_MODE_BYTES)
+
+/* The sheet with the mode's field put in at every place. */
+static int same_with_a_mode(const uint8_t *sheet, size_t length, uint8_t mode)
 {
-    static uint8_t sheet[OLIVASTRUM_PLAN_BYTES(128) + 1];
-    set_t set = stations(n);
+    static uint8_t longer[MOST_PLAN_BYTES + OLIVASTRUM_MODE_BYTES];
+    const uint8_t field[OLIVASTRUM_MODE_BYTES] = {4, 0, 1, mode};
+    for (size_t at = 0; at <= length; at++) {
+        memcpy(longer, sheet, at);
+        memcpy(longer + at, field, sizeof field);
+        memcpy(longer + at + sizeof field, sheet + at, length - at);
+        if (!same_reading(longer, length + sizeof field))
+            return 0;
+    }
+    return 1;
+}
+
+static int same_sheets(uint32_t n, uint32_t mode)
+{
+    static uint8_t sheet[MOST_PLAN_BYTES + 1];
+    set_t set = stations(n, mode);
     size_t length = olivastrum_write_plan_sheet(set, olivastrum_plan_set(set).alloc, sheet, sizeof sheet).length;
-    SAME(length == OLIVASTRUM_PLAN_BYTES(n));
+    SAME(length == OLIVASTRUM_PLAN_BYTES(n) + (mode == OLIVASTRUM_FDDI ? OLIVASTRUM_MODE_BYTES : 0));
+    for (uint8_t named = 0; named <= 3; named++)
+        if (!same_with_a_mode(sheet, length, named))
+            return 0;
     for (size_t cut = 0; cut <= length + 1; cut++)
         if (!same_reading(sheet, cut))
             return 0;
@@ -98,7 +95,7 @@ static int same_plan(set_t set, alloc_t alloc)
     SAME(planned.number == plain_planned.number);
     SAME(memcmp(&planned.alloc, &plain_planned.alloc, sizeof planned.alloc) == 0);
 
-    static uint8_t proved_out[OLIVASTRUM_PLAN_BYTES(128)], plain_out[OLIVASTRUM_PLAN_BYTES(128)];
+    static uint8_t proved_out[MOST_PLAN_BYTES], plain_out[MOST_PLAN_BYTES];
     memset(proved_out, 85, sizeof proved_out);
     memset(plain_out, 85, sizeof plain_out);
     size_t room = random_number() % 2 ? sizeof proved_out : random_number() % sizeof proved_out;
@@ -114,9 +111,9 @@ static int same_plan(set_t set, alloc_t alloc)
     return 1;
 }
 
-static int same_plans(uint32_t n)
+static int same_plans(uint32_t n, uint32_t mode)
 {
-    set_t set = stations(n);
+    set_t set = stations(n, mode);
     alloc_t alloc = olivastrum_plan_set(set).alloc;
     if (!same_plan(set, alloc))
         return 0;
@@ -124,14 +121,15 @@ static int same_plans(uint32_t n)
         set_t other = set;
         alloc_t share = alloc;
         uint32_t i = random_number() % n;
-        switch (random_number() % 7) {
+        switch (random_number() % 8) {
         case 0: other.w[i] = edge(); break;
         case 1: other.c[i] = edge(); break;
         case 2: other.d[i] = edge(); break;
         case 3: other.p[i] = edge(); break;
-        case 4: other.ttrt = edge(); break;
+        case 4: other.head.ttrt = edge(); break;
         case 5: other.n = edge(); break;
         case 6: share.s[i] += random_number() % 3 - 1; break;
+        case 7: other.head.mode = edge(); break;
         }
         if (random_number() % 4 == 0)
             share.s[random_number() % n] = edge();
@@ -141,6 +139,28 @@ static int same_plans(uint32_t n)
             return 0;
     }
     return 1;
+}
+
+/* FDDI sets: random ones, with their plan, one a tick beside it and none; and one that is all walk time, so that a timer starts
+ * at TTRT. */
+static int same_older(uint32_t n)
+{
+    for (int k = 0; k < 500; k++) {
+        set_t set = random_fddi(n, 1 + random_number() % 120);
+        alloc_t share = olivastrum_plan_set(set).alloc;
+        if (!same_plan(set, share))
+            return 0;
+        share.s[random_number() % n] += random_number() % 2 ? 1 : (uint32_t)-1;
+        if (!same_plan(set, share))
+            return 0;
+    }
+    set_t walk = stations(n, OLIVASTRUM_FDDI);
+    walk.head.ttrt = 0;
+    for (uint32_t i = 0; i < n; i++) {
+        walk.head.ttrt += walk.w[i];
+        walk.c[i] = 0;
+    }
+    return same_plan(walk, olivastrum_plan_set(walk).alloc);
 }
 
 static int same_visit(ring_t *proved, ring_t *plain, uint32_t ask)
@@ -171,9 +191,9 @@ static message_t any_message(const ring_t *ring)
 }
 
 /* A long run of visits and handings in, some refused; now and then a number of the ring is overwritten first. */
-static int same_runs(uint32_t n)
+static int same_runs(uint32_t n, uint32_t mode)
 {
-    set_t set = stations(n);
+    set_t set = stations(n, mode);
     ring_t proved = olivastrum_open_ring(set, olivastrum_plan_set(set).alloc).ring, plain = proved;
     for (int k = 0; k < 5000; k++) {
         uint32_t ask = random_number() % 2 ? random_number() % 1000 : random_number();
@@ -196,9 +216,14 @@ static int same_runs(uint32_t n)
 static int agree(void)
 {
     static const uint32_t counts[] = {1, 2, 3, 8, 128};
-    for (size_t k = 0; k < sizeof counts / sizeof *counts; k++)
-        if (!same_sheets(counts[k]) || !same_plans(counts[k]) || !same_runs(counts[k]))
+    for (size_t k = 0; k < sizeof counts / sizeof *counts; k++) {
+        uint32_t n = counts[k];
+        for (uint32_t mode = OLIVASTRUM_TIMELY; mode <= OLIVASTRUM_FDDI; mode++)
+            if (!same_sheets(n, mode) || !same_plans(n, mode) || !same_runs(n, mode))
+                return 0;
+        if (!same_older(n))
             return 0;
+    }
     return 1;
 }
 
@@ -209,8 +234,8 @@ struct work {
     alloc_t alloc;
     ring_t opened;
     ring_t ring;
-    uint8_t sheet[OLIVASTRUM_PLAN_BYTES(128)];
-    uint8_t out[OLIVASTRUM_PLAN_BYTES(128)];
+    uint8_t sheet[MOST_PLAN_BYTES];
+    uint8_t out[MOST_PLAN_BYTES];
     size_t length;
     unsigned long refused; /* a timed call that is refused would measure something else */
 };
@@ -347,6 +372,15 @@ static const struct job {
 
 #define JOBS (sizeof jobs / sizeof *jobs)
 
+/* The same calls on an FDDI set. */
+static const struct job older[] = {
+    {"planning, FDDI", plan_proved, plan_plain, "1.5"},
+    {"opening, FDDI", open_proved, open_plain, "1.5"},
+    {"a lent visit, FDDI", visit_proved, visit_plain, "2.5"},
+};
+
+#define OLDER (sizeof older / sizeof *older)
+
 /* ---- timing */
 
 #define TURNS 31
@@ -354,9 +388,9 @@ static const struct job {
 
 static struct work work;
 
-static void prepare(uint32_t n)
+static void prepare(uint32_t n, uint32_t mode)
 {
-    work.set = stations(n);
+    work.set = stations(n, mode);
     work.alloc = olivastrum_plan_set(work.set).alloc;
     work.opened = olivastrum_open_ring(work.set, work.alloc).ring;
     work.length = olivastrum_write_plan_sheet(work.set, work.alloc, work.sheet, sizeof work.sheet).length;
@@ -365,19 +399,11 @@ static void prepare(uint32_t n)
 /* The processor time of one batch, in ns. */
 static double timed(batch *run, unsigned long calls)
 {
-    struct timespec from, to;
     work.ring = work.opened;
     run(&work, 16);
-    clock_gettime(CLOCK_THREAD_CPUTIME_ID, &from);
+    double from = processor_ns();
     run(&work, calls);
-    clock_gettime(CLOCK_THREAD_CPUTIME_ID, &to);
-    return (double)(to.tv_sec - from.tv_sec) * 1e9 + (double)(to.tv_nsec - from.tv_nsec);
-}
-
-static int by_size(const void *a, const void *b)
-{
-    double x = *(const double *)a, y = *(const double *)b;
-    return (x > y) - (x < y);
+    return processor_ns() - from;
 }
 
 struct measured {
@@ -402,30 +428,38 @@ static struct measured measure(const struct job *job)
     return (struct measured){proved[TURNS / 2], plain[TURNS / 2], ratio[TURNS / 2], ratio[TURNS / 4], ratio[3 * TURNS / 4]};
 }
 
+static void show(const struct job *job, struct measured m)
+{
+    printf("%-20s %10.0f %12.0f   %5.2f (%.2f to %.2f)   %s\n", job->name, m.proved, m.plain, m.ratio, m.low, m.high, job->aim);
+}
+
 int main(void)
 {
     static const uint32_t counts[] = {8, 16, 32, 64, 128};
     enum { COUNTS = sizeof counts / sizeof *counts, LAST = COUNTS - 1 };
-    static struct measured all[JOBS][COUNTS];
+    static struct measured all[JOBS][COUNTS], fddi[OLDER];
 
     if (!agree())
         return 1;
     printf("answers compared before timing: %lu, all the same\n", compared);
     for (int k = 0; k < COUNTS; k++) {
-        prepare(counts[k]);
+        prepare(counts[k], OLIVASTRUM_TIMELY);
         for (size_t j = 0; j < JOBS; j++)
             all[j][k] = measure(&jobs[j]);
     }
+    prepare(counts[LAST], OLIVASTRUM_FDDI);
+    for (size_t j = 0; j < OLDER; j++)
+        fddi[j] = measure(&older[j]);
     if (work.refused != 0) {
         printf("a timed call was refused\n");
         return 1;
     }
 
     printf("\n128 stations          proved ns   plain C ns   ratio (quartiles)     aim\n");
-    for (size_t j = 0; j < JOBS; j++) {
-        struct measured m = all[j][LAST];
-        printf("%-20s %10.0f %12.0f   %5.2f (%.2f to %.2f)   %s\n", jobs[j].name, m.proved, m.plain, m.ratio, m.low, m.high, jobs[j].aim);
-    }
+    for (size_t j = 0; j < JOBS; j++)
+        show(&jobs[j], all[j][LAST]);
+    for (size_t j = 0; j < OLDER; j++)
+        show(&older[j], fddi[j]);
     printf("\nproved ns at N =    ");
     for (int k = 0; k < COUNTS; k++)
         printf("%8u", counts[k]);

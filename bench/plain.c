@@ -13,6 +13,7 @@
 #define MOST_S 1000000u
 #define MOST_CLOCK 1000000000000u
 #define MOST_RING_CLOCK 1000002000000u
+#define MOST_LATE 3u
 #define VISITS_END ((uint64_t)1 << 62)
 
 /* A fault in one of the stations: answered at once, as one writes it; or, with -DFAULTS_GATHERED, gathered and asked for
@@ -41,7 +42,9 @@ static int count_fits(const set_t *set)
 static int numbers_fit(const set_t *set)
 {
     uint32_t fault = 0;
-    if (set->ttrt < 1 || set->ttrt > MOST_TTRT)
+    if (set->head.ttrt < 1 || set->head.ttrt > MOST_TTRT)
+        return 0;
+    if (set->head.mode != OLIVASTRUM_TIMELY && set->head.mode != OLIVASTRUM_FDDI)
         return 0;
     for (uint32_t i = 0; i < set->n; i++) {
         FAULT(set->w[i] > MOST_WALK);
@@ -70,6 +73,12 @@ static uint32_t sum(const uint32_t *xs, uint32_t n)
     return all;
 }
 
+/* The first less the second, held at 0. */
+static uint32_t room(uint32_t a, uint32_t b)
+{
+    return a > b ? a - b : 0;
+}
+
 static uint8_t judge(const set_t *set)
 {
     if (!count_fits(set))
@@ -77,7 +86,7 @@ static uint8_t judge(const set_t *set)
     if (!numbers_fit(set))
         return OLIVASTRUM_OUT_OF_RANGE;
     uint32_t tau = sum(set->w, set->n);
-    return tau < 1 || tau > set->ttrt ? OLIVASTRUM_WALK_TIME : OLIVASTRUM_ACCEPTED;
+    return tau < 1 || tau > set->head.ttrt ? OLIVASTRUM_WALK_TIME : OLIVASTRUM_ACCEPTED;
 }
 
 /* X, the least synchronous time in any interval d. */
@@ -88,6 +97,32 @@ static uint64_t least_time(uint32_t ttrt, uint32_t d, uint32_t s)
     return (uint64_t)m * s + (s > alpha ? s - alpha : 0);
 }
 
+/* X of FDDI, where `away` ticks of a rotation are τ and the other stations' S. */
+static uint64_t fddi_least_time(uint32_t ttrt, uint32_t d, uint32_t away, uint32_t s)
+{
+    uint32_t q = d / ttrt;
+    if (q == 0)
+        return 0;
+    uint32_t last = room(d - q * ttrt, away);
+    return (uint64_t)(q - 1) * s + (last < s ? last : s);
+}
+
+/* The deadline rule at every station, by the mode; `taken` is τ and the sum of S. */
+static int deadlines_fit(const set_t *set, const alloc_t *alloc, uint32_t taken)
+{
+    uint32_t ttrt = set->head.ttrt;
+    if (set->head.mode == OLIVASTRUM_FDDI) {
+        for (uint32_t i = 0; i < set->n; i++)
+            if (fddi_least_time(ttrt, set->d[i], taken - alloc->s[i], alloc->s[i]) < set->c[i])
+                return 0;
+        return 1;
+    }
+    for (uint32_t i = 0; i < set->n; i++)
+        if (least_time(ttrt, set->d[i], alloc->s[i]) < set->c[i])
+            return 0;
+    return 1;
+}
+
 static uint8_t judge_plan(const set_t *set, const alloc_t *alloc)
 {
     if (!count_fits(set))
@@ -95,12 +130,10 @@ static uint8_t judge_plan(const set_t *set, const alloc_t *alloc)
     if (!numbers_fit(set) || !shares_fit(alloc, set->n))
         return OLIVASTRUM_OUT_OF_RANGE;
     uint32_t tau = sum(set->w, set->n);
-    if (tau < 1 || tau > set->ttrt)
+    if (tau < 1 || tau > set->head.ttrt)
         return OLIVASTRUM_WALK_TIME;
-    for (uint32_t i = 0; i < set->n; i++)
-        if (least_time(set->ttrt, set->d[i], alloc->s[i]) < set->c[i])
-            return OLIVASTRUM_RULE_BROKEN;
-    if (sum(alloc->s, set->n) + tau > set->ttrt)
+    uint32_t taken = sum(alloc->s, set->n) + tau;
+    if (taken > set->head.ttrt || !deadlines_fit(set, alloc, taken))
         return OLIVASTRUM_RULE_BROKEN;
     return OLIVASTRUM_ACCEPTED;
 }
@@ -135,7 +168,8 @@ static uint8_t read_fields(const uint8_t *sheet, size_t length, struct olivastru
     set_t *set = &answer->set;
     size_t at = 0;
     uint32_t stations = 0, allocations = 0;
-    int head = 0;
+    uint32_t head = 0; /* the highest tag of the header's fields that has passed */
+    set->head.mode = OLIVASTRUM_TIMELY;
     for (;;) {
         if (length - at < 3)
             return OLIVASTRUM_SHEET_ENDS;
@@ -155,8 +189,8 @@ static uint8_t read_fields(const uint8_t *sheet, size_t length, struct olivastru
         case 255:
             allowed = stations > 0 && allocations == stations && size == 0;
             break;
-        default:
-            allowed = 0;
+        default: /* tag 4, the mode; a case of its own makes the loop 5 % slower */
+            allowed = tag == 4 && head == 1 && stations == 0 && size == 1;
         }
         if (!allowed)
             return OLIVASTRUM_SHEET_WRONG;
@@ -167,7 +201,7 @@ static uint8_t read_fields(const uint8_t *sheet, size_t length, struct olivastru
         at += size;
         if (tag == 1) {
             head = 1;
-            set->ttrt = number_at(body);
+            set->head.ttrt = number_at(body);
         } else if (tag == 2) {
             set->w[stations] = number_at(body);
             set->c[stations] = number_at(body + 4);
@@ -176,6 +210,9 @@ static uint8_t read_fields(const uint8_t *sheet, size_t length, struct olivastru
             stations++;
         } else if (tag == 3) {
             answer->alloc.s[allocations++] = number_at(body);
+        } else if (tag == 4) { /* a mode that its absence means is none */
+            head = 4;
+            set->head.mode = body[0] == OLIVASTRUM_TIMELY ? 0 : body[0];
         } else {
             set->n = stations;
             return at < length ? OLIVASTRUM_SHEET_GOES_ON : OLIVASTRUM_ACCEPTED;
@@ -199,11 +236,18 @@ struct olivastrum_written plain_write_plan(const set_t *set, const alloc_t *allo
     struct olivastrum_written answer = {0, judge_plan(set, alloc)};
     if (answer.number != OLIVASTRUM_ACCEPTED)
         return answer;
-    if (length < OLIVASTRUM_PLAN_BYTES(set->n)) {
+    size_t needed = OLIVASTRUM_PLAN_BYTES(set->n);
+    if (set->head.mode != OLIVASTRUM_TIMELY)
+        needed += OLIVASTRUM_MODE_BYTES;
+    if (length < needed) {
         answer.number = OLIVASTRUM_BUFFER_TOO_SHORT;
         return answer;
     }
-    uint8_t *at = put_number(put_mark(out, 1, 4), set->ttrt);
+    uint8_t *at = put_number(put_mark(out, 1, 4), set->head.ttrt);
+    if (set->head.mode != OLIVASTRUM_TIMELY) {
+        at = put_mark(at, 4, 1);
+        *at++ = (uint8_t)set->head.mode;
+    }
     for (uint32_t i = 0; i < set->n; i++) {
         at = put_mark(at, 2, 16);
         at = put_number(at, set->w[i]);
@@ -214,7 +258,7 @@ struct olivastrum_written plain_write_plan(const set_t *set, const alloc_t *allo
     for (uint32_t i = 0; i < set->n; i++)
         at = put_number(put_mark(at, 3, 4), alloc->s[i]);
     put_mark(at, 255, 0);
-    answer.length = OLIVASTRUM_PLAN_BYTES(set->n);
+    answer.length = needed;
     return answer;
 }
 
@@ -230,24 +274,86 @@ static uint32_t smallest(uint32_t ttrt, uint32_t c, uint32_t d)
     return (c + alpha + m) / (m + 1);
 }
 
+/* The smallest S at each station by its own numbers, and whether the token rule holds. */
+static int timely_plan(const set_t *set, alloc_t *alloc)
+{
+    uint64_t all = sum(set->w, set->n);
+    for (uint32_t i = 0; i < set->n; i++) {
+        alloc->s[i] = smallest(set->head.ttrt, set->c[i], set->d[i]);
+        all += alloc->s[i];
+    }
+    return all <= set->head.ttrt;
+}
+
+/* FDDI: the smallest S of a station of which q are at least `more`, or q − 1 at least c. */
+static uint32_t raised(uint32_t q, uint32_t c, uint32_t more)
+{
+    uint32_t s = (more + q - 1) / q;
+    return (q - 1) * s >= c ? (c + q - 2) / (q - 1) : s;
+}
+
+/* FDDI: up from zeros, each station raised whose rule does not hold at the present sum, until the sum stays. An S is
+ * never stored above TTRT, so q·S is at most D and 32 bits hold everything. */
+int plain_climb(const set_t *set, alloc_t *alloc, struct plain_climbed *took)
+{
+    uint32_t q[OLIVASTRUM_MOST_STATIONS], rest[OLIVASTRUM_MOST_STATIONS];
+    uint32_t ttrt = set->head.ttrt, tau = sum(set->w, set->n);
+    for (uint32_t i = 0; i < set->n; i++) {
+        q[i] = set->d[i] / ttrt;
+        rest[i] = set->d[i] - q[i] * ttrt;
+    }
+    for (uint32_t all = 0;;) {
+        uint32_t next = 0;
+        took->rounds++;
+        for (uint32_t i = 0; i < set->n; i++) {
+            uint32_t c = set->c[i], s = alloc->s[i];
+            uint32_t more = c + room(tau + all, rest[i]);
+            if (room(q[i], 1) * s < c && q[i] * s < more) {
+                if (q[i] == 0 || (q[i] == 1 && c <= s))
+                    return 0;
+                took->raised++;
+                s = raised(q[i], c, more);
+                if (s > ttrt)
+                    return 0;
+                alloc->s[i] = s;
+            }
+            next += s;
+        }
+        if (next > ttrt - tau)
+            return 0;
+        if (next == all)
+            return 1;
+        all = next;
+    }
+}
+
 void plain_plan(const set_t *set, struct olivastrum_planned *answer)
 {
     memset(answer, 0, sizeof *answer);
     answer->number = judge(set);
     if (answer->number != OLIVASTRUM_ACCEPTED)
         return;
-    uint64_t all = sum(set->w, set->n);
-    for (uint32_t i = 0; i < set->n; i++) {
-        answer->alloc.s[i] = smallest(set->ttrt, set->c[i], set->d[i]);
-        all += answer->alloc.s[i];
-    }
-    if (all > set->ttrt) {
+    struct plain_climbed took = {0, 0};
+    int found = set->head.mode == OLIVASTRUM_FDDI ? plain_climb(set, &answer->alloc, &took) : timely_plan(set, &answer->alloc);
+    if (!found) {
         memset(answer, 0, sizeof *answer);
         answer->number = OLIVASTRUM_NO_ALLOCATION;
     }
 }
 
 /* ---- the ring */
+
+/* FDDI: every timer rises, and goes back by TTRT each time that it reaches it, which raises the late count. */
+static void run_on(ring_t *ring, uint32_t rise)
+{
+    uint32_t ttrt = ring->set.head.ttrt;
+    for (uint32_t i = 0; i < ring->set.n; i++) {
+        uint32_t timer = ring->trt[i] + rise;
+        uint32_t laps = (uint32_t)(timer >= ttrt) + (uint32_t)(timer >= 2 * ttrt);
+        ring->trt[i] = timer - laps * ttrt;
+        ring->late[i] += laps;
+    }
+}
 
 void plain_open(const set_t *set, const alloc_t *alloc, struct olivastrum_opened *answer)
 {
@@ -264,6 +370,8 @@ void plain_open(const set_t *set, const alloc_t *alloc, struct olivastrum_opened
         ring->trt[i] = walk;
     }
     ring->unused = sum(alloc->s, set->n);
+    if (set->head.mode == OLIVASTRUM_FDDI)
+        run_on(ring, 0);
 }
 
 static int sound(const ring_t *ring)
@@ -272,9 +380,14 @@ static int sound(const ring_t *ring)
         return 0;
     if (ring->token >= ring->set.n || ring->clock > MOST_RING_CLOCK || ring->visits >= VISITS_END)
         return 0;
+    int fddi = ring->set.head.mode == OLIVASTRUM_FDDI;
+    uint32_t most = fddi ? ring->set.head.ttrt - 1 : ring->set.head.ttrt;
     uint32_t fault = 0, unused = 0;
+    if (fddi)
+        for (uint32_t i = 0; i < ring->set.n; i++)
+            FAULT(ring->late[i] > MOST_LATE);
     for (uint32_t i = 0; i < ring->set.n; i++) {
-        FAULT(ring->trt[i] > ring->set.ttrt);
+        FAULT(ring->trt[i] > most);
         FAULT(ring->sent[i] > ring->alloc.s[i]);
         FAULT(ring->rest[i] > ring->set.c[i]);
         unused += ring->alloc.s[i] - ring->sent[i];
@@ -284,7 +397,33 @@ static int sound(const ring_t *ring)
 #endif
         FAULT(ring->arrival[i] > MOST_CLOCK);
     }
-    return fault == 0 && ring->unused == unused;
+    return fault == 0 && (fddi || ring->unused == unused);
+}
+
+static uint32_t limit_of(const ring_t *ring, uint32_t p)
+{
+    if (ring->set.head.mode == OLIVASTRUM_FDDI)
+        return ring->late[p] > 0 ? 0 : ring->set.head.ttrt - ring->trt[p];
+    uint64_t taken = ring->unused + ring->trt[p];
+    return taken < ring->set.head.ttrt ? (uint32_t)(ring->set.head.ttrt - taken) : 0;
+}
+
+/* The timers after a visit at p that sent sync, and in which the clock rose. */
+static void move_timers(ring_t *ring, uint32_t p, uint32_t sync, uint32_t rise)
+{
+    if (ring->set.head.mode == OLIVASTRUM_FDDI) {
+        if (ring->late[p] > 0)
+            ring->late[p]--;
+        else
+            ring->trt[p] = 0;
+        run_on(ring, rise);
+        return;
+    }
+    uint32_t share = ring->alloc.s[p];
+    ring->unused = ring->unused - (share - ring->sent[p]) + (share - sync);
+    ring->trt[p] = 0;
+    for (uint32_t i = 0; i < ring->set.n; i++)
+        ring->trt[i] += rise;
 }
 
 void plain_visit(ring_t *ring, uint32_t ask, struct olivastrum_visit_answer *answer)
@@ -299,8 +438,7 @@ void plain_visit(ring_t *ring, uint32_t ask, struct olivastrum_visit_answer *ans
         return;
     }
     uint32_t p = ring->token, share = ring->alloc.s[p];
-    uint64_t taken = (uint64_t)ring->unused + ring->trt[p];
-    uint32_t limit = taken < ring->set.ttrt ? (uint32_t)(ring->set.ttrt - taken) : 0;
+    uint32_t limit = limit_of(ring, p);
     uint32_t sync = 0;
     if (ring->rest[p] > 0 && ring->arrival[p] <= ring->clock)
         sync = share < ring->rest[p] ? share : ring->rest[p];
@@ -320,13 +458,10 @@ void plain_visit(ring_t *ring, uint32_t ask, struct olivastrum_visit_answer *ans
     }
 
     uint32_t rise = sync + async + ring->set.w[p];
-    ring->unused = ring->unused - (share - ring->sent[p]) + (share - sync);
+    move_timers(ring, p, sync, rise);
     ring->sent[p] = sync;
     ring->rest[p] -= sync;
     ring->last[p] = ring->clock;
-    ring->trt[p] = 0;
-    for (uint32_t i = 0; i < ring->set.n; i++)
-        ring->trt[i] += rise;
     ring->clock += rise;
     ring->visits++;
     ring->token = p + 1 < ring->set.n ? p + 1 : 0;

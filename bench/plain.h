@@ -14,4 +14,13 @@ void plain_open(const struct olivastrum_set *set, const struct olivastrum_alloc 
 void plain_visit(struct olivastrum_ring *ring, uint32_t ask, struct olivastrum_visit_answer *answer);
 uint8_t plain_hand_in(struct olivastrum_ring *ring, const struct olivastrum_message *message);
 
+/* What a climb to FDDI's least vector took: rounds over the stations, and how often a station was raised, each time by a
+ * quotient, or two. */
+struct plain_climbed {
+    unsigned long rounds, raised;
+};
+
+/* FDDI's least vector of a set that the judgement accepts, up from the zeros of `alloc`; 0 where there is none. */
+int plain_climb(const struct olivastrum_set *set, struct olivastrum_alloc *alloc, struct plain_climbed *took);
+
 #endif

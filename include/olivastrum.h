@@ -44,9 +44,9 @@
 
 /* The version of the header and the library, as `./olivastrum version` prints it. */
 #define OLIVASTRUM_VERSION_MAJOR 0
-#define OLIVASTRUM_VERSION_MINOR 2
+#define OLIVASTRUM_VERSION_MINOR 3
 #define OLIVASTRUM_VERSION_PATCH 0
-#define OLIVASTRUM_VERSION "0.2.0"
+#define OLIVASTRUM_VERSION "0.3.0"
 
 #ifdef __cplusplus
 extern "C" {
@@ -58,7 +58,8 @@ enum {
     OLIVASTRUM_SHEET_ENDS = 1,        /* the sheet ends inside a field, or before the end field */
     OLIVASTRUM_SHEET_WRONG = 2,       /* wrong tag, wrong length, wrong count of stations or allocations */
     OLIVASTRUM_SHEET_GOES_ON = 3,     /* a byte follows the end field */
-    OLIVASTRUM_OUT_OF_RANGE = 4,      /* w, C, D, P, TTRT or S outside its range */
+    OLIVASTRUM_OUT_OF_RANGE = 4,      /* w, C, D, P, TTRT or S outside its range, or a mode that is not 1 or 2; on a
+                                         sheet or in a text a mode that is named and is not 2 */
     OLIVASTRUM_WALK_TIME = 5,         /* the sum of all w is 0 or above TTRT */
     OLIVASTRUM_NO_ALLOCATION = 6,     /* planning: no allocation exists */
     OLIVASTRUM_RULE_BROKEN = 7,       /* the given allocation breaks the token or the deadline rule */
@@ -74,9 +75,14 @@ enum {
 /* The most stations that a ring has, and so the places of each array. Places from N on are never looked at. */
 #define OLIVASTRUM_MOST_STATIONS 128
 
-/* The bytes of a request sheet and of a plan sheet of n stations. */
+/* The modes of a ring. */
+#define OLIVASTRUM_TIMELY 1u
+#define OLIVASTRUM_FDDI 2u
+
+/* The bytes of a request sheet and of a plan sheet of n stations, and what a mode other than timely-token takes beside. */
 #define OLIVASTRUM_REQUEST_BYTES(n) (10u + 19u * (n))
 #define OLIVASTRUM_PLAN_BYTES(n) (10u + 26u * (n))
+#define OLIVASTRUM_MODE_BYTES 4u
 
 /* A count of ticks, and a station's number from 0 in ring order. The one is never the other. */
 struct olivastrum_ticks {
@@ -87,9 +93,15 @@ struct olivastrum_station {
     uint64_t number;
 };
 
+/* What a sheet says before its stations. A set that is made by hand names its mode: 1 is timely-token. */
+struct olivastrum_head {
+    uint32_t ttrt;
+    uint32_t mode;
+};
+
 /* N stations in ring order: walk time w to the next, longest message C (0: no stream), deadline D, least gap P. */
 struct olivastrum_set {
-    uint32_t ttrt;
+    struct olivastrum_head head;
     uint32_t n;
     uint32_t w[OLIVASTRUM_MOST_STATIONS];
     uint32_t c[OLIVASTRUM_MOST_STATIONS];
@@ -106,16 +118,17 @@ struct olivastrum_alloc {
 struct olivastrum_ring {
     struct olivastrum_set set;
     struct olivastrum_alloc alloc;
-    uint32_t trt[OLIVASTRUM_MOST_STATIONS];     /* time since the station's last token arrival */
+    uint32_t trt[OLIVASTRUM_MOST_STATIONS];     /* time since the station's last token arrival; in FDDI its timer */
+    uint32_t late[OLIVASTRUM_MOST_STATIONS];    /* FDDI's late count; a timely-token ring leaves it alone */
     uint32_t sent[OLIVASTRUM_MOST_STATIONS];    /* synchronous ticks sent at its last visit */
     uint32_t rest[OLIVASTRUM_MOST_STATIONS];    /* what remains of the held message; 0: none is held */
+    uint32_t token;                             /* the station that has the token */
     uint64_t arrival[OLIVASTRUM_MOST_STATIONS]; /* the held message's arrival, and after it the last accepted one */
     uint8_t had[OLIVASTRUM_MOST_STATIONS];      /* a message was ever accepted: 0 is no, anything else yes */
     uint64_t last[OLIVASTRUM_MOST_STATIONS];    /* the start of the last visit, where the station is below visits */
     uint64_t clock;
     uint64_t visits;
-    uint32_t token;                             /* the station that has the token */
-    uint32_t unused;                            /* u, the sum of S - s */
+    uint64_t unused;                            /* u, the sum of S - s; FDDI leaves it as opening set it */
 };
 
 /* A message to hand in. */
@@ -125,7 +138,9 @@ struct olivastrum_message {
     struct olivastrum_ticks arrival;
 };
 
-/* What happened at a visit. finish and margin (deadline less finish, negative when late) are 0 unless completed is 1. */
+/* What happened at a visit. finish and margin (deadline less finish, negative when late) are 0 unless completed is 1.
+ * In FDDI trt is the timer as the token finds it, and a limit of 0 says that the token was late; a plan of mode 2 does not
+ * promise a margin of 0 or more. */
 struct olivastrum_visit_record {
     struct olivastrum_station station;
     struct olivastrum_ticks start;
@@ -181,16 +196,17 @@ OLIVASTRUM_SIZE(void *, 8);
 OLIVASTRUM_SIZE(size_t, 8);
 OLIVASTRUM_SIZE(struct olivastrum_ticks, 8);
 OLIVASTRUM_SIZE(struct olivastrum_station, 8);
-OLIVASTRUM_SIZE(struct olivastrum_set, 2056);
+OLIVASTRUM_SIZE(struct olivastrum_head, 8);
+OLIVASTRUM_SIZE(struct olivastrum_set, 2060);
 OLIVASTRUM_SIZE(struct olivastrum_alloc, 512);
-OLIVASTRUM_SIZE(struct olivastrum_ring, 6304);
+OLIVASTRUM_SIZE(struct olivastrum_ring, 6824);
 OLIVASTRUM_SIZE(struct olivastrum_message, 24);
 OLIVASTRUM_SIZE(struct olivastrum_visit_record, 72);
-OLIVASTRUM_SIZE(struct olivastrum_read_request, 2060);
-OLIVASTRUM_SIZE(struct olivastrum_read_plan, 2572);
+OLIVASTRUM_SIZE(struct olivastrum_read_request, 2064);
+OLIVASTRUM_SIZE(struct olivastrum_read_plan, 2576);
 OLIVASTRUM_SIZE(struct olivastrum_written, 16);
 OLIVASTRUM_SIZE(struct olivastrum_planned, 516);
-OLIVASTRUM_SIZE(struct olivastrum_opened, 6312);
+OLIVASTRUM_SIZE(struct olivastrum_opened, 6832);
 OLIVASTRUM_SIZE(struct olivastrum_visit_answer, 80);
 
 #undef OLIVASTRUM_SIZE
@@ -198,40 +214,41 @@ OLIVASTRUM_SIZE(struct olivastrum_visit_answer, 80);
 /* ---- the functions */
 
 /* Reads a request sheet: the set, or 1 to 5 with the blank set. */
-#define OLIVASTRUM_STACK_READ_REQUEST_SHEET 12800
+#define OLIVASTRUM_STACK_READ_REQUEST_SHEET 16896
 struct olivastrum_read_request olivastrum_read_request_sheet(const uint8_t *sheet, size_t length);
 
 /* Reads a plan sheet: the set and its allocation, or 1 to 5 or 7 with both blank. */
-#define OLIVASTRUM_STACK_READ_PLAN_SHEET 13312
+#define OLIVASTRUM_STACK_READ_PLAN_SHEET 18944
 struct olivastrum_read_plan olivastrum_read_plan_sheet(const uint8_t *sheet, size_t length);
 
 /* Writes a request sheet into the first bytes of out and leaves the rest: the sheet's length, or 2, 4, 5 or 14. */
-#define OLIVASTRUM_STACK_WRITE_REQUEST_SHEET 7680
+#define OLIVASTRUM_STACK_WRITE_REQUEST_SHEET 14848
 struct olivastrum_written olivastrum_write_request_sheet(struct olivastrum_set set, uint8_t *out, size_t length);
 
 /* Writes a plan sheet into the first bytes of out and leaves the rest: the sheet's length, or 2, 4, 5, 7 or 14. */
-#define OLIVASTRUM_STACK_WRITE_PLAN_SHEET 10240
+#define OLIVASTRUM_STACK_WRITE_PLAN_SHEET 18944
 struct olivastrum_written olivastrum_write_plan_sheet(struct olivastrum_set set, struct olivastrum_alloc alloc, uint8_t *out, size_t length);
 
-/* Plans a set: the smallest S at each station, or 2, 4, 5 or 6. 6 is given exactly if no allocation exists. */
-#define OLIVASTRUM_STACK_PLAN_SET 4864
+/* Plans a set: the least vector, no allocation that meets the rules has less at any station; or 2, 4, 5 or 6. 6 is given
+ * exactly if no allocation exists. */
+#define OLIVASTRUM_STACK_PLAN_SET 8704
 struct olivastrum_planned olivastrum_plan_set(struct olivastrum_set set);
 
 /* Opens a ring: clock 0, the token at station 0, nothing held; or 2, 4, 5 or 7 with the blank ring. */
-#define OLIVASTRUM_STACK_OPEN_RING 8704
+#define OLIVASTRUM_STACK_OPEN_RING 15360
 struct olivastrum_opened olivastrum_open_ring(struct olivastrum_set set, struct olivastrum_alloc alloc);
 
 /* A visit at the station that has the token, any number of asynchronous ticks asked for. The ring is changed where
  * it stands; 8 or 13 leave it as it was. */
-#define OLIVASTRUM_STACK_VISIT 20992
+#define OLIVASTRUM_STACK_VISIT 24576
 struct olivastrum_visit_answer olivastrum_visit(struct olivastrum_ring *ring, uint32_t ask);
 
 /* Hands in a message. The ring is changed where it stands; 8 to 12 leave it as it was. Returns the number. */
-#define OLIVASTRUM_STACK_HAND_IN 22528
+#define OLIVASTRUM_STACK_HAND_IN 25088
 uint8_t olivastrum_hand_in(struct olivastrum_ring *ring, struct olivastrum_message message);
 
 /* The most that a call of any of them needs. */
-#define OLIVASTRUM_STACK_MOST 22528
+#define OLIVASTRUM_STACK_MOST 25088
 
 #ifdef __cplusplus
 }

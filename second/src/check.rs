@@ -1,16 +1,18 @@
-//! The promises of every run from an opening, checked call by call on this program itself.
+//! The promises of every run from an opening, checked call by call on this program itself. FDDI
+//! has fewer of them: exact limits, deadlines and "never 11" are timely-token's.
 
 use std::collections::VecDeque;
 
 use crate::planted::Planted;
 use crate::ring::{Message, Ring, Ticks, Visit};
-use crate::rules::{Refusal, LAST_TIME};
+use crate::rules::{Mode, Refusal};
+use crate::state::{LAST_CLOCK, MOST_LATE, VISITS_END};
 use crate::text::{Answer, Call};
 
 /// A promise that a call broke.
 #[derive(Clone, Copy, Debug, PartialEq, Eq, Hash)]
 pub enum Broken {
-    /// The token came back later than TTRT.
+    /// The token came back later than TTRT; in FDDI, than TTRT, all S and τ.
     TokenLate,
     /// A visit sent more synchronous time than S.
     TooMuchSynchronous,
@@ -48,26 +50,44 @@ impl Watch {
 
     fn visited(&mut self, ring: &Ring, visit: &Visit) -> Vec<Broken> {
         let index = visit.station.index();
-        let apart = match self.last_starts[index].replace(visit.start) {
-            Some(last) => visit.start - last,
-            None => visit.trt,
-        };
+        let apart = self.last_starts[index].replace(visit.start).map(|last| visit.start - last);
+        let synchronous = visit.synchronous <= ring.allocation(index);
+        let mut broken = broken(&[
+            (in_time(ring, visit, apart), Broken::TokenLate),
+            (synchronous, Broken::TooMuchSynchronous),
+            (visit.asynchronous <= visit.limit, Broken::TooMuchAsynchronous),
+            (sound(ring), Broken::Unsound),
+        ]);
+        if ring.mode() == Mode::Timely {
+            broken.extend(self.timely_visited(ring, visit));
+        }
+        broken
+    }
+
+    fn timely_visited(&mut self, ring: &Ring, visit: &Visit) -> Vec<Broken> {
         let limit = self.spare - self.before.iter().sum::<Ticks>();
         self.before.pop_front();
         self.before.push_back(visit.asynchronous);
-        let in_time = apart == visit.trt && apart <= Ticks::from(ring.plan().request.ttrt);
-        let synchronous = visit.synchronous <= ring.allocation(index);
         let completed = visit.completed.is_none_or(|completed| completed.margin >= 0);
         let unsent = (0..ring.size()).all(|index| unsent_in_time(ring, index));
         broken(&[
-            (in_time, Broken::TokenLate),
-            (synchronous, Broken::TooMuchSynchronous),
             (visit.limit == limit, Broken::LimitNotExact),
-            (visit.asynchronous <= visit.limit, Broken::TooMuchAsynchronous),
             (completed, Broken::MessageLate),
             (unsent, Broken::UnsentAtDeadline),
-            (sound(ring), Broken::Unsound),
         ])
+    }
+}
+
+/// Whether the token came in time, so long after it last came; before the first visit that is TRT.
+fn in_time(ring: &Ring, visit: &Visit, apart: Option<Ticks>) -> bool {
+    let request = &ring.plan().request;
+    let ttrt = Ticks::from(request.head.ttrt);
+    match ring.mode() {
+        Mode::Timely => apart.unwrap_or(visit.trt) == visit.trt && visit.trt <= ttrt,
+        Mode::Fddi => {
+            let rotation = (ring.plan().allocated() + request.walk_sum()) as Ticks;
+            apart.is_none_or(|apart| apart <= ttrt + rotation)
+        }
     }
 }
 
@@ -85,15 +105,22 @@ fn unsent_in_time(ring: &Ring, index: usize) -> bool {
 
 /// Whether all is sound that can become unsound in a ring opened soundly.
 fn sound(ring: &Ring) -> bool {
-    let ttrt = Ticks::from(ring.plan().request.ttrt);
+    let ttrt = Ticks::from(ring.plan().request.head.ttrt);
+    let timer = |index: usize| match ring.mode() {
+        Mode::Timely => (0..=ttrt).contains(&ring.trt(index)),
+        Mode::Fddi => {
+            let late = (0..=Ticks::from(MOST_LATE)).contains(&ring.late(index));
+            late && (0..ttrt).contains(&ring.trt(index))
+        }
+    };
     let station_sound = |index: usize| {
         let longest = Ticks::from(ring.plan().request.stations[index].longest);
         let held = ring.held(index).is_none_or(|held| (1..=longest).contains(&held.remaining));
         let sent = (0..=ring.allocation(index)).contains(&ring.sent(index));
-        held && sent && (0..=ttrt).contains(&ring.trt(index))
+        held && sent && timer(index)
     };
-    let clock = ring.clock() <= LAST_TIME as Ticks + 2_000_000;
-    let count = ring.visits() < 1 << 62;
+    let clock = ring.clock() <= LAST_CLOCK as Ticks;
+    let count = ring.visits() < VISITS_END;
     clock && count && (0..ring.size()).all(station_sound)
 }
 
@@ -108,12 +135,16 @@ fn due(ring: &Ring, message: &Message) -> bool {
 }
 
 fn handed_in(ring: &Ring, message: &Message, answer: Result<(), Refusal>) -> Vec<Broken> {
+    let deadlines = ring.mode() == Mode::Timely;
     match answer {
+        Ok(()) if !deadlines => broken(&[(sound(ring), Broken::Unsound)]),
         Ok(()) => {
             let unsent = unsent_in_time(ring, message.station.index());
             broken(&[(unsent, Broken::UnsentAtDeadline), (sound(ring), Broken::Unsound)])
         }
-        Err(Refusal::StillHeld) => broken(&[(!due(ring, message), Broken::WrongElevenAnswer)]),
+        Err(Refusal::StillHeld) if deadlines => {
+            broken(&[(!due(ring, message), Broken::WrongElevenAnswer)])
+        }
         Err(_) => vec![],
     }
 }

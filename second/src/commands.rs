@@ -29,7 +29,7 @@ usage: second [--planted K] [COMMAND]
   run PLAN    calls as text in, one line of answer for each out
                 second run ring.plan < calls.txt
   generate KIND SEED COUNT [DIR]
-              framed cases out, or into a file in DIR
+              framed cases out, or into a file in DIR; fddi-KIND for sets that run FDDI
                 second generate requests 1 20000 > cases
   answers     framed cases in, one line of answer for each out
                 second answers < cases
@@ -143,16 +143,16 @@ fn answers(cases: impl Read, planted: Planted, out: &mut impl Write) -> io::Resu
 }
 
 fn generate(arguments: &[&str]) -> io::Result<bool> {
-    let (kind, seed, count, folder) = match *arguments {
-        [kind, seed, count] | [kind, seed, count, "-"] => (kind, seed, count, None),
-        [kind, seed, count, folder] => (kind, seed, count, Some(folder)),
+    let (name, seed, count, folder) = match *arguments {
+        [name, seed, count] | [name, seed, count, "-"] => (name, seed, count, None),
+        [name, seed, count, folder] => (name, seed, count, Some(folder)),
         _ => return usage(),
     };
-    let parsed = (Kind::from_name(kind), number(seed.as_bytes()), number(count.as_bytes()));
+    let parsed = (Kind::from_name(name), number(seed.as_bytes()), number(count.as_bytes()));
     let (Some(kind), Some(seed), Some(count)) = parsed else {
         return usage();
     };
-    let mut out = BufWriter::new(destination(kind, seed, folder)?);
+    let mut out = BufWriter::new(destination(name, seed, folder)?);
     gen::write_cases(kind, seed, count, &mut out)?;
     out.flush()?;
     Ok(true)
@@ -169,12 +169,12 @@ fn waits(seed: &str, count: &str) -> io::Result<bool> {
 }
 
 /// Where generated cases go: standard output, or a file of the folder named by kind and seed.
-fn destination(kind: Kind, seed: u64, folder: Option<&str>) -> io::Result<Box<dyn Write>> {
+fn destination(kind: &str, seed: u64, folder: Option<&str>) -> io::Result<Box<dyn Write>> {
     let Some(folder) = folder else {
         return Ok(Box::new(io::stdout().lock()));
     };
     fs::create_dir_all(folder)?;
-    let name = format!("{}-{seed}.cases", kind.name());
+    let name = format!("{kind}-{seed}.cases");
     Ok(Box::new(File::create(Path::new(folder).join(name))?))
 }
 

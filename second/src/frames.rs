@@ -5,7 +5,7 @@ use crate::commands::framed_command;
 use crate::planner;
 use crate::planted::Planted;
 use crate::ring::Ring;
-use crate::rules::{Plan, Refusal, Request, Station, MOST_STATIONS};
+use crate::rules::{Head, Mode, Plan, Refusal, Request, Station, MOST_STATIONS};
 use crate::sheet::{read_plan, read_request, write_plan, write_request};
 use crate::state::{Place, State};
 use crate::text::{answer_line, call, number, Answer, Call};
@@ -58,9 +58,9 @@ fn counted(request: &Request, allocation: &[u32]) -> String {
     format!("{} {}", request.stations.len(), show_set(request, allocation))
 }
 
-/// `TTRT;W,C,D,P;...`, and with an allocation `TTRT;W,C,D,P,S;...`.
+/// `HEAD;W,C,D,P;...`, and with an allocation `HEAD;W,C,D,P,S;...`.
 pub fn show_set(request: &Request, allocation: &[u32]) -> String {
-    let mut parts = vec![request.ttrt.to_string()];
+    let mut parts = vec![show_head(&request.head)];
     for (index, station) in request.stations.iter().enumerate() {
         let Station { walk, longest, deadline, gap } = *station;
         let mut numbers = vec![walk, longest, deadline, gap];
@@ -68,6 +68,24 @@ pub fn show_set(request: &Request, allocation: &[u32]) -> String {
         parts.push(joined(&numbers));
     }
     parts.join(";")
+}
+
+/// `TTRT`, and with a mode other than timely-token `TTRT,MODE`.
+pub fn show_head(head: &Head) -> String {
+    let Head { ttrt, mode } = *head;
+    if mode == Mode::Timely.number() {
+        return ttrt.to_string();
+    }
+    joined(&[ttrt, mode])
+}
+
+/// What `show_head` shows; the mode may stand there in any case.
+pub fn read_head(part: &str) -> Option<Head> {
+    let (ttrt, mode) = match part.split_once(',') {
+        Some((ttrt, mode)) => (ttrt, parse(mode)?),
+        None => (part, Mode::Timely.number()),
+    };
+    Some(Head { ttrt: parse(ttrt)?, mode })
 }
 
 fn joined<T: ToString>(numbers: &[T]) -> String {
@@ -105,8 +123,8 @@ fn opening(rest: &str, planted: Planted) -> Option<String> {
 }
 
 fn read_planset<'a>(parts: &mut impl Iterator<Item = &'a str>) -> Option<Plan> {
-    let ttrt = parse(parts.next()?)?;
-    let mut plan = Plan { request: Request { ttrt, stations: vec![] }, allocation: vec![] };
+    let head = read_head(parts.next()?)?;
+    let mut plan = Plan { request: Request { head, stations: vec![] }, allocation: vec![] };
     for part in parts {
         let (numbers, s) = part.rsplit_once(',')?;
         plan.request.stations.push(read_station(numbers)?);
@@ -116,9 +134,9 @@ fn read_planset<'a>(parts: &mut impl Iterator<Item = &'a str>) -> Option<Plan> {
 }
 
 fn read_set<'a>(parts: &mut impl Iterator<Item = &'a str>) -> Option<Request> {
-    let ttrt = parse(parts.next()?)?;
+    let head = read_head(parts.next()?)?;
     let stations: Option<Vec<Station>> = parts.map(read_station).collect();
-    Some(Request { ttrt, stations: stations? })
+    Some(Request { head, stations: stations? })
 }
 
 fn read_station(part: &str) -> Option<Station> {
@@ -199,21 +217,23 @@ fn read_step(part: &str) -> Option<Step> {
 }
 
 /// `CLOCK,TOKEN,VISITS,U;TRT,s,REMAINING,HAD,ARRIVAL,LAST;...`, of the first 128 places.
-fn ring_text(head: [i128; 4], places: impl Iterator<Item = [i128; 6]>) -> String {
+fn ring_text(head: [i128; 4], places: impl Iterator<Item = Vec<i128>>) -> String {
     let places = places.take(MOST_STATIONS).map(|place| joined(&place));
     let parts: Vec<String> = std::iter::once(joined(&head)).chain(places).collect();
     parts.join(";")
 }
 
-/// A ring that has no time of a visit or a message yet stores 0 for it.
+/// A ring that has no time of a visit or a message yet stores 0 for it. A late count stands
+/// behind, where it is not 0.
 fn show_ring(ring: &Ring) -> String {
     let place = |index: usize| {
         let remaining = ring.held(index).map_or(0, |held| held.remaining);
         let accepted = ring.last_accepted(index);
-        let had = i128::from(accepted.is_some());
-        let times = [accepted, ring.last_start(index)].map(|time| time.unwrap_or(0).into());
-        let [trt, sent, remaining] = [ring.trt(index), ring.sent(index), remaining].map(i128::from);
-        [trt, sent, remaining, had, times[0], times[1]]
+        let had = i64::from(accepted.is_some());
+        let [arrival, last] = [accepted, ring.last_start(index)].map(|time| time.unwrap_or(0));
+        let timer = [ring.trt(index), ring.sent(index), remaining, had, arrival, last];
+        let late = Some(ring.late(index)).filter(|&late| late != 0);
+        timer.into_iter().chain(late).map(i128::from).collect()
     };
     let (token, visits) = (ring.token() as i128, ring.visits().into());
     let head = [ring.clock().into(), token, visits, ring.unused().into()];

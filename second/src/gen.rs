@@ -10,11 +10,15 @@ pub mod texts;
 use std::io::{Result, Write};
 
 use crate::frames::{show_set, to_hex};
+use crate::rules::Mode;
 use crate::sheet::fields;
 use crate::state::State;
 use crate::text::Call;
 use random::Random;
 use sheets::SheetKind;
+
+/// What stands before the name of a kind whose sets run FDDI.
+const FDDI: &str = "fddi-";
 
 #[derive(Clone, Copy, Debug, PartialEq, Eq)]
 pub enum Kind {
@@ -65,42 +69,52 @@ impl Kind {
         }
     }
 
-    pub fn from_name(name: &str) -> Option<Kind> {
-        Kind::ALL.into_iter().find(|kind| kind.name() == name)
+    /// A kind and the mode of its sets: `KIND` is timely-token, `fddi-KIND` is FDDI.
+    pub fn from_name(name: &str) -> Option<(Kind, Mode)> {
+        let (name, mode) = match name.strip_prefix(FDDI) {
+            Some(name) => (name, Mode::Fddi),
+            None => (name, Mode::Timely),
+        };
+        Kind::ALL.into_iter().find(|kind| kind.name() == name).map(|kind| (kind, mode))
     }
 
     /// The lines of one case; more than one only for `edges`.
-    pub fn case(self, seed: u64, place: u64) -> Vec<String> {
+    pub fn case(self, mode: Mode, seed: u64, place: u64) -> Vec<String> {
         let random = &mut Random::of_case(seed, place);
         match self {
-            Kind::Requests => vec![sheet_case(random, SheetKind::Request)],
-            Kind::Plans => vec![sheet_case(random, SheetKind::Plan)],
-            Kind::Planning => vec![planning_case(random)],
-            Kind::Writing => vec![writing_case(random)],
-            Kind::Runs => vec![run_case(random, "run")],
-            Kind::Rings => vec![run_case(random, "ring")],
-            Kind::Late => vec![late_case(random)],
-            Kind::States => vec![state_case(states::state_with_calls(random))],
-            Kind::Steps => vec![state_case(states::sound_with_calls(random))],
-            Kind::Edges => edge_cases(random),
-            Kind::Openings => vec![opening_case(random)],
-            Kind::Commands => vec![command_case(random)],
+            Kind::Requests => vec![sheet_case(random, SheetKind::Request, mode)],
+            Kind::Plans => vec![sheet_case(random, SheetKind::Plan, mode)],
+            Kind::Planning => vec![planning_case(random, mode)],
+            Kind::Writing => vec![writing_case(random, mode)],
+            Kind::Runs => vec![run_case(random, "run", mode)],
+            Kind::Rings => vec![run_case(random, "ring", mode)],
+            Kind::Late => vec![late_case(random, mode)],
+            Kind::States => vec![state_case(states::state_with_calls(random, mode))],
+            Kind::Steps => vec![state_case(states::sound_with_calls(random, mode))],
+            Kind::Edges => edge_cases(random, mode),
+            Kind::Openings => vec![opening_case(random, mode)],
+            Kind::Commands => vec![command_case(random, mode)],
         }
     }
 }
 
 /// Writes the cases of a kind, one on a line.
-pub fn write_cases(kind: Kind, seed: u64, count: u64, out: &mut impl Write) -> Result<()> {
+pub fn write_cases(
+    (kind, mode): (Kind, Mode),
+    seed: u64,
+    count: u64,
+    out: &mut impl Write,
+) -> Result<()> {
     for place in 0..count {
-        for case in kind.case(seed, place) {
+        for case in kind.case(mode, seed, place) {
             writeln!(out, "{case}")?;
         }
     }
     Ok(())
 }
 
-fn sheet_case(random: &mut Random, kind: SheetKind) -> String {
-    framed_sheet(kind, &sheets::sheet(random, kind))
+fn sheet_case(random: &mut Random, kind: SheetKind, mode: Mode) -> String {
+    framed_sheet(kind, &sheets::sheet(random, kind, mode))
 }
 
 fn framed_sheet(kind: SheetKind, sheet: &[u8]) -> String {
@@ -110,15 +124,17 @@ fn framed_sheet(kind: SheetKind, sheet: &[u8]) -> String {
     }
 }
 
-fn planning_case(random: &mut Random) -> String {
-    let sound = !random.once_in(4);
-    let request = if sound { sets::request(random) } else { sets::any_plan(random).request };
+fn planning_case(random: &mut Random, mode: Mode) -> String {
+    let request = match random.once_in(4) {
+        false => sets::request(random, mode),
+        true => sets::any_plan(random, mode).request,
+    };
     format!("planning {}", show_set(&request, &[]))
 }
 
 /// A set or plan to write, into room enough or too short by a byte or more.
-fn writing_case(random: &mut Random) -> String {
-    let plan = sets::any_plan(random);
+fn writing_case(random: &mut Random, mode: Mode) -> String {
+    let plan = sets::any_plan(random, mode);
     let choices = [("write-request", &[][..]), ("write-plan", &plan.allocation[..])];
     let (kind, allocation) = random.pick(&choices);
     let length = fields(&plan.request, allocation).concat().len();
@@ -126,8 +142,8 @@ fn writing_case(random: &mut Random) -> String {
     format!("{kind} {room};{}", show_set(&plan.request, allocation))
 }
 
-fn run_case(random: &mut Random, kind: &str) -> String {
-    let (plan, calls) = calls::script(random);
+fn run_case(random: &mut Random, kind: &str, mode: Mode) -> String {
+    let (plan, calls) = calls::script(random, mode);
     let sheet = fields(&plan.request, &plan.allocation).concat();
     format!("{kind} {}{}", to_hex(&sheet), framed_calls(&calls))
 }
@@ -136,8 +152,8 @@ fn framed_calls(calls: &[Call]) -> String {
     calls.iter().map(|call| format!(";{call}")).collect()
 }
 
-fn late_case(random: &mut Random) -> String {
-    let (plan, [asking, silent], calls) = calls::late_script(random);
+fn late_case(random: &mut Random, mode: Mode) -> String {
+    let (plan, [asking, silent], calls) = calls::late_script(random, mode);
     let sheet = to_hex(&fields(&plan.request, &plan.allocation).concat());
     let visits = |(count, ask): (u64, u32)| match count {
         0 => String::new(),
@@ -151,38 +167,38 @@ fn state_case((state, calls): (State, Vec<Call>)) -> String {
     format!("state {}{}", state.show(), framed_calls(&calls))
 }
 
-fn opening_case(random: &mut Random) -> String {
-    let plan = sets::any_plan(random);
+fn opening_case(random: &mut Random, mode: Mode) -> String {
+    let plan = sets::any_plan(random, mode);
     format!("open {}", show_set(&plan.request, &plan.allocation))
 }
 
-fn edge_cases(random: &mut Random) -> Vec<String> {
+fn edge_cases(random: &mut Random, mode: Mode) -> Vec<String> {
     let mut cases = vec![];
     for kind in [SheetKind::Request, SheetKind::Plan] {
-        let sheets = sheets::every_damage(random, kind);
+        let sheets = sheets::every_damage(random, kind, mode);
         cases.extend(sheets.iter().map(|sheet| framed_sheet(kind, sheet)));
     }
     cases
 }
 
-fn command_case(random: &mut Random) -> String {
+fn command_case(random: &mut Random, mode: Mode) -> String {
     let name = random.pick(&["plan", "plan-sheet", "show", "compose", "run"]);
     let kind = random.pick(&[SheetKind::Request, SheetKind::Plan]);
     let input = match name {
-        "plan" | "plan-sheet" => to_hex(&sheets::sheet(random, SheetKind::Request)),
-        "show" => to_hex(&sheets::sheet(random, kind)),
-        "compose" => to_hex(&texts::sheet_text(random)),
-        _ => run_input(random),
+        "plan" | "plan-sheet" => to_hex(&sheets::sheet(random, SheetKind::Request, mode)),
+        "show" => to_hex(&sheets::sheet(random, kind, mode)),
+        "compose" => to_hex(&texts::sheet_text(random, mode)),
+        _ => run_input(random, mode),
     };
     format!("command {name};{input}")
 }
 
 /// A script for its plan; now and then the plan's sheet is damaged.
-fn run_input(random: &mut Random) -> String {
-    let (plan, text) = texts::script_text(random);
+fn run_input(random: &mut Random, mode: Mode) -> String {
+    let (plan, text) = texts::script_text(random, mode);
     let mut sheet = fields(&plan.request, &plan.allocation).concat();
     if random.once_in(8) {
-        sheet = sheets::sheet(random, SheetKind::Plan);
+        sheet = sheets::sheet(random, SheetKind::Plan, mode);
     }
     format!("{};{}", to_hex(&sheet), to_hex(&text))
 }

@@ -7,6 +7,7 @@ pub mod gen;
 pub mod lines;
 pub mod planner;
 pub mod planted;
+pub mod raising;
 pub mod ring;
 pub mod rules;
 pub mod sheet;

@@ -1,18 +1,25 @@
 //! The smallest allocation, found by search on the deadline rule.
 
 use crate::planted::Planted;
-use crate::rules::{least_time, require, rotations, Plan, Refusal, Request, Station};
+use crate::raising::raised;
+use crate::rules::{least_time, require, rotations, Mode, Plan, Refusal, Request, Station};
 
 /// The plan with the smallest S at each station, or number 2, 4, 5 or 6.
 pub fn plan(request: &Request, planted: Planted) -> Result<Plan, Refusal> {
     request.judge()?;
-    let smallest = |station: &Station| smallest(request.ttrt, station, planted);
-    let plan = Plan {
-        request: request.clone(),
-        allocation: request.stations.iter().map(smallest).collect(),
+    let allocation = match request.mode() {
+        Mode::Timely => each_smallest(request, planted),
+        Mode::Fddi => raised(request, planted)?,
     };
+    let plan = Plan { request: request.clone(), allocation };
     require(plan.spare().is_some(), Refusal::NoAllocation)?;
     Ok(plan)
+}
+
+/// A timely-token station's rule looks at its own S alone.
+fn each_smallest(request: &Request, planted: Planted) -> Vec<u32> {
+    let smallest = |station: &Station| smallest(request.head.ttrt, station, planted);
+    request.stations.iter().map(smallest).collect()
 }
 
 /// The smallest S that meets the deadline rule of a station in range.

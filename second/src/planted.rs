@@ -17,20 +17,36 @@ pub enum Planted {
     TrtResetLate,
     /// 7: u is cleared whenever the token is back at station 0.
     UnusedCleared,
+    /// 8: FDDI's late count is not lowered by a late token.
+    CountNotLowered,
+    /// 9: FDDI's timer goes to 0 at a late token too.
+    TimerResetWhenLate,
+    /// 10: FDDI's holding time is the timer after the synchronous part.
+    HoldingAfterSending,
+    /// 11: X of an FDDI station without the other stations' S.
+    OthersLeftOut,
+    /// 12: X of an FDDI station with q·S in the place of (q − 1)·S.
+    OneVisitTooMany,
 }
 
 impl Planted {
-    /// The error of a number, 1 to 7.
-    pub fn from_number(number: u32) -> Option<Planted> {
-        match number {
-            1 => Some(Planted::TimeForNobody),
-            2 => Some(Planted::RoundedDown),
-            3 => Some(Planted::LimitWithoutUnused),
-            4 => Some(Planted::UnusedFromZero),
-            5 => Some(Planted::ServedAhead),
-            6 => Some(Planted::TrtResetLate),
-            7 => Some(Planted::UnusedCleared),
-            _ => None,
-        }
+    pub const ALL: [Planted; 12] = [
+        Planted::TimeForNobody,
+        Planted::RoundedDown,
+        Planted::LimitWithoutUnused,
+        Planted::UnusedFromZero,
+        Planted::ServedAhead,
+        Planted::TrtResetLate,
+        Planted::UnusedCleared,
+        Planted::CountNotLowered,
+        Planted::TimerResetWhenLate,
+        Planted::HoldingAfterSending,
+        Planted::OthersLeftOut,
+        Planted::OneVisitTooMany,
+    ];
+
+    /// The error of a number, from 1 on.
+    pub fn from_number(number: usize) -> Option<Planted> {
+        number.checked_sub(1).and_then(|place| Planted::ALL.get(place).copied())
     }
 }

@@ -1,9 +1,10 @@
 //! The ring on one absolute time line. Its clock 0 is the end of the silent first rotation,
 //! which began at −τ; the ring remembers when the token last came to each station, and derives
-//! every TRT and u from what it remembers.
+//! every TRT and u from what it remembers. Of an FDDI station it remembers one moment too: the
+//! timer runs from there, and its late count is how many whole TTRTs it has run.
 
 use crate::planted::Planted;
-use crate::rules::{require, Plan, Refusal, Station, LAST_TIME};
+use crate::rules::{require, Mode, Plan, Refusal, Station, LAST_TIME};
 
 /// A time, or a length of time.
 pub type Ticks = i64;
@@ -61,7 +62,8 @@ pub struct Held {
 struct Memory {
     /// When the token last came, the silent rotation included.
     token_came: Ticks,
-    /// When TRT was last 0: when the token came, but for a planted error.
+    /// When TRT was last 0: when the token came, but for a planted error. In FDDI a token that
+    /// comes in time sets it to the present, and one that comes late moves it on by TTRT.
     timer_began: Ticks,
     /// The synchronous time used then.
     sent: Ticks,
@@ -113,9 +115,32 @@ impl Ring {
         (self.visits % self.size() as u64) as usize
     }
 
-    /// The time since a station's last token arrival.
-    pub fn trt(&self, index: usize) -> Ticks {
+    pub fn mode(&self) -> Mode {
+        self.plan.request.mode()
+    }
+
+    fn ttrt(&self) -> Ticks {
+        Ticks::from(self.plan.request.head.ttrt)
+    }
+
+    fn since(&self, index: usize) -> Ticks {
         self.clock - self.memories[index].timer_began
+    }
+
+    /// The time since a station's last token arrival; in FDDI the station's timer.
+    pub fn trt(&self, index: usize) -> Ticks {
+        match self.mode() {
+            Mode::Timely => self.since(index),
+            Mode::Fddi => self.since(index) % self.ttrt(),
+        }
+    }
+
+    /// An FDDI station's late count.
+    pub fn late(&self, index: usize) -> Ticks {
+        match self.mode() {
+            Mode::Timely => 0,
+            Mode::Fddi => self.since(index) / self.ttrt(),
+        }
     }
 
     /// The synchronous time that a station used when the token last came.
@@ -144,9 +169,13 @@ impl Ring {
         Ticks::from(self.plan.allocation[index])
     }
 
-    /// u, the allocated time that the stations left unused when the token last came.
+    /// u, the allocated time that the stations left unused when the token last came. FDDI has no u:
+    /// there it stays as the opening has it.
     pub fn unused(&self) -> Ticks {
-        (0..self.size()).map(|index| self.unused_at(index)).sum()
+        match self.mode() {
+            Mode::Timely => (0..self.size()).map(|index| self.unused_at(index)).sum(),
+            Mode::Fddi => self.plan.allocated() as Ticks,
+        }
     }
 
     fn unused_at(&self, index: usize) -> Ticks {
@@ -167,13 +196,13 @@ impl Ring {
         let here = self.token();
         let start = self.clock;
         let trt = self.trt(here);
-        let limit = self.limit(trt);
         let (synchronous, completed) = self.serve(here);
+        let limit = self.limit(here, synchronous);
         let asynchronous = limit.min(Ticks::from(ask));
         self.memories[here].token_came = start;
-        self.memories[here].timer_began = match self.planted {
-            Planted::TrtResetLate => start + synchronous + asynchronous,
-            _ => start,
+        self.memories[here].timer_began = match self.mode() {
+            Mode::Timely => self.trt_began(synchronous + asynchronous),
+            Mode::Fddi => self.fddi_timer_began(here),
         };
         self.memories[here].sent = synchronous;
         let walk = Ticks::from(self.plan.request.stations[here].walk);
@@ -183,12 +212,34 @@ impl Ring {
         Ok(Visit { station, start, trt, limit, synchronous, asynchronous, completed })
     }
 
-    fn limit(&self, trt: Ticks) -> Ticks {
-        let unused = match self.planted {
-            Planted::LimitWithoutUnused => 0,
-            _ => self.unused(),
+    /// What the station may send beside its synchronous part.
+    fn limit(&self, here: usize, synchronous: Ticks) -> Ticks {
+        let kept = match (self.mode(), self.planted) {
+            (Mode::Timely, Planted::LimitWithoutUnused) | (Mode::Fddi, _) => 0,
+            (Mode::Timely, _) => self.unused(),
         };
-        (Ticks::from(self.plan.request.ttrt) - unused - trt).max(0)
+        let sent = match (self.mode(), self.planted) {
+            (Mode::Fddi, Planted::HoldingAfterSending) => synchronous,
+            _ => 0,
+        };
+        (self.ttrt() - kept - sent - self.since(here)).max(0)
+    }
+
+    fn trt_began(&self, sent: Ticks) -> Ticks {
+        match self.planted {
+            Planted::TrtResetLate => self.clock + sent,
+            _ => self.clock,
+        }
+    }
+
+    fn fddi_timer_began(&self, here: usize) -> Ticks {
+        let (ttrt, began) = (self.ttrt(), self.memories[here].timer_began);
+        match (self.late(here), self.planted) {
+            (0, _) => self.clock,
+            (_, Planted::CountNotLowered) => began,
+            (late, Planted::TimerResetWhenLate) => self.clock - (late - 1) * ttrt,
+            _ => began + ttrt,
+        }
     }
 
     /// Sends of the station's message what it may; gives the amount, and the completion if any.

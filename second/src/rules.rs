@@ -13,6 +13,28 @@ pub const ALLOCATION: RangeInclusive<u32> = 0..=1_000_000;
 /// The last arrival time, and the last clock at which a visit may start.
 pub const LAST_TIME: u64 = 1_000_000_000_000;
 
+/// The protocol of a ring, which a set's header names by a number.
+#[derive(Clone, Copy, Debug, PartialEq, Eq)]
+pub enum Mode {
+    Timely,
+    Fddi,
+}
+
+impl Mode {
+    pub const ALL: [Mode; 2] = [Mode::Timely, Mode::Fddi];
+
+    pub fn number(self) -> u32 {
+        match self {
+            Mode::Timely => 1,
+            Mode::Fddi => 2,
+        }
+    }
+
+    pub fn of(number: u32) -> Option<Mode> {
+        Mode::ALL.into_iter().find(|mode| mode.number() == number)
+    }
+}
+
 /// The refusals by their numbers. Number 8 is given to states only (`state`): this program's
 /// rings come from an opening.
 #[derive(Clone, Copy, Debug, PartialEq, Eq)]
@@ -67,14 +89,36 @@ impl Station {
     }
 }
 
+/// What a sheet says before its stations: TTRT, and the number of the mode, any number at first.
+#[derive(Clone, Copy, Debug, PartialEq, Eq)]
+pub struct Head {
+    pub ttrt: u32,
+    pub mode: u32,
+}
+
+impl Head {
+    pub fn new(ttrt: u32, mode: Mode) -> Head {
+        Head { ttrt, mode: mode.number() }
+    }
+
+    fn in_range(&self) -> bool {
+        TTRT.contains(&self.ttrt) && Mode::of(self.mode).is_some()
+    }
+}
+
 /// The set of a request sheet.
 #[derive(Clone, Debug, PartialEq, Eq)]
 pub struct Request {
-    pub ttrt: u32,
+    pub head: Head,
     pub stations: Vec<Station>,
 }
 
 impl Request {
+    /// The mode of a set that was judged.
+    pub fn mode(&self) -> Mode {
+        Mode::of(self.head.mode).expect("a judged set has a mode")
+    }
+
     /// τ, the sum of all walk times.
     pub fn walk_sum(&self) -> u64 {
         self.stations.iter().map(|station| u64::from(station.walk)).sum()
@@ -92,11 +136,11 @@ impl Request {
     }
 
     fn in_range(&self) -> bool {
-        TTRT.contains(&self.ttrt) && self.stations.iter().all(Station::in_range)
+        self.head.in_range() && self.stations.iter().all(Station::in_range)
     }
 
     fn walk_sum_allowed(&self) -> bool {
-        (1..=u64::from(self.ttrt)).contains(&self.walk_sum())
+        (1..=u64::from(self.head.ttrt)).contains(&self.walk_sum())
     }
 }
 
@@ -115,7 +159,7 @@ impl Plan {
 
     /// The spare time A*; `None` when the token rule is broken.
     pub fn spare(&self) -> Option<u64> {
-        u64::from(self.request.ttrt).checked_sub(self.request.walk_sum() + self.allocated())
+        u64::from(self.request.head.ttrt).checked_sub(self.request.walk_sum() + self.allocated())
     }
 
     /// Numbers 2, 4, 5 and 7, in this order.
@@ -130,12 +174,21 @@ impl Plan {
     }
 
     fn meets_deadlines(&self) -> bool {
-        let pairs = self.request.stations.iter().zip(&self.allocation);
-        let meets = |(station, &s): (&Station, &u32)| {
-            least_time(self.request.ttrt, station.deadline, u64::from(s))
-                >= u64::from(station.longest)
-        };
-        pairs.into_iter().all(meets)
+        let stations = self.request.stations.iter().enumerate();
+        stations.into_iter().all(|(index, it)| self.least_time(index) >= u64::from(it.longest))
+    }
+
+    /// X of a station, in the mode of a judged set.
+    fn least_time(&self, index: usize) -> u64 {
+        let (ttrt, deadline) = (self.request.head.ttrt, self.request.stations[index].deadline);
+        let s = u64::from(self.allocation[index]);
+        match self.request.mode() {
+            Mode::Timely => least_time(ttrt, deadline, s),
+            Mode::Fddi => {
+                let others = self.allocated() - s;
+                fddi_least_time(ttrt, deadline, s, self.request.walk_sum() + others)
+            }
+        }
     }
 }
 
@@ -150,4 +203,14 @@ pub fn rotations(ttrt: u32, deadline: u32) -> (u64, u64) {
 pub fn least_time(ttrt: u32, deadline: u32, s: u64) -> u64 {
     let (whole, missing) = rotations(ttrt, deadline);
     whole * s + s.saturating_sub(missing)
+}
+
+/// X in FDDI (source document 003, Theorem 2): all of S at each rotation in the deadline but one,
+/// and of the last S what the rest of the deadline leaves behind τ and the other stations' S.
+pub fn fddi_least_time(ttrt: u32, deadline: u32, s: u64, before: u64) -> u64 {
+    let (whole, rest) = (u64::from(deadline / ttrt), u64::from(deadline % ttrt));
+    match whole {
+        0 => 0,
+        _ => (whole - 1) * s + rest.saturating_sub(before).min(s),
+    }
 }

@@ -1,17 +1,20 @@
 //! Request and plan sheets: a reader driven by a table of the fields allowed at each place,
 //! and a writer.
 
-use crate::rules::{require, Plan, Refusal, Request, Station, MOST_STATIONS};
+use crate::rules::{require, Head, Mode, Plan, Refusal, Request, Station, MOST_STATIONS};
 
 const TTRT_TAG: u8 = 1;
-const STATION_TAG: u8 = 2;
+pub const STATION_TAG: u8 = 2;
 const ALLOCATION_TAG: u8 = 3;
+const MODE_TAG: u8 = 4;
 const END_TAG: u8 = 255;
 
+/// What TTRT, the mode and the end take on a sheet.
+const FRAME: usize = 7 + 4 + 3;
 /// The most bytes that a program needs to read of a request sheet: the longest, and one more.
-pub const REQUEST_READ: usize = 10 + 19 * MOST_STATIONS + 1;
+pub const REQUEST_READ: usize = FRAME + 19 * MOST_STATIONS + 1;
 /// The same of a plan sheet.
-pub const PLAN_READ: usize = 10 + 26 * MOST_STATIONS + 1;
+pub const PLAN_READ: usize = FRAME + 26 * MOST_STATIONS + 1;
 
 /// A sheet of either kind.
 #[derive(Clone, Debug, PartialEq, Eq)]
@@ -24,6 +27,7 @@ pub enum Sheet {
 #[derive(Clone, Copy, PartialEq, Eq)]
 enum Place {
     Start,
+    Head,
     Stations,
     Allocations,
     Done,
@@ -33,13 +37,27 @@ enum Place {
 #[derive(Default)]
 struct Contents {
     ttrt: u32,
+    mode: Option<u8>,
     stations: Vec<Station>,
     allocation: Vec<u32>,
 }
 
-/// A field allowed at a place: its head, what must hold, what to keep of it, and where it leads.
+impl Contents {
+    /// The head of the set. A mode that its absence would say as well has no number: 0 is none.
+    fn head(&self) -> Head {
+        let absent = Mode::Timely.number();
+        let mode = match self.mode.map(u32::from) {
+            None => absent,
+            Some(mode) if mode == absent => 0,
+            Some(mode) => mode,
+        };
+        Head { ttrt: self.ttrt, mode }
+    }
+}
+
+/// A field allowed at some places: its head, what must hold, what to keep of it, where it leads.
 struct Row {
-    at: Place,
+    at: &'static [Place],
     tag: u8,
     length: usize,
     when: fn(&Contents) -> bool,
@@ -48,16 +66,25 @@ struct Row {
 }
 
 const TTRT_FIELD: Row = Row {
-    at: Place::Start,
+    at: &[Place::Start],
     tag: TTRT_TAG,
     length: 4,
     when: |_| true,
     keep: |contents, body| contents.ttrt = number(body, 0),
+    then: Place::Head,
+};
+
+const MODE_FIELD: Row = Row {
+    at: &[Place::Head],
+    tag: MODE_TAG,
+    length: 1,
+    when: |_| true,
+    keep: |contents, body| contents.mode = Some(body[0]),
     then: Place::Stations,
 };
 
 const STATION_FIELD: Row = Row {
-    at: Place::Stations,
+    at: &[Place::Head, Place::Stations],
     tag: STATION_TAG,
     length: 16,
     when: |contents| contents.stations.len() < MOST_STATIONS,
@@ -65,11 +92,12 @@ const STATION_FIELD: Row = Row {
     then: Place::Stations,
 };
 
-const REQUEST_TABLE: [Row; 3] = [
+const REQUEST_TABLE: [Row; 4] = [
     TTRT_FIELD,
+    MODE_FIELD,
     STATION_FIELD,
     Row {
-        at: Place::Stations,
+        at: &[Place::Stations],
         tag: END_TAG,
         length: 0,
         when: |contents| !contents.stations.is_empty(),
@@ -78,11 +106,12 @@ const REQUEST_TABLE: [Row; 3] = [
     },
 ];
 
-const PLAN_TABLE: [Row; 5] = [
+const PLAN_TABLE: [Row; 6] = [
     TTRT_FIELD,
+    MODE_FIELD,
     STATION_FIELD,
     Row {
-        at: Place::Stations,
+        at: &[Place::Stations],
         tag: ALLOCATION_TAG,
         length: 4,
         when: |contents| !contents.stations.is_empty(),
@@ -90,7 +119,7 @@ const PLAN_TABLE: [Row; 5] = [
         then: Place::Allocations,
     },
     Row {
-        at: Place::Allocations,
+        at: &[Place::Allocations],
         tag: ALLOCATION_TAG,
         length: 4,
         when: |contents| contents.allocation.len() < contents.stations.len(),
@@ -98,7 +127,7 @@ const PLAN_TABLE: [Row; 5] = [
         then: Place::Allocations,
     },
     Row {
-        at: Place::Allocations,
+        at: &[Place::Allocations],
         tag: END_TAG,
         length: 0,
         when: |contents| contents.allocation.len() == contents.stations.len(),
@@ -125,7 +154,10 @@ fn station(body: &[u8]) -> Station {
 impl Row {
     fn allows(&self, place: Place, head: &[u8; 3], contents: &Contents) -> bool {
         let length = usize::from(u16::from_be_bytes([head[1], head[2]]));
-        self.at == place && self.tag == head[0] && self.length == length && (self.when)(contents)
+        self.at.contains(&place)
+            && self.tag == head[0]
+            && self.length == length
+            && (self.when)(contents)
     }
 }
 
@@ -149,16 +181,17 @@ fn contents(sheet: &[u8], table: &[Row]) -> Result<Contents, Refusal> {
 
 /// The set of a request sheet, or number 1 to 5.
 pub fn read_request(sheet: &[u8]) -> Result<Request, Refusal> {
-    let Contents { ttrt, stations, .. } = contents(sheet, &REQUEST_TABLE)?;
-    let request = Request { ttrt, stations };
+    let contents = contents(sheet, &REQUEST_TABLE)?;
+    let request = Request { head: contents.head(), stations: contents.stations };
     request.judge()?;
     Ok(request)
 }
 
 /// The plan of a plan sheet, or number 1 to 5 or 7.
 pub fn read_plan(sheet: &[u8]) -> Result<Plan, Refusal> {
-    let Contents { ttrt, stations, allocation } = contents(sheet, &PLAN_TABLE)?;
-    let plan = Plan { request: Request { ttrt, stations }, allocation };
+    let contents = contents(sheet, &PLAN_TABLE)?;
+    let request = Request { head: contents.head(), stations: contents.stations };
+    let plan = Plan { request, allocation: contents.allocation };
     plan.judge()?;
     Ok(plan)
 }
@@ -174,7 +207,11 @@ pub fn read_either(sheet: &[u8]) -> Result<Sheet, Refusal> {
 
 /// The fields of a sheet, unjudged; with an allocation they are those of a plan.
 pub fn fields(request: &Request, allocation: &[u32]) -> Vec<Vec<u8>> {
-    let mut fields = vec![field(TTRT_TAG, &[request.ttrt])];
+    let Head { ttrt, mode } = request.head;
+    let mut fields = vec![field(TTRT_TAG, &[ttrt])];
+    if mode != Mode::Timely.number() {
+        fields.push(mode_field(mode as u8));
+    }
     for station in &request.stations {
         let Station { walk, longest, deadline, gap } = *station;
         fields.push(field(STATION_TAG, &[walk, longest, deadline, gap]));
@@ -182,6 +219,11 @@ pub fn fields(request: &Request, allocation: &[u32]) -> Vec<Vec<u8>> {
     fields.extend(allocation.iter().map(|&s| field(ALLOCATION_TAG, &[s])));
     fields.push(field(END_TAG, &[]));
     fields
+}
+
+/// The field of a mode, any byte.
+pub fn mode_field(mode: u8) -> Vec<u8> {
+    vec![MODE_TAG, 0, 1, mode]
 }
 
 fn field(tag: u8, numbers: &[u32]) -> Vec<u8> {

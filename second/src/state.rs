@@ -2,19 +2,25 @@
 //! a handing in make of it. The steps are those of the rules, one after another, on the numbers
 //! that a ring stores.
 
+use crate::frames::{read_head, show_head};
 use crate::ring::{Completed, Message, StationNumber, Ticks, Visit};
-use crate::rules::{require, Plan, Refusal, Request, Station, LAST_TIME};
+use crate::rules::{require, Mode, Plan, Refusal, Request, Station, LAST_TIME};
 use crate::text::{number, Answer, Call};
 
 /// The clock of no sound ring is above this.
 pub const LAST_CLOCK: u64 = 1_000_002_000_000;
 /// The visit count of no sound ring reaches this.
 pub const VISITS_END: u64 = 1 << 62;
+/// The late count of no sound FDDI ring is above this.
+pub const MOST_LATE: u32 = 3;
 
 /// What a ring stores of a station.
 #[derive(Clone, Debug, Default, PartialEq, Eq)]
 pub struct Place {
+    /// TRT, in FDDI the timer.
     pub trt: u32,
+    /// FDDI's late count. A timely-token ring never looks at it.
+    pub late: u32,
     pub sent: u32,
     /// 0 says that no message is held.
     pub remaining: u32,
@@ -27,9 +33,21 @@ pub struct Place {
 }
 
 impl Place {
-    pub fn numbers(&self) -> [i128; 6] {
-        let Place { trt, sent, remaining, had, arrival, last } = *self;
-        [trt.into(), sent.into(), remaining.into(), had.into(), arrival.into(), last.into()]
+    /// As they are shown: the late count behind the others, where it is not 0.
+    pub fn numbers(&self) -> Vec<i128> {
+        let Place { trt, late, sent, remaining, had, arrival, last } = *self;
+        let mut numbers = vec![
+            trt.into(),
+            sent.into(),
+            remaining.into(),
+            had.into(),
+            arrival.into(),
+            last.into(),
+        ];
+        if late != 0 {
+            numbers.push(late.into());
+        }
+        numbers
     }
 }
 
@@ -38,7 +56,8 @@ pub struct State {
     pub clock: u64,
     pub token: u32,
     pub visits: u64,
-    pub unused: u32,
+    /// u. An FDDI ring never looks at it.
+    pub unused: u64,
     pub plan: Plan,
     pub places: Vec<Place>,
 }
@@ -48,7 +67,7 @@ impl State {
         self.plan.judge().is_err()
             || self.token as usize >= self.places.len()
             || self.unsound_place()
-            || u64::from(self.unused) != self.unsent()
+            || self.unsound_timers()
             || self.clock > LAST_CLOCK
             || self.visits >= VISITS_END
     }
@@ -56,12 +75,24 @@ impl State {
     fn unsound_place(&self) -> bool {
         let Plan { request, allocation } = &self.plan;
         (0..self.places.len()).any(|index| {
-            let Place { trt, sent, remaining, arrival, .. } = self.places[index];
-            trt > request.ttrt
-                || sent > allocation[index]
+            let Place { sent, remaining, arrival, .. } = self.places[index];
+            sent > allocation[index]
                 || remaining > request.stations[index].longest
                 || arrival > LAST_TIME
         })
+    }
+
+    /// The lines that each mode has of its own, of a sound plan and of places that are sound else.
+    fn unsound_timers(&self) -> bool {
+        let ttrt = self.plan.request.head.ttrt;
+        match self.plan.request.mode() {
+            Mode::Timely => {
+                self.places.iter().any(|place| place.trt > ttrt) || self.unused != self.unsent()
+            }
+            Mode::Fddi => {
+                self.places.iter().any(|place| place.trt >= ttrt || place.late > MOST_LATE)
+            }
+        }
     }
 
     /// The sum of S − s, where no s is above its S.
@@ -82,22 +113,22 @@ impl State {
         require(!self.unsound(), Refusal::Unsound)?;
         require(self.clock <= LAST_TIME, Refusal::ClockPast)?;
         let here = self.token as usize;
-        let (start, trt, s) = (self.clock, self.places[here].trt, self.plan.allocation[here]);
-        // 1: the limit; TRT becomes 0.
-        let limit = self.plan.request.ttrt.saturating_sub(self.unused).saturating_sub(trt);
-        self.places[here].trt = 0;
-        // 2: u falls by the old unused time.
-        self.unused -= s - self.places[here].sent;
-        // 3: the synchronous part; u rises by the new unused time.
+        let (start, trt) = (self.clock, self.places[here].trt);
+        // 1 and 2: the limit and the timer; in timely-token u falls by the old unused time.
+        let limit = match self.plan.request.mode() {
+            Mode::Timely => self.timely_limit(here),
+            Mode::Fddi => self.fddi_limit(here),
+        };
+        // 3: the synchronous part; in timely-token u rises by the new unused time.
         let (synchronous, completed) = self.serve(here);
         self.places[here].sent = synchronous;
-        self.unused += s - synchronous;
+        if self.plan.request.mode() == Mode::Timely {
+            self.unused += self.unused_at(here);
+        }
         // 4: the asynchronous part.
         let asynchronous = limit.min(ask);
         // 5: time passes, and the token moves on.
-        let passed = synchronous + asynchronous + self.plan.request.stations[here].walk;
-        self.clock += u64::from(passed);
-        self.places.iter_mut().for_each(|place| place.trt += passed);
+        self.pass(synchronous + asynchronous + self.plan.request.stations[here].walk);
         self.places[here].last = start;
         self.token = if here + 1 < self.places.len() { self.token + 1 } else { 0 };
         self.visits += 1;
@@ -110,6 +141,45 @@ impl State {
             asynchronous: asynchronous.into(),
             completed,
         })
+    }
+
+    /// S − s, at a sound place.
+    fn unused_at(&self, index: usize) -> u64 {
+        u64::from(self.plan.allocation[index] - self.places[index].sent)
+    }
+
+    /// TTRT − u − TRT, held at 0; TRT becomes 0, and u falls by the old unused time.
+    fn timely_limit(&mut self, here: usize) -> u32 {
+        let spent = self.unused + u64::from(self.places[here].trt);
+        self.places[here].trt = 0;
+        self.unused -= self.unused_at(here);
+        u64::from(self.plan.request.head.ttrt).saturating_sub(spent) as u32
+    }
+
+    /// A late token lowers the count, lets the timer run on and gives nothing. Any other gives
+    /// TTRT less the timer, which goes to 0.
+    fn fddi_limit(&mut self, here: usize) -> u32 {
+        let place = &mut self.places[here];
+        if place.late > 0 {
+            place.late -= 1;
+            return 0;
+        }
+        self.plan.request.head.ttrt - std::mem::take(&mut place.trt)
+    }
+
+    /// Time passes: the clock and every TRT rise. An FDDI timer that reaches TTRT goes to 0 and
+    /// raises its count.
+    fn pass(&mut self, ticks: u32) {
+        let ttrt = self.plan.request.head.ttrt;
+        let wraps = self.plan.request.mode() == Mode::Fddi;
+        self.clock += u64::from(ticks);
+        for place in &mut self.places {
+            place.trt += ticks;
+            while wraps && place.trt >= ttrt {
+                place.trt -= ttrt;
+                place.late += 1;
+            }
+        }
     }
 
     /// Sends the smaller of S and what remains of a message that has arrived.
@@ -147,14 +217,14 @@ impl State {
         Ok(())
     }
 
-    /// `CLOCK,TOKEN,VISITS,U`, `TTRT`, and `W,C,D,P,S,TRT,s,REMAINING,HAD,ARRIVAL,LAST` for each
-    /// station.
+    /// `CLOCK,TOKEN,VISITS,U`, `TTRT` or `TTRT,MODE`, and for each station
+    /// `W,C,D,P,S,TRT,s,REMAINING,HAD,ARRIVAL,LAST`, with its late count behind or without.
     pub fn read(parts: &[&str]) -> Option<State> {
-        let [head, ttrt, places @ ..] = parts else {
+        let [ring, head, places @ ..] = parts else {
             return None;
         };
-        let [clock, token, visits, unused] = words(head)?;
-        let request = Request { ttrt: number(ttrt.as_bytes())?, stations: vec![] };
+        let [clock, token, visits, unused] = words(ring)?;
+        let request = Request { head: read_head(head)?, stations: vec![] };
         let mut state = State {
             clock: number(clock)?,
             token: number(token)?,
@@ -163,11 +233,16 @@ impl State {
             plan: Plan { request, allocation: vec![] },
             places: vec![],
         };
-        places.iter().try_for_each(|part| state.add(words(part)?)).map(|()| state)
+        places.iter().try_for_each(|part| state.add(part)).map(|()| state)
     }
 
-    fn add(&mut self, words: [&[u8]; 11]) -> Option<()> {
-        let [walk, longest, deadline, gap, s, trt, sent, remaining, had, arrival, last] = words;
+    fn add(&mut self, part: &str) -> Option<()> {
+        let (eleven, late) = match part.match_indices(',').nth(10) {
+            Some((at, _)) => (&part[..at], &part[at + 1..]),
+            None => (part, "0"),
+        };
+        let [walk, longest, deadline, gap, s, trt, sent, remaining, had, arrival, last] =
+            words(eleven)?;
         self.plan.request.stations.push(Station {
             walk: number(walk)?,
             longest: number(longest)?,
@@ -177,6 +252,7 @@ impl State {
         self.plan.allocation.push(number(s)?);
         self.places.push(Place {
             trt: number(trt)?,
+            late: number(late.as_bytes())?,
             sent: number(sent)?,
             remaining: number(remaining)?,
             had: number(had)?,
@@ -189,13 +265,13 @@ impl State {
     /// The text that `read` takes, with its parts joined by `;`.
     pub fn show(&self) -> String {
         let State { clock, token, visits, unused, plan, places } = self;
-        let mut text = format!("{clock},{token},{visits},{unused};{}", plan.request.ttrt);
+        let head = show_head(&plan.request.head);
+        let mut text = format!("{clock},{token},{visits},{unused};{head}");
         for (index, place) in places.iter().enumerate() {
             let Station { walk, longest, deadline, gap } = plan.request.stations[index];
-            let Place { trt, sent, remaining, had, arrival, last } = place;
             let s = plan.allocation[index];
             text += &format!(";{walk},{longest},{deadline},{gap},{s}");
-            text += &format!(",{trt},{sent},{remaining},{had},{arrival},{last}");
+            place.numbers().iter().for_each(|number| text += &format!(",{number}"));
         }
         text
     }

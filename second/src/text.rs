@@ -6,7 +6,7 @@ use std::str::FromStr;
 
 use crate::lines::{Line, Lines};
 use crate::ring::{Message, StationNumber, Visit};
-use crate::rules::{require, Plan, Refusal, Request, Station, MOST_STATIONS};
+use crate::rules::{require, Head, Mode, Plan, Refusal, Request, Station, MOST_STATIONS};
 use crate::sheet::{write_plan, write_request, Sheet, PLAN_READ, REQUEST_READ};
 
 /// Why a text has no sheet.
@@ -78,9 +78,10 @@ pub fn answer_line(answer: Result<Answer, Refusal>) -> String {
 
 /// The plan as the program prints it.
 pub fn show_plan(plan: &Plan) -> String {
-    let Request { ttrt, stations } = &plan.request;
+    let Request { head, stations } = &plan.request;
     let spare = plan.spare().expect("a plan keeps the token rule");
-    let mut text = format!("plan {} {ttrt} {} {spare}\n", stations.len(), plan.request.walk_sum());
+    let (count, ttrt, walk_sum) = (stations.len(), head.ttrt, plan.request.walk_sum());
+    let mut text = format!("plan {count} {ttrt} {walk_sum} {spare}\n");
     for (index, s) in plan.allocation.iter().enumerate() {
         text += &format!("{index} {s}\n");
     }
@@ -97,7 +98,11 @@ pub fn show_sheet(sheet: &Sheet) -> String {
 
 /// The text of a set, and with an allocation that of a plan; nothing is judged.
 pub fn show_stations(request: &Request, allocation: &[u32]) -> String {
-    let mut text = format!("ttrt {}\n", request.ttrt);
+    let Head { ttrt, mode } = request.head;
+    let mut text = format!("ttrt {ttrt}\n");
+    if mode != Mode::Timely.number() {
+        text += &format!("mode {mode}\n");
+    }
     for (index, station) in request.stations.iter().enumerate() {
         let Station { walk, longest, deadline, gap } = station;
         text += &format!("station {walk} {longest} {deadline} {gap}");
@@ -126,6 +131,7 @@ pub fn compose<R: Read>(text: R) -> io::Result<Result<Vec<u8>, Fault>> {
 #[derive(Default)]
 struct Draft {
     ttrt: Option<u32>,
+    mode: Option<u32>,
     stations: Vec<Station>,
     allocation: Vec<u32>,
     misplaced: bool,
@@ -137,6 +143,7 @@ impl Draft {
         match *words {
             [] => Some(()),
             [b"ttrt", ttrt] => self.take_ttrt(number(ttrt)?),
+            [b"mode", mode] => self.take_mode(number(mode)?),
             [b"station", ref numbers @ ..] => self.take_station(numbers),
             _ => None,
         }
@@ -146,6 +153,14 @@ impl Draft {
     fn take_ttrt(&mut self, ttrt: u32) -> Option<()> {
         self.misplaced |= self.ttrt.is_some() || !self.stations.is_empty();
         self.ttrt = Some(ttrt);
+        Some(())
+    }
+
+    /// `mode` stands at most once, behind `ttrt` and before every station.
+    fn take_mode(&mut self, mode: u32) -> Option<()> {
+        let behind_ttrt = self.ttrt.is_some() && self.stations.is_empty();
+        self.misplaced |= self.mode.is_some() || !behind_ttrt;
+        self.mode = Some(mode);
         Some(())
     }
 
@@ -165,11 +180,18 @@ impl Draft {
         Some(())
     }
 
+    /// The mode that the lines name. One that is timely-token without its line is out of range.
+    fn head(&self) -> Result<Head, Refusal> {
+        let ttrt = self.ttrt.ok_or(Refusal::WrongField)?;
+        let absent = Mode::Timely.number();
+        let mode = self.mode.map_or(absent, |mode| if mode == absent { 0 } else { mode });
+        Ok(Head { ttrt, mode })
+    }
+
     /// Lines of both kinds leave fewer allocations than stations: they are refused for their count.
     fn write(self) -> Result<Vec<u8>, Refusal> {
         require(!self.misplaced, Refusal::WrongField)?;
-        let ttrt = self.ttrt.ok_or(Refusal::WrongField)?;
-        let request = Request { ttrt, stations: self.stations };
+        let request = Request { head: self.head()?, stations: self.stations };
         if self.allocation.is_empty() {
             return write_request(&request, REQUEST_READ);
         }

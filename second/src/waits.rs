@@ -9,6 +9,7 @@ use crate::gen::calls;
 use crate::gen::random::Random;
 use crate::planted::Planted;
 use crate::ring::{Ring, Ticks, Visit};
+use crate::rules::Mode;
 use crate::text::{Answer, Call};
 
 /// The longest waits among the rings of one size. A wait ends with the visit that offers its
@@ -41,7 +42,7 @@ struct Wait {
 
 /// Follows the waits of every station through a run.
 fn follow(ring: Ring, calls: &[Call], longest: &mut Longest) {
-    let ttrt = Ticks::from(ring.plan().request.ttrt);
+    let ttrt = Ticks::from(ring.plan().request.head.ttrt);
     let mut waits = vec![Wait { visits: 0, from: 0 }; ring.size()];
     let mut ring = WatchedRing::new(ring, Planted::Nothing);
     for call in calls {
@@ -65,7 +66,7 @@ fn offered(visit: &Visit, index: usize) -> bool {
 pub fn longest(seed: u64, runs: u64) -> BTreeMap<usize, Longest> {
     let mut sizes = BTreeMap::<usize, Longest>::new();
     for place in 0..runs {
-        let (plan, calls) = calls::script(&mut Random::of_case(seed, place));
+        let (plan, calls) = calls::script(&mut Random::of_case(seed, place), Mode::Timely);
         if plan.spare().is_some_and(|spare| spare > 0) {
             let ring = Ring::open(&plan, Planted::Nothing).expect("the plan is sound");
             let longest = sizes.entry(ring.size()).or_default();

@@ -8,7 +8,7 @@
 #include "words.h"
 #include <string.h>
 
-/* ---- sets and plans: `TTRT;W,C,D,P;..`, and for a plan `TTRT;W,C,D,P,S;..` */
+/* ---- sets and plans: `TTRT;W,C,D,P;..`, and for a plan `TTRT;W,C,D,P,S;..`; `TTRT,MODE` where it is not timely-token */
 struct plan {
     set_t set;
     alloc_t alloc;
@@ -18,7 +18,8 @@ struct plan {
 static void no_station(struct plan *plan)
 {
     memset(plan, 0xff, sizeof *plan);
-    plan->set.ttrt = number32();
+    plan->set.head.ttrt = number32();
+    plan->set.head.mode = passed(",") ? number32() : OLIVASTRUM_TIMELY;
     plan->set.n = 0;
 }
 
@@ -66,7 +67,9 @@ static void stations(struct plan *plan, int with_shares)
 static void put_stations(const set_t *set, const alloc_t *alloc)
 {
     put_after(' ', set->n);
-    put_after(' ', set->ttrt);
+    put_after(' ', set->head.ttrt);
+    if (set->head.mode != OLIVASTRUM_TIMELY)
+        put_after(',', set->head.mode);
     for (uint32_t i = 0; i < set->n && i < MOST; i++) {
         put_after(';', set->w[i]);
         put_after(',', set->c[i]);
@@ -77,7 +80,7 @@ static void put_stations(const set_t *set, const alloc_t *alloc)
     }
 }
 
-/* ---- a ring: `CLOCK,TOKEN,VISITS,U;TRT,s,REMAINING,HAD,ARRIVAL,LAST;..` */
+/* ---- a ring: `CLOCK,TOKEN,VISITS,U;TRT,s,REMAINING,HAD,ARRIVAL,LAST;..`, a late count behind LAST where it is not 0 */
 static void put_ring(const ring_t *ring)
 {
     put_number(ring->clock);
@@ -91,6 +94,8 @@ static void put_ring(const ring_t *ring)
         put_after(',', ring->had[i]);
         put_after(',', ring->arrival[i]);
         put_after(',', ring->last[i]);
+        if (ring->late[i] != 0)
+            put_after(',', ring->late[i]);
     }
 }
 
@@ -211,7 +216,16 @@ static void write_case(int with_shares)
 
 /* ---- the cases of sets and rings */
 
-/* `planning SET`: A* is the limit of the first visit on a ring opened with the plan. */
+/* A*, seen at the first visit on a ring opened with the plan: its limit, from which FDDI takes no S. */
+static uint64_t spare(const struct plan *plan, ring_t *ring)
+{
+    uint64_t left = visiting(ring, 1, 0).record.limit.ticks;
+    for (uint32_t i = 0; plan->set.head.mode == OLIVASTRUM_FDDI && i < plan->set.n; i++)
+        left -= plan->alloc.s[i];
+    return left;
+}
+
+/* `planning SET` */
 static void planning_case(void)
 {
     struct plan plan;
@@ -220,14 +234,15 @@ static void planning_case(void)
     put_number(planned.number);
     if (planned.number != 0)
         return;
-    struct olivastrum_opened opened = opening(&plan.set, &planned.alloc);
+    plan.alloc = planned.alloc;
+    struct olivastrum_opened opened = opening(&plan.set, &plan.alloc);
     if (opened.number != 0) {
         put(" !not-opened");
         return;
     }
-    put_after(' ', visiting(&opened.ring, 1, 0).record.limit.ticks);
+    put_after(' ', spare(&plan, &opened.ring));
     for (uint32_t i = 0; i < plan.set.n; i++)
-        put_after(i == 0 ? ' ' : ',', planned.alloc.s[i]);
+        put_after(i == 0 ? ' ' : ',', plan.alloc.s[i]);
 }
 
 /* `open PLANSET` */
@@ -274,7 +289,7 @@ static void run_case(int answers_shown)
     }
 }
 
-/* What a ring stores of a station: `,TRT,s,REMAINING,HAD,ARRIVAL,LAST`. */
+/* What a ring stores of a station: `,TRT,s,REMAINING,HAD,ARRIVAL,LAST`, and a late count or none. */
 static void stored(ring_t *ring, uint32_t i)
 {
     pass(",");
@@ -289,8 +304,10 @@ static void stored(ring_t *ring, uint32_t i)
     uint64_t arrival = number();
     pass(",");
     uint64_t last = number();
+    uint32_t late = passed(",") ? number32() : 0;
     if (i < MOST) {
         ring->trt[i] = trt;
+        ring->late[i] = late;
         ring->sent[i] = sent;
         ring->rest[i] = rest;
         ring->had[i] = had;
@@ -299,7 +316,7 @@ static void stored(ring_t *ring, uint32_t i)
     }
 }
 
-/* Any ring: `CLOCK,TOKEN,VISITS,U;TTRT;PLACE;..`, up to the first call. */
+/* Any ring: `CLOCK,TOKEN,VISITS,U;TTRT;PLACE;..` or `..;TTRT,MODE;PLACE;..`, up to the first call. */
 static void any_ring(ring_t *ring)
 {
     struct plan plan;
@@ -310,7 +327,7 @@ static void any_ring(ring_t *ring)
     pass(",");
     ring->visits = number();
     pass(",");
-    ring->unused = number32();
+    ring->unused = number();
     pass(";");
     no_station(&plan);
     while (passed_to_digit(";")) {

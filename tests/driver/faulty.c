@@ -43,7 +43,8 @@ static void spoil_sheet(const uint8_t *sheet, size_t length)
 
 static void spoil_set(uint8_t number, set_t *set)
 {
-    FAULT("set-refused", number != 0, set->ttrt);
+    FAULT("set-refused", number != 0, set->head.ttrt);
+    FAULT("mode-refused", number != 0, set->head.mode);
     FAULT("set-w", number == 0 && set->n < MOST, set->w[LAST]);
     FAULT("set-c", number == 0 && set->n < MOST, set->c[LAST]);
     FAULT("set-d", number == 0 && set->n < MOST, set->d[LAST]);
@@ -111,6 +112,7 @@ static void spoil_places(ring_t *ring)
 {
     int spare = ring->set.n < MOST;
     FAULT("ring-trt", spare, ring->trt[LAST]);
+    FAULT("ring-late", spare, ring->late[LAST]);
     FAULT("ring-sent", spare, ring->sent[LAST]);
     FAULT("ring-rest", spare, ring->rest[LAST]);
     FAULT("ring-arrival", spare, ring->arrival[LAST]);

@@ -152,7 +152,9 @@ struct olivastrum_opened opening(const set_t *set, const alloc_t *alloc)
         return opened;
     }
     must(same(&ring->set, set, sizeof *set) && same(&ring->alloc, alloc, sizeof *alloc), "changed");
-    must(zero_past(set->n, ring->trt) && all_zero(ring->sent, sizeof ring->sent), "not-blank");
+    must(zero_past(set->n, ring->trt) && zero_past(set->n, ring->late), "not-blank");
+    must(set->head.mode != OLIVASTRUM_TIMELY || all_zero(ring->late, sizeof ring->late), "not-blank");
+    must(all_zero(ring->sent, sizeof ring->sent), "not-blank");
     must(all_zero(ring->rest, sizeof ring->rest) && all_zero(ring->arrival, sizeof ring->arrival), "not-blank");
     must(all_zero(ring->had, sizeof ring->had) && all_zero(ring->last, sizeof ring->last), "not-blank");
     return opened;
@@ -187,7 +189,8 @@ static void ring_kept(const ring_t *was, const ring_t *is)
     uint32_t n = was->set.n;
     must(guard_of(host.before, 0xa5) && guard_of(host.behind, 0x5a), "touched");
     must(same(&is->set, &was->set, sizeof is->set) && same(&is->alloc, &was->alloc, sizeof is->alloc), "changed");
-    must(SAME_PAST(n, is->trt, was->trt) && SAME_PAST(n, is->sent, was->sent) && SAME_PAST(n, is->rest, was->rest), "past-n");
+    must(SAME_PAST(n, is->trt, was->trt) && SAME_PAST(n, is->late, was->late), "past-n");
+    must(SAME_PAST(n, is->sent, was->sent) && SAME_PAST(n, is->rest, was->rest), "past-n");
     must(SAME_PAST(n, is->arrival, was->arrival) && SAME_PAST(n, is->had, was->had) && SAME_PAST(n, is->last, was->last), "past-n");
 }
 

@@ -31,7 +31,8 @@ typedef struct olivastrum_ring ring_t;
 
 static int layouts(void)
 {
-    SAME(FIELDS_SET, sizeof(struct olivastrum_set), AT(olivastrum_set, ttrt), AT(olivastrum_set, n), AT(olivastrum_set, w),
+    SAME(FIELDS_HEAD, sizeof(struct olivastrum_head), AT(olivastrum_head, ttrt), AT(olivastrum_head, mode));
+    SAME(FIELDS_SET, sizeof(struct olivastrum_set), AT(olivastrum_set, head), AT(olivastrum_set, n), AT(olivastrum_set, w),
          AT(olivastrum_set, c), AT(olivastrum_set, d), AT(olivastrum_set, p));
     SAME(FIELDS_ALLOC, sizeof(struct olivastrum_alloc), AT(olivastrum_alloc, s));
     SAME(FIELDS_PLANNED, sizeof(struct olivastrum_planned), AT(olivastrum_planned, alloc), AT(olivastrum_planned, number));
@@ -39,9 +40,9 @@ static int layouts(void)
     SAME(FIELDS_READ_PLAN, sizeof(struct olivastrum_read_plan), AT(olivastrum_read_plan, set), AT(olivastrum_read_plan, alloc),
          AT(olivastrum_read_plan, number));
     SAME(FIELDS_WRITTEN, sizeof(struct olivastrum_written), AT(olivastrum_written, length), AT(olivastrum_written, number));
-    SAME(FIELDS_RING, sizeof(ring_t), AT(olivastrum_ring, set), AT(olivastrum_ring, alloc), AT(olivastrum_ring, trt), AT(olivastrum_ring, sent),
-         AT(olivastrum_ring, rest), AT(olivastrum_ring, arrival), AT(olivastrum_ring, had), AT(olivastrum_ring, last), AT(olivastrum_ring, clock),
-         AT(olivastrum_ring, visits), AT(olivastrum_ring, token), AT(olivastrum_ring, unused));
+    SAME(FIELDS_RING, sizeof(ring_t), AT(olivastrum_ring, set), AT(olivastrum_ring, alloc), AT(olivastrum_ring, trt), AT(olivastrum_ring, late),
+         AT(olivastrum_ring, sent), AT(olivastrum_ring, rest), AT(olivastrum_ring, token), AT(olivastrum_ring, arrival), AT(olivastrum_ring, had),
+         AT(olivastrum_ring, last), AT(olivastrum_ring, clock), AT(olivastrum_ring, visits), AT(olivastrum_ring, unused));
     SAME(FIELDS_MESSAGE, sizeof(struct olivastrum_message), AT(olivastrum_message, station), AT(olivastrum_message, length),
          AT(olivastrum_message, arrival));
     SAME(FIELDS_VISIT_RECORD, sizeof(struct olivastrum_visit_record), AT(olivastrum_visit_record, station), AT(olivastrum_visit_record, start),
@@ -51,10 +52,10 @@ static int layouts(void)
     SAME(FIELDS_VISIT_ANSWER, sizeof(struct olivastrum_visit_answer), AT(olivastrum_visit_answer, record), AT(olivastrum_visit_answer, number));
     SAME(FIELDS_OPENED, sizeof(struct olivastrum_opened), AT(olivastrum_opened, ring), AT(olivastrum_opened, number));
 
-    CHECK(sizeof(struct olivastrum_set) == 2 * 4 + 4 * 128 * 4);
+    CHECK(sizeof(struct olivastrum_set) == 3 * 4 + 4 * 128 * 4);
     CHECK(sizeof(struct olivastrum_alloc) == 128 * 4);
     CHECK(sizeof(struct olivastrum_message) == 3 * 8);
-    CHECK(sizeof(ring_t) == sizeof(struct olivastrum_set) + sizeof(struct olivastrum_alloc) + 3 * 128 * 4 + 2 * 128 * 8 + 128 + 2 * 8 + 2 * 4);
+    CHECK(sizeof(ring_t) == sizeof(struct olivastrum_set) + sizeof(struct olivastrum_alloc) + 4 * 128 * 4 + 4 + 2 * 128 * 8 + 128 + 3 * 8);
     return 1;
 }
 
@@ -100,7 +101,7 @@ static uint8_t *put_set(uint8_t *at)
 
 static int is_the_set(const struct olivastrum_set *set)
 {
-    CHECK(set->ttrt == 100 && set->n == STATIONS);
+    CHECK(set->head.ttrt == 100 && set->head.mode == OLIVASTRUM_TIMELY && set->n == STATIONS);
     for (int i = 0; i < OLIVASTRUM_MOST_STATIONS; i++) {
         CHECK(set->w[i] == (i < STATIONS ? walk_times[i] : 0));
         CHECK(set->c[i] == (i < STATIONS ? 20u : 0));
@@ -124,7 +125,7 @@ static int places(void)
 
     struct olivastrum_read_plan read = olivastrum_read_plan_sheet(plan, sizeof plan);
     CHECK(read.number == 0);
-    CHECK(read.set.ttrt == first && read.set.n == count);
+    CHECK(read.set.head.ttrt == first && read.set.head.mode == OLIVASTRUM_TIMELY && read.set.n == count);
     for (uint32_t i = 0; i < count; i++) {
         CHECK(read.set.w[i] == 10 + i);
         CHECK(read.set.c[i] == 20 + i);
@@ -254,7 +255,7 @@ static int opening(ring_t *ring, struct olivastrum_set set, struct olivastrum_al
     CHECK(memcmp(&ring->set, &set, sizeof set) == 0);
     CHECK(memcmp(&ring->alloc, &alloc, sizeof alloc) == 0);
     CHECK(ring->clock == 0 && ring->visits == 0 && ring->token == 0 && ring->unused == 80);
-    CHECK(ring->trt[0] == 2 && all_zero(ring->trt + 1, sizeof ring->trt - 4));
+    CHECK(ring->trt[0] == 2 && all_zero(ring->trt + 1, sizeof ring->trt - 4) && all_zero(ring->late, sizeof ring->late));
     CHECK(all_zero(ring->sent, sizeof ring->sent) && all_zero(ring->rest, sizeof ring->rest));
     CHECK(all_zero(ring->arrival, sizeof ring->arrival) && all_zero(ring->had, sizeof ring->had) && all_zero(ring->last, sizeof ring->last));
     return 1;
@@ -367,6 +368,13 @@ static int any_bytes(const ring_t *sound)
     ring = *sound, ring.set.n = 129;
     CHECK(unsound(&ring));
 
+    /* a timely-token ring leaves its late counts alone */
+    ring = *sound, ring.late[0] = 7;
+    ring_t same = *sound;
+    CHECK(olivastrum_visit(&ring, 5).number == 0 && olivastrum_visit(&same, 5).number == 0);
+    same.late[0] = 7;
+    CHECK(memcmp(&ring, &same, sizeof same) == 0);
+
     /* a byte that is neither 0 nor 1 in `had` is a yes, and places past N are never looked at */
     ring = *sound, ring.had[2] = 0x80, ring.trt[STATIONS] = 0xffffffffu, ring.set.w[127] = 0xffffffffu;
     ring_t other = *sound;
@@ -377,6 +385,54 @@ static int any_bytes(const ring_t *sound)
     return 1;
 }
 
+/* ---- an older ring: two stations of w 50 and TTRT 100, so that the first timer opens at TTRT, late at once */
+static int older_ring(void)
+{
+    struct olivastrum_set set;
+    memset(&set, 0, sizeof set);
+    set.head.ttrt = 100, set.head.mode = OLIVASTRUM_FDDI, set.n = 2;
+    for (int i = 0; i < 2; i++)
+        set.w[i] = 50, set.d[i] = set.p[i] = 300;
+    uint8_t sheet[OLIVASTRUM_REQUEST_BYTES(2) + OLIVASTRUM_MODE_BYTES];
+    struct olivastrum_written written = olivastrum_write_request_sheet(set, sheet, sizeof sheet);
+    CHECK(written.number == 0 && written.length == sizeof sheet && sheet[7] == 4 && sheet[10] == OLIVASTRUM_FDDI);
+    struct olivastrum_read_request read = olivastrum_read_request_sheet(sheet, sizeof sheet);
+    CHECK(read.number == 0 && memcmp(&read.set, &set, sizeof set) == 0);
+    struct olivastrum_planned planned = olivastrum_plan_set(set);
+    CHECK(planned.number == 0 && all_zero(&planned.alloc, sizeof planned.alloc));
+    struct olivastrum_opened opened = olivastrum_open_ring(set, planned.alloc);
+    CHECK(opened.number == 0);
+    ring_t ring = opened.ring;
+    CHECK(ring.trt[0] == 0 && ring.late[0] == 1 && ring.trt[1] == 50 && ring.late[1] == 0);
+
+    /* late: nothing is offered, the count falls and the timer runs on */
+    struct olivastrum_visit_answer answer = olivastrum_visit(&ring, 1000);
+    CHECK(answer.number == 0 && answer.record.trt.ticks == 0 && answer.record.limit.ticks == 0 && answer.record.asynchronous.ticks == 0);
+    CHECK(ring.clock == 50 && ring.trt[0] == 50 && ring.late[0] == 0 && ring.trt[1] == 0 && ring.late[1] == 1);
+    /* the second station's timer has reached TTRT on the way: late too */
+    answer = olivastrum_visit(&ring, 1000);
+    CHECK(answer.number == 0 && answer.record.limit.ticks == 0);
+    CHECK(ring.clock == 100 && ring.trt[0] == 0 && ring.late[0] == 1 && ring.trt[1] == 50 && ring.late[1] == 0);
+
+    /* not late: TTRT less the timer is offered, and the timer goes to 0 */
+    ring.late[0] = 0, ring.trt[0] = 30;
+    answer = olivastrum_visit(&ring, 1000);
+    CHECK(answer.number == 0 && answer.record.trt.ticks == 30 && answer.record.limit.ticks == 70 && answer.record.asynchronous.ticks == 70);
+    CHECK(ring.clock == 220 && ring.trt[0] == 20 && ring.late[0] == 1 && ring.trt[1] == 70 && ring.late[1] == 1);
+
+    /* what is unsound: a timer at TTRT, a count above 3; u is not looked at */
+    ring_t other = ring;
+    other.trt[1] = 100;
+    CHECK(unsound(&other));
+    other = ring, other.late[1] = 4;
+    CHECK(unsound(&other));
+    other = ring, other.late[1] = 3, other.unused = 12345;
+    CHECK(olivastrum_visit(&other, 0).number == 0 && other.unused == 12345);
+    other = ring, other.set.head.mode = 3;
+    CHECK(unsound(&other));
+    return 1;
+}
+
 int main(void)
 {
     static ring_t ring;
@@ -384,7 +440,7 @@ int main(void)
     struct olivastrum_alloc alloc;
     if (!layouts() || !constants() || !places() || !planning(&set, &alloc) || !opening(&ring, set, alloc))
         return 1;
-    if (!asked_less(ring) || !worked_run(&ring) || !any_bytes(&ring))
+    if (!asked_less(ring) || !worked_run(&ring) || !any_bytes(&ring) || !older_ring())
         return 1;
     puts("ok");
     return 0;

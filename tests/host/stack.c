@@ -1,7 +1,8 @@
 /*
  * How much stack each function of the library needs. Each call is made on a stack that is painted before it; how far
  * down the paint is gone is what it needed. It must be at most what the header says, and not much less. Every function
- * is called with what it accepts and with what it refuses, at 1 and at 128 stations. Prints a line for each function.
+ * is called with what it accepts and with what it refuses, in both modes, at 1 and at 128 stations. Prints a line for
+ * each function.
  */
 #include <olivastrum.h>
 #include <stdio.h>
@@ -21,7 +22,7 @@ static struct olivastrum_set set;
 static struct olivastrum_alloc alloc;
 static struct olivastrum_ring ring;
 static struct olivastrum_message message;
-static uint8_t sheet[OLIVASTRUM_PLAN_BYTES(128) + 1];
+static uint8_t sheet[OLIVASTRUM_PLAN_BYTES(128) + OLIVASTRUM_MODE_BYTES + 1];
 static size_t length;
 
 /* ---- the calls: what is passed by value is copied to the stack, and the answer goes where `answer` is */
@@ -122,9 +123,9 @@ static void measure_all(void)
 }
 
 /* ---- what the calls are made with */
-static struct olivastrum_set stations(uint32_t n)
+static struct olivastrum_set stations(uint32_t mode, uint32_t n)
 {
-    struct olivastrum_set made = {.ttrt = 100000, .n = n};
+    struct olivastrum_set made = {.head = {100000, mode}, .n = n};
     for (uint32_t i = 0; i < n && i < 128; i++) {
         made.w[i] = 1;
         made.c[i] = 300;
@@ -148,9 +149,9 @@ static void with_sheets(void)
     measure_all();
 }
 
-static void with_stations(uint32_t n)
+static void with_stations(uint32_t mode, uint32_t n)
 {
-    set = stations(n);
+    set = stations(mode, n);
     alloc = olivastrum_plan_set(set).alloc;
     ring = olivastrum_open_ring(set, alloc).ring;
     message = (struct olivastrum_message){{0}, {300}, {0}};
@@ -171,8 +172,10 @@ int main(void)
 {
     int wrong = 0;
     size_t most = 0;
-    with_stations(1);
-    with_stations(128);
+    with_stations(OLIVASTRUM_TIMELY, 1);
+    with_stations(OLIVASTRUM_FDDI, 1);
+    with_stations(OLIVASTRUM_TIMELY, 128);
+    with_stations(OLIVASTRUM_FDDI, 128);
     for (size_t k = 0; k < FUNCTIONS; k++) {
         struct function *f = &functions[k];
         int holds = f->measured <= f->said && f->said <= f->measured + SLACK;

@@ -3,14 +3,17 @@ use Prim.Native.Nat.{ℕ, _+_, _^_, _≤_, _<_}
 use mathlib.Core.Path.{_≡_}
 use mathlib.Core.Bool.{Bool, true, false, cond, _&&_, _||_}
 use mathlib.Core.List.{List, [], _∷_, _++_}
-use lib.Dec.{ltb, eqb}
+use lib.Dec.{leb, ltb, eqb}
 use lib.ListN.{length, take, drop, set}
 use Rattle.units.specs.Numbers.{wrongShape}
 use Rattle.units.specs.Places.{at}
 use Rattle.sets.specs.Judged.{blankSet}
+use Rattle.sets.specs.declared.Head.{Head}
 use Rattle.sets.specs.declared.Set.{Set}
 use Rattle.plans.specs.Planned.{blankAlloc}
 use Rattle.plans.specs.declared.Alloc.{Alloc}
+use Rattle.fields.specs.Fields.{headTag, modeTag}
+use Rattle.fields.specs.Header.{absent, headerNumber}
 use Rattle.sheets.specs.Writing.{refusedWriting, writtenAnswer, writtenBuffer}
 use Rattle.sheets.specs.declared.Written.{Written}
 use Rattle.text.specs.Text.{newline}
@@ -24,6 +27,10 @@ use Rattle.drafts.specs.declared.Composing.{Composing}
 -- "ttrt"
 abbrev pub ttrtWord : List ℕ
 ttrtWord = 116 ∷ 116 ∷ 114 ∷ 116 ∷ []
+
+-- "mode"
+abbrev pub modeWord : List ℕ
+modeWord = 109 ∷ 111 ∷ 100 ∷ 101 ∷ []
 
 -- "station"
 abbrev pub stationWord : List ℕ
@@ -43,6 +50,10 @@ isLine s code count = isReadable s && (eqb (s .word) code && (eqb (s .count) cou
 abbrev pub isTtrt : Scan → Bool
 isTtrt s = isLine s (codeOf ttrtWord) 1
 
+-- `mode M`
+abbrev pub isMode : Scan → Bool
+isMode s = isLine s (codeOf modeWord) 1
+
 -- `station W C D P`
 abbrev pub isStation : Scan → Bool
 isStation s = isLine s (codeOf stationWord) 4
@@ -61,19 +72,29 @@ blankDraft = record { set = blankSet; alloc = blankAlloc; line = 1; unread = 0; 
 abbrev pub misplaced : Draft → Draft
 misplaced d = record { set = d .set; alloc = d .alloc; line = d .line; unread = d .unread; head = d .head; kind = d .kind; wrong = 1 }
 
--- TTRT stands on the first line, once
-unfoldable pub withTtrt : Draft → ℕ → Draft
-withTtrt d ttrt =
-    cond (eqb (d .head) 0)
-    (record {
-      set = record { head = record { ttrt = ttrt }; n = d .set .n; w = d .set .w; c = d .set .c; d = d .set .d; p = d .set .p };
+-- the same, with these numbers in the header; the line's tag is the highest of the header's lines
+abbrev pub headedBy : Draft → ℕ → Head → Draft
+headedBy d tag h =
+    record {
+      set = record { head = h; n = d .set .n; w = d .set .w; c = d .set .c; d = d .set .d; p = d .set .p };
       alloc = d .alloc;
       line = d .line;
       unread = d .unread;
-      head = 1;
+      head = tag;
       kind = d .kind;
       wrong = d .wrong;
-    })
+    }
+
+-- TTRT stands on the first line, once; a mode that no line names is what its absence means on a sheet
+unfoldable pub withTtrt : Draft → ℕ → Draft
+withTtrt d ttrt =
+    cond (eqb (d .head) 0) (headedBy d headTag (record { ttrt = ttrt; mode = absent })) (misplaced d)
+
+-- the mode stands behind TTRT and before the first station, once; it gives the number that its field on a sheet would give
+unfoldable pub withMode : Draft → ℕ → Draft
+withMode d mode =
+    cond (leb headTag (d .head) && (ltb (d .head) modeTag && eqb (d .set .n) 0))
+    (headedBy d modeTag (record { ttrt = d .set .head .ttrt; mode = headerNumber true mode }))
     (misplaced d)
 
 -- the next station of the set
@@ -103,7 +124,7 @@ pub record NumbersFit (s : Scan) : Type 0 where
 -- a station stands behind TTRT, is one of at most 128, and all are of one kind: 1 for a request's, 2 for a plan's
 unfoldable pub withStation : Draft → Scan → ℕ → Draft
 withStation d s kind =
-    cond (eqb (d .head) 1 && (ltb (d .set .n) 128 && (eqb (d .kind) 0 || eqb (d .kind) kind)))
+    cond (leb headTag (d .head) && (ltb (d .set .n) 128 && (eqb (d .kind) 0 || eqb (d .kind) kind)))
     (record {
       set = setAnd (d .set) s;
       alloc = allocAnd (d .alloc) (d .set .n) s;
@@ -133,7 +154,8 @@ unfoldable pub lineDrafted : Draft → Scan → Draft
 lineDrafted d s =
     cond (isEmptyLine s) d
     (cond (isTtrt s) (withTtrt d (at (s .values) 0))
-    (cond (isStation s) (withStation d s 1) (cond (isPlanStation s) (withStation d s 2) (withUnread d))))
+    (cond (isMode s) (withMode d (at (s .values) 0))
+    (cond (isStation s) (withStation d s 1) (cond (isPlanStation s) (withStation d s 2) (withUnread d)))))
 
 -- the next line
 abbrev pub onNextLine : Draft → Draft
@@ -159,7 +181,7 @@ composeAfter c (b ∷ bs) = composeAfter (composeOn c b) bs
 
 -- a sheet can be made: every line was read, each in its place, and TTRT is there
 abbrev pub isWhole : Draft → Bool
-isWhole d = eqb (d .unread) 0 && (eqb (d .wrong) 0 && eqb (d .head) 1)
+isWhole d = eqb (d .unread) 0 && (eqb (d .wrong) 0 && leb headTag (d .head))
 
 -- 2 if none can; else what writing answers, a plan's where the stations are a plan's
 unfoldable pub composedAnswer : Draft → List ℕ → Written

@@ -1,7 +1,7 @@
 // What `compose` makes of a text: a set, for a plan with its allocation, read line by line.
 ghost use mathlib.Core.Path.{_≡_};
 ghost use Prim.Native.Nat.{_<_, _^_};
-ghost use Rattle.drafts.specs.Compose.{allFit, isLine, misplaced, withTtrt, NumbersFit, setAnd, allocAnd, withStation, withUnread, lineDrafted, onNextLine, composeStart, composeAfter, WroteDraft};
+ghost use Rattle.drafts.specs.Compose.{allFit, isLine, misplaced, withTtrt, withMode, NumbersFit, setAnd, allocAnd, withStation, withUnread, lineDrafted, onNextLine, composeStart, composeAfter, WroteDraft};
 use lines::Scan;
 use plans::Alloc;
 use sets::Head;
@@ -9,8 +9,10 @@ use sets::Set;
 use sheets::Written;
 use units::numbers;
 
-// The letters of `ttrt` and of `station`, each as one number to base 256.
+// The letters of `ttrt`, of `mode` and of `station`, each as one number to base 256.
 const TTRT: u64 = 1_953_788_532;
+
+const MODE: u64 = 1_836_016_741;
 
 const STATION: u64 = 32_497_584_235_442_030;
 
@@ -23,7 +25,7 @@ pub struct Draft {
     pub line: u64,
     // The first line that cannot be read; 0: none.
     pub unread: u64,
-    // 1: TTRT was read.
+    // The highest tag of the header's lines that were read, as on a sheet: 0 none, 1 TTRT, 4 the mode.
     pub head: u8,
     // The stations are a request's, 1, or a plan's, 2; 0: none was read.
     pub kind: u8,
@@ -83,7 +85,10 @@ fn with_ttrt(d: Draft, ttrt: u32) -> Draft
         return misplaced_in(d);
     }
     let mut set = d.set;
-    let head = Head { ttrt };
+    let head = Head {
+        ttrt,
+        mode: fields::ABSENT,
+    };
     set.head = head;
     let alloc = d.alloc;
     Draft {
@@ -91,7 +96,36 @@ fn with_ttrt(d: Draft, ttrt: u32) -> Draft
         alloc,
         line: d.line,
         unread: d.unread,
-        head: 1,
+        head: fields::HEAD_TAG,
+        kind: d.kind,
+        wrong: d.wrong,
+    }
+}
+
+// The mode stands behind TTRT and before the first station, once.
+fn with_mode(d: Draft, number: u32) -> Draft
+    ensures { λ r. ⌜ r ≡ withMode d number ⌝ }
+{
+    let told = d.set;
+    let placed = (fields::HEAD_TAG <= d.head) & ((d.head < fields::MODE_TAG) & (told.n == 0));
+    if !placed {
+        return misplaced_in(d);
+    }
+    let first = told.head;
+    let mode = fields::header_number(true, number);
+    let head = Head {
+        ttrt: first.ttrt,
+        mode,
+    };
+    let mut set = d.set;
+    set.head = head;
+    let alloc = d.alloc;
+    Draft {
+        set,
+        alloc,
+        line: d.line,
+        unread: d.unread,
+        head: fields::MODE_TAG,
         kind: d.kind,
         wrong: d.wrong,
     }
@@ -155,7 +189,7 @@ fn with_station(d: Draft, s: Scan, kind: u8) -> Draft
 {
     let told = d.set;
     let same = (d.kind == 0) | (d.kind == kind);
-    let placed = (d.head == 1) & ((told.n < 128) & same);
+    let placed = (fields::HEAD_TAG <= d.head) & ((told.n < 128) & same);
     if !placed {
         return misplaced_in(d);
     }
@@ -202,6 +236,11 @@ fn line_drafted(d: Draft, s: Scan) -> Draft
         let values = s.values;
         let ttrt = narrow(values[0]);
         return with_ttrt(d, ttrt);
+    }
+    if is_line(s, MODE, 1) {
+        let values = s.values;
+        let mode = narrow(values[0]);
+        return with_mode(d, mode);
     }
     if is_line(s, STATION, 4) {
         return with_station(d, s, 1);
@@ -273,7 +312,7 @@ pub fn compose_on(c: Composing, text: &[u8]) -> Composing
 pub fn compose_end(d: Draft, out: &mut [u8]) -> Written
     ensures { λ r. ⌜ WroteDraft d (now (out .entry)) (now (out .exit)) r ⌝ }
 {
-    let whole = (d.unread == 0) & ((d.wrong == 0) & (d.head == 1));
+    let whole = (d.unread == 0) & ((d.wrong == 0) & (fields::HEAD_TAG <= d.head));
     if !whole {
         return Written {
             length: 0,

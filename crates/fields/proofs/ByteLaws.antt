@@ -36,7 +36,14 @@ number-read bs a x small h =
     let e₃ : at bs (a + 3) ≡ x % 256 = h .same 3 (omega arith) in
     rw (e₀, e₁, e₂, e₃) (bytes-make x small)
 
--- three and four bytes that stand, one by one
+-- one, three and four bytes that stand, one by one
+pub stands-one : (bs : List ℕ) (a x : ℕ) → a + 1 ≤ length bs → at bs a ≡ x → Stands bs a (x ∷ [])
+stands-one bs a x fit e = record { fits = fit; same = go }
+  where
+    go : (i : ℕ) → i < 1 → at bs (a + i) ≡ at (x ∷ []) i
+    go zero l = rw add-zero e
+    go (suc i) l = absurd (omega arith)
+
 pub stands-three : (bs : List ℕ) (a x y z : ℕ) → a + 3 ≤ length bs → at bs a ≡ x → at bs (a + 1) ≡ y → at bs (a + 2) ≡ z → Stands bs a (x ∷ y ∷ z ∷ [])
 stands-three bs a x y z fit e₀ e₁ e₂ = record { fits = fit; same = go }
   where

@@ -5,11 +5,12 @@ use mathlib.Core.Bool.{Bool, true, false, not, false≢true}
 use mathlib.Core.List.{List}
 use mathlib.Core.Logic.{⊎-elim, _≢_}
 use native.Mathlib.Omega.{arith}
-use lib.Dec.{eqb}
+use lib.Dec.{ltb, eqb}
 use lib.ListN.{length}
 use borrow.Author.Tests.{le-leb, lt-leb, leb-true, lt-ltb, ltb-true, eq-eqb, eqb-true}
 use Rattle.units.specs.JudgingLaws.{held, failed, passed, and-true, true-or-false}
-use Rattle.fields.specs.Fields.{headTag, headSize, stationTag, stationSize, allocationTag, allocationSize, endTag, endSize, allocationsFor, due, headed, row, isAllowed, left, tagAt, sizeAt, behind, allowedAt, fieldNumber, handedOut, fieldAt, FieldWhole}
+use Rattle.fields.specs.Fields.{headTag, headSize, stationTag, stationSize, allocationTag, allocationSize, modeTag, modeSize, endTag, endSize}
+use Rattle.fields.specs.Fields.{allocationsFor, due, headed, row, isFurther, inHeader, isAllowed, left, tagAt, sizeAt, behind, allowedAt, fieldNumber, handedOut, fieldAt, FieldWhole}
 use Rattle.fields.specs.declared.Passed.{Passed}
 
 -- ---- the number of a field
@@ -89,12 +90,21 @@ pub allocations-few : (plan : Bool) (n : ℕ) → allocationsFor plan n ≤ n
 allocations-few true n = omega arith
 allocations-few false n = omega arith
 
+-- the further fields of the header, one by one
+pub data Further (tag size : ℕ) : Type 0 where
+  a-mode : tag ≡ modeTag → size ≡ modeSize → Further tag size
+
+-- their tags are above the stations' and the allocations' and below the end's; no length is above 255
+pub further-tag : (tag size : ℕ) → Further tag size → (3 < tag) × ((tag < 255) × (size < 256))
+further-tag tag size (a-mode t s) = (omega arith, (omega arith, omega arith))
+
 -- the rows of the table, one by one
 pub data Kind (p : Passed) (tag size : ℕ) : Type 0 where
   a-head : tag ≡ headTag → size ≡ headSize → headed p ≡ false → Kind p tag size
   a-station : tag ≡ stationTag → size ≡ stationSize → headed p ≡ true → p .stations < 128 → p .allocations ≡ 0 → Kind p tag size
   an-allocation : tag ≡ allocationTag → size ≡ allocationSize → headed p ≡ true → p .allocations < due p → Kind p tag size
   an-end : tag ≡ endTag → size ≡ endSize → headed p ≡ true → 1 ≤ p .stations → p .allocations ≡ due p → Kind p tag size
+  a-further : Further tag size → headed p ≡ true → p .head < tag → p .stations ≡ 0 → Kind p tag size
 
 -- a row holds for its tag, or the rest holds
 row-holds : {A : Type 0} (tag its : ℕ) (holds rest : Bool) → row tag its holds rest ≡ true → (tag ≡ its → holds ≡ true → A) → (rest ≡ true → A) → A
@@ -104,6 +114,9 @@ row-holds tag its holds rest h here else =
 not-said : (b : Bool) → not b ≡ true → b ≡ false
 not-said true e = absurd (false≢true e)
 not-said false e = refl
+
+is-further : (tag size : ℕ) → isFurther tag size ≡ true → Further tag size
+is-further tag size h = let w = and-true _ _ h in a-mode (eqb-true _ _ (w .0)) (eqb-true _ _ (w .1))
 
 pub allowed-kind : (p : Passed) (tag size : ℕ) → isAllowed p tag size ≡ true → Kind p tag size
 unfolding isAllowed
@@ -126,7 +139,11 @@ allowed-kind p tag size h =
     let v = and-true _ _ (w .0) in
     let u = and-true _ _ (v .0) in
     an-end t (eqb-true _ _ (u .0)) (u .1) (leb-true _ _ (v .1)) (eqb-true _ _ (w .1)))
-    (λ h. absurd (false≢true h)))))
+    (λ h.
+    let w = and-true (isFurther tag size) (inHeader p tag) h in
+    let v = and-true _ _ (w .1) in
+    let u = and-true _ _ (v .0) in
+    a-further (is-further tag size (w .0)) (u .0) (ltb-true _ _ (u .1)) (eqb-true _ _ (v .1))))))
 
 pub kind-allowed : (p : Passed) (tag size : ℕ) → Kind p tag size → isAllowed p tag size ≡ true
 unfolding isAllowed
@@ -134,3 +151,6 @@ kind-allowed p tag size (a-head t s h) = rw (t, s, h) refl
 kind-allowed p tag size (a-station t s h few none) = rw (t, s, h, lt-ltb _ _ few) (eq-eqb _ _ none)
 kind-allowed p tag size (an-allocation t s h few) = rw (t, s, h) (lt-ltb _ _ few)
 kind-allowed p tag size (an-end t s h some all) = rw (t, s, h, le-leb _ _ some) (eq-eqb _ _ all)
+kind-allowed p tag size (a-further (a-mode t s) h above none) =
+    let low : ltb (p .head) 4 ≡ true = lt-ltb (p .head) 4 (omega arith) in
+    rw (t, s, h, low) (eq-eqb _ _ none)

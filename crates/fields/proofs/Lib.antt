@@ -2,3 +2,4 @@
 pub mod SegmentLaws
 pub mod ByteLaws
 pub mod FieldLaws
+pub mod HeaderLaws

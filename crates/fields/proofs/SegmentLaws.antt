@@ -31,6 +31,10 @@ rows-same (suc n) f g h =
 
 -- ---- segments laid into a buffer
 
+pub laid-one : (out : List ℕ) (a x : ℕ) → a + 1 ≤ length out → set out a x ≡ laid out a (x ∷ [])
+unfolding laid
+laid-one out a x h = sets-eq (x ∷ []) out a h
+
 pub laid-three : (out : List ℕ) (a x y z : ℕ) → a + 3 ≤ length out → set (set (set out a x) (a + 1) y) (a + 2) z ≡ laid out a (x ∷ y ∷ z ∷ [])
 unfolding laid
 laid-three out a x y z h =

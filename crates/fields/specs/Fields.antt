@@ -1,7 +1,7 @@
 -- The fields of a sheet: one tag byte, two length bytes, then the body. What may stand at a place, and what is found there.
 use Prim.Native.Nat.{ℕ, zero, suc, _+_, _-_, _≤_}
 use mathlib.Core.Path.{_≡_}
-use mathlib.Core.Bool.{Bool, true, false, cond, not, _&&_}
+use mathlib.Core.Bool.{Bool, true, cond, not, _&&_}
 use mathlib.Core.List.{List}
 use lib.Dec.{leb, ltb, eqb}
 use lib.ListN.{length}
@@ -35,6 +35,13 @@ allocationTag = 3
 abbrev pub allocationSize : ℕ
 allocationSize = 4
 
+-- tag 4, length 1: the mode
+abbrev pub modeTag : ℕ
+modeTag = 4
+
+abbrev pub modeSize : ℕ
+modeSize = 1
+
 -- tag 255, length 0: the end
 abbrev pub endTag : ℕ
 endTag = 255
@@ -60,14 +67,24 @@ headed p = leb headTag (p .head)
 abbrev pub row : ℕ → ℕ → Bool → Bool → Bool
 row tag its holds rest = cond (eqb tag its) holds rest
 
--- the tag with this length may stand behind the fields that have passed. A row for each tag, with its one length: the header, once; then stations, up to 128 and none behind an allocation; then in a plan an allocation for each; then, behind at least one station and all allocations, the end
+-- a field of the header behind TTRT, with its one length: the mode
+abbrev pub isFurther : ℕ → ℕ → Bool
+isFurther tag size = eqb tag modeTag && eqb size modeSize
+
+-- such a field stands behind TTRT and before the first station, and its tag is above those of the header's fields that have passed
+abbrev pub inHeader : Passed → ℕ → Bool
+inHeader p tag = headed p && ltb (p .head) tag && eqb (p .stations) 0
+
+-- the tag with this length may stand behind the fields that have passed. A row for each tag, with its one length:
+-- TTRT, once; then stations, up to 128 and none behind an allocation; then in a plan an allocation for each; then, behind at least one station and all allocations, the end.
+-- Any other tag is a further field of the header, in its place
 unfoldable pub isAllowed : Passed → ℕ → ℕ → Bool
 isAllowed p tag size =
     row tag headTag (eqb size headSize && not (headed p))
     (row tag stationTag (eqb size stationSize && headed p && ltb (p .stations) mostStations && eqb (p .allocations) 0)
     (row tag allocationTag (eqb size allocationSize && headed p && ltb (p .allocations) (due p))
     (row tag endTag (eqb size endSize && headed p && leb 1 (p .stations) && eqb (p .allocations) (due p))
-    false)))
+    (isFurther tag size && inHeader p tag))))
 
 -- ---- what is found at a place
 

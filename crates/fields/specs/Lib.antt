@@ -1,5 +1,6 @@
 -- The fields of a sheet, and numbers in bytes.
 --     Fields      what may stand at a place, and what is found there
+--     Header      the numbers of the header behind TTRT
 --     Bytes       numbers in bytes
 --     Rows        lists of bytes put together
 --     Bounds      what the small functions hand out, with their bounds
@@ -8,5 +9,6 @@
 pub mod Rows
 pub mod Bytes
 pub mod Fields
+pub mod Header
 pub mod Bounds
 pub mod RowLaws

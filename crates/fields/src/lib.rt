@@ -3,7 +3,8 @@ pub mod bytes;
 
 ghost use mathlib.Core.Path.{_≡_};
 ghost use Rattle.fields.specs.Bounds.{LentBytes};
-ghost use Rattle.fields.specs.Fields.{left, isAllowed, allocationsFor, fieldAt};
+ghost use Rattle.fields.specs.Fields.{left, isFurther, inHeader, isAllowed, allocationsFor, fieldAt};
+ghost use Rattle.fields.specs.Header.{headerNumber};
 use units::numbers;
 
 // ---- the tags, each with its one length
@@ -19,6 +20,10 @@ pub const STATION_SIZE: usize = 16;
 pub const ALLOCATION_TAG: u8 = 3;
 
 pub const ALLOCATION_SIZE: usize = 4;
+
+pub const MODE_TAG: u8 = 4;
+
+pub const MODE_SIZE: usize = 1;
 
 pub const END_TAG: u8 = 255;
 
@@ -48,7 +53,22 @@ pub fn allocations_for(plan: bool, n: usize) -> usize
     if plan { n } else { 0 }
 }
 
-// The tag with this length may stand next: a row for each tag, with its one length.
+// A field of the header behind TTRT, with its one length.
+fn is_further(tag: u8, size: usize) -> bool
+    ensures { λ r. ⌜ r ≡ isFurther tag size ⌝ }
+{
+    (tag == MODE_TAG) & (size == MODE_SIZE)
+}
+
+// Such a field may stand next: behind TTRT, before the first station, and above the header's fields that have passed.
+fn in_header(passed: Passed, tag: u8) -> bool
+    ensures { λ r. ⌜ r ≡ inHeader passed tag ⌝ }
+{
+    let headed = HEAD_TAG <= passed.head;
+    headed & (passed.head < tag) & (passed.stations == 0)
+}
+
+// The tag with this length may stand next: a row for each tag, with its one length; then the further fields of the header.
 fn is_allowed(passed: Passed, tag: u8, size: usize) -> bool
     ensures { λ r. ⌜ r ≡ isAllowed passed tag size ⌝ }
 {
@@ -69,8 +89,28 @@ fn is_allowed(passed: Passed, tag: u8, size: usize) -> bool
     if tag == END_TAG {
         return (size == END_SIZE) & headed & (1 <= passed.stations) & (passed.allocations == due);
     }
-    false
+    is_further(tag, size) & in_header(passed, tag)
 }
+
+// ---- the numbers of the header behind TTRT
+
+// What an absent field means.
+pub const ABSENT: u32 = 1;
+
+// The number that a field of the header gives: what its absence means where it is not there, else its own number. A field that is there and says what its absence means gives 0, which no range allows.
+pub fn header_number(there: bool, number: u32) -> u32
+    ensures { λ r. ⌜ r ≡ headerNumber there number ⌝ }
+{
+    if !there {
+        return ABSENT;
+    }
+    if number == ABSENT {
+        return 0;
+    }
+    number
+}
+
+// ---- what is found at a place
 
 // How many bytes are left from a place on.
 fn left_from(bs: &[u8], at: usize) -> usize

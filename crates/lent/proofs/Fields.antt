@@ -1,10 +1,12 @@
--- What the toolchain says of each struct that a host in C passes, lends or is handed: its size, and where each of its fields begins. The host's test holds the twins of include/olivastrum.h to these lines.
+-- What the toolchain says of each struct that a host in C passes, lends or is handed: its size, and where each of its fields begins.
+-- The host's test holds the twins of include/olivastrum.h to these lines.
 use Prim.Native.Nat.{ℕ, zero, suc}
 use mathlib.Core.Path.{_≡_, refl}
 use mathlib.Core.Option.{Option, none, some}
 use mathlib.Core.List.{List, [], _∷_, _++_}
 use mir.Syntax.{Ty}
 use prog.Memory.{size, fieldOf}
+use Rattle.sets.proofs.Head.Laws as Head
 use Rattle.sets.proofs.Set.Laws as Set
 use Rattle.plans.proofs.Alloc.Laws as Alloc
 use Rattle.plans.proofs.Planned.Laws as Planned
@@ -30,7 +32,10 @@ places τ (suc n) = places τ n ++ (place (fieldOf τ n) ∷ [])
 abbrev layout : Ty → ℕ → List ℕ
 layout τ n = size τ ∷ places τ n
 
-set : layout Set.mir 6 ≡ 2056 ∷ 0 ∷ 4 ∷ 8 ∷ 520 ∷ 1032 ∷ 1544 ∷ []
+head : layout Head.mir 2 ≡ 8 ∷ 0 ∷ 4 ∷ []
+head = refl
+
+set : layout Set.mir 6 ≡ 2060 ∷ 0 ∷ 8 ∷ 12 ∷ 524 ∷ 1036 ∷ 1548 ∷ []
 set = refl
 
 alloc : layout Alloc.mir 1 ≡ 512 ∷ 0 ∷ []
@@ -39,16 +44,16 @@ alloc = refl
 planned : layout Planned.mir 2 ≡ 516 ∷ 0 ∷ 512 ∷ []
 planned = refl
 
-read-request : layout ReadRequest.mir 2 ≡ 2060 ∷ 0 ∷ 2056 ∷ []
+read-request : layout ReadRequest.mir 2 ≡ 2064 ∷ 0 ∷ 2060 ∷ []
 read-request = refl
 
-read-plan : layout ReadPlan.mir 3 ≡ 2572 ∷ 0 ∷ 2056 ∷ 2568 ∷ []
+read-plan : layout ReadPlan.mir 3 ≡ 2576 ∷ 0 ∷ 2060 ∷ 2572 ∷ []
 read-plan = refl
 
 written : layout Written.mir 2 ≡ 16 ∷ 0 ∷ 8 ∷ []
 written = refl
 
-ring : layout Ring.mir 12 ≡ 6304 ∷ 0 ∷ 2056 ∷ 2568 ∷ 3080 ∷ 3592 ∷ 4104 ∷ 5128 ∷ 5256 ∷ 6280 ∷ 6288 ∷ 6296 ∷ 6300 ∷ []
+ring : layout Ring.mir 13 ≡ 6824 ∷ 0 ∷ 2060 ∷ 2572 ∷ 3084 ∷ 3596 ∷ 4108 ∷ 4620 ∷ 4624 ∷ 5648 ∷ 5776 ∷ 6800 ∷ 6808 ∷ 6816 ∷ []
 ring = refl
 
 message : layout Message.mir 3 ≡ 24 ∷ 0 ∷ 8 ∷ 16 ∷ []
@@ -60,5 +65,5 @@ visit-record = refl
 visit-answer : layout VisitAnswer.mir 2 ≡ 80 ∷ 0 ∷ 72 ∷ []
 visit-answer = refl
 
-opened : layout Opened.mir 2 ≡ 6312 ∷ 0 ∷ 6304 ∷ []
+opened : layout Opened.mir 2 ≡ 6832 ∷ 0 ∷ 6824 ∷ []
 opened = refl

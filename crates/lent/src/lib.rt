@@ -1,4 +1,5 @@
-// What a host in C calls: sheets on lent bytes, planning and opening by value, and the ring lent by the host, changed where it stands in the host's memory. All are thin over the layers below; include/olivastrum.h declares them.
+// What a host in C calls: sheets on lent bytes, planning and opening by value, and the ring lent by the host, changed where it stands in the host's memory.
+// All are thin over the layers below; include/olivastrum.h declares them.
 ghost use mathlib.Core.Path.{_≡_};
 ghost use mathlib.Core.Bool.{true, false};
 ghost use Rattle.plans.specs.Planned.{blankAlloc, planned};

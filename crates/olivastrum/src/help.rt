@@ -12,7 +12,7 @@ fn commands(to: i32) -> bool {
     let name = more(
         true,
         to,
-        b"olivastrum: plans timely-token rings, and runs them one visit at a time\n\n",
+        b"olivastrum: plans timely-token and FDDI rings, and runs them one visit at a time\n\n",
     );
     let plan = more(
         name,

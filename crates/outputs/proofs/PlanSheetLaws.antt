@@ -24,7 +24,8 @@ wrote-none r before (suc k) w e n z =
     rw e (record { answer = rw n refl; buffer = rw n refl; fits = omega arith; counts = refl })
 
 -- an accepted one, and what writing then did
-pub wrote-plan : (r q : ReadRequest) (p : Planned) (before after : List ℕ) (w : Written) → r ≡ q → r .number ≡ 0 → p ≡ planned (r .set) → p .number ≡ 0 → Wrote true (r .set) (p .alloc) before after w → length after ≡ length before → WrotePlan q before after w
+pub wrote-plan : (r q : ReadRequest) (p : Planned) (before after : List ℕ) (w : Written) → r ≡ q → r .number ≡ 0 → p ≡ planned (r .set) → p .number ≡ 0
+    → Wrote true (r .set) (p .alloc) before after w → length after ≡ length before → WrotePlan q before after w
 unfolding answerOr bufferOr
 wrote-plan r q p before after w e k made n h same =
     let none : planningNumber r ≡ 0 = then-rest (r .number) _ k ∙ sym (ap (λ (x : Planned). x .number) made) ∙ n in

@@ -1,6 +1,7 @@
 -- Everything that `specs/Promised.antt` lists, proved.
-use Prim.Native.Nat.{ℕ, zero, suc, _-_}
-use mathlib.Core.Path.{_≡_, refl, ap, _∙_}
+use Prim.Native.Nat.{ℕ, zero, suc, _-_, _≤_}
+use mathlib.Core.Path.{_≡_, refl, sym, ap, subst, _∙_}
+use mathlib.Core.Bool.{false}
 use mathlib.Core.List.{List, []}
 use mathlib.Core.Logic.{_≢_}
 use native.Mathlib.Omega.{arith}
@@ -9,22 +10,29 @@ use Rattle.units.specs.Judging.{orElse, allHold}
 use Rattle.sets.specs.Rules.{headInRange, stationInRange}
 use Rattle.sets.specs.Judged.{judgedThen, zeros}
 use Rattle.sets.specs.declared.Set.{Set}
-use Rattle.plans.specs.Planned.{planned, smallestWith, answered, leastAlloc}
+use Rattle.plans.specs.Rules.{timeAt}
+use Rattle.plans.specs.Planned.{planned, smallestWith, answered, leastAlloc, blankAlloc}
 use Rattle.fields.specs.Rows.{rows}
 use Rattle.fields.specs.Bytes.{shortAt, numberAt}
+use Rattle.fields.specs.Header.{headerNumber}
+use Rattle.fields.proofs.HeaderLaws.{header-neither}
 use Rattle.fields.specs.Fields.{isAllowed, fieldNumber, handedOut}
 use Rattle.scan.specs.Cursor.{cursorAfter}
 use Rattle.scan.specs.Scanned.{withField, stopsAt, stopNumber, scanFrom, scanned}
 use Rattle.sheets.specs.Reading.{readRequest, thenNumber, judgedSheet, readAnswer, readSheet}
 use Rattle.sheets.specs.ReadLaws.{then-none}
 use Rattle.sheets.specs.Writing.{writeAnswer, bufferAfter}
+use Rattle.sheets.specs.declared.ReadRequest.{ReadRequest}
 use Rattle.sheets.specs.declared.Written.{Written}
 use Rattle.text.specs.Text.{decimalWithin, lineOn, line, textOr, refusedLine}
 use Rattle.outputs.specs.PlanText.{planLines, plannedText, requestText, planPrinted}
 use Rattle.text.specs.TextLaws.{text-accepted, text-refused}
 use Rattle.outputs.specs.PlanSheet.{planningNumber, answerOr, bufferOr}
-use Rattle.outputs.specs.Promised.{Promised, workedSheet, workedText}
+use Rattle.outputs.specs.Promised.{Promised, workedSheet, workedText, olderSheet, olderText}
+use Rattle.outputs.specs.ShowText.{modeLine, shareWords, stationLine, sheetText, showPrinted}
+use Rattle.outputs.proofs.ShowLaws.{shown-request}
 use Rattle.outputs.proofs.ShownLaws.{shown-composed}
+use Rattle.outputs.proofs.ModeLaws.{mode-given, other-four, second-broken, late-broken}
 
 -- ---- the same plan
 
@@ -66,15 +74,19 @@ empty-read = refl
 empty-said : planPrinted [] ≡ refusedLine 1
 empty-said = text-refused _ _ (λ e. absurd (omega (arith, e, empty-read))) ∙ ap refusedLine empty-read
 
+olderSet : Set
+olderSet = record { head = record { ttrt = 100; mode = 2 }; n = 1; w = fill 1 (λ i. 2) zeros; c = fill 1 (λ i. 20) zeros; d = fill 1 (λ i. 200) zeros; p = fill 1 (λ i. 200) zeros }
+
 workedSet : Set
-workedSet = record { head = record { ttrt = 100 }; n = 4; w = fill 1 (λ i. 2) zeros; c = fill 4 (λ i. 20) zeros; d = fill 4 (λ i. 100) zeros; p = fill 4 (λ i. 100) zeros }
+workedSet = record { head = record { ttrt = 100; mode = 1 }; n = 4; w = fill 1 (λ i. 2) zeros; c = fill 4 (λ i. 20) zeros; d = fill 4 (λ i. 100) zeros; p = fill 4 (λ i. 100) zeros }
 
 worked-read : readRequest workedSheet ≡ record { set = workedSet; number = 0 }
-unfolding workedSet readSheet readAnswer thenNumber scanned scanFrom stopsAt stopNumber withField cursorAfter fieldNumber handedOut isAllowed orElse allBelow shortAt numberAt fill judgedSheet judgedThen allHold sumBelow headInRange stationInRange
+unfolding workedSet readSheet readAnswer thenNumber scanned scanFrom stopsAt stopNumber withField cursorAfter fieldNumber handedOut isAllowed
+    orElse allBelow shortAt numberAt fill judgedSheet judgedThen allHold sumBelow headInRange stationInRange headerNumber
 worked-read = refl
 
 worked-planned : planned workedSet ≡ record { alloc = record { s = fill 4 (λ i. 20) zeros }; number = 0 }
-unfolding workedSet answered leastAlloc smallestWith orElse fill judgedThen allHold allBelow sumBelow headInRange stationInRange
+unfolding workedSet answered leastAlloc timeAt smallestWith orElse fill judgedThen allHold allBelow sumBelow headInRange stationInRange
 worked-planned = refl
 
 worked-lines : planLines workedSet (record { s = fill 4 (λ i. 20) zeros }) ≡ workedText
@@ -84,6 +96,23 @@ worked-lines = refl
 worked-said : planPrinted workedSheet ≡ workedText
 unfolding textOr
 worked-said = ap requestText worked-read ∙ ap (plannedText workedSet) worked-planned ∙ worked-lines
+
+-- an older set, shown
+older-read : readRequest olderSheet ≡ record { set = olderSet; number = 0 }
+unfolding olderSet readSheet readAnswer thenNumber scanned scanFrom stopsAt stopNumber withField cursorAfter fieldNumber handedOut isAllowed
+    orElse allBelow shortAt numberAt fill judgedSheet judgedThen allHold sumBelow headInRange stationInRange headerNumber
+older-read = refl
+
+older-lines : sheetText false olderSet blankAlloc ≡ olderText
+unfolding olderSet sheetText modeLine stationLine shareWords rows line lineOn decimalWithin fill
+older-lines = refl
+
+older-shown : showPrinted olderSheet ≡ olderText
+older-shown =
+    let none : readRequest olderSheet .number ≡ 0 = ap (λ (r : ReadRequest). r .number) older-read in
+    sym (shown-request (readRequest olderSheet) olderSheet refl (λ e. absurd (omega (arith, e, none))) none)
+    ∙ ap (λ (r : ReadRequest). sheetText false (r .set) blankAlloc) older-read
+    ∙ older-lines
 
 pub promised : Promised
 unfolding bufferOr bufferAfter answerOr
@@ -99,4 +128,10 @@ promised =
           );
       same-refusal = λ sheet out k. (refused-text sheet k, (or-refused (planningNumber (readRequest sheet)) _ k, or-kept (planningNumber (readRequest sheet)) _ out k));
       show-compose = shown-composed;
+      older = older-shown;
+      mode-line = mode-given;
+      mode-other = λ d mode out e other whole count.
+          other-four d out whole count (subst (λ (m : ℕ). ¬ ((1 ≤ m) × (m ≤ 2))) (sym e) (header-neither mode other));
+      mode-twice = second-broken;
+      mode-late = late-broken;
     }

@@ -1,21 +1,29 @@
 -- The laws of what `show` prints, for the proofs of this layer. No rule stands here.
-use Prim.Native.Nat.{ℕ, zero, suc, _≤_}
-use mathlib.Core.Path.{_≡_, sym, ap, _∙_}
-use mathlib.Core.Bool.{Bool, true, false}
-use mathlib.Core.List.{List}
+use Prim.Native.Nat.{ℕ, _≤_}
+use mathlib.Core.Path.{_≡_, refl, sym, ap, _∙_}
+use mathlib.Core.Bool.{true, false}
+use mathlib.Core.List.{List, [], _∷_}
 use mathlib.Core.Logic.{_≢_}
-use native.Mathlib.Omega.{arith}
 use borrow.Author.Tests.{eq-eqb, ne-eqb}
-use Rattle.sets.specs.declared.Set.{Set}
 use Rattle.plans.specs.Planned.{blankAlloc}
-use Rattle.plans.specs.declared.Alloc.{Alloc}
 use Rattle.sheets.specs.Reading.{readRequest, readPlan}
 use Rattle.sheets.specs.ReadLaws.{read-few}
 use Rattle.sheets.specs.declared.ReadRequest.{ReadRequest}
 use Rattle.sheets.specs.declared.ReadPlan.{ReadPlan}
-use Rattle.text.specs.Text.{refusedLine}
+use Rattle.fields.specs.Header.{absent}
+use Rattle.text.specs.Text.{decimalOf, line, refusedLine}
+use Rattle.drafts.specs.Compose.{modeWord}
 use Rattle.text.specs.TextLaws.{text-accepted, text-refused}
-use Rattle.outputs.specs.ShowText.{sheetText, planReadText, requestReadText, planShown, showPrinted}
+use Rattle.outputs.specs.ShowText.{modeLine, sheetText, planReadText, requestReadText, planShown, showPrinted}
+
+-- the mode's line: none where the mode is what its absence means
+pub mode-line-none : (mode : ℕ) → mode ≡ absent → modeLine mode ≡ []
+unfolding modeLine
+mode-line-none mode e = rw e refl
+
+pub mode-line-some : (mode : ℕ) → mode ≢ absent → modeLine mode ≡ line (modeWord ∷ decimalOf mode ∷ [])
+unfolding modeLine
+mode-line-some mode other = rw (ne-eqb mode absent other) refl
 
 pub request-few : (r : ReadRequest) (bs : List ℕ) → r ≡ readRequest bs → r .set .n ≤ 128
 request-few r bs e = rw e (read-few false bs)

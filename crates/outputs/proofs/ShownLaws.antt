@@ -21,7 +21,7 @@ use Rattle.drafts.specs.Compose.{onNextLine, composeStart, composeAfter, compos
 use Rattle.drafts.specs.ComposeLaws.{compose-append, newline-more}
 use Rattle.drafts.specs.declared.Draft.{Draft}
 use Rattle.drafts.specs.declared.Composing.{Composing}
-use Rattle.outputs.proofs.DraftLaws.{SmallAt, kindOf, shareOf, kindBehind, draftBehind, text-drafted}
+use Rattle.outputs.proofs.DraftLaws.{SmallAt, head-some, kindOf, shareOf, kindBehind, draftBehind, text-drafted}
 
 -- ---- the text that is shown of an accepted sheet
 
@@ -54,7 +54,7 @@ module _ (plan : Bool) (t : Set) (a : Alloc) (k : Kept plan t a) where
   -- the draft of its text
   shown-draft : (text : List ℕ) → text ≡ sheetText plan t a → draftOf text ≡ onNextLine (draftBehind plan t a (t .n))
   shown-draft text e =
-      let drafted = text-drafted t a plan (omega (arith, k .numbers .header)) (omega (arith, k .count)) small-at in
+      let drafted = text-drafted t a plan (omega (arith, k .numbers .header .ttrt)) (omega (arith, k .numbers .header .mode)) (omega (arith, k .count)) small-at in
       ap (λ (c : Composing). c .draft)
       (ap (λ (x : List ℕ). composeAfter composeStart (x ++ (newline ∷ []))) e
       ∙ compose-append composeStart (sheetText plan t a) (newline ∷ [])
@@ -72,12 +72,16 @@ module _ (t : Set) (a : Alloc) (some : 1 ≤ t .n) (out : List ℕ) where
   request-written : (composedAnswer (onNextLine (draftBehind false t a (t .n))) out ≡ writtenAnswer false (firstPlaces t) blankAlloc out)
       × (composedBuffer (onNextLine (draftBehind false t a (t .n))) out ≡ writtenBuffer false (firstPlaces t) blankAlloc out)
   unfolding composedAnswer composedBuffer draftBehind
-  request-written = (rw (kind-some false (t .n) some), rw (kind-some false (t .n) some))
+  request-written =
+      let head = head-some (t .head .mode) in
+      (rw (head, kind-some false (t .n) some), rw (head, kind-some false (t .n) some))
 
   plan-written : (composedAnswer (onNextLine (draftBehind true t a (t .n))) out ≡ writtenAnswer true (firstPlaces t) (firstAllocations (t .n) a) out)
       × (composedBuffer (onNextLine (draftBehind true t a (t .n))) out ≡ writtenBuffer true (firstPlaces t) (firstAllocations (t .n) a) out)
   unfolding composedAnswer composedBuffer draftBehind shareOf
-  plan-written = (rw (kind-some true (t .n) some), rw (kind-some true (t .n) some))
+  plan-written =
+      let head = head-some (t .head .mode) in
+      (rw (head, kind-some true (t .n) some), rw (head, kind-some true (t .n) some))
 
 -- ---- the same bytes again
 

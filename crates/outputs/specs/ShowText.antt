@@ -9,15 +9,20 @@ use Rattle.sets.specs.declared.Set.{Set}
 use Rattle.plans.specs.Planned.{blankAlloc}
 use Rattle.plans.specs.declared.Alloc.{Alloc}
 use Rattle.fields.specs.Rows.{rows}
+use Rattle.fields.specs.Header.{absent}
 use Rattle.sheets.specs.Reading.{readRequest, readPlan}
 use Rattle.sheets.specs.declared.ReadRequest.{ReadRequest}
 use Rattle.sheets.specs.declared.ReadPlan.{ReadPlan}
 use Rattle.text.specs.Text.{decimalOf, line, textOr}
-use Rattle.drafts.specs.Compose.{ttrtWord, stationWord}
+use Rattle.drafts.specs.Compose.{ttrtWord, modeWord, stationWord}
 
 -- `ttrt N`
 abbrev pub ttrtLine : ℕ → List ℕ
 ttrtLine ttrt = line (ttrtWord ∷ decimalOf ttrt ∷ [])
+
+-- `mode M`; no line where the mode is what its absence means
+unfoldable pub modeLine : ℕ → List ℕ
+modeLine mode = cond (eqb mode absent) [] (line (modeWord ∷ decimalOf mode ∷ []))
 
 -- S, in a plan
 unfoldable pub shareWords : Bool → ℕ → List (List ℕ)
@@ -31,9 +36,9 @@ stationLine plan t a i =
     (stationWord ∷ decimalOf (at (t .w) i) ∷ decimalOf (at (t .c) i) ∷ decimalOf (at (t .d) i) ∷ decimalOf (at (t .p) i)
     ∷ shareWords plan (at (a .s) i))
 
--- the header's line, then a line for each station in ring order
+-- the header's lines, then a line for each station in ring order
 unfoldable pub sheetText : Bool → Set → Alloc → List ℕ
-sheetText plan t a = ttrtLine (t .head .ttrt) ++ rows (t .n) (stationLine plan t a)
+sheetText plan t a = ttrtLine (t .head .ttrt) ++ modeLine (t .head .mode) ++ rows (t .n) (stationLine plan t a)
 
 -- the plan that was read, or the refusal
 abbrev pub planReadText : ReadPlan → List ℕ

@@ -1,17 +1,17 @@
 -- A loop passes as many of the n places as there are, and is right for all n because the places past the end pass every test, add nothing and are not stored. Once for all loops of a kind.
 use Prim.Native.Nat.{ℕ, zero, suc, _+_, _-_, _≤_, _<_, min}
 use mathlib.Core.Path.{_≡_, refl, sym, _∙_}
-use mathlib.Core.Bool.{Bool, true, _&&_, and-true}
+use mathlib.Core.Bool.{Bool, true, false, _&&_, and-true, and-false}
 use mathlib.Core.List.{List}
 use mathlib.Core.Logic.{⊎-elim}
 use native.Mathlib.Numerals.{add-one}
 use native.Mathlib.Omega.{arith}
-use borrow.Author.Tests.{le-leb}
-use lib.Dec.{leb}
+use borrow.Author.Tests.{le-leb, lt-ltb, le-ltb}
+use lib.Dec.{leb, ltb}
 use lib.ListN.{length, set, List·getD-eq-default}
 use lib.Seq.{set-out}
 use Rattle.units.specs.Places.{at, sumBelow, allBelow, fill}
-use Rattle.units.specs.PlaceLaws.{sum-step, all-step, fill-step, fill-length}
+use Rattle.units.specs.PlaceLaws.{sum-step, all-step, fill-step, fill-length, fill-outside}
 use Rattle.units.specs.SmallLaws.{below-or-not}
 
 -- what no place from the k-th on changes is the same for n places as for the smaller of n and k
@@ -36,12 +36,32 @@ module _ (f : ℕ → Bool) (i : ℕ) (all : Bool) (said : all ≡ allBelow i f)
   tested-next = rw (all-step, said)
 
   -- the end: all n places are tested
-  pub tested : (n : ℕ) → i ≡ min n 128 → ((j : ℕ) → 128 ≤ j → f j ≡ true) → all ≡ allBelow n f
+  tested : (n : ℕ) → i ≡ min n 128 → ((j : ℕ) → 128 ≤ j → f j ≡ true) → all ≡ allBelow n f
   tested n end past = said ∙ rw end (settled (λ m. allBelow m f) 128 (λ j l. all-step j f ∙ (rw (past j l) (and-true _))) n)
 
 -- 0 is above no number, so that a place past the end passes
-pub within-past : (xs : List ℕ) → length xs ≡ 128 → (most : ℕ → ℕ) → (i : ℕ) → 128 ≤ i → leb (at xs i) (most i) ≡ true
-within-past xs long most i l = le-leb (at xs i) (most i) (omega (arith, zero-past xs long i l))
+pub within-all : (xs : List ℕ) (most : ℕ → ℕ) → length xs ≡ 128 → (i : ℕ) (all : Bool) → all ≡ allBelow i (λ j. leb (at xs j) (most j)) → (n : ℕ) → i ≡ min n 128
+    → all ≡ allBelow n (λ j. leb (at xs j) (most j))
+within-all xs most long i all said n end =
+    tested (λ j. leb (at xs j) (most j)) i all said n end (λ j l. le-leb (at xs j) (most j) (omega (arith, zero-past xs long j l)))
+
+-- a test that no place passes fails at the first, however many there are
+never : (f : ℕ → Bool) → ((j : ℕ) → f j ≡ false) → (n : ℕ) → allBelow (suc n) f ≡ false
+unfolding allBelow
+never f none n = rw (none n) (and-false (allBelow n f))
+
+tested-never : (f : ℕ → Bool) → ((j : ℕ) → f j ≡ false) → (n : ℕ) → allBelow (min n 128) f ≡ allBelow n f
+tested-never f none zero = refl
+tested-never f none (suc n) =
+    let e : min (suc n) 128 ≡ suc (min n 127) = omega arith in
+    rw e (never f none (min n 127) ∙ sym (never f none n))
+
+-- no number is below 0, and 0 is below every other: so the places past the end change nothing
+pub below-all : (xs : List ℕ) (top : ℕ) → length xs ≡ 128 → (i : ℕ) (all : Bool) → all ≡ allBelow i (λ j. ltb (at xs j) top) → (n : ℕ) → i ≡ min n 128 → all ≡ allBelow n (λ j. ltb (at xs j) top)
+below-all xs top long i all said n end =
+    ⊎-elim (λ (some : 0 < top). tested (λ j. ltb (at xs j) top) i all said n end (λ j l. lt-ltb (at xs j) top (omega (arith, zero-past xs long j l))))
+    (λ (none : top ≤ 0). said ∙ rw end (tested-never (λ j. ltb (at xs j) top) (λ j. le-ltb (at xs j) top (omega arith)) n))
+    (below-or-not 0 top)
 
 -- ---- sums
 
@@ -55,6 +75,10 @@ room-past xs ys long i l = omega (arith, zero-past xs long i l)
 -- ---- fills
 
 module _ (f : ℕ → ℕ) (xs : List ℕ) (i : ℕ) (ys : List ℕ) (said : ys ≡ fill i f xs) where
+  -- place i itself is still as it was
+  pub untouched : at ys i ≡ at xs i
+  untouched = rw said (fill-outside i f xs i (omega arith))
+
   -- one turn: place i is stored too
   pub filled-next : (x : ℕ) → x ≡ f i → set ys i x ≡ fill (i + 1) f xs
   filled-next x e = rw (fill-step, said, e)

@@ -2,6 +2,7 @@
 use libc::STDOUT_FILENO;
 use sets::Head;
 use sets::Set;
+use units::numbers;
 
 fn number(x: u64) {
     io::print_decimal(STDOUT_FILENO, x);
@@ -30,7 +31,10 @@ fn equal_stations(ttrt: u32, n: u32, tau: u32, d: u32, c: u32) -> Set {
     let mut w: [u32; 128] = [0; 128];
     w[0] = tau;
     Set {
-        head: Head { ttrt },
+        head: Head {
+            ttrt,
+            mode: numbers::TIMELY,
+        },
         n,
         w,
         c: [c; 128],

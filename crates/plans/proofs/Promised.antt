@@ -1,25 +1,40 @@
--- Planning keeps its promises because the formula gives the least S of each station, and a sum of least numbers that is too large leaves no vector that is not.
-use Prim.Native.Nat.{ℕ, _-_, _≤_, _<_}
-use mathlib.Core.Path.{_≡_, sym, ap, _∙_}
+-- Planning keeps its promises because what it tries is at most every vector that meets the rules, and meets them itself where any does.
+use Prim.Native.Nat.{ℕ, _+_, _-_, _≤_, _<_, min}
+use mathlib.Core.Path.{_≡_, refl, sym, ap, _∙_}
 use mathlib.Core.Bool.{true, false, true≢false}
 use mathlib.Core.List.{List}
 use mathlib.Core.Logic.{_↔_, _≢_, ⊎-elim}
 use native.Mathlib.Omega.{arith}
 use native.Mathlib.Nat.{div-zero}
 use lib.Seq.{ext-getD}
+use Rattle.units.specs.Numbers.{timely, fddi}
 use Rattle.units.specs.Places.{at}
 use Rattle.units.specs.SmallLaws.{below-or-not}
 use Rattle.units.specs.JudgingLaws.{true-or-false, decides-not, given, given-later}
-use Rattle.sets.specs.Rules.{countAllowed, numbersAllowed, walkTimeAllowed}
+use Rattle.sets.specs.Rules.{tau, countAllowed, numbersAllowed, walkTimeAllowed}
 use Rattle.sets.specs.Judged.{judged}
 use Rattle.sets.specs.SetLaws.{decides-count, decides-numbers, decides-walk, allowed, judged-two, judged-four, judged-five, judged-later}
 use Rattle.sets.specs.declared.Set.{Set}
-use Rattle.plans.specs.Rules.{MeetsRules, tokenFits}
-use Rattle.plans.specs.Planned.{smallestFor, leastAlloc, blankAlloc, planNumber, planned}
+use Rattle.plans.specs.Rules.{leastTime, timeAt, MeetsRules}
+use Rattle.plans.specs.Planned.{smallestFor, leastAlloc, leastFits, blankAlloc, planNumber, planned}
 use Rattle.plans.specs.Answer.{IsPlan, Fitting}
-use Rattle.plans.specs.Promised.{KeptBy, Promised}
-use Rattle.plans.specs.PlanLaws.{smallest-meets, smallest-least, smallest-is, smallest-one, smallest-past, smallest-long, smallest-each, smallest-rules, token-needed, decides-token, answered-number, answered-refused, plan-refused-set, plan-none, plan-found, plan-judged, is-plan, planned-same, judged-plan-same, given-two, given-four, given-five, given-seven, given-none}
+use Rattle.plans.specs.Promised.{fddiTime, KeptBy, Promised}
+use Rattle.plans.specs.PlanLaws as laws
+use Rattle.plans.specs.PlanLaws.{smallest-meets, smallest-least, smallest-is, smallest-one, decides-rules, answered-number, answered-refused, given-two, given-four, given-five, given-seven, given-none}
+use Rattle.plans.proofs.LeastLaws.{from-load, to-load, least-past, least-long, least-needed, smallest-each, plan-refused-set, plan-none, plan-found, plan-judged, is-plan}
+use Rattle.plans.proofs.SameLaws.{planned-same, judged-plan-same}
 use Rattle.plans.specs.declared.Planned.{Planned}
+
+-- ---- X by the mode
+
+time-timely : (t : Set) (s : ℕ → ℕ) (i : ℕ) → t .head .mode ≡ timely → timeAt t s i ≡ leastTime (t .head .ttrt) (at (t .d) i) (s i)
+time-timely t s i m = laws.time-timely t s i (rw m refl)
+
+time-fddi : (t : Set) (s : ℕ → ℕ) (i : ℕ) → t .n ≤ 128 → t .head .mode ≡ fddi → timeAt t s i ≡ fddiTime t s i
+time-fddi t s i few m =
+    let all : min (t .n) 128 ≡ t .n = omega arith in
+    let lost : tau t + (1 - 1) ≡ tau t = omega arith in
+    laws.time-fddi t s i (rw m refl) ∙ rw (all, lost)
 
 -- ---- the smallest S
 
@@ -31,42 +46,42 @@ at-zero c d =
 -- ---- 6, and the plan
 
 module _ (t : Set) where
-  -- planning answers 6 or a plan exactly where the set is judged 0, and the token rule decides which
-  six-says : planned t .number ≡ 6 → (judged t ≡ 0) × (tokenFits t (at (leastAlloc t .s)) ≡ false)
+  -- planning answers 6 or a plan exactly where the set is judged 0, and the rules decide which
+  six-says : planned t .number ≡ 6 → (judged t ≡ 0) × (leastFits t ≡ false)
   six-says h =
       let said = judged-later t _ 6 (omega arith) (omega arith) (omega arith) .0 (sym (answered-number (planNumber t) (leastAlloc t)) ∙ h) in
-      let d = decides-token t (at (leastAlloc t .s)) in
+      let d = decides-rules t (at (leastAlloc t .s)) in
       (said .0, decides-not _ _ d .1 (given _ _ 6 0 d (omega arith) .0 (said .1)))
 
-  plan-says : planned t .number ≡ 0 → (judged t ≡ 0) × (tokenFits t (at (leastAlloc t .s)) ≡ true)
+  plan-says : planned t .number ≡ 0 → (judged t ≡ 0) × (leastFits t ≡ true)
   plan-says h =
       let said = judged-later t _ 0 (omega arith) (omega arith) (omega arith) .0 (sym (answered-number (planNumber t) (leastAlloc t)) ∙ h) in
-      let d = decides-token t (at (leastAlloc t .s)) in
+      let d = decides-rules t (at (leastAlloc t .s)) in
       (said .0, d .1 (given-later _ _ 6 0 0 d (omega arith) .0 (said .1) .0))
 
-  -- where no vector meets the rules, the smallest S break the token rule
-  none-token : judged t ≡ 0 → ((s : List ℕ) → ¬ MeetsRules t (at s)) → tokenFits t (at (leastAlloc t .s)) ≡ false
+  -- where no vector meets the rules, what planning tries does not
+  none-token : judged t ≡ 0 → ((s : List ℕ) → ¬ MeetsRules t (at s)) → leastFits t ≡ false
   none-token h none =
-      ⊎-elim (λ f. absurd (none (leastAlloc t .s) (smallest-rules t (allowed t .0 h .0 .1) f))) (λ f. f)
-      (true-or-false (tokenFits t (at (leastAlloc t .s))))
+      ⊎-elim (λ f. absurd (none (leastAlloc t .s) (decides-rules t (at (leastAlloc t .s)) .0 f))) (λ f. f)
+      (true-or-false (leastFits t))
 
   six : (planned t .number ≡ 6) ↔ ((judged t ≡ 0) × ((s : List ℕ) → ¬ MeetsRules t (at s)))
   six = (
     λ h.
         let said = six-says h in
-        (said .0, λ s m. true≢false (sym (token-needed t (allowed t .0 (said .0) .0 .1) (at s) m) ∙ said .1)),
+        (said .0, λ s m. true≢false (sym (least-needed t (allowed t .0 (said .0) .0 .1) (at s) m) ∙ said .1)),
     λ h. ap (λ (a : Planned). a .number) (plan-none t (h .0) (none-token (h .0) (h .1))),
   )
 
   refused-set : judged t ≢ 0 → planned t .number ≡ judged t
   refused-set h = ap (λ (a : Planned). a .number) (plan-refused-set t h)
 
-  kept-found : judged t ≡ 0 → tokenFits t (at (leastAlloc t .s)) ≡ true → KeptBy t (record { alloc = leastAlloc t; number = 0 })
+  kept-found : judged t ≡ 0 → leastFits t ≡ true → KeptBy t (record { alloc = leastAlloc t; number = 0 })
   kept-found h f =
       let few = allowed t .0 h .0 .1 in
       record {
         plan = is-plan t few f;
-        smallest = smallest-each t few;
+        smallest = λ m. smallest-each t few (rw m refl);
         judged = plan-judged t h f;
       }
 
@@ -76,14 +91,14 @@ module _ (t : Set) where
   -- ---- exactly one answer
 
   -- a plan in 01's words is the least allocation: each is at most the other
-  one-plan : t .n ≤ 128 → tokenFits t (at (leastAlloc t .s)) ≡ true → (a : Planned) → IsPlan t a → a ≡ record { alloc = leastAlloc t; number = 0 }
+  one-plan : t .n ≤ 128 → leastFits t ≡ true → (a : Planned) → IsPlan t a → a ≡ record { alloc = leastAlloc t; number = 0 }
   one-plan few token a p =
       let own = is-plan t few token .least in
       let same : a .alloc .s ≡ leastAlloc t .s =
-      ext-getD 0 (a .alloc .s) (leastAlloc t .s) (p .places ∙ sym (smallest-long t)) (λ i _.
+      ext-getD 0 (a .alloc .s) (leastAlloc t .s) (p .places ∙ sym (least-long t)) (λ i _.
       ⊎-elim (λ (b : i < t .n).
       omega (arith, p .least .least (at (leastAlloc t .s)) (own .meets) i b, own .least (at (a .alloc .s)) (p .least .meets) i b))
-      (λ (b : t .n ≤ i). p .past i b ∙ sym (smallest-past t i b))
+      (λ (b : t .n ≤ i). p .past i b ∙ sym (least-past t i b))
       (below-or-not i (t .n))) in
       λ i. record { alloc = record { s = same i }; number = p .accepted i }
 
@@ -103,7 +118,7 @@ module _ (t : Set) where
             let j = allowed t .1 (c, (n, w)) in
             plan-none t j (none-token j (λ s m. none (s, m)));
         plan = λ c n w some.
-            let token = token-needed t (c .1) (at (some .0)) (some .1) in
+            let token = least-needed t (c .1) (at (some .0)) (some .1) in
             rw (plan-found t (allowed t .1 (c, (n, w))) token) (is-plan t (c .1) token);
       }
 
@@ -117,10 +132,10 @@ module _ (t : Set) where
       let walk = decides-walk t .0 w in
       let j = allowed t .1 (count, (numbers, walk)) in
       ⊎-elim (λ token.
-      one-plan (count .1) token a (f .plan count numbers walk (leastAlloc t .s, smallest-rules t (count .1) token)) ∙ sym (plan-found t j token))
+      one-plan (count .1) token a (f .plan count numbers walk (leastAlloc t .s, decides-rules t (at (leastAlloc t .s)) .0 token)) ∙ sym (plan-found t j token))
       (λ token.
-      f .six count numbers walk (λ some. true≢false (sym (token-needed t (count .1) (at (some .0)) (some .1)) ∙ token)) ∙ sym (plan-none t j token))
-      (true-or-false (tokenFits t (at (leastAlloc t .s)))))
+      f .six count numbers walk (λ some. true≢false (sym (least-needed t (count .1) (at (some .0)) (some .1)) ∙ token)) ∙ sym (plan-none t j token))
+      (true-or-false (leastFits t)))
       (λ w.
       let count = decides-count t .0 c in
       let numbers = decides-numbers t .0 n in
@@ -143,6 +158,9 @@ blank t h =
 pub promised : Promised
 promised =
     record {
+      time-timely = time-timely;
+      time-fddi = time-fddi;
+      rules-fddi = λ t s few m. (to-load t (rw m refl) few s, from-load t (rw m refl) few s);
       smallest = smallest-is;
       no-second = smallest-one;
       at-zero = at-zero;

@@ -1,5 +1,5 @@
 -- Planning as 01's sentences have it, with no way to compute it: what each answer needs, and no more. `Promised` says that just one answer fits, and that it is planning's.
-use Prim.Native.Nat.{ℕ, _≤_, _<_}
+use Prim.Native.Nat.{ℕ, _≤_}
 use mathlib.Core.Path.{_≡_}
 use mathlib.Core.List.{List}
 use lib.ListN.{length}

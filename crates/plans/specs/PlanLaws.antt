@@ -1,27 +1,23 @@
 -- The laws of plans, for the proofs of this layer and those above. No rule stands here.
 use Prim.Native.Nat.{ℕ, zero, suc, _+_, _-_, _*_, _≤_, _<_}
-use mathlib.Core.Path.{_≡_, refl, ap, _∙_}
+use mathlib.Core.Path.{_≡_, refl, _∙_}
 use mathlib.Core.Bool.{true, false, _&&_}
-use mathlib.Core.List.{List}
 use mathlib.Core.Logic.{_↔_, _≢_, ⊎-elim}
 use native.Mathlib.Omega.{arith}
 use native.Mathlib.Nat.{mul-le-mul-left, div-mul-le-self, div-zero, le-mul-of-pos-right, mul-comm, zero-mul}
 use borrow.Author.Tests.{le-leb, lt-leb}
-use lib.ListN.{length, getD-replicate, List·getD-eq-default}
 use Rattle.units.specs.Numbers.{mostS}
 use Rattle.units.specs.Small.{roundedUp}
-use Rattle.units.specs.Places.{at, sumBelow, allBelow, fill}
-use Rattle.units.specs.PlaceLaws.{sum-mono, sum-part, all-same, fill-same, sum-same, decides-all, fill-length, fill-inside, fill-outside}
-use Rattle.units.specs.Judging.{orElse}
-use Rattle.units.specs.JudgingLaws.{true-and, Decides, decides-le, decides-both, held, failed, given, given-later, not-given, iff-then, iff-under}
-use Rattle.sets.specs.Rules.{tau, SameSet, CountAllowed, WalkTimeAllowed, countAllowed, numbersAllowed, walkTimeAllowed}
-use Rattle.sets.specs.Judged.{judged, zeros}
-use Rattle.sets.specs.SetLaws.{decides-count, decides-numbers, decides-walk, allowed, judged-rest, judged-keeps, judged-same, tau-same, stations-same}
+use Rattle.units.specs.Places.{at, sumBelow}
+use Rattle.units.specs.PlaceLaws.{decides-all}
+use Rattle.units.specs.JudgingLaws.{Decides, decides-le, decides-both, held, failed, given, given-later, not-given, iff-then, iff-under}
+use Rattle.sets.specs.Rules.{tau, CountAllowed, WalkTimeAllowed, countAllowed, numbersAllowed, walkTimeAllowed}
+use Rattle.sets.specs.SetLaws.{decides-count, decides-numbers, decides-walk}
 use Rattle.sets.specs.declared.Set.{Set}
 use Rattle.units.specs.SmallLaws.{below-or-not, one-more, shares-enough, shares-least}
-use Rattle.plans.specs.Rules.{wholeRotations, alpha, timeWith, leastTime, MeetsDeadlines, MeetsDeadlineAt, MeetsRules, AllocInRange, IsSmallest, InRange, KeepsRules, inRangeS, deadlineFitsAt, deadlinesFit, tokenFits, allocInRange}
-use Rattle.plans.specs.Planned.{smallestWith, smallestFor, smallestAt, judgedPlan, blankAlloc, leastAlloc, answered, planned}
-use Rattle.plans.specs.Answer.{IsPlan}
+use Rattle.fddi.specs.Rules as fddi-rules
+use Rattle.plans.specs.Rules.{wholeRotations, alpha, timeWith, leastTime, isFddi, loadOf, timeAt, MeetsDeadlines, MeetsRules, AllocInRange, IsSmallest, InRange, KeepsRules, inRangeS, deadlineFitsAt, deadlinesFit, tokenFits, rulesFit, allocInRange}
+use Rattle.plans.specs.Planned.{smallestWith, smallestFor, judgedPlan, blankAlloc, answered}
 use Rattle.plans.specs.declared.Alloc.{Alloc}
 
 -- ---- how large the numbers of planning can be
@@ -113,6 +109,16 @@ smallest-small ttrt c d =
     omega
     (arith, smallest-least (wholeRotations ttrt d) (alpha ttrt d) c (c + alpha ttrt d) (omega arith), alpha-small ttrt d)
 
+-- ---- X by the mode
+
+pub time-timely : (t : Set) (s : ℕ → ℕ) (i : ℕ) → isFddi t ≡ false → timeAt t s i ≡ leastTime (t .head .ttrt) (at (t .d) i) (s i)
+unfolding timeAt
+time-timely t s i h = rw h
+
+pub time-fddi : (t : Set) (s : ℕ → ℕ) (i : ℕ) → isFddi t ≡ true → timeAt t s i ≡ fddi-rules.timeAt (loadOf t) s i
+unfolding timeAt
+time-fddi t s i h = rw h
+
 -- ---- each test decides its rule
 
 pub decides-alloc : (t : Set) (s : ℕ → ℕ) → Decides (allocInRange t s) (AllocInRange t s)
@@ -120,13 +126,12 @@ decides-alloc t s = decides-all (t .n) (inRangeS s) (λ i. s i ≤ mostS) (λ i.
 
 pub decides-deadlines : (t : Set) (s : ℕ → ℕ) → Decides (deadlinesFit t s) (MeetsDeadlines t s)
 decides-deadlines t s =
-    decides-all (t .n) (deadlineFitsAt t s) (λ i. MeetsDeadlineAt t i (s i))
-    (λ i. decides-le (at (t .c) i) (leastTime (t .head .ttrt) (at (t .d) i) (s i)))
+    decides-all (t .n) (deadlineFitsAt t s) (λ i. at (t .c) i ≤ timeAt t s i) (λ i. decides-le (at (t .c) i) (timeAt t s i))
 
 pub decides-token : (t : Set) (s : ℕ → ℕ) → Decides (tokenFits t s) (sumBelow (t .n) s + tau t ≤ t .head .ttrt)
 decides-token t s = decides-le (sumBelow (t .n) s + tau t) (t .head .ttrt)
 
-pub decides-rules : (t : Set) (s : ℕ → ℕ) → Decides (deadlinesFit t s && tokenFits t s) (MeetsRules t s)
+pub decides-rules : (t : Set) (s : ℕ → ℕ) → Decides (rulesFit t s) (MeetsRules t s)
 decides-rules t s =
     let both = decides-both (deadlinesFit t s) (tokenFits t s) _ _ (decides-deadlines t s) (decides-token t s) in
     (λ h. let f = both .0 h in record { deadlines = f .0; token = f .1 }, λ m. both .1 (m .deadlines, m .token))
@@ -146,32 +151,15 @@ module _ (t : Set) (a : Alloc) where
   unfolding judgedPlan
   given-5 h₂ h₄ h₅ = held _ _ _ h₂ ∙ held _ _ _ h₄ ∙ failed _ _ _ h₅
 
-  pub given-7 : countAllowed t ≡ true → (numbersAllowed t && allocInRange t (at (a .s))) ≡ true → walkTimeAllowed t ≡ true → (deadlinesFit t (at (a .s)) && tokenFits t (at (a .s))) ≡ false → judgedPlan t a ≡ 7
+  pub given-7 : countAllowed t ≡ true → (numbersAllowed t && allocInRange t (at (a .s))) ≡ true → walkTimeAllowed t ≡ true → rulesFit t (at (a .s)) ≡ false → judgedPlan t a ≡ 7
   unfolding judgedPlan
   given-7 h₂ h₄ h₅ h₇ = held _ _ _ h₂ ∙ held _ _ _ h₄ ∙ held _ _ _ h₅ ∙ failed _ _ _ h₇
 
-  pub given-0 : countAllowed t ≡ true → (numbersAllowed t && allocInRange t (at (a .s))) ≡ true → walkTimeAllowed t ≡ true → (deadlinesFit t (at (a .s)) && tokenFits t (at (a .s))) ≡ true → judgedPlan t a ≡ 0
+  pub given-0 : countAllowed t ≡ true → (numbersAllowed t && allocInRange t (at (a .s))) ≡ true → walkTimeAllowed t ≡ true → rulesFit t (at (a .s)) ≡ true → judgedPlan t a ≡ 0
   unfolding judgedPlan
   given-0 h₂ h₄ h₅ h₇ = held _ _ _ h₂ ∙ held _ _ _ h₄ ∙ held _ _ _ h₅ ∙ held _ _ _ h₇
 
--- ---- planning, test by test
-
--- a place of the least allocation
-pub smallest-inside : (t : Set) → t .n ≤ 128 → (i : ℕ) → i < t .n → at (leastAlloc t .s) i ≡ smallestAt t i
-unfolding leastAlloc
-smallest-inside t m i l = fill-inside (t .n) (smallestAt t) zeros i l m
-
-pub smallest-past : (t : Set) (i : ℕ) → t .n ≤ i → at (leastAlloc t .s) i ≡ 0
-unfolding leastAlloc
-smallest-past t i l =
-    fill-outside (t .n) (smallestAt t) zeros i l ∙
-    ⊎-elim (λ (b : i < 128). getD-replicate 128 i 0 0 b)
-    (λ (b : 128 ≤ i). List·getD-eq-default zeros 0 b)
-    (below-or-not i 128)
-
-pub smallest-long : (t : Set) → length (leastAlloc t .s) ≡ 128
-unfolding leastAlloc
-smallest-long t = fill-length (t .n) (smallestAt t) zeros
+-- ---- an answer of planning
 
 pub answered-refused : (k : ℕ) (a : Alloc) → k ≢ 0 → answered k a ≡ record { alloc = blankAlloc; number = k }
 unfolding answered
@@ -186,63 +174,6 @@ answered-number (suc k) a = refl
 pub answered-plan : (k : ℕ) (a : Alloc) → k ≡ 0 → answered k a ≡ record { alloc = a; number = 0 }
 unfolding answered
 answered-plan k a h = rw h
-
-pub plan-refused-set : (t : Set) → judged t ≢ 0 → planned t ≡ record { alloc = blankAlloc; number = judged t }
-plan-refused-set t h = rw (judged-keeps t (orElse (tokenFits t (at (leastAlloc t .s))) 6 0) h) (answered-refused (judged t) (leastAlloc t) h)
-
-pub plan-none : (t : Set) → judged t ≡ 0 → tokenFits t (at (leastAlloc t .s)) ≡ false → planned t ≡ record { alloc = blankAlloc; number = 6 }
-plan-none t h f = rw (judged-rest t (orElse (tokenFits t (at (leastAlloc t .s))) 6 0) h, failed (tokenFits t (at (leastAlloc t .s))) 6 0 f) (answered-refused 6 (leastAlloc t) (omega arith))
-
-pub plan-found : (t : Set) → judged t ≡ 0 → tokenFits t (at (leastAlloc t .s)) ≡ true → planned t ≡ record { alloc = leastAlloc t; number = 0 }
-plan-found t h f = rw (judged-rest t (orElse (tokenFits t (at (leastAlloc t .s))) 6 0) h, held (tokenFits t (at (leastAlloc t .s))) 6 0 f) (answered-plan 0 (leastAlloc t) refl)
-
--- ---- the smallest S against every vector
-
--- a vector that meets the rules is at least as large at every station
-pub least-below : (t : Set) → t .n ≤ 128 → (v : ℕ → ℕ) → MeetsRules t v → (i : ℕ) → i < t .n → at (leastAlloc t .s) i ≤ v i
-least-below t few v m i l =
-    rw (smallest-inside t few i l) (smallest-is (t .head .ttrt) (at (t .c) i) (at (t .d) i) .least (v i) (m .deadlines i l))
-
--- so where the smallest S break the token rule, every vector breaks a rule
-pub token-needed : (t : Set) → t .n ≤ 128 → (v : ℕ → ℕ) → MeetsRules t v → tokenFits t (at (leastAlloc t .s)) ≡ true
-token-needed t few v m =
-    decides-token t (at (leastAlloc t .s)) .1 (omega (arith, sum-mono (t .n) (at (leastAlloc t .s)) v (least-below t few v m), m .token))
-
--- and where they keep it, the smallest allocation meets both rules
-pub smallest-rules : (t : Set) → t .n ≤ 128 → tokenFits t (at (leastAlloc t .s)) ≡ true → MeetsRules t (at (leastAlloc t .s))
-smallest-rules t few h =
-    record {
-      deadlines = λ i l. rw (smallest-inside t few i l) (smallest-is (t .head .ttrt) (at (t .c) i) (at (t .d) i) .meets);
-      token = decides-token t (at (leastAlloc t .s)) .0 h;
-    }
-
--- each S of an allocation that meets the rules is at most TTRT
-pub alloc-small : (t : Set) (v : ℕ → ℕ) → MeetsRules t v → (i : ℕ) → i < t .n → v i ≤ t .head .ttrt
-alloc-small t v m i l = omega (arith, sum-part (t .n) v i l, m .token)
-
--- ---- a plan that planning answered
-
-pub is-plan : (t : Set) → t .n ≤ 128 → tokenFits t (at (leastAlloc t .s)) ≡ true → IsPlan t (record { alloc = leastAlloc t; number = 0 })
-is-plan t few h =
-    record {
-      accepted = refl;
-      places = smallest-long t;
-      least = record { meets = smallest-rules t few h; least = least-below t few };
-      past = smallest-past t;
-    }
-
-pub smallest-each : (t : Set) → t .n ≤ 128 → (i : ℕ) → i < t .n → IsSmallest (t .head .ttrt) (at (t .c) i) (at (t .d) i) (at (leastAlloc t .s) i)
-smallest-each t few i l = rw (smallest-inside t few i l) (smallest-is (t .head .ttrt) (at (t .c) i) (at (t .d) i))
-
-pub plan-judged : (t : Set) → judged t ≡ 0 → tokenFits t (at (leastAlloc t .s)) ≡ true → judgedPlan t (leastAlloc t) ≡ 0
-plan-judged t h f =
-    let all = allowed t .0 h in
-    let meets = smallest-rules t (all .0 .1) f in
-    let small : AllocInRange t (at (leastAlloc t .s)) = λ i l. omega (arith, alloc-small t (at (leastAlloc t .s)) meets i l, all .1 .0 .header .1) in
-    given-0 t (leastAlloc t) (decides-count t .1 (all .0))
-    (true-and _ _ (decides-numbers t .1 (all .1 .0)) (decides-alloc t (at (leastAlloc t .s)) .1 small))
-    (decides-walk t .1 (all .1 .1))
-    (decides-rules t (at (leastAlloc t .s)) .1 meets)
 
 -- ---- the judgement of a given plan, number by number
 
@@ -290,35 +221,3 @@ module _ (t : Set) (a : Alloc) where
       (iff-then (given-later _ _ 5 _ 0 (decides-walk t) (omega arith))
       (iff-under
       (iff-then (given-later _ _ 7 0 0 (decides-rules t (at (a .s))) (omega arith)) ((λ h. h .0), λ m. (m, refl))))))))
-
--- ---- places from N on are never looked at
-
-pub token-same : (a b : Set) (s v : ℕ → ℕ) → SameSet a b → ((i : ℕ) → i < a .n → s i ≡ v i) → tokenFits a s ≡ tokenFits b v
-token-same a b s v same each =
-    let sums : sumBelow (a .n) s ≡ sumBelow (b .n) v = sum-same (a .n) s v each ∙ ap (λ (n : ℕ). sumBelow n v) (same .count) in
-    rw (sums, tau-same a b same, same .header)
-
-pub smallest-same : (a b : Set) → SameSet a b → (i : ℕ) → i < a .n → smallestAt a i ≡ smallestAt b i
-smallest-same a b same i l = rw (same .header, same .longest i l, same .deadline i l)
-
-least-same : (a b : Set) → SameSet a b → leastAlloc a ≡ leastAlloc b
-unfolding leastAlloc
-least-same a b same =
-    ap (λ (s : List ℕ). record { s = s })
-    (fill-same (a .n) (smallestAt a) (smallestAt b) zeros (smallest-same a b same) ∙ ap (λ (n : ℕ). fill n (smallestAt b) zeros) (same .count))
-
-pub planned-same : (a b : Set) → SameSet a b → planned a ≡ planned b
-planned-same a b same =
-    let token = token-same a b (at (leastAlloc b .s)) (at (leastAlloc b .s)) same (λ i l. refl) in
-    rw (least-same a b same, token, judged-same a b (orElse (tokenFits b (at (leastAlloc b .s))) 6 0) same)
-
-pub judged-plan-same : (t u : Set) (a b : Alloc) → SameSet t u → ((i : ℕ) → i < t .n → at (a .s) i ≡ at (b .s) i) → judgedPlan t a ≡ judgedPlan u b
-unfolding judgedPlan
-judged-plan-same t u a b same each =
-    let stations = stations-same t u same in
-    let range : allocInRange t (at (a .s)) ≡ allocInRange u (at (b .s)) =
-    all-same (t .n) (inRangeS (at (a .s))) (inRangeS (at (b .s))) (λ i l. rw (each i l)) ∙ ap (λ (n : ℕ). allBelow n (inRangeS (at (b .s)))) (same .count) in
-    let deadlines : deadlinesFit t (at (a .s)) ≡ deadlinesFit u (at (b .s)) =
-    all-same (t .n) (deadlineFitsAt t (at (a .s))) (deadlineFitsAt u (at (b .s))) (λ i l. rw (same .header, same .longest i l, same .deadline i l, each i l)) ∙ ap (λ (n : ℕ). allBelow n (deadlineFitsAt u (at (b .s)))) (same .count) in
-    let token = token-same t u (at (a .s)) (at (b .s)) same each in
-    rw (range, deadlines, token, stations, tau-same t u same, same .count, same .header)

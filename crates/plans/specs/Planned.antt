@@ -1,6 +1,6 @@
 -- The smallest S as a formula, the judgement of a given plan, and planning.
 use Prim.Native.Nat.{ℕ, zero, suc, _+_, _*_}
-use mathlib.Core.Bool.{cond, _&&_}
+use mathlib.Core.Bool.{Bool, cond, _&&_}
 use lib.Dec.{leb}
 use Rattle.units.specs.Numbers.{accepted, wrongShape, outOfRange, badWalkTime, noAllocation, rulesBroken}
 use Rattle.units.specs.Small.{roundedUp}
@@ -9,7 +9,8 @@ use Rattle.units.specs.Judging.{orElse}
 use Rattle.sets.specs.Rules.{countAllowed, numbersAllowed, walkTimeAllowed}
 use Rattle.sets.specs.Judged.{judgedThen, zeros}
 use Rattle.sets.specs.declared.Set.{Set}
-use Rattle.plans.specs.Rules.{wholeRotations, alpha, deadlinesFit, tokenFits, allocInRange}
+use Rattle.fddi.specs.Climb.{leastPlan}
+use Rattle.plans.specs.Rules.{wholeRotations, alpha, isFddi, loadOf, rulesFit, allocInRange}
 use Rattle.plans.specs.declared.Alloc.{Alloc}
 use Rattle.plans.specs.declared.Planned.{Planned}
 
@@ -34,7 +35,7 @@ judgedPlan t a =
     orElse (countAllowed t) wrongShape
     (orElse (numbersAllowed t && allocInRange t (at (a .s))) outOfRange
     (orElse (walkTimeAllowed t) badWalkTime
-    (orElse (deadlinesFit t (at (a .s)) && tokenFits t (at (a .s))) rulesBroken accepted)))
+    (orElse (rulesFit t (at (a .s))) rulesBroken accepted)))
 
 -- ---- planning
 
@@ -42,13 +43,21 @@ judgedPlan t a =
 abbrev pub blankAlloc : Alloc
 blankAlloc = record { s = zeros }
 
--- what planning tries: the smallest S at each of the N stations, 0 past them
-unfoldable pub leastAlloc : Set → Alloc
-leastAlloc t = record { s = fill (t .n) (smallestAt t) zeros }
+-- the smallest S at each of the N stations by the stations' own numbers, 0 past them
+abbrev pub smallestAlloc : Set → Alloc
+smallestAlloc t = record { s = fill (t .n) (smallestAt t) zeros }
 
--- the lowest of 2, 4, 5 and 6 that applies; 6 where what it tries breaks the token rule
+-- what planning tries: the smallest S at each station; for FDDI the vector that the climb finds, zeros where it finds none
+unfoldable pub leastAlloc : Set → Alloc
+leastAlloc t = cond (isFddi t) (record { s = leastPlan (loadOf t) .s }) (smallestAlloc t)
+
+-- what planning tries meets the rules
+abbrev pub leastFits : Set → Bool
+leastFits t = rulesFit t (at (leastAlloc t .s))
+
+-- the lowest of 2, 4, 5 and 6 that applies; 6 where what it tries breaks a rule
 abbrev pub planNumber : Set → ℕ
-planNumber t = judgedThen t (orElse (tokenFits t (at (leastAlloc t .s))) noAllocation accepted)
+planNumber t = judgedThen t (orElse (leastFits t) noAllocation accepted)
 
 -- a refused answer is blank
 unfoldable pub answered : ℕ → Alloc → Planned

@@ -1,28 +1,41 @@
 -- What is promised of planning and of the judgement of a given plan, beside the contracts; `proofs/Promised.antt` proves it.
-use Prim.Native.Nat.{ℕ, _<_}
+use Prim.Native.Nat.{ℕ, _+_, _-_, _≤_, _<_}
 use mathlib.Core.Path.{_≡_}
 use mathlib.Core.List.{List}
 use mathlib.Core.Logic.{_↔_, _≢_}
+use Rattle.units.specs.Numbers.{timely, fddi, mostStations}
 use Rattle.units.specs.Places.{at}
-use Rattle.sets.specs.Rules.{CountAllowed, WalkTimeAllowed, SameSet}
+use Rattle.sets.specs.Rules.{tau, CountAllowed, WalkTimeAllowed, SameSet}
 use Rattle.sets.specs.Judged.{judged}
 use Rattle.sets.specs.declared.Set.{Set}
-use Rattle.plans.specs.Rules.{MeetsRules, IsSmallest, InRange, KeepsRules}
+use Rattle.fddi.specs.Rules.{timeWith, rest, others, MeetsFddi}
+use Rattle.plans.specs.Rules.{wholeRotations, leastTime, loadOf, timeAt, MeetsRules, IsSmallest, InRange, KeepsRules}
 use Rattle.plans.specs.Planned.{smallestFor, judgedPlan, planned, blankAlloc}
 use Rattle.plans.specs.Answer.{Fitting, IsPlan}
 use Rattle.plans.specs.declared.Alloc.{Alloc}
 use Rattle.plans.specs.declared.Planned.{Planned}
 
+-- FDDI's X at station i, written out
+abbrev pub fddiTime : Set → (ℕ → ℕ) → ℕ → ℕ
+fddiTime t s i =
+    timeWith (wholeRotations (t .head .ttrt) (at (t .d) i)) (rest (t .head .ttrt) (at (t .d) i) - (tau t + others (t .n) s i)) (s i)
+
 -- what a plan that planning answered keeps
 pub record KeptBy (t : Set) (a : Planned) : Type 0 where
   -- it is the least vector that meets the rules, and 0 from N on
   pub plan : IsPlan t a
-  -- at each station it holds the smallest whole S that meets the station's deadline rule
-  pub smallest : (i : ℕ) → i < t .n → IsSmallest (t .head .ttrt) (at (t .c) i) (at (t .d) i) (at (a .alloc .s) i)
+  -- timely-token: at each station it holds the smallest whole S that meets the station's deadline rule
+  pub smallest : t .head .mode ≡ timely → (i : ℕ) → i < t .n → IsSmallest (t .head .ttrt) (at (t .c) i) (at (t .d) i) (at (a .alloc .s) i)
   -- the judgement of that set with that allocation is 0
   pub judged : judgedPlan t (a .alloc) ≡ 0
 
 pub record Promised : Type 0 where
+  -- timely-token: X at a station is 01's, by the station's own S
+  pub time-timely : (t : Set) (s : ℕ → ℕ) (i : ℕ) → t .head .mode ≡ timely → timeAt t s i ≡ leastTime (t .head .ttrt) (at (t .d) i) (s i)
+  -- FDDI: X at a station is 02's, with q = D / TTRT, r the rest, and the other stations' S: 0 for q = 0, else (q − 1)·S + (r − τ − the others' S), held between 0 and S
+  pub time-fddi : (t : Set) (s : ℕ → ℕ) (i : ℕ) → t .n ≤ mostStations → t .head .mode ≡ fddi → timeAt t s i ≡ fddiTime t s i
+  -- FDDI: the rules are those of `fddi`, of the set's load
+  pub rules-fddi : (t : Set) (s : ℕ → ℕ) → t .n ≤ mostStations → t .head .mode ≡ fddi → MeetsRules t s ↔ MeetsFddi (loadOf t) s
   -- `smallest` meets the deadline rule, and every number that meets it is at least as large: for all numbers, TTRT 0 among them
   pub smallest : (ttrt c d : ℕ) → IsSmallest ttrt c d (smallestFor ttrt c d)
   -- no second number is so

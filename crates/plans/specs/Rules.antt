@@ -1,11 +1,13 @@
--- 01, "Allocations": the deadline rule, the token rule and the spare time, first as sentences, then as tests that can be run; `PlanLaws` proves that each test decides its sentence. An allocation is any vector of numbers, S at each station.
+-- 01, "Allocations", and 02, No. 1: the deadline rule by the mode, the token rule and the spare time, first as sentences, then as tests that can be run; `PlanLaws` proves that each test decides its sentence. An allocation is any vector of numbers, S at each station.
 use Prim.Native.Nat.{ℕ, _+_, _-_, _*_, _/_, _≤_, _<_}
-use mathlib.Core.Bool.{Bool}
-use lib.Dec.{leb}
-use Rattle.units.specs.Numbers.{mostS}
+use mathlib.Core.Bool.{Bool, cond, _&&_}
+use lib.Dec.{leb, eqb}
+use Rattle.units.specs.Numbers.{fddi, mostS}
 use Rattle.units.specs.Places.{at, sumBelow, allBelow}
 use Rattle.sets.specs.Rules.{tau, NumbersAllowed}
 use Rattle.sets.specs.declared.Set.{Set}
+use Rattle.fddi.specs.Rules as fddi-rules
+use Rattle.fddi.specs.declared.Load.{Load}
 use Rattle.plans.specs.declared.Alloc.{Alloc}
 
 -- m = D / TTRT rounded down
@@ -33,13 +35,21 @@ pub record IsSmallest (ttrt c d s : ℕ) : Type 0 where
   pub meets : MeetsDeadline ttrt c d s
   pub least : (other : ℕ) → MeetsDeadline ttrt c d other → s ≤ other
 
--- the deadline rule at station i of a set
-abbrev pub MeetsDeadlineAt : Set → ℕ → ℕ → Type 0
-MeetsDeadlineAt t i s = MeetsDeadline (t .head .ttrt) (at (t .c) i) (at (t .d) i) s
+-- the set goes by FDDI's rules
+abbrev pub isFddi : Set → Bool
+isFddi t = eqb (t .head .mode) fddi
 
--- the deadline rule of a whole vector: at every station
+-- what FDDI's rules look at; a frame is one tick long, and every whole number is on the grid
+abbrev pub loadOf : Set → Load
+loadOf t = record { n = t .n; ttrt = t .head .ttrt; frame = 1; grid = 1; tau = tau t; c = t .c; d = t .d }
+
+-- X at station i of a whole vector, by the mode: FDDI's looks at the other stations' S too (003, Theorem 2)
+unfoldable pub timeAt : Set → (ℕ → ℕ) → ℕ → ℕ
+timeAt t s i = cond (isFddi t) (fddi-rules.timeAt (loadOf t) s i) (leastTime (t .head .ttrt) (at (t .d) i) (s i))
+
+-- the deadline rule of a whole vector: X at least C at every station
 abbrev pub MeetsDeadlines : Set → (ℕ → ℕ) → Type 0
-MeetsDeadlines t s = (i : ℕ) → i < t .n → MeetsDeadlineAt t i (s i)
+MeetsDeadlines t s = (i : ℕ) → i < t .n → at (t .c) i ≤ timeAt t s i
 
 -- both rules, of any vector of numbers whatever
 pub record MeetsRules (t : Set) (s : ℕ → ℕ) : Type 0 where
@@ -71,13 +81,21 @@ KeepsRules t a = MeetsRules t (at (a .s))
 -- ---- the rules as tests
 
 abbrev pub deadlineFitsAt : Set → (ℕ → ℕ) → ℕ → Bool
-deadlineFitsAt t s i = leb (at (t .c) i) (leastTime (t .head .ttrt) (at (t .d) i) (s i))
+deadlineFitsAt t s i = leb (at (t .c) i) (timeAt t s i)
 
 abbrev pub deadlinesFit : Set → (ℕ → ℕ) → Bool
 deadlinesFit t s = allBelow (t .n) (deadlineFitsAt t s)
 
 abbrev pub tokenFits : Set → (ℕ → ℕ) → Bool
 tokenFits t s = leb (sumBelow (t .n) s + tau t) (t .head .ttrt)
+
+-- both rules
+abbrev pub rulesFit : Set → (ℕ → ℕ) → Bool
+rulesFit t s = deadlinesFit t s && tokenFits t s
+
+-- the deadline rule of a timely-token set, by the stations' own S
+abbrev pub timelyFitsAt : Set → (ℕ → ℕ) → ℕ → Bool
+timelyFitsAt t s i = leb (at (t .c) i) (leastTime (t .head .ttrt) (at (t .d) i) (s i))
 
 abbrev pub inRangeS : (ℕ → ℕ) → ℕ → Bool
 inRangeS s i = leb (s i) mostS

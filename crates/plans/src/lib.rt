@@ -6,8 +6,9 @@ ghost use Prim.Native.Nat.{_+_, _≤_};
 ghost use Rattle.units.specs.Places.{at, allBelow};
 ghost use Rattle.sets.specs.Rules.{CountAllowed, NumbersAllowed};
 ghost use Rattle.units.specs.Small.{UpTo};
-ghost use Rattle.plans.specs.Rules.{leastTime, spareTime, inRangeS, deadlinesFit, tokenFits};
-ghost use Rattle.plans.specs.Planned.{blankAlloc, smallestFor, leastAlloc, judgedPlan, planned};
+ghost use Rattle.plans.specs.Rules.{leastTime, loadOf, spareTime, inRangeS, timelyFitsAt, tokenFits, rulesFit};
+ghost use Rattle.plans.specs.Planned.{blankAlloc, smallestFor, smallestAlloc, leastAlloc, leastFits, judgedPlan, planned};
+use fddi::Load;
 use sets::Set;
 use units::numbers;
 
@@ -22,6 +23,12 @@ pub struct Alloc {
 pub struct Planned {
     pub alloc: Alloc,
     pub number: u8,
+}
+
+// What planning tries, and whether it meets the rules.
+struct Tried {
+    alloc: Alloc,
+    fits: bool,
 }
 
 // The blank allocation: every S 0.
@@ -71,10 +78,10 @@ fn alloc_in_range(n: u32, a: Alloc) -> bool
     all
 }
 
-// The deadline rule holds at every station.
+// The deadline rule of a timely-token set holds at every station.
 fn deadlines_fit(t: Set, a: Alloc) -> bool
     requires { ⌜ t .n ≤ 128 ⌝ }
-    ensures { λ r. ⌜ r ≡ deadlinesFit t (at (a .s)) ⌝ }
+    ensures { λ r. ⌜ r ≡ allBelow (t .n) (timelyFitsAt t (at (a .s))) ⌝ }
 {
     let end = units::places(t.n);
     let mut all = true;
@@ -96,6 +103,35 @@ fn token_fits(t: Set, a: Alloc) -> bool
     let sum = units::sum_first(s, t.n);
     let tau = sets::walk_time(t);
     sum + tau <= units::wide(t.head.ttrt)
+}
+
+// What FDDI's rules look at.
+fn load_of(t: Set) -> Load
+    ensures { λ r. ⌜ r ≡ loadOf t ⌝ }
+{
+    let c = t.c;
+    let d = t.d;
+    Load {
+        n: t.n,
+        ttrt: t.head.ttrt,
+        frame: 1,
+        grid: 1,
+        tau: sets::walk_time(t),
+        c,
+        d,
+    }
+}
+
+// Both rules hold, by the set's mode.
+fn rules_fit(t: Set, a: Alloc) -> bool
+    requires { ⌜ t .n ≤ 128 ⌝ }
+    ensures { λ r. ⌜ r ≡ rulesFit t (at (a .s)) ⌝ }
+{
+    if t.head.mode == numbers::FDDI {
+        let s = a.s;
+        return fddi::meets_rules(load_of(t), s);
+    }
+    deadlines_fit(t, a) & token_fits(t, a)
 }
 
 // A*, the spare time.
@@ -125,17 +161,16 @@ pub fn judge_plan(t: Set, a: Alloc) -> u8
     if number == numbers::BAD_WALK_TIME {
         return number;
     }
-    let rules_kept = deadlines_fit(t, a) & token_fits(t, a);
-    if !rules_kept {
+    if !rules_fit(t, a) {
         return numbers::RULES_BROKEN;
     }
     numbers::ACCEPTED
 }
 
-// What planning tries: the smallest S at each station of an allowed set.
-fn least_alloc(t: Set) -> Alloc
+// The smallest S at each station of an allowed set, by the stations' own numbers.
+fn smallest_alloc(t: Set) -> Alloc
     requires { ⌜ CountAllowed t × NumbersAllowed t ⌝ }
-    ensures { λ r. ⌜ r ≡ leastAlloc t ⌝ }
+    ensures { λ r. ⌜ r ≡ smallestAlloc t ⌝ }
 {
     let end = units::places(t.n);
     let mut s: [u32; 128] = [0; 128];
@@ -149,6 +184,26 @@ fn least_alloc(t: Set) -> Alloc
     Alloc { s }
 }
 
+// What planning tries, by the set's mode, and whether it meets the rules.
+fn attempted(t: Set) -> Tried
+    requires { ⌜ CountAllowed t × NumbersAllowed t ⌝ }
+    ensures { λ r. ⌜ r ≡ record { alloc = leastAlloc t; fits = leastFits t } ⌝ }
+{
+    if t.head.mode == numbers::FDDI {
+        let found = fddi::least_plan(load_of(t));
+        let s = found.s;
+        return Tried {
+            alloc: Alloc { s },
+            fits: found.found,
+        };
+    }
+    let alloc = smallest_alloc(t);
+    Tried {
+        alloc,
+        fits: token_fits(t, alloc),
+    }
+}
+
 // A refused plan: the number, with the blank allocation.
 fn refused(number: u8) -> Planned
     ensures { λ r. ⌜ r ≡ record { alloc = blankAlloc; number = number } ⌝ }
@@ -159,7 +214,7 @@ fn refused(number: u8) -> Planned
     }
 }
 
-// Planning: the smallest S at each station, or the lowest of 2, 4, 5 and 6 that applies.
+// Planning: the least S at each station, or the lowest of 2, 4, 5 and 6 that applies.
 pub fn plan(t: Set) -> Planned
     ensures { λ r. ⌜ r ≡ planned t ⌝ }
 {
@@ -167,10 +222,11 @@ pub fn plan(t: Set) -> Planned
     if number != numbers::ACCEPTED {
         return refused(number);
     }
-    let alloc = least_alloc(t);
-    if !token_fits(t, alloc) {
+    let tried = attempted(t);
+    if !tried.fits {
         return refused(numbers::NO_ALLOCATION);
     }
+    let alloc = tried.alloc;
     Planned {
         alloc,
         number: numbers::ACCEPTED,

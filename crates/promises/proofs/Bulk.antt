@@ -21,7 +21,7 @@ use Rattle.rings.specs.declared.VisitRecord.{VisitRecord}
 use Rattle.promises.specs.Run.{Call, visit, message, Run, noted, after, run, runOf}
 use Rattle.promises.specs.History.{Each, Somewhere}
 use Rattle.promises.specs.Facts.{Timing, timing}
-use Rattle.promises.specs.Valid.{InTurn}
+use Rattle.promises.specs.Valid.{Timely as Mode, InTurn}
 use Rattle.promises.specs.Bulk.{visitsAmong, Asks, AlwaysAsks, Offered, longestWait, BulkServed}
 use Rattle.promises.proofs.Course.{Plan}
 use Rattle.promises.proofs.Timing.{latest-within}
@@ -191,12 +191,12 @@ module _ (t : Set) (a : Alloc) (P : Plan t a) where
         (somewhere-of (λ v before k. (k .0, omega (arith, b .start, k .1))) (b .newer ++ b .first ∷ []) (begun-ticks b (omega arith))))
         (begun later s K)
 
-pub bulk : (t : Set) (a : Alloc) → judgedPlan t a ≡ 0 → 1 ≤ spareTime t (at (a .s)) → BulkServed t a
-bulk t a h left =
+pub bulk : (t : Set) (a : Alloc) → judgedPlan t a ≡ 0 → Mode t → 1 ≤ spareTime t (at (a .s)) → BulkServed t a
+bulk t a h mode left =
     let P = plan-of t a h in
     record {
-      served = λ calls later i known long asks. sooner t a P left i known (runOf t a calls) (timely t a h calls) later (omega (arith, one-more (t .n) (t .n + 1)));
-      sooner = λ calls later i known long. sooner t a P left i known (runOf t a calls) (timely t a h calls) later (omega arith);
-      in-ticks = λ calls later i known. in-ticks t a P left i known (runOf t a calls) (timely t a h calls) later;
-      sends = λ calls later i. sends t a P i later (runOf t a calls) (timely t a h calls);
+      served = λ calls later i known long asks. sooner t a P left i known (runOf t a calls) (timely t a P mode calls) later (omega (arith, one-more (t .n) (t .n + 1)));
+      sooner = λ calls later i known long. sooner t a P left i known (runOf t a calls) (timely t a P mode calls) later (omega arith);
+      in-ticks = λ calls later i known. in-ticks t a P left i known (runOf t a calls) (timely t a P mode calls) later;
+      sends = λ calls later i. sends t a P i later (runOf t a calls) (timely t a P mode calls);
     }

@@ -1,5 +1,5 @@
 -- What every kind of ring promises, read off what every run keeps.
-use Prim.Native.Nat.{ℕ, _*_, _+_, _≤_, _<_}
+use Prim.Native.Nat.{ℕ, _≤_, _<_}
 use mathlib.Core.Path.{_≡_, sym, ap, _∙_}
 use mathlib.Core.List.{List}
 use mathlib.Core.Logic.{_⊎_, inl, inr, _≢_, _↔_, ⊎-elim}
@@ -13,11 +13,11 @@ use Rattle.sets.specs.declared.Set.{Set}
 use Rattle.plans.specs.declared.Alloc.{Alloc}
 use Rattle.rings.specs.Sound.{isSound}
 use Rattle.rings.specs.Steps.{Ask, visited}
-use Rattle.rings.specs.HandingIn.{messageNumber, handedIn, handInNumber}
+use Rattle.rings.specs.HandingIn.{messageNumber, handedIn}
 use Rattle.rings.specs.RingLaws.{sound-sentences}
 use Rattle.rings.specs.declared.Message.{Message}
 use Rattle.rings.specs.declared.VisitRecord.{VisitRecord}
-use Rattle.promises.specs.Run.{Call, Run, runOf, ringOf, recordsOf}
+use Rattle.promises.specs.Run.{Call, Run, runOf, ringOf}
 use Rattle.promises.specs.History.{syncStartOf, latestOf, latestFor}
 use Rattle.promises.specs.Facts.{timing}
 use Rattle.promises.specs.Valid.{Common}

@@ -17,7 +17,7 @@ use Rattle.rings.specs.declared.Message.{Message}
 use Rattle.rings.specs.declared.VisitRecord.{VisitRecord}
 use Rattle.promises.specs.Run.{Call, visit, message, Run, after, run}
 use Rattle.promises.specs.History.{syncStartOf, sentBy, Somewhere}
-use Rattle.promises.specs.Facts.{Completing, Leaving, Accepting}
+use Rattle.promises.specs.Facts.{Completing, Leaving}
 use Rattle.promises.specs.Valid.{StillHeld, CompletedBy, Followed, dueBy}
 use Rattle.promises.proofs.Course.{Plan, same-or-not}
 use Rattle.promises.proofs.Runs.{made, movedRun, heldRun, course-facts, message-parts, message-facts, after-visit, after-message, after-held, Steady, steady-after}

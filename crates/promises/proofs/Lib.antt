@@ -6,12 +6,14 @@
 --     Course       what every visit keeps, whatever its timers are
 --     Stores       what every call keeps of the stored messages
 --     Timing       what every visit of a timely-token ring keeps of the token's timing
+--     Laps         what every visit of an FDDI ring keeps of its timers
 --     Messages     what every call of a timely-token ring keeps of the deadlines
 --     Steps        the rings' own steps give the facts
 --     Opening      the opened ring keeps all of it
 --     Soundness    a ring that keeps it is sound
 --     Runs         every run keeps it, call by call
 --     Timely       every run of a timely-token ring
+--     Fddi         every run of an FDDI ring
 --     Followed     one message, from its handing in on
 --     Common       what every kind of ring promises
 --     Turns        how many visits ago a station had its turn
@@ -19,6 +21,7 @@
 --     Waits        among enough visits a station is offered a limit above 0
 --     Bulk         the same of the visits among further calls
 --     Witness      the run in which the promises are called upon
+--     FddiWitness  the run in which the token is as late as it can be
 --     BulkWitness  the run in which bulk data waits long
 --     Promised     the promises
 pub mod Sums
@@ -28,12 +31,14 @@ pub mod Deadlines
 pub mod Course
 pub mod Stores
 pub mod Timing
+pub mod Laps
 pub mod Messages
 pub mod Steps
 pub mod Opening
 pub mod Soundness
 pub mod Runs
 pub mod Timely
+pub mod Fddi
 pub mod Followed
 pub mod Common
 pub mod Turns
@@ -41,5 +46,6 @@ pub mod Rotations
 pub mod Waits
 pub mod Bulk
 pub mod Witness
+pub mod FddiWitness
 pub mod BulkWitness
 pub mod Promised

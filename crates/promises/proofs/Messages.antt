@@ -97,7 +97,7 @@ module _ (t : Set) (a : Alloc) (r q : Ring) (v : VisitRecord) (h : List VisitRec
         had = rw (G .had) (w .had);
         intime =
             rw (C .sent-here, s .nothing, F .trt-here, same, G .arrival, C .clock)
-            (fresh-in-time (t .head .ttrt) (at (a .s) (r .token)) (at (t .d) (r .token)) (r .clock + rises t v) (rises t v) 0 (at (r .rest) (r .token)) (at (r .arrival) (r .token)) (omega (arith, K .small, P .deadlines (r .token) (T .course .token))) (omega arith));
+            (fresh-in-time (t .head .ttrt) (at (a .s) (r .token)) (at (t .d) (r .token)) (r .clock + rises t v) (rises t v) 0 (at (r .rest) (r .token)) (at (r .arrival) (r .token)) (omega (arith, K .small, P .deadlines (T .mode) (r .token) (T .course .token))) (omega arith));
       }))
       (λ (b : at (r .rest) (r .token) ≤ 0).
       inl (record { none = omega (arith, G .rest-here); ended = inl (C .sent-here ∙ s .nothing) }))
@@ -179,7 +179,7 @@ module _ (t : Set) (a : Alloc) (r q : Ring) (m : Message) (h : List VisitRecord)
         had = A .had-here;
         intime =
             rw (sent-same, trt-same, clock-same, A .rest-here, A .arrival-here)
-            (fresh-in-time (t .head .ttrt) (at (a .s) (m .station .0)) (at (t .d) (m .station .0)) (r .clock) (at (r .trt) (m .station .0)) (at (r .sent) (m .station .0)) (m .length .0) (m .arrival .0) (omega (arith, A .length .1, P .deadlines (m .station .0) (A .known))) (ended-before M));
+            (fresh-in-time (t .head .ttrt) (at (a .s) (m .station .0)) (at (t .d) (m .station .0)) (r .clock) (at (r .trt) (m .station .0)) (at (r .sent) (m .station .0)) (m .length .0) (m .arrival .0) (omega (arith, A .length .1, P .deadlines (T .mode) (m .station .0) (A .known))) (ended-before M));
       })
 
   taken-there : (i : ℕ) → i ≢ m .station .0 → Messaged t a r i → Messaged t a q i

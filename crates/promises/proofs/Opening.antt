@@ -1,27 +1,43 @@
 -- A plan that opening accepts gives what the proofs need, and the opened ring keeps all that a run keeps.
 use Prim.Native.Nat.{ℕ, zero, suc, _+_, _-_, _≤_, _<_}
-use mathlib.Core.Path.{_≡_, refl, _∙_}
+use mathlib.Core.Path.{_≡_, refl}
 use mathlib.Core.List.{[]}
-use mathlib.Core.Logic.{inl, ⊎-elim}
+use mathlib.Core.Logic.{_⊎_, inl, inr, ⊎-elim}
 use native.Mathlib.Omega.{arith}
+use Rattle.units.specs.Numbers.{timely, fddi, lastMode}
 use Rattle.units.specs.Places.{at, sumBelow}
-use Rattle.units.specs.PlaceLaws.{zero-at, sum-none, sum-split, fill-inside, fill-length}
+use Rattle.units.specs.PlaceLaws.{zero-at, sum-none, sum-split}
 use Rattle.units.specs.SmallLaws.{below-or-not}
 use Rattle.sets.specs.Judged.{zeros}
 use Rattle.sets.specs.declared.Set.{Set}
+use Rattle.plans.specs.Rules.{leastTime, timeAt}
 use Rattle.plans.specs.Planned.{judgedPlan}
 use Rattle.plans.specs.PlanLaws.{given-none}
 use Rattle.plans.specs.declared.Alloc.{Alloc}
 use Rattle.rings.specs.State.{Shaped}
-use Rattle.rings.specs.Timers.{silentTrt, silentTimers}
+use Rattle.timers.proofs.Promised.{promised as timers-promised}
+use Rattle.rings.specs.Timers.{Fddi, hasRun}
+use Rattle.rings.specs.TimerLaws.{fddi-false}
+use Rattle.rings.proofs.StationLaws.{opened-ran, opened-below}
+use Rattle.ring_rules.proofs.OpenedLaws.{fresh}
 use Rattle.rings.specs.Opening.{openedRing}
-use Rattle.rings.specs.declared.Ring.{Ring}
 use Rattle.promises.specs.History.{asyncOf, latest, due}
-use Rattle.promises.specs.Facts.{timing}
+use Rattle.promises.specs.Facts.{timing, timersIn, timerPlan}
+use Rattle.promises.specs.Valid.{Timely}
 use Rattle.promises.proofs.Course.{Plan, Course}
 use Rattle.promises.proofs.Stores.{Stored, Told}
 use Rattle.promises.proofs.Timing.{Timed}
+use Rattle.promises.proofs.Laps.{Lapped}
 use Rattle.promises.proofs.Messages.{Messaged}
+
+-- mode 1 or mode 2
+mode-of : (mode : ℕ) → timely ≤ mode → mode ≤ lastMode → (mode ≡ timely) ⊎ (mode ≡ fddi)
+mode-of mode l k = ⊎-elim (λ (b : mode < 2). inl (omega arith)) (λ (b : 2 ≤ mode). inr (omega arith)) (below-or-not mode 2)
+
+-- X of a timely-token set is the station's own
+timely-time : (t : Set) (a : Alloc) → Timely t → (i : ℕ) → timeAt t (at (a .s)) i ≡ leastTime (t .head .ttrt) (at (t .d) i) (at (a .s) i)
+unfolding timeAt
+timely-time t a m i = rw (fddi-false t (λ e. omega arith))
 
 pub plan-of : (t : Set) (a : Alloc) → judgedPlan t a ≡ 0 → Plan t a
 plan-of t a h =
@@ -30,10 +46,11 @@ plan-of t a h =
       judged = h;
       some = g .0 .0;
       few = g .0 .1;
-      rotation = g .1 .0 .0 .header .1;
+      mode = mode-of (t .head .mode) (g .1 .0 .0 .header .mode .0) (g .1 .0 .0 .header .mode .1);
+      rotation = g .1 .0 .0 .header .ttrt;
       walk = g .1 .1 .0 .0;
       token = g .1 .1 .1 .token;
-      deadlines = g .1 .1 .1 .deadlines;
+      deadlines = λ m i l. omega (arith, g .1 .1 .1 .deadlines i l, timely-time t a m i);
       gaps = λ i l. g .1 .0 .0 .stations i l .gap .0;
     }
 
@@ -52,23 +69,10 @@ async-nothing n = refl
 
 module _ (t : Set) (a : Alloc) (P : Plan t a) where
   pub opened-places : Shaped (openedRing t a)
-  unfolding openedRing silentTimers
-  opened-places =
-      record {
-        trt = fill-length (t .n) (silentTrt t) zeros;
-        sent = refl;
-        rest = refl;
-        arrival = refl;
-        had = refl;
-        last = refl;
-      }
-
-  opened-trt : (i : ℕ) → i < t .n → at (openedRing t a .trt) i ≡ silentTrt t i
-  unfolding openedRing silentTimers
-  opened-trt i l = fill-inside (t .n) (silentTrt t) zeros i l (P .few)
+  opened-places = fresh t a (P .judged) .shaped
 
   pub opened-course : Course t a (timing (openedRing t a)) []
-  unfolding openedRing silentTimers due latest
+  unfolding openedRing due latest
   opened-course =
       record {
         set = refl;
@@ -83,29 +87,44 @@ module _ (t : Set) (a : Alloc) (P : Plan t a) where
         arrived = λ i l. inl (record { latest = refl; early = omega arith; nothing = zero-at i });
       }
 
-  pub opened-timed : Timed t a (timing (openedRing t a)) []
-  unfolding openedRing silentTimers latest
-  opened-timed =
+  pub opened-timed : Timely t → Timed t a (timing (openedRing t a)) []
+  unfolding openedRing latest
+  opened-timed mode =
+      let F = fresh t a (P .judged) in
+      let trt = F .trts (λ e. omega arith) in
       record {
+        mode = mode;
         course = opened-course;
-        unused = omega (arith, sum-zeros (t .n));
+        unused = omega (arith, F .unused, sum-zeros (t .n));
         passed = λ i l. absurd (omega arith);
         coming = λ i l b.
             omega
-            (arith, opened-trt i l, sum-split (t .n) (at (t .w)) i (omega arith), async-nothing (0 + t .n - i), sum-none (at (t .w)), sum-none (at zeros), sum-zeros i, sum-zeros (t .n));
+            (arith, trt i l, sum-split (t .n) (at (t .w)) i (omega arith), async-nothing (0 + t .n - i), sum-none (at (t .w)), sum-none (at zeros), sum-zeros i, sum-zeros (t .n));
         window = omega (arith, async-nothing (t .n), P .token);
-        silent = λ i l _. omega (arith, opened-trt i l);
+        silent = λ i l _. omega (arith, trt i l);
         since = λ i l u e. let z : _≡_ {A = ℕ} 0 1 = cc e in absurd (omega arith);
       }
 
+  pub opened-lapped : Fddi t → Lapped t a (timing (openedRing t a)) []
+  unfolding openedRing
+  opened-lapped e =
+      record {
+        mode = e;
+        course = opened-course;
+        below = opened-below t a (P .judged) e;
+        kept = timers-promised .opened (timerPlan t a) (hasRun t (timersIn (timing (openedRing t a)))) (omega (arith, P .token)) (opened-ran t a (P .judged) e);
+        silent = λ i l _. omega (arith, opened-ran t a (P .judged) e i l);
+        since = λ i l. omega arith;
+      }
+
   pub opened-stored : (i : ℕ) → i < t .n → Stored t (openedRing t a) i
-  unfolding openedRing silentTimers
+  unfolding openedRing
   opened-stored i l = record { small = omega (arith, zero-at i); range = omega (arith, zero-at i) }
 
   pub opened-told : (i : ℕ) → Told (openedRing t a) [] i
-  unfolding openedRing silentTimers latest
+  unfolding openedRing latest
   opened-told i = inl (record { latest = refl; had = zero-at i })
 
   pub opened-messaged : (i : ℕ) → i < t .n → Messaged t a (openedRing t a) i
-  unfolding openedRing silentTimers
+  unfolding openedRing
   opened-messaged i l = inl (record { none = zero-at i; ended = inl (zero-at i) })

@@ -1,6 +1,6 @@
 -- The promises, read off what every run keeps.
 use Prim.Native.Nat.{ℕ, _+_, _≤_, _<_}
-use mathlib.Core.Path.{_≡_, refl, sym, ap, _∙_}
+use mathlib.Core.Path.{_≡_, sym, ap, _∙_}
 use mathlib.Core.Bool.{true}
 use mathlib.Core.List.{List, []}
 use mathlib.Core.Logic.{_≢_, _↔_, ⊎-elim}
@@ -19,6 +19,7 @@ use Rattle.scan.specs.Scanned.{scanned}
 use Rattle.sheets.specs.Reading.{setIn, allocIn, judgedSheet, readNumber, readSheet, readPlan, readRequest}
 use Rattle.sheets.specs.ReadLaws.{then-none, read-accepted, read-number}
 use Rattle.rings.specs.Opening.{openedRing, opening}
+use Rattle.rings.specs.Timers.{Fddi}
 use Rattle.rings.specs.Steps.{Ask, visited}
 use Rattle.rings.specs.HandingIn.{stationKnown, lengthAllowed, nothingHeld, arrivalAllowed, messageNumber, handedIn}
 use Rattle.rings.specs.RingLaws.{opened-number, opened-accepted, decides-arrival}
@@ -28,7 +29,7 @@ use Rattle.rings.specs.declared.VisitRecord.{VisitRecord}
 use Rattle.promises.specs.Run.{Call, Run, run, runOf, ringOf, recordsOf}
 use Rattle.promises.specs.History.{syncStartOf, Each}
 use Rattle.promises.specs.Facts.{timing, Completing, Leaving}
-use Rattle.promises.specs.Valid.{AheadOf, Regular, FinishesInTime, dueBy, NeverLate, ExactLimits, DeadlinesKept, Valid}
+use Rattle.promises.specs.Valid.{AheadOf, Regular, FinishesInTime, dueBy, NeverLate, ExactLimits, DeadlinesKept, TimelyKept, Valid, Timely as Mode}
 use Rattle.promises.specs.Promised.{Promised}
 use Rattle.promises.proofs.Lists.{each-of}
 use Rattle.promises.proofs.Course.{Plan, Unvisited, Since}
@@ -38,10 +39,12 @@ use Rattle.promises.proofs.Messages.{Waiting, deadlineAt, clock-ahead, 
 use Rattle.promises.proofs.Opening.{plan-of}
 use Rattle.promises.proofs.Runs.{made, movedRun, visit-goes, visit-stops, course-facts, message-parts, message-facts, message-number}
 use Rattle.promises.proofs.Timely.{TimelyVisit, Timely, timer-facts, margin-made, steady, timely}
+use Rattle.promises.proofs.Fddi.{Older, older-steady, older, fddi-kept}
 use Rattle.promises.proofs.Followed.{Follows, followed-from}
 use Rattle.promises.proofs.Common.{common, answer-of}
 use Rattle.promises.proofs.Bulk.{bulk}
 use Rattle.promises.proofs.Witness.{happens}
+use Rattle.promises.proofs.FddiWitness.{fddi-happens}
 use Rattle.promises.proofs.BulkWitness.{bulk-waits}
 
 module _ (t : Set) (a : Alloc) (P : Plan t a) (s : Run) (K : Timely t a s) where
@@ -135,12 +138,9 @@ in-time t a P m l =
 
 -- ---- the record of all of it
 
-module _ (t : Set) (a : Alloc) (h : judgedPlan t a ≡ 0) where
-  plan : Plan t a
-  plan = plan-of t a h
-
+module _ (t : Set) (a : Alloc) (plan : Plan t a) (mode : Mode t) where
   every : (calls : List Call) → Timely t a (runOf t a calls)
-  every calls = timely t a h calls
+  every calls = timely t a plan mode calls
 
   each : {B : VisitRecord → List VisitRecord → Type 0} → ((v : VisitRecord) (before : List VisitRecord) → TimelyVisit t a v before → B v before) → (calls : List Call) → Each B (recordsOf t a calls)
   each f calls = each-of f (recordsOf t a calls) (every calls .each)
@@ -166,15 +166,26 @@ module _ (t : Set) (a : Alloc) (h : judgedPlan t a ≡ 0) where
         taken = λ calls. message-is-taken t a plan (runOf t a calls) (every calls);
       }
 
-  valid : Valid t a
-  valid =
+  timely-kept : TimelyKept t a
+  timely-kept =
       record {
-        common = common t a plan (Timely t a) (steady t a plan) every;
         never-late = never-late-kept;
         timers = λ calls. each (λ v before k. k .timer) calls;
         limits = limits-kept;
         deadlines = deadlines-kept;
       }
+
+valid : (t : Set) (a : Alloc) → judgedPlan t a ≡ 0 → Valid t a
+valid t a h =
+    let plan = plan-of t a h in
+    record {
+      common =
+          ⊎-elim (λ (mode : Mode t). common t a plan (Timely t a) (steady t a plan) (timely t a plan mode))
+          (λ (mode : Fddi t). common t a plan (Older t a) (older-steady t a plan) (older t a plan mode))
+          (plan .mode);
+      timely = timely-kept t a plan;
+      fddi = fddi-kept t a plan;
+    }
 
 -- ---- where plans come from
 
@@ -209,7 +220,8 @@ promised =
       sheet-judged = sheet-judged;
       sheet-valid = λ bytes h. valid (readPlan bytes .set) (readPlan bytes .alloc) (sheet-judged bytes h);
       request-valid = λ bytes _ h. valid (readRequest bytes .set) (planned (readRequest bytes .set) .alloc) (plan-judged (readRequest bytes .set) h);
-      bulk = λ t a h left. bulk t a h (omega arith);
+      bulk = λ t a h mode left. bulk t a h mode (omega arith);
       happens = happens;
+      fddi-happens = fddi-happens;
       bulk-waits = bulk-waits;
     }

@@ -1,5 +1,5 @@
 -- What every run keeps, whatever its timers are, call by call: every answer is the steps' own or leaves all as it was. What one kind of ring keeps beside it is kept by every run if an accepted visit and an accepted handing in keep it (`Steady`).
-use Prim.Native.Nat.{ℕ, zero, suc, _+_, _*_, _≤_, _<_}
+use Prim.Native.Nat.{ℕ, zero, suc, _*_, _≤_, _<_}
 use mathlib.Core.Path.{_≡_, refl, ap, _∙_}
 use mathlib.Core.Bool.{true}
 use mathlib.Core.List.{List, [], _∷_}

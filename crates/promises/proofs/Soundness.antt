@@ -1,5 +1,5 @@
--- What a run keeps makes its ring sound: every line of 01's list holds.
-use Prim.Native.Nat.{ℕ, _+_, _<_}
+-- What a run keeps makes its ring sound: every line of 01's list holds, whatever the mode; the lines of the timers by it.
+use Prim.Native.Nat.{ℕ, _<_}
 use mathlib.Core.Path.{_≡_}
 use mathlib.Core.Bool.{true}
 use mathlib.Core.List.{List}
@@ -7,34 +7,61 @@ use native.Mathlib.Omega.{arith}
 use Rattle.units.specs.Places.{at}
 use Rattle.sets.specs.declared.Set.{Set}
 use Rattle.plans.specs.declared.Alloc.{Alloc}
-use Rattle.rings.specs.Sound.{Sound, isSound}
+use Rattle.rings.specs.Sound.{isSound}
+use Rattle.rings.specs.Timers.{Fddi, TimersSound}
 use Rattle.rings.specs.RingLaws.{sound-tests}
 use Rattle.rings.specs.declared.Ring.{Ring}
 use Rattle.rings.specs.declared.VisitRecord.{VisitRecord}
 use Rattle.promises.specs.Facts.{timing}
-use Rattle.promises.proofs.Course.{Plan}
+use Rattle.promises.specs.Valid.{Timely}
+use Rattle.promises.proofs.Sums.{sum-lacking}
+use Rattle.promises.proofs.Course.{Plan, Course}
 use Rattle.promises.proofs.Stores.{Stored}
 use Rattle.promises.proofs.Timing.{Timed, never-late}
-use Rattle.promises.proofs.Sums.{sum-lacking}
+use Rattle.promises.proofs.Laps.{Lapped, late-small}
 
-module _ (t : Set) (a : Alloc) (r : Ring) (h : List VisitRecord) (P : Plan t a) (T : Timed t a (timing r) h) where
-  sound-of : ((i : ℕ) → i < t .n → Stored t r i) → Sound r
-  sound-of K =
+-- a set goes by one mode
+pub not-fddi : (t : Set) → Timely t → ¬ Fddi t
+not-fddi t m e = omega arith
+
+module _ (t : Set) (a : Alloc) (r : Ring) (h : List VisitRecord) (P : Plan t a) where
+  -- ---- the timers
+
+  pub timed-sound : Timed t a (timing r) h → TimersSound r
+  timed-sound T =
       let C = T .course in
       record {
-        plan = rw (C .set, C .alloc) (P .judged);
-        token = rw (C .set) (C .token);
-        timers =
+        timely = λ _.
             record {
               trts = rw (C .set) (λ i l. omega (arith, never-late t a (timing r) h T i l, C .sents i l));
               unused = rw (C .set, C .alloc) (omega (arith, T .unused, sum-lacking (t .n) (at (r .sent)) (at (a .s)) (C .sents)));
             };
+        fddi = rw (C .set) (λ e. absurd (not-fddi t (T .mode) e));
+      }
+
+  pub lapped-sound : Lapped t a (timing r) h → TimersSound r
+  lapped-sound T =
+      record {
+        timely = rw (T .course .set) (λ n. absurd (n (T .mode)));
+        fddi = λ _.
+            record {
+              timers = rw (T .course .set) (T .below);
+              lates = rw (T .course .set) (λ i l. omega (arith, late-small t a (timing r) h P T i l));
+            };
+      }
+
+  -- ---- all of it
+
+  pub is-sound : Course t a (timing r) h → TimersSound r → ((i : ℕ) → i < t .n → Stored t r i) → isSound r ≡ true
+  is-sound C timers K =
+      sound-tests r
+      (record {
+        plan = rw (C .set, C .alloc) (P .judged);
+        token = rw (C .set) (C .token);
+        timers = timers;
         sents = rw (C .set, C .alloc) (C .sents);
         rests = rw (C .set) (λ i l. K i l .small);
         arrivals = rw (C .set) (λ i l. K i l .range);
-        clock = omega (arith, C .clock, P .rotation);
+        clock = omega (arith, C .clock, P .rotation .1);
         visits = omega (arith, C .bounded);
-      }
-
-  pub is-sound : ((i : ℕ) → i < t .n → Stored t r i) → isSound r ≡ true
-  is-sound K = sound-tests r (sound-of K)
+      })

@@ -1,4 +1,5 @@
--- What the promises need of the rings' own steps: `ring_rules` promises what an accepted visit (`Done`) and an accepted handing in (`Held`) do, and here that is put as the facts that add up. Nothing else of `promises` looks into a step.
+-- What the promises need of the rings' own steps: `ring_rules` promises what an accepted visit (`Done`) and an accepted handing in (`Held`) do.
+-- Here that is put as the facts that add up. What FDDI's timers do, station by station, is a law of `rings`. Nothing else of `promises` looks into a step.
 use Prim.Native.Nat.{_+_, _≤_, _<_}
 use mathlib.Core.Path.{_≡_, refl, sym, subst, subst₂, _∙_}
 use mathlib.Core.Bool.{true}
@@ -8,18 +9,21 @@ use Rattle.units.specs.Places.{at}
 use Rattle.units.specs.SmallLaws.{below-or-not}
 use Rattle.sets.specs.declared.Set.{Set}
 use Rattle.plans.specs.declared.Alloc.{Alloc}
-use Rattle.rings.specs.State.{count, following, Shaped}
+use Rattle.timers.proofs.Promised.{promised as timers-promised}
+use Rattle.rings.specs.State.{count, ttrt, following, Shaped}
+use Rattle.rings.specs.Timers.{Fddi, timersOf, hasRun}
 use Rattle.rings.specs.Sound.{Sound, isSound}
 use Rattle.rings.specs.Steps.{Ask, syncSent, asyncSent, moved, recordOf}
-use Rattle.rings.specs.HandingIn.{Takes, holding, handInNumber}
+use Rattle.rings.specs.HandingIn.{holding, handInNumber}
 use Rattle.rings.specs.RingLaws.{sound-tests, sync-within, taken-passed}
 use Rattle.rings.specs.declared.Ring.{Ring}
 use Rattle.rings.specs.declared.Message.{Message}
 use Rattle.rings.specs.declared.VisitRecord.{VisitRecord}
+use Rattle.rings.proofs.StationLaws.{limit-ran, ran-here, ran-there, moved-below}
 use Rattle.ring_rules.specs.Promised.{Done, Held}
 use Rattle.ring_rules.proofs.MovedLaws.{done}
 use Rattle.ring_rules.proofs.HeldLaws.{held, held-sound}
-use Rattle.promises.specs.Facts.{timing, VisitCourse, VisitTimers, VisitOffer, VisitMessages, Sending, Silent, Completing, Leaving, Accepting}
+use Rattle.promises.specs.Facts.{timing, VisitCourse, VisitTimers, VisitOffer, VisitLaps, VisitMessages, Sending, Silent, Completing, Leaving, Accepting}
 use Rattle.promises.proofs.Course.{following-is}
 
 -- ---- a visit, of the ring's own plan
@@ -33,6 +37,12 @@ module _ (r : Ring) (L : Shaped r) (s : Sound r) (ask : Ask) where
 
   does : Done r ask next made
   does = done r ask L s
+
+  token-next : next .token ≡ following (count r) (r .token)
+  token-next =
+      ⊎-elim (λ (b : (r .token + 1 < count r) × (following (count r) (r .token) ≡ r .token + 1)). does .moved .on (b .0) ∙ sym (b .1))
+      (λ (b : (r .token + 1 ≡ count r) × (following (count r) (r .token) ≡ 0)). does .moved .round (b .0) ∙ sym (b .1))
+      (following-is (count r) (r .token) (s .token))
 
   own-course : VisitCourse (r .set) (r .alloc) (timing r) (timing next) made
   unfolding recordOf
@@ -49,24 +59,43 @@ module _ (r : Ring) (L : Shaped r) (s : Sound r) (ask : Ask) where
         clock = M .clock;
         last-here = M .last;
         last-there = M .lasts;
-        token = ⊎-elim (λ (b : (r .token + 1 < count r) × (following (count r) (r .token) ≡ r .token + 1)). M .on (b .0) ∙ sym (b .1)) (λ (b : (r .token + 1 ≡ count r) × (following (count r) (r .token) ≡ 0)). M .round (b .0) ∙ sym (b .1)) (following-is (count r) (r .token) (s .token));
+        token = token-next;
         visits = M .visits;
       }
 
-  own-timers : VisitTimers (r .set) (timing r) (timing next) made
+  own-timers : ¬ Fddi (r .set) → VisitTimers (r .set) (timing r) (timing next) made
   unfolding recordOf
-  own-timers =
-      let M = does .moved in
+  own-timers n =
+      let M = does .moved .timely n in
       record {
         timer = does .trt;
-        room = λ fits. omega (arith, does .amounts .limit, does .amounts .offered);
+        room = λ fits. omega (arith, does .amounts .limit n, does .amounts .offered);
         unused = M .unused;
         trt-here = M .trt-here;
         trt-there = M .trt-there;
       }
 
-  own-offer : VisitOffer (r .set) (timing r) made
-  own-offer = record { limit = does .amounts .limit; kept = omega (arith, does .amounts .offered) }
+  own-offer : ¬ Fddi (r .set) → VisitOffer (r .set) (timing r) made
+  own-offer n = record { limit = does .amounts .limit n; kept = omega (arith, does .amounts .offered) }
+
+  -- FDDI: the ticks that pass raise every number, the token takes TTRT off its station's, and what that leaves of TTRT is offered
+  own-laps : Fddi (r .set) → VisitLaps (r .set) (r .alloc) (timing r) (timing next) made
+  unfolding moved recordOf
+  own-laps e =
+      let offered = limit-ran r L s e in
+      record {
+        moves =
+            record {
+              sync = syncSent r (asyncSent r ask);
+              async = asyncSent r ask;
+              within = sync-within r (asyncSent r ask) .0;
+              early = timers-promised .early (ttrt r) 0 (hasRun (r .set) (timersOf r) (r .token)) (asyncSent r ask) (omega arith) (λ none. omega arith);
+              length = refl;
+              here = ran-here r L s e (syncSent r (asyncSent r ask)) (asyncSent r ask);
+              there = ran-there r L s e (syncSent r (asyncSent r ask)) (asyncSent r ask);
+            };
+        below = moved-below r L s e (syncSent r (asyncSent r ask)) (asyncSent r ask);
+      }
 
   sending : Sending (r .alloc) r (r .clock) made ⊎ Silent r (r .clock) made
   sending =
@@ -115,11 +144,14 @@ module _ (r : Ring) (L : Shaped r) (s : Sound r) (ask : Ask) where
     pub visit-messages : VisitMessages t a r next made
     visit-messages = subst₂ (λ (x : Set) (y : Alloc). VisitMessages x y r next made) set alloc own-messages
 
-    pub visit-offer : VisitOffer t (timing r) made
-    visit-offer = subst (λ (x : Set). VisitOffer x (timing r) made) set own-offer
+    pub visit-offer : ¬ Fddi t → VisitOffer t (timing r) made
+    visit-offer n = subst (λ (x : Set). VisitOffer x (timing r) made) set (own-offer (rw set n))
 
-    pub visit-timers : VisitTimers t (timing r) (timing next) made
-    visit-timers = subst (λ (x : Set). VisitTimers x (timing r) (timing next) made) set own-timers
+    pub visit-timers : ¬ Fddi t → VisitTimers t (timing r) (timing next) made
+    visit-timers n = subst (λ (x : Set). VisitTimers x (timing r) (timing next) made) set (own-timers (rw set n))
+
+    pub visit-laps : Fddi t → VisitLaps t a (timing r) (timing next) made
+    visit-laps e = subst₂ (λ (x : Set) (y : Alloc). VisitLaps x y (timing r) (timing next) made) set alloc (own-laps (rw set e))
 
 -- ---- a handing in
 

@@ -1,5 +1,5 @@
 -- What every visit and every handing in keep of the stored messages, whatever the timers are: remainders and arrivals stay in range, and each station's last accepted arrival is that of its latest accepted message.
-use Prim.Native.Nat.{ℕ, _+_, _≤_, _<_}
+use Prim.Native.Nat.{ℕ, _≤_, _<_}
 use mathlib.Core.Path.{_≡_, refl, sym, _∙_}
 use mathlib.Core.List.{List, _∷_}
 use mathlib.Core.Logic.{_⊎_, inl, inr, _≢_, ⊎-elim}

@@ -8,10 +8,8 @@ use native.Mathlib.Omega.{arith}
 use borrow.Author.Tests.{le-ltb}
 use lib.IntN.{pos}
 use Rattle.units.specs.Numbers.{mostClock}
-use Rattle.units.specs.Places.{at}
 use Rattle.sets.specs.declared.Set.{Set}
 use Rattle.plans.specs.declared.Alloc.{Alloc}
-use Rattle.plans.specs.Planned.{judgedPlan}
 use Rattle.rings.specs.Timers.{silentTrt}
 use Rattle.rings.specs.Steps.{Ask}
 use Rattle.rings.specs.HandingIn.{holding, handInNumber}
@@ -21,13 +19,13 @@ use Rattle.rings.specs.declared.VisitRecord.{VisitRecord}
 use Rattle.promises.specs.Run.{Call, Run, opened, runOf}
 use Rattle.promises.specs.History.{syncStartOf, latestOf, Each}
 use Rattle.promises.specs.Facts.{timing, VisitCourse, VisitTimers, VisitOffer, VisitMessages, Completing, Leaving}
-use Rattle.promises.specs.Valid.{Apart, TimerIsGap, ExactLimit, NoneLate}
+use Rattle.promises.specs.Valid.{Timely as Mode, Apart, TimerIsGap, ExactLimit, NoneLate}
 use Rattle.promises.proofs.Course.{Plan}
 use Rattle.promises.proofs.Timing.{Timed, token-timer, never-late, latest-within, rise-small, timed-kept}
 use Rattle.promises.proofs.Messages.{Messaged, deadlineAt, messaged-kept, messaged-taken, completed-in-time}
 use Rattle.promises.proofs.Steps.{visit-timers, visit-offer}
-use Rattle.promises.proofs.Opening.{plan-of, opened-places, opened-timed, opened-stored, opened-told, opened-messaged}
-use Rattle.promises.proofs.Soundness.{is-sound}
+use Rattle.promises.proofs.Opening.{opened-places, opened-timed, opened-stored, opened-told, opened-messaged}
+use Rattle.promises.proofs.Soundness.{not-fddi, timed-sound, is-sound}
 use Rattle.promises.proofs.Runs.{Kept, made, movedRun, heldRun, course-facts, message-parts, sound-ring, next-stored, kept-moved, message-facts, kept-held, Steady, steady-run}
 
 -- ---- what a new record keeps
@@ -97,7 +95,7 @@ pub record Timely (t : Set) (a : Alloc) (s : Run) : Type 0 where
 
 module _ (t : Set) (a : Alloc) (P : Plan t a) (s : Run) (K : Timely t a s) where
   pub timer-facts : (ask : Ask) → VisitTimers t (timing (s .ring)) (timing (movedRun s ask .ring)) (made s ask)
-  timer-facts ask = visit-timers (s .ring) (K .common .places) (sound-ring t a P s (K .common)) ask t a (K .common .course .set) (K .common .course .alloc)
+  timer-facts ask = visit-timers (s .ring) (K .common .places) (sound-ring t a P s (K .common)) ask t a (K .common .course .set) (K .common .course .alloc) (not-fddi t (K .timed .mode))
 
   timely-moved : (ask : Ask) → s .ring .clock ≤ mostClock → Timely t a (movedRun s ask)
   timely-moved ask early =
@@ -107,14 +105,15 @@ module _ (t : Set) (a : Alloc) (P : Plan t a) (s : Run) (K : Timely t a s) where
       let C = course-facts t a P s (K .common) ask in
       let F = timer-facts ask in
       let G = message-parts t a P s (K .common) ask in
+      let O = visit-offer r (K .common .places) (sound-ring t a P s (K .common)) ask t a (K .common .course .set) (K .common .course .alloc) (not-fddi t (K .timed .mode)) in
       let token = K .common .course .token in
       let timed = timed-kept t a (timing r) (timing q) v (s .records) P (K .timed) C F early in
-      let sound = is-sound t a q (movedRun s ask .records) P timed (next-stored t a P s (K .common) ask) in
+      let sound = is-sound t a q (movedRun s ask .records) P (timed .course) (timed-sound t a q (movedRun s ask .records) P timed) (next-stored t a P s (K .common) ask) in
       record {
         common = kept-moved t a P s (K .common) ask (omega (arith, rise-small t a (timing r) (timing q) v (s .records) P (K .timed) C F)) early sound;
         timed = timed;
         messaged = messaged-kept t a r q v (s .records) P (K .timed) C F G (K .common .stored (r .token) token) (K .messaged);
-        each = (visit-made t a r q v (s .records) P (K .timed) C F G (K .messaged (r .token) token) (visit-offer r (K .common .places) (sound-ring t a P s (K .common)) ask t a (K .common .course .set) (K .common .course .alloc)), K .each);
+        each = (visit-made t a r q v (s .records) P (K .timed) C F G (K .messaged (r .token) token) O, K .each);
       }
 
   timely-held : (m : Message) → handInNumber (s .ring) m ≡ 0 → Timely t a (heldRun s m)
@@ -132,9 +131,9 @@ steady t a P = record { common = λ s K. K .common; moves = timely-moved t a P; 
 
 -- ---- from the opened ring on
 
-timely-opened : (t : Set) (a : Alloc) → Plan t a → Timely t a (opened t a)
-timely-opened t a P =
-    let timed = opened-timed t a P in
+timely-opened : (t : Set) (a : Alloc) → Plan t a → Mode t → Timely t a (opened t a)
+timely-opened t a P mode =
+    let timed = opened-timed t a P mode in
     record {
       common =
           record {
@@ -144,14 +143,12 @@ timely-opened t a P =
             told = opened-told t a P;
             turns = tt;
             shares = tt;
-            sound = is-sound t a (opened t a .ring) (opened t a .records) P timed (opened-stored t a P);
+            sound = is-sound t a (opened t a .ring) (opened t a .records) P (timed .course) (timed-sound t a (opened t a .ring) (opened t a .records) P timed) (opened-stored t a P);
           };
       timed = timed;
       messaged = opened-messaged t a P;
       each = tt;
     }
 
-pub timely : (t : Set) (a : Alloc) → judgedPlan t a ≡ 0 → (calls : List Call) → Timely t a (runOf t a calls)
-timely t a h calls =
-    let P = plan-of t a h in
-    steady-run t a P (Timely t a) (steady t a P) (opened t a) (timely-opened t a P) calls
+pub timely : (t : Set) (a : Alloc) → Plan t a → Mode t → (calls : List Call) → Timely t a (runOf t a calls)
+timely t a P mode calls = steady-run t a P (Timely t a) (steady t a P) (opened t a) (timely-opened t a P mode) calls

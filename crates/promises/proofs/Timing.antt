@@ -1,5 +1,5 @@
 -- What every visit of a timely-token ring keeps of the token's timing, proved of the visit's facts alone. Each TRT is read off prefix sums of w and s and a window of asynchronous time, so that nothing but sums has to be compared.
-use Prim.Native.Nat.{ℕ, _+_, _-_, _*_, _≤_, _<_}
+use Prim.Native.Nat.{ℕ, _+_, _-_, _≤_, _<_}
 use mathlib.Core.Path.{_≡_, sym, ap, _∙_}
 use mathlib.Core.List.{List, _∷_}
 use mathlib.Core.Logic.{_≢_, ⊎-elim}
@@ -17,6 +17,7 @@ use Rattle.rings.specs.State.{following}
 use Rattle.rings.specs.declared.VisitRecord.{VisitRecord}
 use Rattle.promises.specs.History.{asyncOf, latestOf}
 use Rattle.promises.specs.Facts.{Timing, VisitCourse, VisitTimers, rises}
+use Rattle.promises.specs.Valid.{Timely}
 use Rattle.promises.proofs.Sums.{sum-grows, sum-changed, sum-kept, sum-between}
 use Rattle.promises.proofs.Windows.{async-step, async-none, async-grows, async-moves}
 use Rattle.promises.proofs.Course.{Plan, Course, following-is, same-or-not, at-token, latest-own, latest-other, course-kept}
@@ -37,6 +38,7 @@ ComingTimer t r h i =
     at (r .trt) i + before t r i ≡ asyncOf (r .token + t .n - i) h + before t r (r .token) + before t r (t .n)
 
 pub record Timed (t : Set) (a : Alloc) (r : Timing) (h : List VisitRecord) : Type 0 where
+  pub mode : Timely t
   pub course : Course t a r h
   pub unused : r .unused + sumBelow (t .n) (at (r .sent)) ≡ sumBelow (t .n) (at (a .s))
   pub passed : (i : ℕ) → i < r .token → PassedTimer t r h i
@@ -156,6 +158,7 @@ module _ (t : Set) (a : Alloc) (r q : Timing) (v : VisitRecord) (h : List VisitR
   kept-with : ((i : ℕ) → i < q .token → PassedTimer t q (v ∷ h) i) → ((i : ℕ) → i < t .n → q .token ≤ i → ComingTimer t q (v ∷ h) i) → r .clock ≤ mostClock → Timed t a q (v ∷ h)
   kept-with passed coming early =
       record {
+        mode = T .mode;
         course = course-kept t a r q v h P (T .course) C (omega (arith, rise-small)) early;
         unused = omega (arith, F .unused, T .unused, sent-changed (t .n) (T .course .token));
         passed = passed;

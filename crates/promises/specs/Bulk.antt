@@ -1,4 +1,4 @@
--- Request No. 3: how long bulk data can wait. It is said of timely-token rings whose frames may stop at any tick: every ring of today. Where a plan names its mode and F, that they are 1 becomes a premise of `Promised.bulk`, beside A* at least 1.
+-- Request No. 3: how long bulk data can wait. It is said of timely-token rings whose frames may stop at any tick. That the mode is 1 is a premise of `Promised.bulk`, beside A* at least 1; where a plan names F, that it is 1 becomes another.
 use Prim.Native.Nat.{ℕ, _+_, _*_, _≤_, _<_}
 use mathlib.Core.Path.{_≡_}
 use mathlib.Core.List.{List, [], _∷_}

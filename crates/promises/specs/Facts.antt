@@ -1,4 +1,4 @@
--- What an accepted visit and an accepted handing in do, as facts that add up: `ring_rules` promises it of the rings' steps (`Done`, `Held`), and `proofs/Steps.antt` reads these records off that. The promises are proved of these records alone: another step function that gives them keeps the same promises. Every kind of ring gives `VisitCourse` and `VisitMessages`; the timers' half is that of a timely-token ring.
+-- What an accepted visit and an accepted handing in do, as facts that add up: `ring_rules` promises it of the rings' steps (`Done`, `Held`), and `proofs/Steps.antt` reads these records off that. The promises are proved of these records alone: another step function that gives them keeps the same promises. Every kind of ring gives `VisitCourse` and `VisitMessages`; the timers' half is `VisitTimers` and `VisitOffer` of a timely-token ring, `VisitLaps` of an FDDI ring.
 use Prim.Native.Nat.{ℕ, _+_, _-_, _≤_, _<_, min}
 use mathlib.Core.Path.{_≡_}
 use mathlib.Core.List.{List}
@@ -8,9 +8,12 @@ use Rattle.units.specs.Numbers.{mostClock}
 use Rattle.units.specs.Places.{at}
 use Rattle.sets.specs.declared.Set.{Set}
 use Rattle.plans.specs.declared.Alloc.{Alloc}
+use Rattle.timers.specs.Kept.{Plan, Visit}
 use Rattle.rings.specs.State.{following}
+use Rattle.rings.specs.Timers.{hasRun}
 use Rattle.rings.specs.declared.Ring.{Ring}
 use Rattle.rings.specs.declared.Message.{Message}
+use Rattle.rings.specs.declared.Timers.{Timers}
 use Rattle.rings.specs.declared.VisitRecord.{VisitRecord}
 use Rattle.promises.specs.History.{syncStartOf}
 
@@ -19,6 +22,7 @@ pub record Timing : Type 0 where
   pub set : Set
   pub alloc : Alloc
   pub trt : List ℕ
+  pub late : List ℕ
   pub sent : List ℕ
   pub last : List ℕ
   pub clock : ℕ
@@ -32,6 +36,7 @@ timing r =
       set = r .set;
       alloc = r .alloc;
       trt = r .trt;
+      late = r .late;
       sent = r .sent;
       last = r .last;
       clock = r .clock;
@@ -39,6 +44,10 @@ timing r =
       token = r .token;
       unused = r .unused;
     }
+
+-- its timers, as a ring has them
+abbrev pub timersIn : Timing → Timers
+timersIn r = record { trt = r .trt; late = r .late; unused = r .unused }
 
 -- what the clock and every timer rise by
 abbrev pub rises : Set → VisitRecord → ℕ
@@ -81,6 +90,18 @@ pub record VisitOffer (t : Set) (r : Timing) (v : VisitRecord) : Type 0 where
   -- the larger of TTRT − u − TRT and 0
   pub limit : v .limit .0 ≡ t .head .ttrt - r .unused - at (r .trt) (r .token)
   pub kept : v .asynchronous .0 ≤ v .limit .0
+
+-- ---- the timers of an FDDI visit: each station has one number, `hasRun`: how long its timer has run, with TTRT for each time that it is late
+
+-- the plan as `timers` has it; a frame may stop at any tick, so F − 1 is 0
+abbrev pub timerPlan : Set → Alloc → Plan
+timerPlan t a = record { n = t .n; ttrt = t .head .ttrt; f = 0; s = at (a .s); w = at (t .w) }
+
+pub record VisitLaps (t : Set) (a : Alloc) (r q : Timing) (v : VisitRecord) : Type 0 where
+  -- the visit moves every station's number as `timers` says
+  pub moves : Visit (timerPlan t a) (hasRun t (timersIn r)) (hasRun t (timersIn q)) (r .token) (rises t v)
+  -- and leaves every timer below TTRT
+  pub below : (i : ℕ) → i < t .n → at (q .trt) i < t .head .ttrt
 
 -- ---- the message half: `begins` is when the synchronous part starts
 

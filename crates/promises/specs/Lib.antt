@@ -1,10 +1,11 @@
 -- What every run of calls on an opened ring keeps (demand 3).
 --     Run         calls, and the ring and the records after a list of them
 --     History     what is read off the records: windows, the latest visit of a station, whose turn it is
---     Valid       what "valid" means, in parts
+--     Valid       what "valid" means, in parts and by the mode
 --     Bulk        how long bulk data can wait
 --     Promised    the promises
 --     Witness     a run in which all that the promises speak of happens
+--     FddiWitness a run of an FDDI ring in which the token is as late as it can be
 --     BulkWitness a run in which bulk data waits long
 -- and, for the proofs:
 --     Facts       what a visit and a handing in do, as records of facts that add up
@@ -15,4 +16,5 @@ pub mod Valid
 pub mod Bulk
 pub mod Promised
 pub mod Witness
+pub mod FddiWitness
 pub mod BulkWitness

@@ -1,4 +1,4 @@
--- Demand 3, and request No. 3: what is promised of every run, for every set and allocation that meet the rules, whatever calls are made, accepted and refused ones, and whatever is asked for; `proofs/Promised.antt` proves it.
+-- Demand 3, as it reads for the plan's mode (request No. 1), and request No. 3: what is promised of every run, for every set and allocation that meet the rules, whatever calls are made, accepted and refused ones, and whatever is asked for; `proofs/Promised.antt` proves it.
 use Prim.Native.Nat.{ℕ, _≤_}
 use mathlib.Core.Path.{_≡_}
 use mathlib.Core.List.{List, []}
@@ -11,9 +11,10 @@ use Rattle.plans.specs.declared.Alloc.{Alloc}
 use Rattle.sheets.specs.Reading.{readRequest, readPlan}
 use Rattle.rings.specs.Opening.{opening}
 use Rattle.promises.specs.Run.{runOf}
-use Rattle.promises.specs.Valid.{Valid}
+use Rattle.promises.specs.Valid.{Timely, Valid}
 use Rattle.promises.specs.Bulk.{BulkServed}
 use Rattle.promises.specs.Witness.{Happens}
+use Rattle.promises.specs.FddiWitness.{FddiHappens}
 use Rattle.promises.specs.BulkWitness.{BulkWaits}
 
 pub record Promised : Type 0 where
@@ -29,13 +30,15 @@ pub record Promised : Type 0 where
   -- a plan sheet that reading accepted meets the rules, and so what it holds is valid
   pub sheet-judged : (bytes : List ℕ) → readPlan bytes .number ≡ 0 → judgedPlan (readPlan bytes .set) (readPlan bytes .alloc) ≡ 0
   pub sheet-valid : (bytes : List ℕ) → readPlan bytes .number ≡ 0 → Valid (readPlan bytes .set) (readPlan bytes .alloc)
-  -- from the bytes of a request sheet to the kept deadlines: where reading and then planning accept, the plan is valid
+  -- from the bytes of a request sheet to what its mode promises, for a timely-token ring the kept deadlines: where reading and then planning accept, the plan is valid
   pub request-valid : (bytes : List ℕ)
       → readRequest bytes .number ≡ 0 → planned (readRequest bytes .set) .number ≡ 0
       → Valid (readRequest bytes .set) (planned (readRequest bytes .set) .alloc)
-  -- request No. 3: where A* is at least 1, no station waits long for asynchronous time
-  pub bulk : (t : Set) (a : Alloc) → judgedPlan t a ≡ 0 → 1 ≤ spareTime t (at (a .s)) → BulkServed t a
+  -- request No. 3: on a timely-token ring, where A* is at least 1, no station waits long for asynchronous time
+  pub bulk : (t : Set) (a : Alloc) → judgedPlan t a ≡ 0 → Timely t → 1 ≤ spareTime t (at (a .s)) → BulkServed t a
   -- none of it is kept by never being called upon: there is a run in which all that is promised happens
   pub happens : Happens
+  -- and one of an FDDI ring, in which the token is as late as it can be
+  pub fddi-happens : FddiHappens
   -- nor is the promise of bulk data larger than need be: there is a run in which a station waits all but the last of those visits
   pub bulk-waits : BulkWaits

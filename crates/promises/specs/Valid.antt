@@ -1,4 +1,4 @@
--- Demand 3 in parts: what every run of calls keeps on the ring that set t and allocation a open. `Valid` is all of them. Each part is a record by itself, so that a ring of another kind takes the parts that it keeps.
+-- Demand 3 in parts: what every run of calls keeps on the ring that set t and allocation a open. Each part is a record by itself; `Valid`, at the end, says which of them a plan promises, by its mode.
 use Prim.Native.Nat.{ℕ, _+_, _-_, _*_, _≤_, _<_}
 use mathlib.Core.Path.{_≡_}
 use mathlib.Core.List.{List, _++_, _∷_}
@@ -6,13 +6,13 @@ use mathlib.Core.Logic.{_⊎_, _≢_, _↔_}
 use mathlib.Core.Option.{none, some}
 use lib.IntN.{pos, subℕ}
 use lib.ListN.{length}
-use Rattle.units.specs.Numbers.{mostClock, mostStations}
+use Rattle.units.specs.Numbers.{timely, mostClock, mostStations}
 use Rattle.units.specs.Places.{at, sumBelow}
 use Rattle.sets.specs.Rules.{tau}
 use Rattle.sets.specs.declared.Set.{Set}
 use Rattle.plans.specs.Rules.{spareTime}
 use Rattle.plans.specs.declared.Alloc.{Alloc}
-use Rattle.rings.specs.Timers.{silentTrt}
+use Rattle.rings.specs.Timers.{Fddi, silentTrt}
 use Rattle.rings.specs.Sound.{Sound}
 use Rattle.rings.specs.Steps.{Ask, visited}
 use Rattle.rings.specs.HandingIn.{handedIn}
@@ -36,6 +36,10 @@ ShareKept a v before = v .synchronous .0 ≤ at (a .s) (v .station .0)
 -- the start is at most `bound` after the start of the station's visit before
 abbrev pub Apart : ℕ → VisitRecord → List VisitRecord → Type 0
 Apart bound v before = (u : VisitRecord) → latestOf (v .station .0) before ≡ some u → v .start .0 ≤ u .start .0 + bound
+
+-- at its first visit: the start is at most `bound` since the silent rotation passed it
+abbrev pub FirstWithin : Set → ℕ → VisitRecord → List VisitRecord → Type 0
+FirstWithin t bound v before = latestOf (v .station .0) before ≡ none → silentTrt t (v .station .0) + v .start .0 ≤ bound
 
 -- TRT on arrival is the time since the token was last there
 pub record TimerIsGap (t : Set) (v : VisitRecord) (before : List VisitRecord) : Type 0 where
@@ -147,7 +151,7 @@ pub record Common (t : Set) (a : Alloc) : Type 0 where
       → (at (ringOf t a calls .had) i ≢ 0) × (at (ringOf t a calls .arrival) i ≡ m .arrival .0)
   pub no-message : (calls : List Call) (i : ℕ) → i < t .n → latestFor i (messagesOf t a calls) ≡ none → at (ringOf t a calls .had) i ≡ 0
 
--- the token is never late: arrivals at a station are at most `bound` apart
+-- the token is never late, and late here means later than `bound`: arrivals at a station are at most `bound` apart
 pub record NeverLate (t : Set) (a : Alloc) (bound : ℕ) : Type 0 where
   -- successive visits
   pub apart : (calls : List Call) → Each (Apart bound) (recordsOf t a calls)
@@ -184,10 +188,18 @@ pub record DeadlinesKept (t : Set) (a : Alloc) : Type 0 where
       → m .station .0 < t .n → m .arrival .0 ≤ mostClock
       → Regular t (runOf t a calls) m → handedIn (ringOf t a calls) m .number ≡ 0
 
--- ---- what "valid" means
+-- ---- what "valid" means, by the mode
 
-pub record Valid (t : Set) (a : Alloc) : Type 0 where
-  pub common : Common t a
+-- mode 1
+abbrev pub Timely : Set → Type 0
+Timely t = t .head .mode ≡ timely
+
+-- the sum of S
+abbrev pub allShares : Set → Alloc → ℕ
+allShares t a = sumBelow (t .n) (at (a .s))
+
+-- what a timely-token ring keeps
+pub record TimelyKept (t : Set) (a : Alloc) : Type 0 where
   -- the token is back within TTRT, and TRT says when it was there last
   pub never-late : NeverLate t a (t .head .ttrt)
   pub timers : (calls : List Call) → Each (TimerIsGap t) (recordsOf t a calls)
@@ -195,3 +207,23 @@ pub record Valid (t : Set) (a : Alloc) : Type 0 where
   pub limits : ExactLimits t a
   -- deadlines are kept
   pub deadlines : DeadlinesKept t a
+
+-- what an FDDI ring keeps: the token may come later than TTRT, by the sum of S at most; no limit and no deadline is promised
+pub record FddiKept (t : Set) (a : Alloc) : Type 0 where
+  -- the token is back within TTRT + the sum of S + τ
+  pub never-late : NeverLate t a (t .head .ttrt + allShares t a + tau t)
+  -- and even within TTRT + the sum of S
+  pub sooner : NeverLate t a (t .head .ttrt + allShares t a)
+  -- at a station's first visit too, since the silent rotation passed it
+  pub first : (calls : List Call) → Each (FirstWithin t (t .head .ttrt + allShares t a)) (recordsOf t a calls)
+  -- and as long as a station has had no visit
+  pub first-since : (calls : List Call) (i : ℕ)
+      → i < t .n → latestOf i (recordsOf t a calls) ≡ none
+      → silentTrt t i + ringOf t a calls .clock ≤ t .head .ttrt + allShares t a
+  -- no late count is above 1, where 3 would be sound
+  pub lates : (calls : List Call) (i : ℕ) → i < t .n → at (ringOf t a calls .late) i ≤ 1
+
+pub record Valid (t : Set) (a : Alloc) : Type 0 where
+  pub common : Common t a
+  pub timely : Timely t → TimelyKept t a
+  pub fddi : Fddi t → FddiKept t a

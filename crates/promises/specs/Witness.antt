@@ -4,6 +4,7 @@ use mathlib.Core.Path.{_≡_}
 use mathlib.Core.List.{List, [], _∷_, _++_}
 use lib.IntN.{ℤ, pos}
 use lib.ListN.{replicate}
+use Rattle.units.specs.Numbers.{timely}
 use Rattle.units.specs.Places.{at}
 use Rattle.sets.specs.declared.Set.{Set}
 use Rattle.plans.specs.Rules.{spareTime}
@@ -20,8 +21,12 @@ abbrev pub two : ℕ → ℕ → List ℕ
 two a b = (a ∷ b ∷ []) ++ replicate 126 0
 
 -- TTRT 100, w 1 each; station 0 has C 30, D 250, P 250, station 1 has no synchronous stream
+abbrev pub pairOf : ℕ → Set
+pairOf mode = record { head = record { ttrt = 100; mode = mode }; n = 2; w = two 1 1; c = two 30 0; d = two 250 100; p = two 250 100 }
+
+-- as a timely-token ring
 abbrev pub pair : Set
-pair = record { head = record { ttrt = 100 }; n = 2; w = two 1 1; c = two 30 0; d = two 250 100; p = two 250 100 }
+pair = pairOf timely
 
 -- S 15 and 0
 abbrev pub shares : Alloc

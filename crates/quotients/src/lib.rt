@@ -1,5 +1,4 @@
 // Quotients by shifting and subtracting: the whole quotient with its remainder, and the share rounded up. No function here divides.
-ghost use mathlib.Core.Path.{_≡_};
 ghost use Prim.Native.Nat.{_<_, _≤_};
 ghost use Rattle.quotients.specs.Division.{Divided, Share};
 ghost use Rattle.quotients.specs.Turns.{Raised};

@@ -32,6 +32,7 @@ module _ (r : Ring) (m : Message) (L : Shaped r) (s : Sound r) (t : Takes r m) w
         set = refl;
         alloc = refl;
         trt = refl;
+        late = refl;
         sent = refl;
         last = refl;
         clock = refl;
@@ -41,6 +42,7 @@ module _ (r : Ring) (m : Message) (L : Shaped r) (s : Sound r) (t : Takes r m) w
         shaped =
             record {
               trt = L .trt;
+              late = L .late;
               sent = L .sent;
               rest = length-set (r .rest) i _ ∙ L .rest;
               arrival = length-set (r .arrival) i _ ∙ L .arrival;
@@ -55,7 +57,11 @@ module _ (r : Ring) (m : Message) (L : Shaped r) (s : Sound r) (t : Takes r m) w
       record {
         plan = s .plan;
         token = s .token;
-        timers = record { trts = s .timers .trts; unused = s .timers .unused };
+        timers =
+            record {
+              timely = λ n. record { trts = s .timers .timely n .trts; unused = s .timers .timely n .unused };
+              fddi = λ e. record { timers = s .timers .fddi e .timers; lates = s .timers .fddi e .lates };
+            };
         sents = s .sents;
         rests = λ j l. set-each (r .rest) (m .station .0) j (m .length .0) (λ (x : ℕ). x ≤ at (r .set .c) j) (s .rests j l) (λ e. rw e (t .length .1));
         arrivals = λ j l. set-each (r .arrival) (m .station .0) j (m .arrival .0) (λ (x : ℕ). x ≤ 1_000_000_000_000) (s .arrivals j l) (λ e. t .arrival .range);

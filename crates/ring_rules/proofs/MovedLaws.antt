@@ -10,12 +10,17 @@ use lib.ListN.{length, set, length-set}
 use lib.Seq.{getD-set-same, getD-set-other}
 use Rattle.units.specs.Places.{at, raise}
 use Rattle.units.specs.PlaceLaws.{sum-part, raise-inside, raise-length}
+use Rattle.units.specs.SmallLaws.{below-or-not}
 use Rattle.units.specs.JudgingLaws.{true-or-false, true-and, and-true}
-use Rattle.rings.specs.State.{count, following, share, unusedAt, holds, Shaped}
-use Rattle.rings.specs.Timers.{rise, timersAfter}
+use Rattle.rings.specs.State.{count, ttrt, following, share, unusedAt, holds, Shaped}
+use Rattle.timers.specs.Timers.{Timer, visited}
+use Rattle.timers.proofs.Timers.{later-ticks}
+use Rattle.rings.specs.Timers.{Fddi, rise, timerOf, timersOf, tokenCame, timePassed, timelyAfter}
 use Rattle.rings.specs.Sound.{Sound}
 use Rattle.rings.specs.Steps.{Ask, serves, syncSent, asyncSent, nextToken, moved, completes, recordOf}
-use Rattle.ring_rules.specs.Promised.{Amounts, Moved, Completed, NoneCompleted, Done}
+use Rattle.ring_rules.specs.Promised.{Amounts, TimelyMoved, FddiMoved, Moved, Completed, NoneCompleted, Done}
+use Rattle.rings.specs.TimerLaws.{fddi-or-not, limit-fddi, limit-timely, after-fddi, after-timely, came-late, came-early, offered-late, offered-early}
+use Rattle.rings.proofs.StationLaws.{timer-here, timer-there, moved-long}
 use Rattle.rings.specs.RingLaws.{sound-plan, served, not-served, sync-within}
 use Rattle.rings.specs.declared.Ring.{Ring}
 
@@ -30,6 +35,11 @@ margin-late deadline finish k e =
     let d : finish - suc deadline ≡ k = omega arith in
     rw (lt-ltb deadline finish (omega arith)) (ap negsuc d)
 
+-- an FDDI ring's u stays
+unused-stays : (r : Ring) → Fddi (r .set) → (sync async : ℕ) → moved r sync async .unused ≡ r .unused
+unfolding moved timePassed tokenCame
+unused-stays r e sync async = rw (after-fddi r e sync async)
+
 module _ (r : Ring) (ask : Ask) (L : Shaped r) (s : Sound r) where
   -- the token's station is one of the places
   inside : r .token < 128
@@ -39,7 +49,9 @@ module _ (r : Ring) (ask : Ask) (L : Shaped r) (s : Sound r) where
   unfolding recordOf
   amounts =
       record {
-        limit = refl;
+        limit = limit-timely r;
+        limit-late = λ e l. limit-fddi r e ∙ offered-late (ttrt r) (timerOf (timersOf r) (r .token)) l;
+        limit-early = λ e z. limit-fddi r e ∙ offered-early (ttrt r) (timerOf (timersOf r) (r .token)) z;
         served = λ h l. served r (asyncSent r ask) (true-and _ _ (lt-ltb _ _ h) (le-leb _ _ l));
         early = λ l. ⊎-elim (λ (e : serves r (asyncSent r ask) ≡ true). let n : at (r .arrival) (r .token) ≤ r .clock = leb-true _ _ (and-true (holds r (r .token)) _ e .1) in absurd (omega arith))
             (λ (e : serves r (asyncSent r ask) ≡ false). not-served r (asyncSent r ask) e)
@@ -52,14 +64,16 @@ module _ (r : Ring) (ask : Ask) (L : Shaped r) (s : Sound r) where
   trt-here x =
       let long : length (set (r .trt) (r .token) 0) ≡ 128 = length-set (r .trt) (r .token) 0 ∙ L .trt in
       let was : at (set (r .trt) (r .token) 0) (r .token) ≡ 0 = getD-set-same (r .trt) (r .token) 0 0 (omega (arith, inside, L .trt)) in
-      let up : at (raise (count r) x (set (r .trt) (r .token) 0)) (r .token) ≡ at (set (r .trt) (r .token) 0) (r .token) + x = raise-inside (count r) x (set (r .trt) (r .token) 0) (r .token) (s .token) (omega (arith, sound-plan r s .0 .1)) in
+      let up : at (raise (count r) x (set (r .trt) (r .token) 0)) (r .token) ≡ at (set (r .trt) (r .token) 0) (r .token) + x =
+      raise-inside (count r) x (set (r .trt) (r .token) 0) (r .token) (s .token) (omega (arith, sound-plan r s .0 .1)) in
       omega arith
 
   trt-there : (x i : ℕ) → i < count r → i ≢ r .token → at (raise (count r) x (set (r .trt) (r .token) 0)) i ≡ at (r .trt) i + x
   trt-there x i l n =
       let long : length (set (r .trt) (r .token) 0) ≡ 128 = length-set (r .trt) (r .token) 0 ∙ L .trt in
       let was : at (set (r .trt) (r .token) 0) i ≡ at (r .trt) i = getD-set-other (r .trt) (r .token) i 0 0 (omega arith) in
-      let up : at (raise (count r) x (set (r .trt) (r .token) 0)) i ≡ at (set (r .trt) (r .token) 0) i + x = raise-inside (count r) x (set (r .trt) (r .token) 0) i l (omega (arith, sound-plan r s .0 .1)) in
+      let up : at (raise (count r) x (set (r .trt) (r .token) 0)) i ≡ at (set (r .trt) (r .token) 0) i + x =
+      raise-inside (count r) x (set (r .trt) (r .token) 0) i l (omega (arith, sound-plan r s .0 .1)) in
       omega arith
 
   next-on : r .token + 1 < count r → nextToken r ≡ r .token + 1
@@ -75,19 +89,50 @@ module _ (r : Ring) (ask : Ask) (L : Shaped r) (s : Sound r) where
   unfolding moved
   rest-here = getD-set-same (r .rest) (r .token) (at (r .rest) (r .token) - syncSent r (asyncSent r ask)) 0 (omega (arith, inside, L .rest))
 
+  -- ---- the timers, by the mode
+
+  module _ (sync async : ℕ) where
+    timely-moved : ¬ Fddi (r .set) → sync ≤ share r (r .token) → TimelyMoved r (moved r sync async) (recordOf r sync async)
+    unfolding moved recordOf timelyAfter
+    timely-moved n within =
+        let old : unusedAt r (r .token) ≤ r .unused = omega (arith, s .timers .timely n .unused, sum-part (count r) (unusedAt r) (r .token) (s .token)) in
+        let sents : at (r .sent) (r .token) ≤ share r (r .token) = s .sents (r .token) (s .token) in
+        rw (after-timely r n sync async)
+        (record { unused = omega arith; trt-here = trt-here (rise r sync async); trt-there = trt-there (rise r sync async); late = refl })
+
+    -- a token leaves a timer below TTRT
+    visited-below : (ttrt : ℕ) (t : Timer) → t .timer < ttrt → visited t .timer < ttrt
+    visited-below ttrt t l =
+        ⊎-elim (λ (b : 0 < t .count). rw (came-late t b) l) (λ (b : t .count ≤ 0). rw (came-early t (omega arith)) (omega arith)) (below-or-not 0 (t .count))
+
+    fddi-moved : Fddi (r .set) → FddiMoved r (moved r sync async) (recordOf r sync async)
+    unfolding recordOf
+    fddi-moved e =
+        let below = s .timers .fddi e .timers in
+        let on = later-ticks (ttrt r) (rise r sync async) in
+        record {
+          timer-here = timer-here r L s e sync async ∙ on _ (visited-below (ttrt r) _ (below (r .token) (s .token)));
+          timer-there = λ i l d. timer-there r L s e sync async i l d ∙ on _ (below i l);
+          unused = unused-stays r e sync async;
+        }
+
+    timers-long : (length (moved r sync async .trt) ≡ 128) × (length (moved r sync async .late) ≡ 128)
+    unfolding moved timelyAfter
+    timers-long =
+        ⊎-elim (λ e. moved-long r L s e sync async)
+        (λ n. rw (after-timely r n sync async) (raise-length (count r) _ _ ∙ (length-set (r .trt) (r .token) 0 ∙ L .trt), L .late))
+        (fddi-or-not (r .set))
+
   changed : Moved r (moved r (syncSent r (asyncSent r ask)) (asyncSent r ask)) (recordOf r (syncSent r (asyncSent r ask)) (asyncSent r ask))
-  unfolding moved recordOf timersAfter
+  unfolding moved recordOf
   changed =
       let within = sync-within r (asyncSent r ask) in
-      let old : unusedAt r (r .token) ≤ r .unused = omega (arith, s .timers .unused, sum-part (count r) (unusedAt r) (r .token) (s .token)) in
-      let sents : at (r .sent) (r .token) ≤ share r (r .token) = s .sents (r .token) (s .token) in
       record {
-        unused = omega arith;
+        timely = λ n. timely-moved (syncSent r (asyncSent r ask)) (asyncSent r ask) n (within .0);
+        fddi = fddi-moved (syncSent r (asyncSent r ask)) (asyncSent r ask);
         sent = getD-set-same (r .sent) (r .token) (syncSent r (asyncSent r ask)) 0 (omega (arith, inside, L .sent));
         rest = omega (arith, rest-here);
         clock = refl;
-        trt-here = trt-here (rise r (syncSent r (asyncSent r ask)) (asyncSent r ask));
-        trt-there = trt-there (rise r (syncSent r (asyncSent r ask)) (asyncSent r ask));
         on = next-on;
         round = next-round;
         visits = refl;
@@ -101,7 +146,8 @@ module _ (r : Ring) (ask : Ask) (L : Shaped r) (s : Sound r) where
         lasts = λ j n. getD-set-other (r .last) (r .token) j (r .clock) 0 (omega arith);
         shaped =
             record {
-              trt = raise-length (count r) _ _ ∙ (length-set (r .trt) (r .token) 0 ∙ L .trt);
+              trt = timers-long (syncSent r (asyncSent r ask)) (asyncSent r ask) .0;
+              late = timers-long (syncSent r (asyncSent r ask)) (asyncSent r ask) .1;
               sent = length-set (r .sent) (r .token) _ ∙ L .sent;
               rest = length-set (r .rest) (r .token) _ ∙ L .rest;
               arrival = L .arrival;
@@ -110,13 +156,15 @@ module _ (r : Ring) (ask : Ask) (L : Shaped r) (s : Sound r) where
             };
       }
 
-  completed : 0 < at (r .rest) (r .token) → at (moved r (syncSent r (asyncSent r ask)) (asyncSent r ask) .rest) (r .token) ≡ 0 → Completed r (recordOf r (syncSent r (asyncSent r ask)) (asyncSent r ask))
+  completed : 0 < at (r .rest) (r .token) → at (moved r (syncSent r (asyncSent r ask)) (asyncSent r ask) .rest) (r .token) ≡ 0
+      → Completed r (recordOf r (syncSent r (asyncSent r ask)) (asyncSent r ask))
   unfolding recordOf
   completed h e =
       let yes : completes r (syncSent r (asyncSent r ask)) ≡ true = true-and _ _ (lt-ltb _ _ h) (eq-eqb _ _ (sym rest-here ∙ e)) in
       record { flag = rw yes; finish = rw yes; margin = rw yes }
 
-  left : (at (r .rest) (r .token) ≡ 0) ⊎ (0 < at (moved r (syncSent r (asyncSent r ask)) (asyncSent r ask) .rest) (r .token)) → NoneCompleted (recordOf r (syncSent r (asyncSent r ask)) (asyncSent r ask))
+  left : (at (r .rest) (r .token) ≡ 0) ⊎ (0 < at (moved r (syncSent r (asyncSent r ask)) (asyncSent r ask) .rest) (r .token))
+      → NoneCompleted (recordOf r (syncSent r (asyncSent r ask)) (asyncSent r ask))
   unfolding recordOf
   left w =
       let no : completes r (syncSent r (asyncSent r ask)) ≡ false =

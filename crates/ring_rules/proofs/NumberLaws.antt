@@ -83,7 +83,8 @@ module _ (r : Ring) (m : Message) where
       (iff-under
       (given (lengthAllowed r m) _ 10 _ decides-length (not-given _ 11 _ 10 (omega arith) (not-given _ 12 0 10 (omega arith) (omega arith)))))))
 
-  pub message-eleven : (handInNumber r m ≡ 11) ↔ (Sound r × ((m .station .0 < count r) × (((1 ≤ m .length .0) × (m .length .0 ≤ at (r .set .c) (m .station .0))) × ¬ (at (r .rest) (m .station .0) ≡ 0))))
+  pub message-eleven : (handInNumber r m ≡ 11) ↔ (Sound r × ((m .station .0 < count r)
+      × (((1 ≤ m .length .0) × (m .length .0 ≤ at (r .set .c) (m .station .0))) × ¬ (at (r .rest) (m .station .0) ≡ 0))))
   message-eleven =
       iff-then (given-later (isSound r) (Sound r) 8 _ 11 (decides-sound r) (omega arith))
       (iff-under
@@ -92,7 +93,8 @@ module _ (r : Ring) (m : Message) where
       (iff-then (given-later (lengthAllowed r m) _ 10 _ 11 decides-length (omega arith))
       (iff-under (given (nothingHeld r m) _ 11 _ decides-free (not-given _ 12 0 11 (omega arith) (omega arith))))))))
 
-  pub message-twelve : (handInNumber r m ≡ 12) ↔ (Sound r × ((m .station .0 < count r) × (((1 ≤ m .length .0) × (m .length .0 ≤ at (r .set .c) (m .station .0))) × ((at (r .rest) (m .station .0) ≡ 0) × ¬ ArrivalAllowed r m))))
+  pub message-twelve : (handInNumber r m ≡ 12) ↔ (Sound r × ((m .station .0 < count r)
+      × (((1 ≤ m .length .0) × (m .length .0 ≤ at (r .set .c) (m .station .0))) × ((at (r .rest) (m .station .0) ≡ 0) × ¬ ArrivalAllowed r m))))
   message-twelve =
       iff-then (given-later (isSound r) (Sound r) 8 _ 12 (decides-sound r) (omega arith))
       (iff-under

@@ -7,7 +7,7 @@ use Rattle.units.specs.SmallLaws.{below-or-not}
 use Rattle.sets.specs.Rules.{SameSet}
 use Rattle.sets.specs.declared.Set.{Set}
 use Rattle.plans.specs.Planned.{judgedPlan}
-use Rattle.plans.specs.PlanLaws.{judged-plan-same}
+use Rattle.plans.proofs.SameLaws.{judged-plan-same}
 use Rattle.plans.specs.declared.Alloc.{Alloc}
 use Rattle.rings.specs.State.{Shaped}
 use Rattle.rings.specs.Opening.{blankRing, openedRing, opening}
@@ -16,11 +16,13 @@ use Rattle.rings.specs.Steps.{Ask, syncSent, asyncSent, moved, recordOf, visitN
 use Rattle.rings.specs.HandingIn.{handInNumber, holding, handedIn}
 use Rattle.ring_rules.specs.Promised.{Fresh, Done, Held, SameFirst, SameRing, Promised}
 use Rattle.rings.specs.RingLaws.{decides-sound, opened-number, taken-number, opened-refused, opened-accepted, visit-refused, visit-accepted, visit-passed, taken-refused, taken-accepted, taken-passed}
-use Rattle.ring_rules.proofs.NumberLaws.{visited-number, visit-eight, visit-thirteen, visit-none, visit-only, message-eight, message-nine, message-ten, message-eleven, message-twelve, message-none, message-only}
+use Rattle.ring_rules.proofs.NumberLaws.{visited-number, visit-eight, visit-thirteen, visit-none, visit-only, message-eight, message-nine, message-ten, message-eleven}
+use Rattle.ring_rules.proofs.NumberLaws.{message-twelve, message-none, message-only}
 use Rattle.ring_rules.proofs.OpenedLaws.{fresh, opened-sound}
 use Rattle.ring_rules.proofs.MovedLaws.{margin-kept, margin-late, done}
 use Rattle.ring_rules.proofs.HeldLaws.{held, held-sound}
 use Rattle.ring_rules.proofs.FirstLaws.{sound-same, visit-number-same, sync-same, async-same, record-same, moved-same, message-number-same, held-same, fresh-same}
+use Rattle.ring_rules.proofs.ModeLaws.{sound-timely, sound-fddi, late-alone, unused-alone}
 use Rattle.rings.specs.declared.Ring.{Ring}
 use Rattle.rings.specs.declared.Message.{Message}
 
@@ -46,7 +48,8 @@ module _ (t : Set) (a : Alloc) where
   opening-sound : opening t a .number ≡ 0 → Sound (opening t a .ring)
   opening-sound e = rw (ring-opened e) (opened-sound t a (sym number-opened ∙ e))
 
-first-places-opening : (t u : Set) (a b : Alloc) → SameSet t u → SameFirst (t .n) (a .s) (b .s) → (opening t a .number ≡ opening u b .number) × (opening t a .number ≡ 0 → SameRing (opening t a .ring) (opening u b .ring))
+first-places-opening : (t u : Set) (a b : Alloc) → SameSet t u → SameFirst (t .n) (a .s) (b .s)
+    → (opening t a .number ≡ opening u b .number) × (opening t a .number ≡ 0 → SameRing (opening t a .ring) (opening u b .ring))
 first-places-opening t u a b same alloc =
     let number : opening t a .number ≡ opening u b .number = number-opened t a ∙ (judged-plan-same t u a b same alloc ∙ sym (number-opened u b)) in
     (number, λ e. fresh-same t u a b _ _ same alloc (opening-fresh t a e) (opening-fresh u b (sym number ∙ e)))
@@ -75,7 +78,8 @@ first-places-visit a b ask La Lb same =
     ⊎-elim (λ (e : visited a ask .answer .number ≡ 0).
     let f : visited b ask .answer .number ≡ 0 = number-visited b ask ∙ (sym numbers ∙ (sym (number-visited a ask) ∙ e)) in
     let l = passed a ask e .token in
-    let records : recordOf a (syncSent a (asyncSent a ask)) (asyncSent a ask) ≡ recordOf b (syncSent b (asyncSent b ask)) (asyncSent b ask) = record-same a b same ask l (syncSent a (asyncSent a ask)) (asyncSent a ask) ∙ rw (sync-same a b same ask l (asyncSent a ask), async-same a b same ask l) in
+    let records : recordOf a (syncSent a (asyncSent a ask)) (asyncSent a ask) ≡ recordOf b (syncSent b (asyncSent b ask)) (asyncSent b ask) =
+    record-same a b same ask l (syncSent a (asyncSent a ask)) (asyncSent a ask) ∙ rw (sync-same a b same ask l (asyncSent a ask), async-same a b same ask l) in
     let before = done a ask La (passed a ask e) .moved in
     let after = done b ask Lb (passed b ask f) .moved in
     rw (accepted a ask e, accepted b ask f)
@@ -125,6 +129,8 @@ promised =
       opening-fresh = opening-fresh;
       opening-sound = opening-sound;
       sound = decides-sound;
+      sound-timely = sound-timely;
+      sound-fddi = sound-fddi;
       visit-eight = λ r ask. rw (number-visited r ask) (visit-eight r);
       visit-thirteen = λ r ask. rw (number-visited r ask) (visit-thirteen r);
       visit-none = λ r ask. rw (number-visited r ask) (visit-none r);
@@ -148,4 +154,6 @@ promised =
       first-places-sound = sound-same;
       first-places-visit = first-places-visit;
       first-places-message = first-places-message;
+      late-alone = late-alone;
+      unused-alone = unused-alone;
     }

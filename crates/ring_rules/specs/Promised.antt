@@ -12,7 +12,9 @@ use Rattle.sets.specs.Rules.{SameSet}
 use Rattle.sets.specs.declared.Set.{Set}
 use Rattle.plans.specs.Planned.{judgedPlan}
 use Rattle.plans.specs.declared.Alloc.{Alloc}
-use Rattle.rings.specs.State.{count, ttrt, share, Shaped}
+use Rattle.timers.specs.Timers.{ticks, startedAt, visited as tokenAt}
+use Rattle.rings.specs.State.{count, ttrt, share, unusedAt, Shaped}
+use Rattle.rings.specs.Timers.{Fddi, timerOf, timersOf, TimersSound}
 use Rattle.rings.specs.Opening.{blankRing, opening}
 use Rattle.rings.specs.Sound.{Sound, isSound}
 use Rattle.rings.specs.Steps.{Ask, blankRecord, visited}
@@ -33,8 +35,11 @@ pub record Fresh (t : Set) (a : Alloc) (r : Ring) : Type 0 where
   pub alloc : r .alloc ≡ a
   pub clock : r .clock ≡ 0
   pub token : r .token ≡ 0
-  -- TRT: the sum of w from the station to station N − 1
-  pub trts : (i : ℕ) → i < t .n → at (r .trt) i ≡ sumFrom i (t .n) (at (t .w))
+  -- timely-token, TRT: the sum of w from the station to station N − 1
+  pub trts : ¬ Fddi t → (i : ℕ) → i < t .n → at (r .trt) i ≡ sumFrom i (t .n) (at (t .w))
+  pub lates : ¬ Fddi t → (i : ℕ) → at (r .late) i ≡ 0
+  -- FDDI: the timer starts there, with count 0; one that starts at TTRT becomes 0 with count 1
+  pub timers : Fddi t → (i : ℕ) → i < t .n → timerOf (timersOf r) i ≡ startedAt (t .head .ttrt) (sumFrom i (t .n) (at (t .w)))
   pub sents : (i : ℕ) → at (r .sent) i ≡ 0
   -- u: the sum of S
   pub unused : r .unused ≡ sumBelow (t .n) (at (a .s))
@@ -51,8 +56,11 @@ pub record Fresh (t : Set) (a : Alloc) (r : Ring) : Type 0 where
 
 -- the two amounts, as the steps have them
 pub record Amounts (r : Ring) (ask : Ask) (v : VisitRecord) : Type 0 where
-  -- step 1: the larger of TTRT − u − TRT and 0
-  pub limit : v .limit .0 ≡ ttrt r - r .unused - at (r .trt) (r .token)
+  -- step 1, timely-token: the larger of TTRT − u − TRT and 0
+  pub limit : ¬ Fddi (r .set) → v .limit .0 ≡ ttrt r - r .unused - at (r .trt) (r .token)
+  -- FDDI: no asynchronous time where the late count is above 0, else TTRT less the timer
+  pub limit-late : Fddi (r .set) → 0 < at (r .late) (r .token) → v .limit .0 ≡ 0
+  pub limit-early : Fddi (r .set) → at (r .late) (r .token) ≡ 0 → v .limit .0 ≡ ttrt r - at (r .trt) (r .token)
   -- step 3: a held message whose arrival is at or before the clock: the smaller of S and what remains
   pub served : 0 < at (r .rest) (r .token) → at (r .arrival) (r .token) ≤ r .clock → v .synchronous .0 ≡ min (share r (r .token)) (at (r .rest) (r .token))
   -- a message that arrives after the visit's start is not served
@@ -62,17 +70,37 @@ pub record Amounts (r : Ring) (ask : Ask) (v : VisitRecord) : Type 0 where
   -- step 4: the smaller of the limit and the ticks asked for
   pub offered : v .asynchronous .0 ≡ min (v .limit .0) ask
 
--- the ring after the visit that the record tells of
-pub record Moved (r next : Ring) (v : VisitRecord) : Type 0 where
+-- what the clock and every timer rise by: sent synchronous + sent asynchronous + w
+abbrev pub passes : Ring → VisitRecord → ℕ
+passes r v = v .synchronous .0 + v .asynchronous .0 + at (r .set .w) (r .token)
+
+-- the timers of a timely-token ring after the visit
+pub record TimelyMoved (r next : Ring) (v : VisitRecord) : Type 0 where
   -- steps 2 and 3: u falls by S − s of before and rises by S − s of now: it has lost what s has gained
   pub unused : next .unused + v .synchronous .0 ≡ r .unused + at (r .sent) (r .token)
+  -- step 5: every TRT, this station's from 0, rises with the clock
+  pub trt-here : at (next .trt) (r .token) ≡ passes r v
+  pub trt-there : (i : ℕ) → i < count r → i ≢ r .token → at (next .trt) i ≡ at (r .trt) i + passes r v
+  -- late counts are left alone
+  pub late : next .late ≡ r .late
+
+-- the timers of an FDDI ring after the visit: the token comes to its station, and then the ticks pass at every station
+pub record FddiMoved (r next : Ring) (v : VisitRecord) : Type 0 where
+  pub timer-here : timerOf (timersOf next) (r .token) ≡ ticks (ttrt r) (passes r v) (tokenAt (timerOf (timersOf r) (r .token)))
+  pub timer-there : (i : ℕ) → i < count r → i ≢ r .token → timerOf (timersOf next) i ≡ ticks (ttrt r) (passes r v) (timerOf (timersOf r) i)
+  -- u is left alone
+  pub unused : next .unused ≡ r .unused
+
+-- the ring after the visit that the record tells of
+pub record Moved (r next : Ring) (v : VisitRecord) : Type 0 where
+  -- the timers, by the mode
+  pub timely : ¬ Fddi (r .set) → TimelyMoved r next v
+  pub fddi : Fddi (r .set) → FddiMoved r next v
+  -- step 3: s is what was sent, and it comes off the remainder
   pub sent : at (next .sent) (r .token) ≡ v .synchronous .0
-  -- what was sent comes off the remainder
   pub rest : at (next .rest) (r .token) + v .synchronous .0 ≡ at (r .rest) (r .token)
-  -- step 5: the clock, and every TRT, this station's from 0, rise by sent synchronous + sent asynchronous + w
-  pub clock : next .clock ≡ r .clock + (v .synchronous .0 + v .asynchronous .0 + at (r .set .w) (r .token))
-  pub trt-here : at (next .trt) (r .token) ≡ v .synchronous .0 + v .asynchronous .0 + at (r .set .w) (r .token)
-  pub trt-there : (i : ℕ) → i < count r → i ≢ r .token → at (next .trt) i ≡ at (r .trt) i + (v .synchronous .0 + v .asynchronous .0 + at (r .set .w) (r .token))
+  -- step 5: the clock rises
+  pub clock : next .clock ≡ r .clock + passes r v
   -- the token moves on, after N − 1 to 0; the visit is counted, and its start kept
   pub on : r .token + 1 < count r → next .token ≡ r .token + 1
   pub round : r .token + 1 ≡ count r → next .token ≡ 0
@@ -125,6 +153,7 @@ pub record Held (r : Ring) (m : Message) (next : Ring) : Type 0 where
   pub set : next .set ≡ r .set
   pub alloc : next .alloc ≡ r .alloc
   pub trt : next .trt ≡ r .trt
+  pub late : next .late ≡ r .late
   pub sent : next .sent ≡ r .sent
   pub last : next .last ≡ r .last
   pub clock : next .clock ≡ r .clock
@@ -144,6 +173,7 @@ pub record SameRing (a b : Ring) : Type 0 where
   pub set : SameSet (a .set) (b .set)
   pub alloc : SameFirst (count a) (a .alloc .s) (b .alloc .s)
   pub trt : SameFirst (count a) (a .trt) (b .trt)
+  pub late : SameFirst (count a) (a .late) (b .late)
   pub sent : SameFirst (count a) (a .sent) (b .sent)
   pub rest : SameFirst (count a) (a .rest) (b .rest)
   pub arrival : SameFirst (count a) (a .arrival) (b .arrival)
@@ -153,6 +183,54 @@ pub record SameRing (a b : Ring) : Type 0 where
   pub visits : a .visits ≡ b .visits
   pub token : a .token ≡ b .token
   pub unused : a .unused ≡ b .unused
+
+-- ---- what a mode leaves alone
+
+-- the ring with other late counts
+abbrev pub withLate : List ℕ → Ring → Ring
+withLate late r =
+    record {
+      set = r .set;
+      alloc = r .alloc;
+      trt = r .trt;
+      late = late;
+      sent = r .sent;
+      rest = r .rest;
+      token = r .token;
+      arrival = r .arrival;
+      had = r .had;
+      last = r .last;
+      clock = r .clock;
+      visits = r .visits;
+      unused = r .unused;
+    }
+
+-- the ring with another u
+abbrev pub withUnused : ℕ → Ring → Ring
+withUnused unused r =
+    record {
+      set = r .set;
+      alloc = r .alloc;
+      trt = r .trt;
+      late = r .late;
+      sent = r .sent;
+      rest = r .rest;
+      token = r .token;
+      arrival = r .arrival;
+      had = r .had;
+      last = r .last;
+      clock = r .clock;
+      visits = r .visits;
+      unused = unused;
+    }
+
+-- what is so changed at a ring changes no answer, and is there after each call as it was before
+pub record LeftAlone (change : Ring → Ring) (r : Ring) : Type 0 where
+  pub sound : isSound (change r) ≡ isSound r
+  pub visit : (ask : Ask) → visited (change r) ask .answer ≡ visited r ask .answer
+  pub visit-ring : (ask : Ask) → visited (change r) ask .ring ≡ change (visited r ask .ring)
+  pub message : (m : Message) → handedIn (change r) m .number ≡ handedIn r m .number
+  pub message-ring : (m : Message) → handedIn (change r) m .ring ≡ change (handedIn r m .ring)
 
 -- ---- the promises
 
@@ -167,6 +245,12 @@ pub record Promised : Type 0 where
   pub opening-sound : (t : Set) (a : Alloc) → opening t a .number ≡ 0 → Sound (opening t a .ring)
   -- the test of soundness holds exactly if the ring keeps 01's list
   pub sound : (r : Ring) → (isSound r ≡ true) ↔ Sound r
+  -- what that list asks of the timers: of a timely-token ring that no TRT exceeds TTRT and u is the sum of S − s
+  pub sound-timely : (r : Ring) → ¬ Fddi (r .set)
+      → TimersSound r ↔ (((i : ℕ) → i < count r → at (r .trt) i ≤ ttrt r) × (r .unused ≡ sumBelow (count r) (unusedAt r)))
+  -- of an FDDI ring that the timers are below TTRT and the late counts at most 3
+  pub sound-fddi : (r : Ring) → Fddi (r .set)
+      → TimersSound r ↔ (((i : ℕ) → i < count r → at (r .trt) i < ttrt r) × ((i : ℕ) → i < count r → at (r .late) i ≤ 3))
   -- a visit: 8 exactly if the ring is unsound
   pub visit-eight : (r : Ring) (ask : Ask) → (visited r ask .answer .number ≡ 8) ↔ ¬ Sound r
   -- 13 exactly if it is sound and the clock is above 1,000,000,000,000
@@ -215,3 +299,7 @@ pub record Promised : Type 0 where
   -- and in handing in
   pub first-places-message : (a b : Ring) (m : Message) → Shaped a → Shaped b → SameRing a b
       → (handedIn a m .number ≡ handedIn b m .number) × SameRing (handedIn a m .ring) (handedIn b m .ring)
+  -- a timely-token ring's late counts are neither looked at nor changed
+  pub late-alone : (r : Ring) (late : List ℕ) → ¬ Fddi (r .set) → LeftAlone (withLate late) r
+  -- and an FDDI ring's u is neither looked at nor changed
+  pub unused-alone : (r : Ring) (unused : ℕ) → Fddi (r .set) → LeftAlone (withUnused unused) r

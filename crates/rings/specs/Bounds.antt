@@ -1,11 +1,11 @@
 -- What the inner functions ask for and hand back: the definitions' numbers, and how large they can be.
-use Prim.Native.Nat.{ℕ, _≤_, _<_, _^_}
+use Prim.Native.Nat.{ℕ, _+_, _≤_, _<_, _^_}
 use mathlib.Core.Path.{_≡_}
 use Rattle.units.specs.Numbers.{mostTtrt, mostD, mostClock}
 use Rattle.units.specs.Places.{at}
 use Rattle.rings.specs.State.{count, ttrt, share, unusedAt}
 use Rattle.rings.specs.Sound.{visitsEnd}
-use Rattle.rings.specs.Timers.{limit}
+use Rattle.rings.specs.Timers.{Fddi, FddiSound, limit, rise}
 use Rattle.rings.specs.Steps.{syncSent}
 use Rattle.rings.specs.declared.Ring.{Ring}
 use Rattle.rings.specs.declared.Message.{Message}
@@ -15,25 +15,29 @@ pub record Safe (r : Ring) : Type 0 where
   pub few : count r ≤ 128
   pub token : r .token < count r
   pub rotation : ttrt r ≤ mostTtrt
-  pub walk : at (r .set .w) (r .token) ≤ ttrt r
-  pub allotted : share r (r .token) ≤ ttrt r
+  pub allotted : share r (r .token) + at (r .set .w) (r .token) ≤ ttrt r
   pub sent : at (r .sent) (r .token) ≤ share r (r .token)
   pub deadline : at (r .set .d) (r .token) ≤ mostD
   pub arrival : at (r .arrival) (r .token) ≤ mostClock
   pub clock : r .clock ≤ mostClock
   pub visits : r .visits < visitsEnd
 
--- and of its timers
-pub record SafeTimers (r : Ring) : Type 0 where
+-- and of its timers: of a timely-token ring's
+pub record SafeTimely (r : Ring) : Type 0 where
   pub trts : (i : ℕ) → i < count r → at (r .trt) i ≤ ttrt r
   pub old : unusedAt r (r .token) ≤ r .unused
   pub unused : r .unused ≤ ttrt r
 
--- two amounts that a visit may send: at most S and what remains; of the asynchronous one no more than that it can be added
+-- and of an FDDI ring's, which are as they are in every sound ring
+pub record SafeTimers (r : Ring) : Type 0 where
+  pub timely : ¬ Fddi (r .set) → SafeTimely r
+  pub fddi : Fddi (r .set) → FddiSound r
+
+-- two amounts that a visit may send: at most S and what remains, and together with w at most twice TTRT
 pub record Sendable (r : Ring) (sync async : ℕ) : Type 0 where
   pub allotted : sync ≤ share r (r .token)
   pub rest : sync ≤ at (r .rest) (r .token)
-  pub small : async < 2 ^ 31
+  pub short : rise r sync async ≤ ttrt r + ttrt r
 
 -- x is the limit
 pub record Limit (r : Ring) (x : ℕ) : Type 0 where

@@ -82,14 +82,15 @@ holding r m =
       set = r .set;
       alloc = r .alloc;
       trt = r .trt;
+      late = r .late;
       sent = r .sent;
       rest = set (r .rest) (m .station .0) (m .length .0);
+      token = r .token;
       arrival = set (r .arrival) (m .station .0) (m .arrival .0);
       had = set (r .had) (m .station .0) 1;
       last = r .last;
       clock = r .clock;
       visits = r .visits;
-      token = r .token;
       unused = r .unused;
     }
 

@@ -7,6 +7,7 @@
 --     HandingIn    what each of 9 to 12 asks, the ring that holds the message, and the answer
 --     Bounds       what the inner functions ask for and hand back
 -- and, for the proofs of the layers above:
+--     TimerLaws
 --     RingLaws
 pub mod State
 pub mod Timers
@@ -15,4 +16,5 @@ pub mod Sound
 pub mod Steps
 pub mod HandingIn
 pub mod Bounds
+pub mod TimerLaws
 pub mod RingLaws

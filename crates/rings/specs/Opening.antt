@@ -15,14 +15,15 @@ openedRing t a =
       set = t;
       alloc = a;
       trt = silentTimers t a .trt;
+      late = silentTimers t a .late;
       sent = zeros;
       rest = zeros;
+      token = 0;
       arrival = zeros;
       had = zeros;
       last = zeros;
       clock = 0;
       visits = 0;
-      token = 0;
       unused = silentTimers t a .unused;
     }
 
@@ -33,14 +34,15 @@ blankRing =
       set = blankSet;
       alloc = blankAlloc;
       trt = zeros;
+      late = zeros;
       sent = zeros;
       rest = zeros;
+      token = 0;
       arrival = zeros;
       had = zeros;
       last = zeros;
       clock = 0;
       visits = 0;
-      token = 0;
       unused = 0;
     }
 

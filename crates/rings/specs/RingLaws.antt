@@ -21,23 +21,42 @@ use Rattle.plans.specs.Rules.{MeetsRules, AllocInRange}
 use Rattle.plans.specs.PlanLaws.{given-none}
 use Rattle.rings.specs.State.{count, ttrt, share, unusedAt, beforeFirstVisit, beforeFirstMessage}
 use Rattle.rings.specs.Opening.{openedWith, blankRing}
-use Rattle.rings.specs.Timers.{TimersSound, trtSoundAt, unusedSound, timersSound}
+use Rattle.rings.specs.Timers.{Fddi, mostLate, TimelySound, FddiSound, TimersSound, trtSoundAt, unusedSound, timerSoundAt, lateSoundAt, timelySound, fddiSound, timersSound}
+use Rattle.rings.specs.TimerLaws.{fddi-or-not, fddi-true, fddi-false}
 use Rattle.rings.specs.Sound.{Sound, sentSoundAt, restSoundAt, arrivalSoundAt, planSound, numberTests, isSound}
 use Rattle.rings.specs.Steps.{Ask, serves, syncSent, visitNumber, refusedVisit, acceptedVisit, visitedWith}
-use Rattle.rings.specs.HandingIn.{ArrivalAllowed, Takes, stationKnown, lengthAllowed, nothingHeld, arrivalInRange, laterThanLastStart, gapKept, arrivalAllowed, handInNumber, holding, messageNumber, takenWith}
-use Rattle.rings.specs.Bounds.{Safe, SafeTimers, Holdable}
+use Rattle.rings.specs.HandingIn.{ArrivalAllowed, Takes, stationKnown, lengthAllowed, nothingHeld, arrivalInRange, laterThanLastStart, gapKept, arrivalAllowed, handInNumber}
+use Rattle.rings.specs.HandingIn.{holding, messageNumber, takenWith}
+use Rattle.rings.specs.Bounds.{Safe, SafeTimely, SafeTimers, Holdable}
 use Rattle.rings.specs.declared.Ring.{Ring}
 use Rattle.rings.specs.declared.Message.{Message}
 
 -- ---- soundness
 
--- the timers' test decides their sentence
-pub decides-timers : (r : Ring) → Decides (timersSound r) (TimersSound r)
-unfolding timersSound
-decides-timers r =
+-- the timers' test decides their sentence, in each mode
+decides-timely : (r : Ring) → Decides (timelySound r) (TimelySound r)
+unfolding timelySound
+decides-timely r =
     let trts = decides-all (count r) (trtSoundAt r) (λ i. at (r .trt) i ≤ ttrt r) (λ i. decides-le (at (r .trt) i) (ttrt r)) in
     let both = decides-both _ (unusedSound r) _ _ trts (eqb-true _ _, eq-eqb _ _) in
     (λ h. let f = both .0 h in record { trts = f .0; unused = f .1 }, λ s. both .1 (s .trts, s .unused))
+
+decides-fddi : (r : Ring) → Decides (fddiSound r) (FddiSound r)
+unfolding fddiSound
+decides-fddi r =
+    let timers = decides-all (count r) (timerSoundAt r) (λ i. at (r .trt) i < ttrt r) (λ i. (ltb-true _ _, lt-ltb _ _)) in
+    let lates = decides-all (count r) (lateSoundAt r) (λ i. at (r .late) i ≤ mostLate) (λ i. decides-le (at (r .late) i) mostLate) in
+    let both = decides-both _ _ _ _ timers lates in
+    (λ h. let f = both .0 h in record { timers = f .0; lates = f .1 }, λ s. both .1 (s .timers, s .lates))
+
+pub decides-timers : (r : Ring) → Decides (timersSound r) (TimersSound r)
+unfolding timersSound
+decides-timers r =
+    ⊎-elim (λ (e : Fddi (r .set)).
+    rw (fddi-true (r .set) e) (λ h. record { timely = λ n. absurd (n e); fddi = λ _. decides-fddi r .0 h }, λ s. decides-fddi r .1 (s .fddi e)))
+    (λ (n : ¬ Fddi (r .set)).
+    rw (fddi-false (r .set) n) (λ h. record { timely = λ _. decides-timely r .0 h; fddi = λ e. absurd (n e) }, λ s. decides-timely r .1 (s .timely n)))
+    (fddi-or-not (r .set))
 
 -- the tests decide the sentences
 pub sound-sentences : (r : Ring) → isSound r ≡ true → Sound r
@@ -70,17 +89,18 @@ pub decides-sound : (r : Ring) → Decides (isSound r) (Sound r)
 decides-sound r = (sound-sentences r, sound-tests r)
 
 -- what the set and the allocation of a sound ring keep
-pub sound-plan : (r : Ring) → Sound r → CountAllowed (r .set) × ((NumbersAllowed (r .set) × AllocInRange (r .set) (at (r .alloc .s))) × (WalkTimeAllowed (r .set) × MeetsRules (r .set) (at (r .alloc .s))))
+pub sound-plan : (r : Ring) → Sound r
+    → CountAllowed (r .set) × ((NumbersAllowed (r .set) × AllocInRange (r .set) (at (r .alloc .s))) × (WalkTimeAllowed (r .set) × MeetsRules (r .set) (at (r .alloc .s))))
 sound-plan r s = given-none (r .set) (r .alloc) .0 (s .plan)
 
 -- ---- a sound ring's numbers are small
 
--- u is at most the sum of S, so u + τ at most TTRT
-pub unused-small : (r : Ring) → Sound r → r .unused + tau (r .set) ≤ ttrt r
-unused-small r s =
+-- u of a timely-token ring is at most the sum of S, so u + τ at most TTRT
+pub unused-small : (r : Ring) → Sound r → ¬ Fddi (r .set) → r .unused + tau (r .set) ≤ ttrt r
+unused-small r s n =
     let kept = sound-plan r s in
     let less : sumBelow (count r) (unusedAt r) ≤ sumBelow (count r) (at (r .alloc .s)) = sum-mono (count r) (unusedAt r) (at (r .alloc .s)) (λ i l. omega arith) in
-    omega (arith, s .timers .unused, kept .1 .1 .1 .token)
+    omega (arith, s .timers .timely n .unused, kept .1 .1 .1 .token)
 
 -- S at one station and τ are at most TTRT
 pub share-small : (r : Ring) → Sound r → (i : ℕ) → i < count r → share r i + tau (r .set) ≤ ttrt r
@@ -101,8 +121,7 @@ safe r s c =
     record {
       few = kept .0 .1;
       token = s .token;
-      rotation = head .1;
-      walk = omega arith;
+      rotation = head .ttrt .1;
       allotted = omega arith;
       sent = s .sents p (s .token);
       deadline = station .deadline .1;
@@ -111,10 +130,14 @@ safe r s c =
       visits = s .visits;
     }
 
-pub safe-timers : (r : Ring) → Sound r → SafeTimers r
-safe-timers r s =
+safe-timely : (r : Ring) → Sound r → ¬ Fddi (r .set) → SafeTimely r
+safe-timely r s n =
+    let timers = s .timers .timely n in
     let own : unusedAt r (r .token) ≤ sumBelow (count r) (unusedAt r) = sum-part (count r) (unusedAt r) (r .token) (s .token) in
-    record { trts = s .timers .trts; old = omega (arith, s .timers .unused); unused = omega (arith, unused-small r s) }
+    record { trts = timers .trts; old = omega (arith, timers .unused); unused = omega (arith, unused-small r s n) }
+
+pub safe-timers : (r : Ring) → Sound r → SafeTimers r
+safe-timers r s = record { timely = safe-timely r s; fddi = s .timers .fddi }
 
 -- ---- the answers, number by number
 
@@ -222,8 +245,11 @@ unfolding arrivalAllowed
 decides-arrival r m =
     let i = m .station .0 in
     let a = m .arrival .0 in
-    let later = decides-or (beforeFirstVisit r i) (ltb (at (r .last) i) a) (i < r .visits) (at (r .last) i < a) (λ h l. let n : r .visits ≤ i = leb-true _ _ h in omega arith, λ h. le-leb _ _ (⊎-elim (λ (l : i < r .visits). absurd (h l)) (λ l. l) (below-or-not i (r .visits)))) (ltb-true _ _, lt-ltb _ _) in
-    let gap = decides-or (beforeFirstMessage r i) (leb (at (r .arrival) i + at (r .set .p) i) a) (at (r .had) i ≢ 0) (at (r .arrival) i + at (r .set .p) i ≤ a) (λ h n. n (eqb-true _ _ h), λ h. ⊎-elim (λ x. x) (λ x. absurd (h (eqb-false _ _ x))) (true-or-false (beforeFirstMessage r i))) (decides-le _ _) in
+    let later = decides-or (beforeFirstVisit r i) (ltb (at (r .last) i) a) (i < r .visits) (at (r .last) i < a)
+    (λ h l. let n : r .visits ≤ i = leb-true _ _ h in omega arith, λ h. le-leb _ _ (⊎-elim (λ (l : i < r .visits). absurd (h l)) (λ l. l) (below-or-not i (r .visits))))
+    (ltb-true _ _, lt-ltb _ _) in
+    let gap = decides-or (beforeFirstMessage r i) (leb (at (r .arrival) i + at (r .set .p) i) a) (at (r .had) i ≢ 0) (at (r .arrival) i + at (r .set .p) i ≤ a)
+    (λ h n. n (eqb-true _ _ h), λ h. ⊎-elim (λ x. x) (λ x. absurd (h (eqb-false _ _ x))) (true-or-false (beforeFirstMessage r i))) (decides-le _ _) in
     let first = decides-both (arrivalInRange m) (laterThanLastStart r m) _ _ (decides-le a mostClock) later in
     let all = decides-both _ (gapKept r m) _ _ first gap in (
       λ h. let f = all .0 h in record { range = f .0 .0; later = f .0 .1; gap = f .1 },

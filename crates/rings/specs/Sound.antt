@@ -27,7 +27,7 @@ pub record Sound (r : Ring) : Type 0 where
   pub plan : judgedPlan (r .set) (r .alloc) ≡ 0
   -- the token's station is below N
   pub token : r .token < count r
-  -- the timers are sound: no TRT exceeds TTRT, and u is the sum of S − s
+  -- the timers are sound, as the mode asks: no TRT exceeds TTRT, and u is the sum of S − s; or timers below TTRT and late counts to 3
   pub timers : TimersSound r
   -- no s exceeds S
   pub sents : (i : ℕ) → i < count r → at (r .sent) i ≤ share r i

@@ -42,6 +42,7 @@ beforeFirstMessage r i = eqb (at (r .had) i) 0
 -- the arrays that a ring changes have 128 places, as those of every ring of the code have
 pub record Shaped (r : Ring) : Type 0 where
   pub trt : length (r .trt) ≡ 128
+  pub late : length (r .late) ≡ 128
   pub sent : length (r .sent) ≡ 128
   pub rest : length (r .rest) ≡ 128
   pub arrival : length (r .arrival) ≡ 128

@@ -47,14 +47,15 @@ moved r sync async =
       set = r .set;
       alloc = r .alloc;
       trt = timersAfter r sync async .trt;
+      late = timersAfter r sync async .late;
       sent = set (r .sent) (r .token) sync;
       rest = set (r .rest) (r .token) (at (r .rest) (r .token) - sync);
+      token = nextToken r;
       arrival = r .arrival;
       had = r .had;
       last = set (r .last) (r .token) (syncStart r async);
       clock = r .clock + rise r sync async;
       visits = r .visits + 1;
-      token = nextToken r;
       unused = timersAfter r sync async .unused;
     }
 

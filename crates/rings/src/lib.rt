@@ -8,7 +8,7 @@ mod timing;
 ghost use mathlib.Core.Path.{_≡_};
 ghost use Rattle.rings.specs.Opening.{opening};
 ghost use Rattle.rings.specs.Sound.{isSound};
-ghost use Rattle.rings.specs.Steps.{visited, visitedWith};
+ghost use Rattle.rings.specs.Steps.{visited};
 ghost use Rattle.rings.specs.HandingIn.{handedIn};
 use plans::Alloc;
 use sets::Set;
@@ -21,12 +21,16 @@ use units::numbers;
 pub struct Ring {
     pub set: Set,
     pub alloc: Alloc,
-    // TRT, the time since the station's last token arrival.
+    // TRT, the time since the station's last token arrival; in an FDDI ring the station's timer.
     pub trt: [u32; 128],
+    // FDDI's late counts. A timely-token ring neither looks at them nor changes them.
+    pub late: [u32; 128],
     // s, what the station sent of synchronous traffic at its last visit.
     pub sent: [u32; 128],
     // What remains of the held message; 0: none is held.
     pub rest: [u32; 128],
+    // The station that has the token.
+    pub token: u32,
     // The held message's arrival, and after it the last accepted one.
     pub arrival: [u64; 128],
     // A message was ever accepted there: 0 is no, anything else yes.
@@ -35,16 +39,15 @@ pub struct Ring {
     pub last: [u64; 128],
     pub clock: u64,
     pub visits: u64,
-    // The station that has the token.
-    pub token: u32,
-    // u, the sum of S − s.
-    pub unused: u32,
+    // u, the sum of S − s. An FDDI ring neither looks at it nor changes it.
+    pub unused: u64,
 }
 
-// A ring's timers: TRT of each station, and u.
+// A ring's timers: TRT or timer and late count of each station, and u.
 pub struct Timers {
     pub trt: [u32; 128],
-    pub unused: u32,
+    pub late: [u32; 128],
+    pub unused: u64,
 }
 
 // A message to hand in.

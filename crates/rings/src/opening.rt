@@ -17,14 +17,15 @@ pub(crate) fn blank_ring() -> Ring
         set,
         alloc,
         trt: [0; 128],
+        late: [0; 128],
         sent: [0; 128],
         rest: [0; 128],
+        token: 0,
         arrival: [0; 128],
         had: [0; 128],
         last: [0; 128],
         clock: 0,
         visits: 0,
-        token: 0,
         unused: 0,
     }
 }
@@ -36,18 +37,20 @@ pub(crate) fn opened_ring(set: Set, alloc: Alloc) -> Ring
 {
     let timers = timing::silent_timers(set, alloc);
     let trt = timers.trt;
+    let late = timers.late;
     Ring {
         set,
         alloc,
         trt,
+        late,
         sent: [0; 128],
         rest: [0; 128],
+        token: 0,
         arrival: [0; 128],
         had: [0; 128],
         last: [0; 128],
         clock: 0,
         visits: 0,
-        token: 0,
         unused: timers.unused,
     }
 }

@@ -58,8 +58,10 @@ pub(crate) fn moved_on(r: Ring, sync: u64, asynchronous: u64) -> Ring
     let token = next_token(r);
     let sent = sync as u32;
     let trt = timers.trt;
+    let late = timers.late;
     let mut next = r;
     next.trt = trt;
+    next.late = late;
     next.sent[p] = sent;
     next.rest[p] -= sent;
     next.last[p] = start;

@@ -1,42 +1,77 @@
-// The timers: the limit that they give, and what becomes of them at a visit and at opening.
+// The timers: the limit that they give, what becomes of them at a visit and at opening, and when they are sound. A function for each piece and mode, and one above them that asks for the mode.
 use super::Ring;
 use super::Timers;
 use plans::Alloc;
 use sets::Set;
+use units::numbers;
 ghost use mathlib.Core.Path.{_≡_};
-ghost use mathlib.Core.Bool.{_&&_};
-ghost use Prim.Native.Nat.{_≤_, _<_};
+ghost use Prim.Native.Nat.{_-_, _≤_, _<_};
+ghost use Rattle.units.specs.Small.{UpTo};
 ghost use Rattle.plans.specs.Planned.{judgedPlan};
-ghost use Rattle.rings.specs.State.{share};
-ghost use Rattle.rings.specs.Timers.{unusedAfter, rise, timersAfter, silentTimers, timersSound};
-ghost use Rattle.rings.specs.Bounds.{Safe, SafeTimers, Sendable, Limit};
+ghost use Rattle.timers.specs.Timers.{visited};
+ghost use Rattle.rings.specs.State.{ttrt, share};
+ghost use Rattle.rings.specs.Timers.{FddiSound, timersOf, timelyLimit, fddiLimit, unusedAfter, rise, timelyAfter, tokenCame, fddiAfter, timersAfter};
+ghost use Rattle.rings.specs.Timers.{silentTimely, silentFddi, silentTimers, timelySound, fddiSound, timersSound};
+ghost use Rattle.rings.specs.Bounds.{Safe, SafeTimely, SafeTimers, Sendable, Limit};
 
-// Step 1: the limit.
-pub(crate) fn limit_of(r: Ring) -> u64
+// The highest late count of a sound ring.
+const MOST_LATE: u32 = 3;
+
+// ---- the limit
+
+// Timely-token, step 1: the larger of TTRT − u − TRT and 0.
+fn timely_limit(r: Ring) -> u64
     requires { ⌜ r .token < 128 ⌝ }
-    ensures { λ x. ⌜ Limit r x ⌝ }
+    ensures { λ x. ⌜ UpTo (ttrt r) (timelyLimit r) x ⌝ }
 {
     let p = r.token as usize;
     let times = r.trt;
     let whole = units::wide(r.set.head.ttrt);
-    let left = units::room(whole, units::wide(r.unused));
+    let left = units::room(whole, r.unused);
     units::room(left, units::wide(times[p]))
 }
 
+// FDDI: nothing where the late count is above 0, else TTRT less the timer.
+fn fddi_limit(r: Ring) -> u64
+    requires { ⌜ r .token < 128 ⌝ }
+    ensures { λ x. ⌜ UpTo (ttrt r) (fddiLimit r) x ⌝ }
+{
+    let p = r.token as usize;
+    let counts = r.late;
+    if 0 < counts[p] {
+        return 0;
+    }
+    let times = r.trt;
+    units::room(units::wide(r.set.head.ttrt), units::wide(times[p]))
+}
+
+// The limit.
+pub(crate) fn limit_of(r: Ring) -> u64
+    requires { ⌜ r .token < 128 ⌝ }
+    ensures { λ x. ⌜ Limit r x ⌝ }
+{
+    if r.set.head.mode == numbers::FDDI {
+        return fddi_limit(r);
+    }
+    timely_limit(r)
+}
+
+// ---- at a visit
+
 // Steps 2 and 3: u after the visit.
-fn unused_after(r: Ring, sync: u32) -> u32
-    requires { ⌜ Safe r × SafeTimers r × (sync ≤ share r (r .token)) ⌝ }
+fn unused_after(r: Ring, sync: u64) -> u64
+    requires { ⌜ Safe r × SafeTimely r × (sync ≤ share r (r .token)) ⌝ }
     ensures { λ x. ⌜ x ≡ unusedAfter r sync ⌝ }
 {
     let p = r.token as usize;
     let shares = r.alloc.s;
-    let share = shares[p];
+    let share = units::wide(shares[p]);
     let amounts = r.sent;
-    let fallen = r.unused - (share - amounts[p]);
+    let fallen = r.unused - (share - units::wide(amounts[p]));
     fallen + (share - sync)
 }
 
-// What the clock and every TRT rise by.
+// What the clock and every timer rise by.
 pub(crate) fn rise_of(r: Ring, sync: u64, asynchronous: u64) -> u64
     requires { ⌜ Safe r × Sendable r sync asynchronous ⌝ }
     ensures { λ x. ⌜ x ≡ rise r sync asynchronous ⌝ }
@@ -47,20 +82,124 @@ pub(crate) fn rise_of(r: Ring, sync: u64, asynchronous: u64) -> u64
     sync + asynchronous + walk
 }
 
-// The timers after a visit that sent these two amounts.
-pub(crate) fn timers_after(r: Ring, sync: u64, asynchronous: u64) -> Timers
-    requires { ⌜ Safe r × SafeTimers r × Sendable r sync asynchronous ⌝ }
-    ensures { λ x. ⌜ x ≡ timersAfter r sync asynchronous ⌝ }
+// Timely-token: TRT of this station from 0, and u.
+fn timely_after(r: Ring, sync: u64, asynchronous: u64) -> Timers
+    requires { ⌜ Safe r × SafeTimely r × Sendable r sync asynchronous ⌝ }
+    ensures { λ x. ⌜ x ≡ timelyAfter r sync asynchronous ⌝ }
 {
     let p = r.token as usize;
     let rise = rise_of(r, sync, asynchronous);
-    let unused = unused_after(r, sync as u32);
+    let unused = unused_after(r, sync);
+    let late = r.late;
     let mut trt = r.trt;
     trt[p] = 0;
     let raised = places::raised(trt, r.set.n, rise as u32);
     Timers {
         trt: raised,
+        late,
         unused,
+    }
+}
+
+// FDDI: a token comes to a timer; with the late count above 0 it runs on, else it goes to 0.
+fn timer_on_token(count: u32, timer: u32) -> u32
+    ensures { λ x. ⌜ x ≡ visited (record { count = count; timer = timer }) .timer ⌝ }
+{
+    if count == 0 { 0 } else { timer }
+}
+
+// FDDI: a token comes to a late count; above 0 it falls by 1.
+fn count_on_token(count: u32, timer: u32) -> u32
+    ensures { λ x. ⌜ x ≡ visited (record { count = count; timer = timer }) .count ⌝ }
+{
+    if count == 0 { 0 } else { count - 1 }
+}
+
+// FDDI: the token has come to its station.
+fn token_came(r: Ring) -> Timers
+    requires { ⌜ r .token < 128 ⌝ }
+    ensures { λ x. ⌜ x ≡ tokenCame (r .token) (timersOf r) ⌝ }
+{
+    let p = r.token as usize;
+    let mut trt = r.trt;
+    let mut late = r.late;
+    let timer = trt[p];
+    let count = late[p];
+    trt[p] = timer_on_token(count, timer);
+    late[p] = count_on_token(count, timer);
+    Timers {
+        trt,
+        late,
+        unused: r.unused,
+    }
+}
+
+// FDDI: the token has come, and time has passed.
+fn fddi_after(r: Ring, sync: u64, asynchronous: u64) -> Timers
+    requires { ⌜ Safe r × FddiSound r × Sendable r sync asynchronous ⌝ }
+    ensures { λ x. ⌜ x ≡ fddiAfter r sync asynchronous ⌝ }
+{
+    let rise = rise_of(r, sync, asynchronous) as u32;
+    let n = r.set.n;
+    let top = r.set.head.ttrt;
+    let came = token_came(r);
+    let timers = came.trt;
+    let counts = came.late;
+    let trt = places::run_on(timers, n, rise, top);
+    let late = places::count_laps(counts, timers, n, rise, top);
+    Timers {
+        trt,
+        late,
+        unused: came.unused,
+    }
+}
+
+// The timers after a visit that sent these two amounts.
+pub(crate) fn timers_after(r: Ring, sync: u64, asynchronous: u64) -> Timers
+    requires { ⌜ Safe r × SafeTimers r × Sendable r sync asynchronous ⌝ }
+    ensures { λ x. ⌜ x ≡ timersAfter r sync asynchronous ⌝ }
+{
+    let mode = r.set.head.mode;
+    if mode == numbers::FDDI {
+        return fddi_after(r, sync, asynchronous);
+    }
+    timely_after(r, sync, asynchronous)
+}
+
+// ---- at opening
+
+// Timely-token: TRT as the silent first rotation leaves it, counts 0, u the sum of S.
+fn silent_timely(set: Set, alloc: Alloc) -> Timers
+    requires { ⌜ judgedPlan set alloc ≡ 0 ⌝ }
+    ensures { λ x. ⌜ x ≡ silentTimely set alloc ⌝ }
+{
+    let w = set.w;
+    let trt = places::sums_to_last(w, set.n);
+    let s = alloc.s;
+    let unused = units::sum_first(s, set.n);
+    Timers {
+        trt,
+        late: [0; 128],
+        unused,
+    }
+}
+
+// FDDI: the same, and a timer that starts at TTRT becomes 0 with count 1.
+fn silent_fddi(set: Set, alloc: Alloc) -> Timers
+    requires { ⌜ judgedPlan set alloc ≡ 0 ⌝ }
+    ensures { λ x. ⌜ x ≡ silentFddi set alloc ⌝ }
+{
+    let n = set.n;
+    let top = set.head.ttrt;
+    let silent = silent_timely(set, alloc);
+    let sums = silent.trt;
+    let zeros = silent.late;
+    let trt = places::run_on(sums, n, 0, top);
+    let late = places::count_laps(zeros, sums, n, 0, top);
+    Timers {
+        trt,
+        late,
+        unused: silent.unused,
     }
 }
 
@@ -69,17 +208,17 @@ pub(crate) fn silent_timers(set: Set, alloc: Alloc) -> Timers
     requires { ⌜ judgedPlan set alloc ≡ 0 ⌝ }
     ensures { λ x. ⌜ x ≡ silentTimers set alloc ⌝ }
 {
-    let w = set.w;
-    let trt = places::sums_to_last(w, set.n);
-    let s = alloc.s;
-    let sum = units::sum_first(s, set.n);
-    let unused = sum as u32;
-    Timers { trt, unused }
+    if set.head.mode == numbers::FDDI {
+        return silent_fddi(set, alloc);
+    }
+    silent_timely(set, alloc)
 }
 
-// No TRT exceeds TTRT, and u is the sum of S − s.
-pub(crate) fn timers_sound(r: Ring) -> bool
-    ensures { λ b. ⌜ b ≡ timersSound r ⌝ }
+// ---- sound
+
+// Timely-token: no TRT exceeds TTRT, and u is the sum of S − s.
+fn timely_sound(r: Ring) -> bool
+    ensures { λ b. ⌜ b ≡ timelySound r ⌝ }
 {
     let n = r.set.n;
     let trt = r.trt;
@@ -87,5 +226,28 @@ pub(crate) fn timers_sound(r: Ring) -> bool
     let sent = r.sent;
     let trts = places::none_above(trt, r.set.head.ttrt, n);
     let sum = places::room_first(share, sent, n);
-    trts & (units::wide(r.unused) == sum)
+    trts & (r.unused == sum)
+}
+
+// FDDI: the timers are below TTRT, and the late counts at most 3.
+fn fddi_sound(r: Ring) -> bool
+    ensures { λ b. ⌜ b ≡ fddiSound r ⌝ }
+{
+    let n = r.set.n;
+    let trt = r.trt;
+    let counts = r.late;
+    let below = places::none_reaching(trt, r.set.head.ttrt, n);
+    let few = places::none_above(counts, MOST_LATE, n);
+    below & few
+}
+
+// The timers are sound.
+pub(crate) fn timers_sound(r: Ring) -> bool
+    ensures { λ b. ⌜ b ≡ timersSound r ⌝ }
+{
+    let head = r.set.head;
+    if head.mode == numbers::FDDI {
+        return fddi_sound(r);
+    }
+    timely_sound(r)
 }

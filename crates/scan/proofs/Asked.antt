@@ -79,7 +79,8 @@ module _ {M : Type 1} (𝓤 : URA M) (H : Heap 𝓤) (A : Atoms 𝓤) (mem : Mem
       apart =
           qed W (‵ Own ∷ (‵ (flft κ q) ⊛ ‵ ftrue) ∷ []) ∵ use1 W (‵ Own ⊛ ‵ Own) (LL.copy (T.the-type α) (T′.the-copy α) 𝓤 H A W .twice d (T′.lowered d ∷ [])) $ split ! $
           use1 W (given (T′.lowered d ∷ [] ≡ T′.lowered d ∷ []) (‵ (all-own (T.the-type α .parts) (T′.the-laws α) vd))) (own-open 𝓤 H A W (T.the-type α) (T′.the-laws α) vd (T′.lowered d)) $
-          learn ! (λ _. use1 W (‵ (ownAt (T.the-type α .parts) (T′.the-laws α) 0 (d .sheet)) ⊛ ‵ (rest (T.the-type α .parts) (T′.the-laws α) 0 vd)) (own-out 𝓤 H A W (T.the-type α .parts) (T′.the-laws α) 0 vd) $ split ! $
+          learn ! (λ _. use1 W (‵ (ownAt (T.the-type α .parts) (T′.the-laws α) 0 (d .sheet)) ⊛ ‵ (rest (T.the-type α .parts) (T′.the-laws α) 0 vd))
+          (own-out 𝓤 H A W (T.the-type α .parts) (T′.the-laws α) 0 vd) $ split ! $
           -- [what the bytes own; what the cursor owns; what the reader owns; the token]
           move ! (1 ∷ []) $ drop ! $ move ! (0 ∷ 2 ∷ []) $ use2 W (raw (FieldAt .pre to-field)) asks $ frame ! $ done !)
 

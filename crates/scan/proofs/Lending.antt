@@ -1,4 +1,5 @@
--- A reader that stands in a local, lent to `next` for one call. The call gets a lifetime of its own, within that of the bytes: a new atom ν met with κ, whose token is made of ν's and of half of κ's. When the call has returned, ν is ended, and the reader comes back with the cursor that it had last.
+-- A reader that stands in a local, lent to `next` for one call. The call gets a lifetime of its own, within that of the bytes:
+-- a new atom ν met with κ, whose token is made of ν's and of half of κ's. When the call has returned, ν is ended, and the reader comes back with the cursor that it had last.
 --     goes-next     the reader's cell and what it owns, with κ's token, give what `next` asks; what is kept meanwhile is the lender's part and the way back to ν's whole token
 --     comes-back    the tokens that `next` gives back, the reader's last value and what was kept give the reader's cell, what it owns, and κ's token
 use Prim.Native.Nat.{ℕ}
@@ -15,7 +16,8 @@ use prog.Wp.{Heap}
 use ghost.Atoms.{Atoms}
 use contract.BorrowLft.{meet-⊑-left, meet-⊑-right}
 use contract.Monad.{Fun}
-use types.Kit.{Given, Item, ‵, raw, _⊛_, ⋆, mean, some, later, _$_, _∵_, !, qed, move, keep, use1, use2, use3, split, join, pick, fsplit, fjoin, fpick, fpack, apply, frame, await, updating, now as at-once, show, done}
+use types.Kit.{Given, Item, ‵, raw, _⊛_, ⋆, mean, some, later, _$_, _∵_, !, qed, move, keep, use1}
+use types.Kit.{use2, use3, split, join, pick, fsplit, fjoin, fpick, fpack, apply, frame, await, updating, now as at-once, show, done}
 use types.SemTy.{Body}
 use types.Tokens.{lft-new, lft-end}
 use denote.RattleType.{RattleType, owns}
@@ -82,20 +84,24 @@ module _ {M : Type 1} (𝓤 : URA M) (H : Heap 𝓤) (A : Atoms 𝓤) (at-mem : 
           → ent 𝓤 (⋆ 𝓤 H A (‵ (Cell d) ∷ ‵ (Own d) ∷ ‵ (flft κ q) ∷ [])) (H .⇛ (mean 𝓤 H A (some (λ (ν : ℕ). some (λ (δ : GName). raw (Next .pre (to-next d passed ν δ)) ⊛ Kept ν δ)))))
       unfolding partOf
       goes-next d passed is-passed =
-          qed W (‵ (Cell d) ∷ ‵ (Own d) ∷ ‵ (flft κ q) ∷ []) ∵ updating ! $ use1 W (‵ (cellAt fullShare (R .mir) (T′.lowered d ∷ []) l 0)) (W .laws .at-raw fullShare (T′.mir erased) l 0 (T′.lowered d)) $ fjoin ! $
+          qed W (‵ (Cell d) ∷ ‵ (Own d) ∷ ‵ (flft κ q) ∷ []) ∵ updating ! $ use1 W (‵ (cellAt fullShare (R .mir) (T′.lowered d ∷ []) l 0))
+          (W .laws .at-raw fullShare (T′.mir erased) l 0 (T′.lowered d)) $ fjoin ! $
           fpack ! (List Val) (λ vs. fsep (cellAt fullShare (R .mir) vs l 0) (R .own d vs)) (T′.lowered d ∷ []) $
           lft-new ! tt (λ ν. move ! (1 ∷ []) $
-          use1 W (later (some (λ (δ : GName). ‵ (MutRef (named 0) (ν ∷ κ) R .own (record { ptr = (l, 0); name = δ; now = d }) (vptr l 0 ∷ [])) ⊛ ‵ (flent (ν ∷ κ) (Body (mem R) l 0 δ))))) (lends-ref 𝓤 H A W R (named 0) (ν ∷ κ) d l 0) $ await ! tt $ pick ! (λ δ. split ! $
+          use1 W (later (some (λ (δ : GName). ‵ (MutRef (named 0) (ν ∷ κ) R .own (record { ptr = (l, 0); name = δ; now = d }) (vptr l 0 ∷ [])) ⊛ ‵ (flent (ν ∷ κ) (Body (mem R) l 0 δ)))))
+          (lends-ref 𝓤 H A W R (named 0) (ν ∷ κ) d l 0) $ await ! tt $ pick ! (λ δ. split ! $
           -- [the reference; the lender's part; ν's token; κ's token]
           move ! (3 ∷ []) $ use1 W (‵ (flft κ (PosShare·left q)) ⊛ ‵ (flft κ (PosShare·right q))) (W .lfts .lft-split κ q) $ split ! $
-          move ! (4 ∷ []) $ use1 W (‵ (flft (ν ∷ []) (PosShare·left q)) ⊛ raw (wand 𝓤 (A .lft (ν ∷ []) (PosShare·left q)) (A .lft (ν ∷ []) fullShare))) (W .lfts .lft-carve ν (PosShare·left q)) $ split ! $
+          move ! (4 ∷ []) $ use1 W (‵ (flft (ν ∷ []) (PosShare·left q)) ⊛ raw (wand 𝓤 (A .lft (ν ∷ []) (PosShare·left q)) (A .lft (ν ∷ []) fullShare))) (W .lfts .lft-carve ν (PosShare·left q)) $
+          split ! $
           move ! (0 ∷ 2 ∷ []) $ use2 W (‵ (flft (ν ∷ κ) (PosShare·left q))) (W .lfts .lft-meet (ν ∷ []) κ (PosShare·left q)) $
           -- [the meet's token; the way back; half of κ's token; the reference; the lender's part]
           nothing ! $ move ! (3 ∷ 0 ∷ []) $ join ! $ move ! (1 ∷ 0 ∷ []) $ join ! $
           nothing ! $ owned ! passed-type.the-row (Is passed-type.the-row) (LL.makes passed-type.the-type passed-laws.the-plain 𝓤 H A) passed _ is-passed $ fjoin ! $ move ! (3 ∷ 0 ∷ []) $ fjoin ! $
           move ! (1 ∷ 0 ∷ []) $ use2 W (raw (Next .pre (to-next d passed ν δ))) (asked d passed ν δ) $
           move ! (2 ∷ 1 ∷ []) $ join ! $ move ! (1 ∷ 0 ∷ []) $ join ! $
-          at-once ! $ show ! (λ (ν : ℕ). mean 𝓤 H A (some (λ (δ : GName). raw (Next .pre (to-next d passed ν δ)) ⊛ Kept ν δ))) ν $ show ! (λ (δ : GName). mean 𝓤 H A (raw (Next .pre (to-next d passed ν δ)) ⊛ Kept ν δ)) δ $ done !))
+          at-once ! $ show ! (λ (ν : ℕ). mean 𝓤 H A (some (λ (δ : GName). raw (Next .pre (to-next d passed ν δ)) ⊛ Kept ν δ))) ν $
+          show ! (λ (δ : GName). mean 𝓤 H A (raw (Next .pre (to-next d passed ν δ)) ⊛ Kept ν δ)) δ $ done !))
 
       pub comes-back : (d : Reader) (ν : ℕ) (δ : GName)
           → ent 𝓤 (⋆ 𝓤 H A (Tokens ν ∷ ‵ (fres δ (R .coded .code d)) ∷ Kept ν δ ∷ [])) (H .⇛ (⋆ 𝓤 H A (‵ (Cell d) ∷ ‵ (Own d) ∷ ‵ (flft κ q) ∷ [])))

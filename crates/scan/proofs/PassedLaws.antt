@@ -5,12 +5,13 @@ use mathlib.Core.Bool.{Bool, true, false, true≢false}
 use mathlib.Core.List.{List}
 use mathlib.Core.Logic.{_⊎_, inl, inr, ⊎-elim, _≢_}
 use native.Mathlib.Omega.{arith}
-use lib.Dec.{leb}
+use lib.Dec.{leb, eqb}
 use lib.ListN.{length}
 use borrow.Author.Count.{below-more}
+use borrow.Author.Tests.{le-leb, ne-eqb}
 use Rattle.units.specs.JudgingLaws.{true-or-false}
 use Rattle.fields.specs.Fields.{allocationsFor, due, headed, tagAt, sizeAt, behind, allowedAt, FieldWhole}
-use Rattle.fields.proofs.FieldLaws.{Whole, allocations-few, Kind, a-head, a-station, an-allocation, an-end, allowed-kind, kind-allowed}
+use Rattle.fields.proofs.FieldLaws.{Whole, allocations-few, Further, a-mode, further-tag, Kind, a-head, a-station, an-allocation, an-end, a-further, allowed-kind, kind-allowed}
 use Rattle.fields.specs.declared.Passed.{Passed}
 use Rattle.scan.specs.Scanned.{nothingPassed, withField, scanned}
 use Rattle.scan.specs.FirstFault.{WellFormed, start, more, not-allowed, FirstFault, WholeSheet}
@@ -32,12 +33,28 @@ module _ (p : Passed) (tag next : ℕ) where
   unfolding withField
   allocation-more e = rw e refl
 
+  further-more : 3 < tag → withField p tag next ≡ record { plan = p .plan; head = tag; from = next; stations = p .stations; allocations = p .allocations }
+  unfolding withField
+  further-more l =
+      let no-station : eqb tag 2 ≡ false = ne-eqb tag 2 (λ e. omega arith) in
+      let no-allocation : eqb tag 3 ≡ false = ne-eqb tag 3 (λ e. omega arith) in
+      rw (no-station, no-allocation) refl
+
 -- ---- where the fields stand
 
--- the header: none yet, or its first field alone
+-- the fields of the header from the start on, one behind the other: the tag of the last, which is the highest, and the place behind it
+pub data Headed (bs : List ℕ) : ℕ → ℕ → Type 0 where
+  ttrt-first : Whole bs 0 1 4 → Headed bs 1 7
+  and-further : {head a : ℕ} (tag size : ℕ) → Headed bs head a → Further tag size → head < tag → Whole bs a tag size → Headed bs tag (a + 3 + size)
+
+headed-some : (bs : List ℕ) (head a : ℕ) → Headed bs head a → 1 ≤ head
+headed-some bs _ _ (ttrt-first w) = omega arith
+headed-some bs _ _ (and-further tag size before f above w) = omega (arith, further-tag tag size f)
+
+-- the header: none yet, or some of its fields
 pub data Header (bs : List ℕ) (p : Passed) : Type 0 where
   no-header : p .head ≡ 0 → p .from ≡ 0 → p .stations ≡ 0 → Header bs p
-  a-header : p .head ≡ 1 → p .from ≡ 7 → Whole bs 0 1 4 → Header bs p
+  a-header : Headed bs (p .head) (p .from) → Header bs p
 
 pub record Through (plan : Bool) (bs : List ℕ) (p : Passed) (a : ℕ) : Type 0 where
   pub kind : p .plan ≡ plan
@@ -49,9 +66,9 @@ pub record Through (plan : Bool) (bs : List ℕ) (p : Passed) (a : ℕ) : Type 0
   pub allocations : (i : ℕ) → i < p .allocations → Whole bs (p .from + 19 * p .stations + 7 * i) 3 4
 
 -- the header of fields that have one
-header-of : (bs : List ℕ) (p : Passed) → Header bs p → headed p ≡ true → (p .head ≡ 1) × ((p .from ≡ 7) × Whole bs 0 1 4)
+header-of : (bs : List ℕ) (p : Passed) → Header bs p → headed p ≡ true → Headed bs (p .head) (p .from)
 header-of bs p (no-header h f s) e = absurd (true≢false (sym e ∙ ap (leb 1) h))
-header-of bs p (a-header h f w) e = (h, (f, w))
+header-of bs p (a-header h) e = h
 
 module _ (plan : Bool) (bs : List ℕ) (p : Passed) (a : ℕ) (t : Through plan bs p a) (w : FieldWhole bs a p) where
   -- the field that stands here
@@ -59,7 +76,7 @@ module _ (plan : Bool) (bs : List ℕ) (p : Passed) (a : ℕ) (t : Through plan 
   here tag size e s = record { inside = omega (arith, w .inside); has-tag = e; has-size = s }
 
   through-head : tagAt bs a ≡ 1 → sizeAt bs a ≡ 4 → Header bs p → headed p ≡ false → Through plan bs (withField p (tagAt bs a) (behind bs a)) (behind bs a)
-  through-head e s (a-header h f x) not-begun = absurd (true≢false (ap (leb 1) (sym h) ∙ not-begun))
+  through-head e s (a-header h) not-begun = absurd (true≢false (sym (le-leb 1 (p .head) (headed-some bs (p .head) (p .from) h)) ∙ not-begun))
   through-head e s (no-header h f n) not-begun =
       let m : p .allocations ≡ 0 = omega (arith, t .most, allocations-few plan (p .stations)) in
       let first : a ≡ 0 = omega (arith, t .place) in
@@ -67,7 +84,7 @@ module _ (plan : Bool) (bs : List ℕ) (p : Passed) (a : ℕ) (t : Through plan 
       subst (λ (q : Passed). Through plan bs q (behind bs a)) (sym (head-more p _ _ e))
       (record {
         kind = t .kind;
-        header = a-header refl there (subst (λ (b : ℕ). Whole bs b 1 4) first (here 1 4 e s));
+        header = a-header (subst (Headed bs 1) (sym there) (ttrt-first (subst (λ (b : ℕ). Whole bs b 1 4) first (here 1 4 e s))));
         place = omega arith;
         few = t .few;
         most = t .most;
@@ -82,7 +99,7 @@ module _ (plan : Bool) (bs : List ℕ) (p : Passed) (a : ℕ) (t : Through plan 
       subst (λ (q : Passed). Through plan bs q (behind bs a)) (sym (station-more p _ _ e))
       (record {
         kind = t .kind;
-        header = a-header (h .0) (h .1 .0) (h .1 .1);
+        header = a-header h;
         place = omega (arith, there);
         few = omega arith;
         most = omega arith;
@@ -97,7 +114,7 @@ module _ (plan : Bool) (bs : List ℕ) (p : Passed) (a : ℕ) (t : Through plan 
       subst (λ (q : Passed). Through plan bs q (behind bs a)) (sym (allocation-more p _ _ e))
       (record {
         kind = t .kind;
-        header = a-header (h .0) (h .1 .0) (h .1 .1);
+        header = a-header h;
         place = omega (arith, t .place);
         few = t .few;
         most = omega arith;
@@ -105,11 +122,29 @@ module _ (plan : Bool) (bs : List ℕ) (p : Passed) (a : ℕ) (t : Through plan 
         allocations = below-more _ _ (t .allocations) (subst (λ (b : ℕ). Whole bs b 3 4) (t .place) (here 3 4 e s));
       })
 
+  through-further : Further (tagAt bs a) (sizeAt bs a) → headed p ≡ true → p .head < tagAt bs a → p .stations ≡ 0
+      → Through plan bs (withField p (tagAt bs a) (behind bs a)) (behind bs a)
+  through-further f begun above none =
+      let m : p .allocations ≡ 0 = omega (arith, t .most, allocations-few plan (p .stations)) in
+      let there : a ≡ p .from = omega (arith, t .place) in
+      let before = subst (Headed bs (p .head)) (sym there) (header-of bs p (t .header) begun) in
+      subst (λ (q : Passed). Through plan bs q (behind bs a)) (sym (further-more p _ _ (further-tag _ _ f .0)))
+      (record {
+        kind = t .kind;
+        header = a-header (and-further _ _ before f above (here _ _ refl refl));
+        place = omega arith;
+        few = t .few;
+        most = t .most;
+        stations = λ i l. absurd (omega arith);
+        allocations = λ i l. absurd (omega arith);
+      })
+
   through-more : tagAt bs a ≢ 255 → Kind p (tagAt bs a) (sizeAt bs a) → Through plan bs (withField p (tagAt bs a) (behind bs a)) (behind bs a)
   through-more other (a-head e s not-begun) = through-head e s (t .header) not-begun
   through-more other (a-station e s begun few none) = through-station e s begun few none
   through-more other (an-allocation e s begun room) = through-allocation e s begun room
   through-more other (an-end e s begun some all) = absurd (other e)
+  through-more other (a-further f begun above none) = through-further f begun above none
 
 pub through : (plan : Bool) (bs : List ℕ) (p : Passed) (a : ℕ) → WellFormed plan bs p a → Through plan bs p a
 through plan bs _ _ start =
@@ -127,31 +162,46 @@ through plan bs _ _ (more {p} {a} before w other) =
 
 -- ---- a whole sheet
 
--- the header, n stations and m allocations
-abbrev pub passedAll : Bool → ℕ → ℕ → Passed
-passedAll plan n m = record { plan = plan; head = 1; from = 7; stations = n; allocations = m }
+-- a field of the header that may be absent: at the place a stands another tag, or the field, and the next one behind it
+pub data Optional (bs : List ℕ) (a tag size next : ℕ) : Type 0 where
+  not-there : tagAt bs a ≢ tag → next ≡ a → Optional bs a tag size next
+  there : Whole bs a tag size → next ≡ a + 3 + size → Optional bs a tag size next
 
-all-is : (plan : Bool) (p : Passed) → p .plan ≡ plan → p .head ≡ 1 → p .from ≡ 7 → p ≡ passedAll plan (p .stations) (p .allocations)
-all-is plan p kind head from =
-    ap (λ (b : Bool). record { plan = b; head = p .head; from = p .from; stations = p .stations; allocations = p .allocations }) kind
-    ∙ ap (λ (h : ℕ). record { plan = plan; head = h; from = p .from; stations = p .stations; allocations = p .allocations }) head
-    ∙ ap (λ (f : ℕ). record { plan = plan; head = 1; from = f; stations = p .stations; allocations = p .allocations }) from
+-- TTRT stands at the start; then the mode, or a station at once
+pub record HeaderStands (bs : List ℕ) (from : ℕ) : Type 0 where
+  pub ttrt : Whole bs 0 1 4
+  pub mode : Optional bs 7 4 1 from
+
+pub header-behind : (bs : List ℕ) (from : ℕ) → HeaderStands bs from → 7 ≤ from
+header-behind bs from h = go (h .mode)
+  where
+    go : Optional bs 7 4 1 from → 7 ≤ from
+    go (not-there other e) = omega arith
+    go (there w e) = omega arith
+
+header-stands : (bs : List ℕ) (head from : ℕ) → Headed bs head from → tagAt bs from ≡ 2 → HeaderStands bs from
+header-stands bs _ _ (ttrt-first w) station = record { ttrt = w; mode = not-there (λ e. omega arith) refl }
+header-stands bs _ _ (and-further tag size (ttrt-first w) (a-mode t s) above x) station = record { ttrt = w; mode = there (rw (t, s) at x) (rw s) }
+header-stands bs _ _ (and-further tag size (and-further tag₁ size₁ before (a-mode t₁ s₁) above₁ x₁) (a-mode t s) above x) station = absurd (omega arith)
 
 -- behind the header, at least one station and all allocations that belong to them the end field stands, and nothing follows it
 pub record Ended (plan : Bool) (bs : List ℕ) (p : Passed) : Type 0 where
-  pub is-all : p ≡ passedAll plan (p .stations) (p .allocations)
+  pub kind : p .plan ≡ plan
   pub some : 1 ≤ p .stations
   pub few : p .stations ≤ 128
   pub all : p .allocations ≡ allocationsFor plan (p .stations)
-  pub head : Whole bs 0 1 4
-  pub stations : (i : ℕ) → i < p .stations → Whole bs (7 + 19 * i) 2 16
-  pub allocations : (i : ℕ) → i < p .allocations → Whole bs (7 + 19 * p .stations + 7 * i) 3 4
-  pub end : Whole bs (7 + 19 * p .stations + 7 * p .allocations) 255 0
-  pub last : length bs ≡ 7 + 19 * p .stations + 7 * p .allocations + 3
+  pub header : HeaderStands bs (p .from)
+  pub stations : (i : ℕ) → i < p .stations → Whole bs (p .from + 19 * i) 2 16
+  pub allocations : (i : ℕ) → i < p .allocations → Whole bs (p .from + 19 * p .stations + 7 * i) 3 4
+  pub end : Whole bs (p .from + 19 * p .stations + 7 * p .allocations) 255 0
+  pub last : length bs ≡ p .from + 19 * p .stations + 7 * p .allocations + 3
 
 pub whole-ended : (plan : Bool) (bs : List ℕ) (s : WholeSheet plan bs) → Ended plan bs (s .passed)
 whole-ended plan bs s = go (allowed-kind (s .passed) (tagAt bs (s .place)) (sizeAt bs (s .place)) (s .end-whole .allowed))
   where
+    p : Passed
+    p = s .passed
+
     t : Through plan bs (s .passed) (s .place)
     t = through plan bs (s .passed) (s .place) (s .before)
 
@@ -159,20 +209,19 @@ whole-ended plan bs s = go (allowed-kind (s .passed) (tagAt bs (s .place)) (size
     go (a-head e z not-begun) = absurd (omega (arith, s .end-tag))
     go (a-station e z begun few none) = absurd (omega (arith, s .end-tag))
     go (an-allocation e z begun room) = absurd (omega (arith, s .end-tag))
+    go (a-further f begun above none) = absurd (omega (arith, s .end-tag, further-tag _ _ f))
     go (an-end e z begun some all) =
-        let h = header-of bs (s .passed) (t .header) begun in
-        let from = h .1 .0 in
-        let there : s .place ≡ 7 + 19 * s .passed .stations + 7 * s .passed .allocations = omega (arith, t .place) in
+        let first : p .from + 19 * 0 ≡ p .from = omega arith in
         record {
-          is-all = all-is plan (s .passed) (t .kind) (h .0) from;
+          kind = t .kind;
           some = some;
           few = t .few;
-          all = all ∙ ap (λ (b : Bool). allocationsFor b (s .passed .stations)) (t .kind);
-          head = h .1 .1;
-          stations = subst (λ (f : ℕ). (i : ℕ) → i < s .passed .stations → Whole bs (f + 19 * i) 2 16) from (t .stations);
-          allocations = subst (λ (f : ℕ). (i : ℕ) → i < s .passed .allocations → Whole bs (f + 19 * s .passed .stations + 7 * i) 3 4) from (t .allocations);
-          end = subst (λ (b : ℕ). Whole bs b 255 0) there (record { inside = omega (arith, s .end-whole .inside); has-tag = e; has-size = z });
-          last = omega (arith, s .nothing-follows);
+          all = all ∙ ap (λ (b : Bool). allocationsFor b (p .stations)) (t .kind);
+          header = header-stands bs (p .head) (p .from) (header-of bs p (t .header) begun) (subst (λ (b : ℕ). tagAt bs b ≡ 2) first (t .stations 0 some .has-tag));
+          stations = t .stations;
+          allocations = t .allocations;
+          end = subst (λ (b : ℕ). Whole bs b 255 0) (t .place) (record { inside = omega (arith, s .end-whole .inside); has-tag = e; has-size = z });
+          last = omega (arith, s .nothing-follows, t .place);
         }
 
 -- the walk over a sheet without a fault has gone by all of it
@@ -182,6 +231,10 @@ scanned-ended plan bs z =
     subst (λ (r : Scanned). Ended plan bs (r .passed)) (sym (end-there plan bs w)) (whole-ended plan bs w)
 
 -- ---- fields that stand one behind the other pass
+
+-- the header, n stations and m allocations
+abbrev pub passedAll : Bool → ℕ → ℕ → ℕ → ℕ → Passed
+passedAll plan head from n m = record { plan = plan; head = head; from = from; stations = n; allocations = m }
 
 module _ (plan : Bool) (bs : List ℕ) where
   -- a whole field of a kind that may stand there
@@ -199,32 +252,46 @@ module _ (plan : Bool) (bs : List ℕ) where
       let next = more before (standing p a tag size w k) (λ e. other (sym (w .has-tag) ∙ e)) in
       rw (w .has-tag, b) at next
 
-  pub head-passes : Whole bs 0 1 4 → WellFormed plan bs (passedAll plan 0 0) 7
+  -- the header: TTRT, then the mode if it is there
+  pub header-passes : (from : ℕ) → HeaderStands bs from → (head : ℕ) × ((1 ≤ head) × WellFormed plan bs (passedAll plan head from 0 0) from)
   unfolding withField
-  head-passes w = passing (nothingPassed plan) 0 1 4 start w (a-head refl refl refl) (λ e. omega arith)
+  header-passes from h = go (h .mode)
+    where
+      first : WellFormed plan bs (passedAll plan 1 7 0 0) 7
+      first = passing (nothingPassed plan) 0 1 4 start (h .ttrt) (a-head refl refl refl) (λ e. omega arith)
 
-  pub station-passes : (n a : ℕ) → WellFormed plan bs (passedAll plan n 0) a → n < 128 → Whole bs a 2 16 → WellFormed plan bs (passedAll plan (n + 1) 0) (a + 3 + 16)
-  unfolding withField
-  station-passes n a before few w = passing (passedAll plan n 0) a 2 16 before w (a-station refl refl refl few refl) (λ e. omega arith)
+      go : Optional bs 7 4 1 from → (head : ℕ) × ((1 ≤ head) × WellFormed plan bs (passedAll plan head from 0 0) from)
+      go (not-there other e) = (1, (omega arith, rw e first))
+      go (there w e) =
+          let mode = passing (passedAll plan 1 7 0 0) 7 4 1 first w (a-further (a-mode refl refl) refl (omega arith) refl) (λ e. omega arith) in
+          (4, (omega arith, rw e mode))
 
-  pub allocation-passes : (n m a : ℕ) → WellFormed plan bs (passedAll plan n m) a
-      → m < allocationsFor plan n → Whole bs a 3 4 → WellFormed plan bs (passedAll plan n (m + 1)) (a + 3 + 4)
-  unfolding withField
-  allocation-passes n m a before room w = passing (passedAll plan n m) a 3 4 before w (an-allocation refl refl refl room) (λ e. omega arith)
+  module _ (head from : ℕ) (begun : 1 ≤ head) where
+    pub station-passes : (n a : ℕ) → WellFormed plan bs (passedAll plan head from n 0) a → n < 128
+        → Whole bs a 2 16 → WellFormed plan bs (passedAll plan head from (n + 1) 0) (a + 3 + 16)
+    unfolding withField
+    station-passes n a before few w =
+        passing (passedAll plan head from n 0) a 2 16 before w (a-station refl refl (le-leb 1 head begun) few refl) (λ e. omega arith)
 
-  -- and the walk goes by all of them, to the end
-  pub end-passes : (n m a : ℕ) → WellFormed plan bs (passedAll plan n m) a → 1 ≤ n → m ≡ allocationsFor plan n
-      → Whole bs a 255 0 → length bs ≡ a + 3 → scanned plan bs ≡ record { number = 0; passed = passedAll plan n m; at = a }
-  end-passes n m a before some all w last =
-      end-there plan bs
-      (record {
-        passed = passedAll plan n m;
-        place = a;
-        before = before;
-        end-whole = standing (passedAll plan n m) a 255 0 w (an-end refl refl refl some all);
-        end-tag = w .has-tag;
-        nothing-follows = omega (arith, w .has-size);
-      })
+    pub allocation-passes : (n m a : ℕ) → WellFormed plan bs (passedAll plan head from n m) a → m < allocationsFor plan n
+        → Whole bs a 3 4 → WellFormed plan bs (passedAll plan head from n (m + 1)) (a + 3 + 4)
+    unfolding withField
+    allocation-passes n m a before room w =
+        passing (passedAll plan head from n m) a 3 4 before w (an-allocation refl refl (le-leb 1 head begun) room) (λ e. omega arith)
+
+    -- and the walk goes by all of them, to the end
+    pub end-passes : (n m a : ℕ) → WellFormed plan bs (passedAll plan head from n m) a → 1 ≤ n → m ≡ allocationsFor plan n
+        → Whole bs a 255 0 → length bs ≡ a + 3 → scanned plan bs ≡ record { number = 0; passed = passedAll plan head from n m; at = a }
+    end-passes n m a before some all w last =
+        end-there plan bs
+        (record {
+          passed = passedAll plan head from n m;
+          place = a;
+          before = before;
+          end-whole = standing (passedAll plan head from n m) a 255 0 w (an-end refl refl (le-leb 1 head begun) some all);
+          end-tag = w .has-tag;
+          nothing-follows = omega (arith, w .has-size);
+        })
 
 -- ---- a plan is no request
 
@@ -242,6 +309,10 @@ module _ (bs : List ℕ) where
   request-more p a w other none before (a-station e s begun few none-yet) =
       let next = more before (record { inside = w .inside; allowed = kind-allowed (asRequest p) _ _ (a-station e s begun few none-yet) }) other in
       inl (rw (station-more p _ _ e) none, rw (station-more p _ _ e) (rw (station-more (asRequest p) _ _ e) at next))
+  request-more p a w other none before (a-further f begun above none-yet) =
+      let more-tag = further-tag _ _ f .0 in
+      let next = more before (record { inside = w .inside; allowed = kind-allowed (asRequest p) _ _ (a-further f begun above none-yet) }) other in
+      inl (rw (further-more p _ _ more-tag) none, rw (further-more p _ _ more-tag) (rw (further-more (asRequest p) _ _ more-tag) at next))
   request-more p a w other none before (an-allocation e s begun room) = inr (record { passed = asRequest p; place = a; before = before; fault = not-allowed (omega (arith, w .inside)) wrong })
     where
       in-none : Kind (asRequest p) (tagAt bs a) (sizeAt bs a) → ⊥
@@ -249,6 +320,7 @@ module _ (bs : List ℕ) where
       in-none (a-station d s begun few none-yet) = absurd (omega (arith, e, d))
       in-none (an-allocation d s begun room) = absurd (omega (arith, room))
       in-none (an-end d s begun some all) = absurd (omega (arith, e, d))
+      in-none (a-further f begun above none-yet) = absurd (omega (arith, e, further-tag _ _ f))
 
       wrong : allowedAt bs a (asRequest p) ≡ false
       wrong =

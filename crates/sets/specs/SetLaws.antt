@@ -5,7 +5,7 @@ use mathlib.Core.Bool.{Bool, true, false}
 use mathlib.Core.Logic.{_↔_, _≢_, ⊎-elim}
 use native.Mathlib.Omega.{arith}
 use lib.Dec.{leb}
-use Rattle.units.specs.Numbers.{mostStations, mostTtrt, mostWalk, mostC, mostD, mostP}
+use Rattle.units.specs.Numbers.{timely, lastMode, mostStations, mostTtrt, mostWalk, mostC, mostD, mostP}
 use Rattle.units.specs.Places.{at, sumBelow, allBelow}
 use Rattle.units.specs.Judging.{orElse}
 use Rattle.units.specs.JudgingLaws.{true-or-false, held, failed, given, given-later, not-given, iff-then, iff-under, Decides, decides-le, decides-both, decides-between}
@@ -22,7 +22,11 @@ decides-count t = decides-between 1 mostStations (t .n)
 
 pub decides-head : (h : Head) → Decides (headInRange h) (HeadInRange h)
 unfolding headInRange
-decides-head h = decides-between 1 mostTtrt (h .ttrt)
+decides-head h =
+    let both = decides-both _ _ _ _ (decides-between 1 mostTtrt (h .ttrt)) (decides-between timely lastMode (h .mode)) in (
+      λ b. let f = both .0 b in record { ttrt = f .0; mode = f .1 },
+      λ f. both .1 (f .ttrt, f .mode),
+    )
 
 pub decides-station : (w c d p : ℕ) → Decides (stationInRange w c d p) (StationInRange w c d p)
 unfolding stationInRange

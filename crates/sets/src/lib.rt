@@ -10,6 +10,8 @@ use units::numbers;
 #[repr(C)]
 pub struct Head {
     pub ttrt: u32,
+    // 1: timely-token. 2: plain FDDI.
+    pub mode: u32,
 }
 
 // N stations in ring order. Only the first N places of each array are ever looked at.
@@ -28,7 +30,7 @@ pub fn blank_set() -> Set
     ensures { λ r. ⌜ r ≡ blankSet ⌝ }
 {
     Set {
-        head: Head { ttrt: 0 },
+        head: Head { ttrt: 0, mode: 0 },
         n: 0,
         w: [0; 128],
         c: [0; 128],
@@ -51,7 +53,8 @@ fn head_in_range(h: Head) -> bool
 {
     let low = 1 <= h.ttrt;
     let high = h.ttrt <= numbers::MOST_TTRT;
-    low & high
+    let named = (numbers::TIMELY <= h.mode) & (h.mode <= numbers::LAST_MODE);
+    low & high & named
 }
 
 // The four numbers of one station are in range.

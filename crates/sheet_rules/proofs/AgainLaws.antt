@@ -1,5 +1,5 @@
 -- What was read is written again the same: the fields by which the walk went stand in the bytes with the numbers that were read from them.
-use Prim.Native.Nat.{ℕ, _+_, _*_, _<_}
+use Prim.Native.Nat.{ℕ, _+_, _*_, _≤_, _<_}
 use mathlib.Core.Path.{_≡_, sym, subst, _∙_}
 use mathlib.Core.Bool.{Bool}
 use mathlib.Core.List.{List}
@@ -8,65 +8,62 @@ use Rattle.units.specs.Places.{at}
 use Rattle.units.specs.PlaceLaws.{fill-inside}
 use Rattle.sets.specs.Judged.{zeros}
 use Rattle.fields.specs.Rows.{rows, Stands}
-use Rattle.fields.specs.Bytes.{numberAt, bytesOf, AllBytes}
+use Rattle.fields.specs.Bytes.{numberAt, AllBytes}
 use Rattle.fields.specs.Fields.{allocationsFor}
-use Rattle.fields.proofs.SegmentLaws.{stands-join}
-use Rattle.fields.proofs.ByteLaws.{number-stands}
 use Rattle.fields.proofs.FieldLaws.{allocations-few}
 use Rattle.fields.specs.declared.Passed.{Passed}
 use Rattle.scan.specs.Scanned.{scanned}
-use Rattle.scan.proofs.PassedLaws.{passedAll, Ended, scanned-ended}
-use Rattle.sheets.specs.Layout.{mark, headBytes, allocationBytes, sheetOf}
-use Rattle.sheets.specs.Reading.{headIn, setOf, allocOf, setIn, allocIn, judgedSheet, readSheet}
-use Rattle.sheets.specs.ReadLaws.{then-none, read-number}
+use Rattle.scan.proofs.PassedLaws.{Ended, scanned-ended}
+use Rattle.sheets.specs.Layout.{mark, stationBytes, allocationBytes, sheetOf}
+use Rattle.sheets.specs.Reading.{modeIn, setOf, allocOf, setIn, allocIn, judgedSheet, readSheet}
+use Rattle.sheets.specs.ReadLaws.{then-none, read-number, judged-kept}
+use Rattle.sheet_rules.proofs.HeaderLaws.{read-header, read-from}
 use Rattle.sheet_rules.proofs.StandLaws.{mark-stands, StationNumbers, stations-stand, allocations-stand}
-use Rattle.sheet_rules.proofs.BackLaws.{SheetParts, parts-sheet}
+use Rattle.sheet_rules.proofs.BackLaws.{behindHead, behindStations, behindAll, SheetParts, parts-sheet}
 
-module _ (plan : Bool) (bs : List ℕ) (bytes : AllBytes bs) (n m : ℕ) (ended : Ended plan bs (passedAll plan n m)) where
-  read-header : Stands bs 0 (headBytes (headIn bs))
-  unfolding headBytes
-  read-header =
-      let inside = ended .head .inside in
-      stands-join bs 0 (mark 1 4) (bytesOf (numberAt bs 3)) (mark-stands bs 0 1 4 bytes (omega arith) (ended .head)) (number-stands bs 3 bytes (omega arith))
-
-  read-numbers : StationNumbers bs 7 (setOf bs (passedAll plan n m)) n
+module _ (plan : Bool) (bs : List ℕ) (bytes : AllBytes bs) (p : Passed) (ended : Ended plan bs p) where
+  read-numbers : StationNumbers bs (p .from) (setOf bs p) (p .stations)
   read-numbers =
+      let n = p .stations in
       let few = ended .few in
       record {
-        walk = λ i l. sym (fill-inside n (λ k. numberAt bs (10 + 19 * k)) zeros i l few);
-        longest = λ i l. sym (fill-inside n (λ k. numberAt bs (14 + 19 * k)) zeros i l few);
-        deadline = λ i l. sym (fill-inside n (λ k. numberAt bs (18 + 19 * k)) zeros i l few);
-        gap = λ i l. sym (fill-inside n (λ k. numberAt bs (22 + 19 * k)) zeros i l few);
+        walk = λ i l. sym (fill-inside n (λ k. numberAt bs (p .from + 3 + 19 * k)) zeros i l few);
+        longest = λ i l. sym (fill-inside n (λ k. numberAt bs (p .from + 7 + 19 * k)) zeros i l few);
+        deadline = λ i l. sym (fill-inside n (λ k. numberAt bs (p .from + 11 + 19 * k)) zeros i l few);
+        gap = λ i l. sym (fill-inside n (λ k. numberAt bs (p .from + 15 + 19 * k)) zeros i l few);
       }
 
-  read-allocations : (i : ℕ) → i < m → numberAt bs (7 + 19 * n + 3 + 7 * i) ≡ at (allocOf bs (passedAll plan n m) .s) i
-  read-allocations i l = sym (fill-inside m (λ k. numberAt bs (7 + 19 * n + 3 + 7 * k)) zeros i l (omega (arith, ended .few, ended .all, allocations-few plan n)))
+  read-allocations : (i : ℕ) → i < p .allocations → numberAt bs (p .from + 19 * p .stations + 3 + 7 * i) ≡ at (allocOf bs p .s) i
+  read-allocations i l =
+      let few : p .allocations ≤ 128 = omega (arith, ended .few, ended .all, allocations-few plan (p .stations)) in
+      sym (fill-inside (p .allocations) (λ k. numberAt bs (p .from + 19 * p .stations + 3 + 7 * k)) zeros i l few)
 
-  -- the parts of what was read stand in the bytes
-  read-parts : SheetParts plan bs (setOf bs (passedAll plan n m)) (allocOf bs (passedAll plan n m))
-  read-parts =
+  -- the parts of what was read stand in the bytes, if the mode is one that a set can have
+  read-parts : 1 ≤ modeIn bs → SheetParts plan bs (setOf bs p) (allocOf bs p)
+  read-parts named =
+      let n = p .stations in
+      let m = p .allocations in
       let long = ended .last in
-      let all : m ≡ allocationsFor plan n = ended .all in
-      let share = allocationBytes (allocOf bs (passedAll plan n m)) in
+      let all : p .allocations ≡ allocationsFor plan (p .stations) = ended .all in
+      let from : p .from ≡ behindHead (setOf bs p) = read-from bs bytes (p .from) (ended .header) named in
+      let behind : p .from + 19 * p .stations ≡ behindStations (setOf bs p) = omega arith in
+      let last : p .from + 19 * p .stations + 7 * p .allocations ≡ behindAll plan (setOf bs p) = omega arith in
+      let share = allocationBytes (allocOf bs p) in
       record {
-        header = read-header;
-        stations = stations-stand bs 7 (setOf bs (passedAll plan n m)) n bytes (omega arith) (ended .stations) read-numbers;
-        allocations = subst (λ (k : ℕ). Stands bs (7 + 19 * n) (rows k share)) all
-            (allocations-stand bs (7 + 19 * n) (allocOf bs (passedAll plan n m)) m bytes (omega arith) (ended .allocations) read-allocations);
-        ending = subst (λ (k : ℕ). Stands bs (7 + 19 * n + 7 * k) (mark 255 0)) all (mark-stands bs (7 + 19 * n + 7 * m) 255 0 bytes (omega arith) (ended .end));
+        header = read-header bs bytes (p .from) (ended .header) named;
+        stations = subst (λ (b : ℕ). Stands bs b (rows n (stationBytes (setOf bs p)))) from
+            (stations-stand bs (p .from) (setOf bs p) n bytes (omega arith) (ended .stations) read-numbers);
+        allocations = subst (λ (b : ℕ). Stands bs b (rows (allocationsFor plan n) share)) behind
+            (subst (λ (k : ℕ). Stands bs (p .from + 19 * n) (rows k share)) all
+            (allocations-stand bs (p .from + 19 * n) (allocOf bs p) m bytes (omega arith) (ended .allocations) read-allocations));
+        ending = subst (λ (b : ℕ). Stands bs b (mark 255 0)) last (mark-stands bs (p .from + 19 * n + 7 * m) 255 0 bytes (omega arith) (ended .end));
         long = omega arith;
       }
 
-  read-sheet : bs ≡ sheetOf plan (setOf bs (passedAll plan n m)) (allocOf bs (passedAll plan n m))
-  read-sheet = parts-sheet plan (setOf bs (passedAll plan n m)) (allocOf bs (passedAll plan n m)) bs read-parts
-
--- bytes without a fault are the sheet of what they hold
-pub holds-sheet : (plan : Bool) (bs : List ℕ) → AllBytes bs → scanned plan bs .number ≡ 0 → bs ≡ sheetOf plan (setIn plan bs) (allocIn plan bs)
-holds-sheet plan bs bytes z =
-    let e = scanned-ended plan bs z in
-    let p = scanned plan bs .passed in
-    subst (λ (q : Passed). bs ≡ sheetOf plan (setOf bs q) (allocOf bs q)) (sym (e .is-all))
-    (read-sheet plan bs bytes (p .stations) (p .allocations) (subst (Ended plan bs) (e .is-all) e))
+-- bytes without a fault, whose mode is one that a set can have, are the sheet of what they hold
+holds-sheet : (plan : Bool) (bs : List ℕ) → AllBytes bs → scanned plan bs .number ≡ 0 → 1 ≤ modeIn bs → bs ≡ sheetOf plan (setIn plan bs) (allocIn plan bs)
+holds-sheet plan bs bytes z named =
+    parts-sheet plan (setIn plan bs) (allocIn plan bs) bs (read-parts plan bs bytes (scanned plan bs .passed) (scanned-ended plan bs z) named)
 
 -- what is accepted is the sheet of what was read, and that is judged 0
 pub read-again : (plan : Bool) (bs : List ℕ) → AllBytes bs → readSheet plan bs .number ≡ 0
@@ -74,4 +71,5 @@ pub read-again : (plan : Bool) (bs : List ℕ) → AllBytes bs → readSheet pla
 unfolding readSheet
 read-again plan bs bytes h =
     let both = then-none _ _ (sym (read-number _ _ _) ∙ h) in
-    (both .1, (holds-sheet plan bs bytes (both .0), both .0))
+    let named = judged-kept plan (setIn plan bs) (allocIn plan bs) (both .1) .numbers .header .mode .0 in
+    (both .1, (holds-sheet plan bs bytes (both .0) named, both .0))

@@ -1,6 +1,6 @@
 -- What was laid out is read back: the parts of a sheet stand one behind the other, so the walk goes by all of them, and the numbers that it finds are those that were laid.
 use Prim.Native.Nat.{ℕ, zero, suc, _+_, _*_, _^_, _≤_, _<_}
-use mathlib.Core.Path.{_≡_, refl, sym, ap, _∙_}
+use mathlib.Core.Path.{_≡_, refl, sym, ap, subst, _∙_}
 use mathlib.Core.Bool.{Bool, true, false}
 use mathlib.Core.List.{List, _++_}
 use native.Mathlib.Numerals.{add-one}
@@ -12,35 +12,46 @@ use Rattle.sets.specs.Rules.{SameSet, CountAllowed}
 use Rattle.sets.specs.Judged.{zeros}
 use Rattle.sets.specs.SetLaws.{judged-same}
 use Rattle.sets.specs.declared.Set.{Set}
-use Rattle.plans.specs.PlanLaws.{judged-plan-same}
+use Rattle.plans.proofs.SameLaws.{judged-plan-same}
 use Rattle.plans.specs.declared.Alloc.{Alloc}
 use Rattle.fields.specs.Rows.{rows, Stands}
-use Rattle.fields.specs.Bytes.{numberAt, bytesOf}
-use Rattle.fields.specs.Fields.{allocationsFor}
+use Rattle.fields.specs.Fields.{allocationsFor, tagAt}
 use Rattle.fields.proofs.SegmentLaws.{stands-itself, stands-whole, stands-left, stands-right, stands-join}
-use Rattle.fields.proofs.ByteLaws.{number-read}
 use Rattle.scan.specs.Scanned.{scanned}
 use Rattle.scan.specs.FirstFault.{WellFormed}
 use Rattle.scan.specs.declared.Scanned.{Scanned}
-use Rattle.scan.proofs.PassedLaws.{passedAll, head-passes, station-passes, allocation-passes, end-passes}
-use Rattle.sheets.specs.Layout.{mark, headBytes, stationBytes, allocationBytes, endBytes, sheetOf}
+use Rattle.scan.proofs.PassedLaws.{passedAll, header-passes, station-passes, allocation-passes, end-passes}
+use Rattle.sheets.specs.Layout.{headBytes, furtherLength, stationBytes, allocationBytes, endBytes, sheetOf}
 use Rattle.sheets.specs.Reading.{setOf, allocOf, setIn, allocIn, judgedSheet, readSheet}
 use Rattle.sheets.specs.ReadLaws.{then-rest, read-number, sheet-accepted, Kept, judged-kept}
 use Rattle.sheet_rules.specs.Promised.{firstPlaces, firstAllocations, Numbers32}
 use Rattle.sheets.proofs.WritingLaws.{head-length, stations-length, allocations-length, sheet-long}
+use Rattle.sheet_rules.proofs.HeaderLaws.{laid-ttrt, laid-mode, laid-header}
 use Rattle.sheet_rules.proofs.StandLaws.{whole-stands, stations-whole, stations-read, allocations-whole, allocations-read}
 
 -- ---- the parts of a sheet stand one behind the other
 
+-- the place behind the header
+abbrev pub behindHead : Set → ℕ
+behindHead t = 7 + furtherLength (t .head)
+
+-- the place behind the stations
+abbrev pub behindStations : Set → ℕ
+behindStations t = behindHead t + 19 * t .n
+
+-- the place behind the allocations
+abbrev pub behindAll : Bool → Set → ℕ
+behindAll plan t = behindStations t + 7 * allocationsFor plan (t .n)
+
 pub record SheetParts (plan : Bool) (bs : List ℕ) (t : Set) (a : Alloc) : Type 0 where
   pub header : Stands bs 0 (headBytes (t .head))
-  pub stations : Stands bs 7 (rows (t .n) (stationBytes t))
-  pub allocations : Stands bs (7 + 19 * t .n) (rows (allocationsFor plan (t .n)) (allocationBytes a))
-  pub ending : Stands bs (7 + 19 * t .n + 7 * allocationsFor plan (t .n)) endBytes
-  pub long : length bs ≡ 7 + 19 * t .n + 7 * allocationsFor plan (t .n) + 3
+  pub stations : Stands bs (behindHead t) (rows (t .n) (stationBytes t))
+  pub allocations : Stands bs (behindStations t) (rows (allocationsFor plan (t .n)) (allocationBytes a))
+  pub ending : Stands bs (behindAll plan t) endBytes
+  pub long : length bs ≡ behindAll plan t + 3
 
 module _ (plan : Bool) (t : Set) (a : Alloc) where
-  sheet-apart : (bs : List ℕ) → Stands bs 0 (sheetOf plan t a) → length bs ≡ 7 + 19 * t .n + 7 * allocationsFor plan (t .n) + 3 → SheetParts plan bs t a
+  sheet-apart : (bs : List ℕ) → Stands bs 0 (sheetOf plan t a) → length bs ≡ behindAll plan t + 3 → SheetParts plan bs t a
   unfolding sheetOf
   sheet-apart bs h long =
       let m = allocationsFor plan (t .n) in
@@ -52,9 +63,9 @@ module _ (plan : Bool) (t : Set) (a : Alloc) where
       let l₁ = head-length (t .head) in
       let l₂ = stations-length t (t .n) in
       let l₃ = allocations-length a m in
-      let e₁ : 0 + length hd ≡ 7 = omega arith in
-      let e₂ : 0 + length (hd ++ st) ≡ 7 + 19 * t .n = omega (arith, length-append hd st) in
-      let e₃ : 0 + length (hd ++ st ++ al) ≡ 7 + 19 * t .n + 7 * m = omega (arith, length-append (hd ++ st) al, length-append hd st) in
+      let e₁ : 0 + length hd ≡ behindHead t = omega arith in
+      let e₂ : 0 + length (hd ++ st) ≡ behindStations t = omega (arith, length-append hd st) in
+      let e₃ : 0 + length (hd ++ st ++ al) ≡ behindAll plan t = omega (arith, length-append (hd ++ st) al, length-append hd st) in
       record {
         header = stands-left bs 0 hd st h₁;
         stations = rw e₁ at (stands-right bs 0 hd st h₁);
@@ -78,9 +89,9 @@ module _ (plan : Bool) (t : Set) (a : Alloc) where
       let l₁ = head-length (t .head) in
       let l₂ = stations-length t (t .n) in
       let l₃ = allocations-length a m in
-      let e₁ : 7 ≡ 0 + length hd = omega arith in
-      let e₂ : 7 + 19 * t .n ≡ 0 + length (hd ++ st) = omega (arith, length-append hd st) in
-      let e₃ : 7 + 19 * t .n + 7 * m ≡ 0 + length (hd ++ st ++ al) = omega (arith, length-append (hd ++ st) al, length-append hd st) in
+      let e₁ : behindHead t ≡ 0 + length hd = omega arith in
+      let e₂ : behindStations t ≡ 0 + length (hd ++ st) = omega (arith, length-append hd st) in
+      let e₃ : behindAll plan t ≡ 0 + length (hd ++ st ++ al) = omega (arith, length-append (hd ++ st) al, length-append hd st) in
       let h₁ = stands-join bs 0 hd st (p .header) (rw e₁ at (p .stations)) in
       let h₂ = stands-join bs 0 (hd ++ st) al h₁ (rw e₂ at (p .allocations)) in
       let h₃ = stands-join bs 0 (hd ++ st ++ al) endBytes h₂ (rw e₃ at (p .ending)) in
@@ -88,54 +99,65 @@ module _ (plan : Bool) (t : Set) (a : Alloc) where
 
 -- ---- the walk over bytes with these parts
 
-module _ (plan : Bool) (bs : List ℕ) (t : Set) (a : Alloc) (parts : SheetParts plan bs t a) where
-  head-mark : Stands bs 0 (mark 1 4)
-  unfolding headBytes
-  head-mark = stands-left bs 0 (mark 1 4) (bytesOf (t .head .ttrt)) (parts .header)
+module _ (plan : Bool) (bs : List ℕ) (t : Set) (a : Alloc) (parts : SheetParts plan bs t a) (some : 1 ≤ t .n) where
+  -- behind the header a station stands
+  first-station : tagAt bs (behindHead t) ≡ 2
+  first-station =
+      let e : behindHead t + 19 * 0 ≡ behindHead t = omega arith in
+      subst (λ (b : ℕ). tagAt bs b ≡ 2) e (stations-whole bs (behindHead t) t (t .n) (parts .stations) 0 some .has-tag)
 
-  stations-pass : t .n ≤ 128 → (i : ℕ) → i ≤ t .n → WellFormed plan bs (passedAll plan i 0) (7 + 19 * i)
-  stations-pass few zero l = head-passes plan bs (whole-stands bs 0 1 4 head-mark (omega (arith, parts .long)))
-  stations-pass few (suc i) l =
-      let next = station-passes plan bs i (7 + 19 * i) (stations-pass few i (omega arith)) (omega arith) (stations-whole bs 7 t (t .n) (parts .stations) i (omega arith)) in
-      let e : 7 + 19 * i + 3 + 16 ≡ 7 + 19 * suc i = omega arith in
-      rw (add-one, e) at next
+  -- the header passes, and then all behind it; `head` is the tag of the header's last field
+  module _ (few : t .n ≤ 128) (head : ℕ) (begun : 1 ≤ head) (first : WellFormed plan bs (passedAll plan head (behindHead t) 0 0) (behindHead t)) where
+    stations-pass : (i : ℕ) → i ≤ t .n → WellFormed plan bs (passedAll plan head (behindHead t) i 0) (behindHead t + 19 * i)
+    stations-pass zero l =
+        let e : behindHead t ≡ behindHead t + 19 * 0 = omega arith in
+        subst (WellFormed plan bs (passedAll plan head (behindHead t) 0 0)) e first
+    stations-pass (suc i) l =
+        let whole = stations-whole bs (behindHead t) t (t .n) (parts .stations) i (omega arith) in
+        let next = station-passes plan bs head (behindHead t) begun i (behindHead t + 19 * i) (stations-pass i (omega arith)) (omega arith) whole in
+        let e : behindHead t + 19 * i + 3 + 16 ≡ behindHead t + 19 * suc i = omega arith in
+        rw (add-one, e) at next
 
-  allocations-pass : t .n ≤ 128 → (j : ℕ) → j ≤ allocationsFor plan (t .n) → WellFormed plan bs (passedAll plan (t .n) j) (7 + 19 * t .n + 7 * j)
-  allocations-pass few zero l =
-      let e : 7 + 19 * t .n ≡ 7 + 19 * t .n + 7 * 0 = omega arith in
-      rw e at (stations-pass few (t .n) (omega arith))
-  allocations-pass few (suc j) l =
-      let whole = allocations-whole bs (7 + 19 * t .n) a (allocationsFor plan (t .n)) (parts .allocations) j (omega arith) in
-      let next = allocation-passes plan bs (t .n) j (7 + 19 * t .n + 7 * j) (allocations-pass few j (omega arith)) (omega arith) whole in
-      let e : 7 + 19 * t .n + 7 * j + 3 + 4 ≡ 7 + 19 * t .n + 7 * suc j = omega arith in
-      rw (add-one, e) at next
+    allocations-pass : (j : ℕ) → j ≤ allocationsFor plan (t .n) → WellFormed plan bs (passedAll plan head (behindHead t) (t .n) j) (behindStations t + 7 * j)
+    allocations-pass zero l =
+        let e : behindStations t ≡ behindStations t + 7 * 0 = omega arith in
+        subst (WellFormed plan bs (passedAll plan head (behindHead t) (t .n) 0)) e (stations-pass (t .n) (omega arith))
+    allocations-pass (suc j) l =
+        let whole = allocations-whole bs (behindStations t) a (allocationsFor plan (t .n)) (parts .allocations) j (omega arith) in
+        let next = allocation-passes plan bs head (behindHead t) begun (t .n) j (behindStations t + 7 * j) (allocations-pass j (omega arith)) (omega arith) whole in
+        let e : behindStations t + 7 * j + 3 + 4 ≡ behindStations t + 7 * suc j = omega arith in
+        rw (add-one, e) at next
 
-  parts-scanned : 1 ≤ t .n → t .n ≤ 128
-      → scanned plan bs ≡ record { number = 0; passed = passedAll plan (t .n) (allocationsFor plan (t .n)); at = 7 + 19 * t .n + 7 * allocationsFor plan (t .n) }
-  parts-scanned some few =
-      let m = allocationsFor plan (t .n) in
-      end-passes plan bs (t .n) m (7 + 19 * t .n + 7 * m) (allocations-pass few m (omega arith)) some refl (whole-stands bs _ 255 0 (parts .ending) (omega (arith, parts .long))) (parts .long)
+    all-scanned : scanned plan bs ≡ record { number = 0; passed = passedAll plan head (behindHead t) (t .n) (allocationsFor plan (t .n)); at = behindAll plan t }
+    all-scanned =
+        let m = allocationsFor plan (t .n) in
+        let end = whole-stands bs _ 255 0 (parts .ending) (omega (arith, parts .long)) in
+        end-passes plan bs head (behindHead t) begun (t .n) m (behindAll plan t) (allocations-pass m (omega arith)) some refl end (parts .long)
+
+  parts-scanned : t .n ≤ 128
+      → (head : ℕ) × (scanned plan bs ≡ record { number = 0; passed = passedAll plan head (behindHead t) (t .n) (allocationsFor plan (t .n)); at = behindAll plan t })
+  parts-scanned few =
+      let h = header-passes plan bs (behindHead t) (laid-header bs (t .head) (parts .header) first-station) in
+      (h .0, all-scanned few (h .0) (h .1 .0) (h .1 .1))
 
   -- ---- and the numbers that are read from them
 
-  parts-ttrt : t .head .ttrt < 2 ^ 32 → numberAt bs 3 ≡ t .head .ttrt
-  unfolding headBytes bytesOf
-  parts-ttrt small = number-read bs 3 (t .head .ttrt) small (stands-right bs 0 (mark 1 4) (bytesOf (t .head .ttrt)) (parts .header))
-
-  parts-set : (m : ℕ) → Numbers32 t → setOf bs (passedAll plan (t .n) m) ≡ firstPlaces t
-  parts-set m small =
-      let numbers = stations-read bs 7 t (t .n) (parts .stations) (omega arith) small in
+  parts-set : (head m : ℕ) → Numbers32 t → setOf bs (passedAll plan head (behindHead t) (t .n) m) ≡ firstPlaces t
+  parts-set head m small =
+      let numbers = stations-read bs (behindHead t) t (t .n) (parts .stations) (omega arith) small in
       let w = fill-same (t .n) _ (at (t .w)) zeros (numbers .walk) in
       let c = fill-same (t .n) _ (at (t .c)) zeros (numbers .longest) in
       let d = fill-same (t .n) _ (at (t .d)) zeros (numbers .deadline) in
       let p = fill-same (t .n) _ (at (t .p)) zeros (numbers .gap) in
-      rw (parts-ttrt (small .header), w, c, d, p)
+      let ttrt = laid-ttrt bs (t .head) (parts .header) (small .header) in
+      let mode = laid-mode bs (t .head) (parts .header) first-station (small .mode) in
+      rw (ttrt, mode, w, c, d, p)
 
-  parts-alloc : ((i : ℕ) → i < allocationsFor plan (t .n) → at (a .s) i < 2 ^ 32)
-      → allocOf bs (passedAll plan (t .n) (allocationsFor plan (t .n))) ≡ firstAllocations (allocationsFor plan (t .n)) a
-  parts-alloc small =
+  parts-alloc : (head : ℕ) → ((i : ℕ) → i < allocationsFor plan (t .n) → at (a .s) i < 2 ^ 32)
+      → allocOf bs (passedAll plan head (behindHead t) (t .n) (allocationsFor plan (t .n))) ≡ firstAllocations (allocationsFor plan (t .n)) a
+  parts-alloc head small =
       let m = allocationsFor plan (t .n) in
-      rw (fill-same m _ (at (a .s)) zeros (allocations-read bs (7 + 19 * t .n) a m (parts .allocations) small))
+      rw (fill-same m _ (at (a .s)) zeros (allocations-read bs (behindStations t) a m (parts .allocations) small))
 
 -- ---- the first N places are the set
 
@@ -165,14 +187,22 @@ abbrev pub Shares32 : Bool → Set → Alloc → Type 0
 Shares32 plan t a = (i : ℕ) → i < allocationsFor plan (t .n) → at (a .s) i < 2 ^ 32
 
 module _ (plan : Bool) (t : Set) (a : Alloc) (count : CountAllowed t) (small : Numbers32 t) (shares : Shares32 plan t a) where
-  laid-scanned : scanned plan (sheetOf plan t a) ≡ record { number = 0; passed = passedAll plan (t .n) (allocationsFor plan (t .n)); at = 7 + 19 * t .n + 7 * allocationsFor plan (t .n) }
+  laid-scanned : (head : ℕ)
+      × (scanned plan (sheetOf plan t a) ≡ record { number = 0; passed = passedAll plan head (behindHead t) (t .n) (allocationsFor plan (t .n)); at = behindAll plan t })
   laid-scanned = parts-scanned plan (sheetOf plan t a) t a (sheet-parts plan t a) (count .0) (count .1)
 
+  laid-none : scanned plan (sheetOf plan t a) .number ≡ 0
+  laid-none = ap (λ (r : Scanned). r .number) (laid-scanned .1)
+
   laid-set : setIn plan (sheetOf plan t a) ≡ firstPlaces t
-  laid-set = ap (λ (r : Scanned). setOf (sheetOf plan t a) (r .passed)) laid-scanned ∙ parts-set plan (sheetOf plan t a) t a (sheet-parts plan t a) (allocationsFor plan (t .n)) small
+  laid-set =
+      ap (λ (r : Scanned). setOf (sheetOf plan t a) (r .passed)) (laid-scanned .1)
+      ∙ parts-set plan (sheetOf plan t a) t a (sheet-parts plan t a) (count .0) (laid-scanned .0) (allocationsFor plan (t .n)) small
 
   laid-alloc : allocIn plan (sheetOf plan t a) ≡ firstAllocations (allocationsFor plan (t .n)) a
-  laid-alloc = ap (λ (r : Scanned). allocOf (sheetOf plan t a) (r .passed)) laid-scanned ∙ parts-alloc plan (sheetOf plan t a) t a (sheet-parts plan t a) shares
+  laid-alloc =
+      ap (λ (r : Scanned). allocOf (sheetOf plan t a) (r .passed)) (laid-scanned .1)
+      ∙ parts-alloc plan (sheetOf plan t a) t a (sheet-parts plan t a) (count .0) (laid-scanned .0) shares
 
   laid-judged : judgedSheet plan (setIn plan (sheetOf plan t a)) (allocIn plan (sheetOf plan t a)) ≡ judgedSheet plan t a
   laid-judged = rw (laid-set, laid-alloc) (judged-first plan t a (count .1))
@@ -180,11 +210,11 @@ module _ (plan : Bool) (t : Set) (a : Alloc) (count : CountAllowed t) (small : N
   -- reading what was laid out gives the number of its judgement
   pub laid-number : readSheet plan (sheetOf plan t a) .number ≡ judgedSheet plan t a
   unfolding readSheet
-  laid-number = read-number _ _ _ ∙ then-rest _ _ (ap (λ (r : Scanned). r .number) laid-scanned) ∙ laid-judged
+  laid-number = read-number _ _ _ ∙ then-rest _ _ laid-none ∙ laid-judged
 
   -- and where that is 0, all that was laid out
   laid-read : judgedSheet plan t a ≡ 0 → readSheet plan (sheetOf plan t a) ≡ record { set = firstPlaces t; alloc = firstAllocations (allocationsFor plan (t .n)) a; number = 0 }
-  laid-read h = sheet-accepted plan (sheetOf plan t a) (ap (λ (r : Scanned). r .number) laid-scanned) (laid-judged ∙ h) ∙ rw (laid-set, laid-alloc)
+  laid-read h = sheet-accepted plan (sheetOf plan t a) laid-none (laid-judged ∙ h) ∙ rw (laid-set, laid-alloc)
 
 -- ---- read back as written
 
@@ -192,7 +222,8 @@ module _ (plan : Bool) (t : Set) (a : Alloc) (count : CountAllowed t) (small : N
 kept-small : (plan : Bool) (t : Set) (a : Alloc) → Kept plan t a → Numbers32 t
 kept-small plan t a k =
     record {
-      header = omega (arith, k .numbers .header .1);
+      header = omega (arith, k .numbers .header .ttrt);
+      mode = omega (arith, k .numbers .header .mode);
       walk = λ i l. omega (arith, k .numbers .stations i l .walk);
       longest = λ i l. omega (arith, k .numbers .stations i l .longest);
       deadline = λ i l. omega (arith, k .numbers .stations i l .deadline .1);

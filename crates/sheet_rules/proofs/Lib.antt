@@ -1,4 +1,5 @@
 pub mod StandLaws
+pub mod HeaderLaws
 pub mod BackLaws
 pub mod AgainLaws
 pub mod StandingLaws

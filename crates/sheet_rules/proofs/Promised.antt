@@ -1,13 +1,14 @@
 -- The promises hold because a sheet's parts stand one behind the other, are counted where they stand, and hold the numbers that were written.
-use Prim.Native.Nat.{ℕ, zero, suc, _+_, _*_, _^_, _≤_, _<_}
+use Prim.Native.Nat.{ℕ, zero, suc, _+_, _^_, _≤_, _<_}
 use mathlib.Core.Path.{_≡_, refl, sym, ap, _∙_}
 use mathlib.Core.Bool.{Bool, true, false}
-use mathlib.Core.List.{List, [], _∷_, _++_}
+use mathlib.Core.List.{List, [], _∷_, _++_, append-nil}
 use mathlib.Core.Logic.{⊎-elim, _↔_, _≢_}
 use native.Mathlib.Omega.{arith}
 use lib.ListN.{length, take, drop, getD-replicate, List·getD-eq-default}
 use lib.Seq.{take-at}
 use borrow.Author.Tests.{leb-true}
+use Rattle.units.specs.Numbers.{timely, fddi}
 use Rattle.units.specs.Places.{at, fill}
 use Rattle.units.specs.PlaceLaws.{fill-outside}
 use Rattle.units.specs.SmallLaws.{below-or-not}
@@ -17,25 +18,27 @@ use Rattle.sets.specs.Judged.{judged, judgedThen, blankSet, zeros}
 use Rattle.sets.specs.SetLaws.{decides-count, judged-same}
 use Rattle.sets.specs.declared.Set.{Set}
 use Rattle.plans.specs.Planned.{judgedPlan, blankAlloc}
-use Rattle.plans.specs.PlanLaws.{judged-plan-same}
+use Rattle.plans.proofs.SameLaws.{judged-plan-same}
 use Rattle.plans.specs.declared.Alloc.{Alloc}
 use Rattle.fields.specs.Rows.{rows}
 use Rattle.fields.specs.Bytes.{bytesOf, AllBytes}
-use Rattle.fields.specs.Fields.{allocationsFor}
+use Rattle.fields.specs.Fields.{allocationsFor, tagAt}
 use Rattle.fields.proofs.SegmentLaws.{rows-same}
 use Rattle.fields.specs.declared.Passed.{Passed}
 use Rattle.scan.specs.Scanned.{scanned}
 use Rattle.scan.specs.FirstFault.{Fault, no-start, not-allowed, cut-body, follows, FirstFault, WholeSheet}
 use Rattle.scan.specs.declared.Scanned.{Scanned}
 use Rattle.scan.proofs.ScanLaws.{zero-or-not, fault-there, end-there, stopped, shape-fault, shape-whole}
-use Rattle.scan.proofs.PassedLaws.{scanned-ended, through, plan-no-request}
-use Rattle.sheets.specs.Layout.{headBytes, stationWith, stationBytes, allocationBytes, sheetOf, requestSheet, planSheet, sheetLength}
+use Rattle.scan.proofs.PassedLaws.{whole-ended, scanned-ended, through, plan-no-request}
+use Rattle.sheets.specs.Layout.{mark, modeBytes, headBytes, stationWith, stationBytes, allocationBytes, sheetOf, requestSheet, planSheet, sheetLength}
 use Rattle.sheets.specs.Reading.{thenNumber, setIn, allocIn, judgedSheet, readSheet, readRequest, readPlan}
 use Rattle.sheets.specs.Writing.{writtenAnswer, writtenBuffer, requestWritten, planWritten}
-use Rattle.sheet_rules.specs.Promised.{Promised, ZeroPast, GivenRequest, GivenPlan, firstPlaces, firstAllocations, smallSet, Numbers32}
+use Rattle.sheet_rules.specs.Promised.{Promised, ZeroPast, GivenRequest, GivenPlan, firstPlaces, firstAllocations, requestLength, planLength, smallSet, Numbers32}
 use Rattle.sheets.specs.ReadLaws.{then-rest, then-keeps, then-none, read-refused, read-accepted, read-number, sheet-accepted}
-use Rattle.sheets.proofs.WritingLaws.{sheet-long, answer-accepted, answer-number, buffer-accepted, buffer-refused, number-none, number-short, number-judged as written-judged}
+use Rattle.sheets.proofs.ReadingLaws.{mode-unnamed}
+use Rattle.sheets.proofs.WritingLaws.{mode-none, sheet-long, answer-accepted, answer-number, buffer-accepted, buffer-refused, number-none, number-short, number-judged as written-judged}
 use Rattle.sheet_rules.proofs.BackLaws.{read-back, laid-number, first-same, first-allocations}
+use Rattle.sheet_rules.proofs.HeaderLaws.{reads-absent, reads-mode, no-mode, none-further, some-further}
 use Rattle.sheet_rules.proofs.StandingLaws.{may-stand}
 use Rattle.sheet_rules.proofs.AgainLaws.{read-again}
 use Rattle.sheets.specs.declared.ReadPlan.{ReadPlan}
@@ -44,19 +47,19 @@ use Rattle.sheets.specs.declared.Written.{Written}
 -- ---- writing, then reading
 
 -- an accepted writing of what is judged 0
-module _ (plan : Bool) (t : Set) (a : Alloc) (out : List ℕ) (judged-0 : judgedSheet plan t a ≡ 0) (fits : sheetLength plan (t .n) ≤ length out) where
-  answered : writtenAnswer plan t a out ≡ record { length = sheetLength plan (t .n); number = 0 }
-  answered = answer-accepted _ (sheetLength plan (t .n)) (number-none plan t a out judged-0 fits)
+module _ (plan : Bool) (t : Set) (a : Alloc) (out : List ℕ) (judged-0 : judgedSheet plan t a ≡ 0) (fits : sheetLength plan t ≤ length out) where
+  answered : writtenAnswer plan t a out ≡ record { length = sheetLength plan t; number = 0 }
+  answered = answer-accepted _ (sheetLength plan t) (number-none plan t a out judged-0 fits)
 
   written : writtenBuffer plan t a out ≡ sheetOf plan t a ++ drop (length (sheetOf plan t a)) out
   written = buffer-accepted _ (sheetOf plan t a) out (number-none plan t a out judged-0 fits)
 
   -- the first n bytes are the sheet
-  first-bytes : take (sheetLength plan (t .n)) (writtenBuffer plan t a out) ≡ sheetOf plan t a
-  first-bytes = rw written (take-at (sheetOf plan t a) _ (sheetLength plan (t .n)) (sheet-long plan t a))
+  first-bytes : take (sheetLength plan t) (writtenBuffer plan t a out) ≡ sheetOf plan t a
+  first-bytes = rw written (take-at (sheetOf plan t a) _ (sheetLength plan t) (sheet-long plan t a))
 
 -- what was accepted was judged 0, and fitted
-accepted-says : (plan : Bool) (t : Set) (a : Alloc) (out : List ℕ) → writtenAnswer plan t a out .number ≡ 0 → (judgedSheet plan t a ≡ 0) × (sheetLength plan (t .n) ≤ length out)
+accepted-says : (plan : Bool) (t : Set) (a : Alloc) (out : List ℕ) → writtenAnswer plan t a out .number ≡ 0 → (judgedSheet plan t a ≡ 0) × (sheetLength plan t ≤ length out)
 accepted-says plan t a out h =
     let both = then-none _ _ (sym (answer-number _ _) ∙ h) in
     (both .0, leb-true _ _ (passed _ 14 _ (omega arith) (both .1) .0))
@@ -66,7 +69,7 @@ given-read : (plan : Bool) (t : Set) (a : Alloc) (out bs : List ℕ) → written
     → bs ≡ take (writtenAnswer plan t a out .length) (writtenBuffer plan t a out) → readSheet plan bs .number ≡ 0
 given-read plan t a out bs h e =
     let said = accepted-says plan t a out h in
-    let long : writtenAnswer plan t a out .length ≡ sheetLength plan (t .n) = ap (λ (r : Written). r .length) (answered plan t a out (said .0) (said .1)) in
+    let long : writtenAnswer plan t a out .length ≡ sheetLength plan t = ap (λ (r : Written). r .length) (answered plan t a out (said .0) (said .1)) in
     let is : bs ≡ sheetOf plan t a = e ∙ rw long (first-bytes plan t a out (said .0) (said .1)) in
     rw (is, read-back plan t a (said .0))
 
@@ -76,8 +79,8 @@ given-read plan t a out bs h e =
 same-bytes : (plan : Bool) (t : Set) (a : Alloc) (bs out : List ℕ) → judgedSheet plan t a ≡ 0 → bs ≡ sheetOf plan t a → length bs ≤ length out
     → (writtenAnswer plan t a out ≡ record { length = length bs; number = 0 }) × (writtenBuffer plan t a out ≡ bs ++ drop (length bs) out)
 same-bytes plan t a bs out judged-0 e fits =
-    let long : length bs ≡ sheetLength plan (t .n) = ap length e ∙ sheet-long plan t a in
-    let fit : sheetLength plan (t .n) ≤ length out = omega arith in
+    let long : length bs ≡ sheetLength plan t = ap length e ∙ sheet-long plan t a in
+    let fit : sheetLength plan t ≤ length out = omega arith in
     (rw long (answered plan t a out judged-0 fit), rw e (written plan t a out judged-0 fit))
 
 -- a request's bytes do not depend on an allocation
@@ -206,15 +209,15 @@ module _ (plan : Bool) (t : Set) (a : Alloc) (out : List ℕ) where
   keeps-judgement : judgedSheet plan t a ≢ 0 → writtenAnswer plan t a out .number ≡ judgedSheet plan t a
   keeps-judgement h = answer-number _ _ ∙ written-judged plan t a out h
 
-  fourteen : (writtenAnswer plan t a out .number ≡ 14) ↔ ((judgedSheet plan t a ≡ 0) × (length out < sheetLength plan (t .n)))
+  fourteen : (writtenAnswer plan t a out .number ≡ 14) ↔ ((judgedSheet plan t a ≡ 0) × (length out < sheetLength plan t))
   fourteen = (
     λ h.
         ⊎-elim (λ (z : judgedSheet plan t a ≡ 0).
-        ⊎-elim (λ (short : length out < sheetLength plan (t .n)). (z, short))
-        (λ (fits : sheetLength plan (t .n) ≤ length out).
+        ⊎-elim (λ (short : length out < sheetLength plan t). (z, short))
+        (λ (fits : sheetLength plan t ≤ length out).
         let accepted : writtenAnswer plan t a out .number ≡ 0 = answer-number _ _ ∙ number-none plan t a out z fits in
         absurd (omega arith))
-        (below-or-not (length out) (sheetLength plan (t .n))))
+        (below-or-not (length out) (sheetLength plan t)))
         (λ (some : judgedSheet plan t a ≢ 0). absurd (not-fourteen plan t a (sym (keeps-judgement some) ∙ h)))
         (zero-or-not (judgedSheet plan t a)),
     λ h. answer-number _ _ ∙ number-short plan t a out (h .0) (h .1),
@@ -281,7 +284,8 @@ sheet-same plan t u a b same each =
 written-same : (plan : Bool) (t u : Set) (a b : Alloc) (out : List ℕ) → SameSet t u
     → ((i : ℕ) → i < allocationsFor plan (t .n) → at (a .s) i ≡ at (b .s) i) → judgedSheet plan t a ≡ judgedSheet plan u b
     → (writtenAnswer plan t a out ≡ writtenAnswer plan u b out) × (writtenBuffer plan t a out ≡ writtenBuffer plan u b out)
-written-same plan t u a b out same each judged = (rw (judged, same .count), rw (judged, sheet-same plan t u a b same each, same .count))
+written-same plan t u a b out same each judged =
+    (rw (judged, same .header, same .count), rw (judged, sheet-same plan t u a b same each, same .header, same .count))
 
 request-places : (t u : Set) (out : List ℕ) → SameSet t u
     → (requestWritten t out .answer ≡ requestWritten u out .answer) × (requestWritten t out .buffer ≡ requestWritten u out .buffer)
@@ -295,27 +299,27 @@ plan-places t u a b out same each = written-same true t u a b out same each (jud
 
 -- ---- the promises
 
-request-written : (t : Set) (out : List ℕ) → judged t ≡ 0 → 10 + 19 * t .n ≤ length out
-    → (requestWritten t out .answer ≡ record { length = 10 + 19 * t .n; number = 0 })
-    × (readRequest (take (10 + 19 * t .n) (requestWritten t out .buffer)) ≡ record { set = firstPlaces t; number = 0 })
+request-written : (t : Set) (out : List ℕ) → judged t ≡ 0 → requestLength t ≤ length out
+    → (requestWritten t out .answer ≡ record { length = requestLength t; number = 0 })
+    × (readRequest (take (requestLength t) (requestWritten t out .buffer)) ≡ record { set = firstPlaces t; number = 0 })
 unfolding judgedSheet
 request-written t out h fits =
-    let e : 10 + 19 * t .n ≡ sheetLength false (t .n) = omega arith in
-    let fit : sheetLength false (t .n) ≤ length out = omega arith in
-    let bytes : take (10 + 19 * t .n) (requestWritten t out .buffer) ≡ requestSheet t = ap (λ (k : ℕ). take k (requestWritten t out .buffer)) e ∙ first-bytes false t blankAlloc out h fit in
+    let e : requestLength t ≡ sheetLength false t = omega arith in
+    let fit : sheetLength false t ≤ length out = omega arith in
+    let bytes : take (requestLength t) (requestWritten t out .buffer) ≡ requestSheet t = ap (λ (k : ℕ). take k (requestWritten t out .buffer)) e ∙ first-bytes false t blankAlloc out h fit in
     let back = read-back false t blankAlloc h in (
       answered false t blankAlloc out h fit ∙ ap (λ (k : ℕ). record { length = k; number = 0 }) (sym e),
       ap readRequest bytes ∙ ap (λ (r : ReadPlan). record { set = r .set; number = r .number }) back,
     )
 
-plan-written : (t : Set) (a : Alloc) (out : List ℕ) → judgedPlan t a ≡ 0 → 10 + 26 * t .n ≤ length out
-    → (planWritten t a out .answer ≡ record { length = 10 + 26 * t .n; number = 0 })
-    × (readPlan (take (10 + 26 * t .n) (planWritten t a out .buffer)) ≡ record { set = firstPlaces t; alloc = firstAllocations (t .n) a; number = 0 })
+plan-written : (t : Set) (a : Alloc) (out : List ℕ) → judgedPlan t a ≡ 0 → planLength t ≤ length out
+    → (planWritten t a out .answer ≡ record { length = planLength t; number = 0 })
+    × (readPlan (take (planLength t) (planWritten t a out .buffer)) ≡ record { set = firstPlaces t; alloc = firstAllocations (t .n) a; number = 0 })
 unfolding judgedSheet
 plan-written t a out h fits =
-    let e : 10 + 26 * t .n ≡ sheetLength true (t .n) = omega arith in
-    let fit : sheetLength true (t .n) ≤ length out = omega arith in
-    let bytes : take (10 + 26 * t .n) (planWritten t a out .buffer) ≡ planSheet t a = ap (λ (k : ℕ). take k (planWritten t a out .buffer)) e ∙ first-bytes true t a out h fit in
+    let e : planLength t ≡ sheetLength true t = omega arith in
+    let fit : sheetLength true t ≤ length out = omega arith in
+    let bytes : take (planLength t) (planWritten t a out .buffer) ≡ planSheet t a = ap (λ (k : ℕ). take k (planWritten t a out .buffer)) e ∙ first-bytes true t a out h fit in
     (answered true t a out h fit ∙ ap (λ (k : ℕ). record { length = k; number = 0 }) (sym e), ap readPlan bytes ∙ read-back true t a h)
 
 request-judgement : (bs : List ℕ) → WholeSheet false bs → readRequest bs .number ≡ judged (setIn false bs)
@@ -333,11 +337,11 @@ no-request bs h =
     let whole = shape-whole true bs (then-none _ _ (sym (read-number _ _ _) ∙ h) .0) in
     fault-given false bs 2 (omega arith) (omega arith) .1 (plan-no-request bs whole)
 
-request-short : (t : Set) (out : List ℕ) → (requestWritten t out .answer .number ≡ 14) ↔ ((judged t ≡ 0) × (length out < 10 + 19 * t .n))
+request-short : (t : Set) (out : List ℕ) → (requestWritten t out .answer .number ≡ 14) ↔ ((judged t ≡ 0) × (length out < requestLength t))
 unfolding judgedSheet
 request-short t out = (λ h. let said = fourteen false t blankAlloc out .0 h in (said .0, omega (arith, said .1)), λ h. fourteen false t blankAlloc out .1 (h .0, omega (arith, h .1)))
 
-plan-short : (t : Set) (a : Alloc) (out : List ℕ) → (planWritten t a out .answer .number ≡ 14) ↔ ((judgedPlan t a ≡ 0) × (length out < 10 + 26 * t .n))
+plan-short : (t : Set) (a : Alloc) (out : List ℕ) → (planWritten t a out .answer .number ≡ 14) ↔ ((judgedPlan t a ≡ 0) × (length out < planLength t))
 unfolding judgedSheet
 plan-short t a out = (λ h. let said = fourteen true t a out .0 h in (said .0, omega (arith, said .1)), λ h. fourteen true t a out .1 (h .0, omega (arith, h .1)))
 
@@ -357,19 +361,46 @@ plan-laid-out : (t : Set) (a : Alloc) → CountAllowed t → Numbers32 t → ((i
 unfolding judgedSheet
 plan-laid-out t a count small shares = laid-number true t a count small shares
 
-small-written : requestSheet smallSet ≡ 1 ∷ 0 ∷ 4 ∷ 0 ∷ 0 ∷ 0 ∷ 1 ∷ 2 ∷ 0 ∷ 16 ∷ 0 ∷ 0 ∷ 0 ∷ 1 ∷ 0 ∷ 0 ∷ 0 ∷ 0 ∷ 0 ∷ 0 ∷ 0 ∷ 1 ∷ 0 ∷ 0 ∷ 0 ∷ 1 ∷ 255 ∷ 0 ∷ 0 ∷ []
-unfolding sheetOf headBytes stationWith rows bytesOf fill
+small-written : requestSheet (smallSet timely) ≡ 1 ∷ 0 ∷ 4 ∷ 0 ∷ 0 ∷ 0 ∷ 1 ∷ 2 ∷ 0 ∷ 16 ∷ 0 ∷ 0 ∷ 0 ∷ 1 ∷ 0 ∷ 0 ∷ 0 ∷ 0 ∷ 0 ∷ 0 ∷ 0 ∷ 1 ∷ 0 ∷ 0 ∷ 0 ∷ 1 ∷ 255 ∷ 0 ∷ 0 ∷ []
+unfolding sheetOf headBytes modeBytes stationWith rows bytesOf fill
 small-written = refl
+
+fddi-written : requestSheet (smallSet fddi)
+    ≡ 1 ∷ 0 ∷ 4 ∷ 0 ∷ 0 ∷ 0 ∷ 1 ∷ 4 ∷ 0 ∷ 1 ∷ 2 ∷ 2 ∷ 0 ∷ 16 ∷ 0 ∷ 0 ∷ 0 ∷ 1 ∷ 0 ∷ 0 ∷ 0 ∷ 0 ∷ 0 ∷ 0 ∷ 0 ∷ 1 ∷ 0 ∷ 0 ∷ 0 ∷ 1 ∷ 255 ∷ 0 ∷ 0 ∷ []
+unfolding sheetOf headBytes modeBytes stationWith rows bytesOf fill
+fddi-written = refl
+
+-- a sheet of mode 1 has no field behind TTRT's
+timely-bytes : (plan : Bool) (t : Set) (a : Alloc) → t .head .mode ≡ timely
+    → sheetOf plan t a
+    ≡ mark 1 4 ++ bytesOf (t .head .ttrt) ++ rows (t .n) (stationBytes t) ++ rows (allocationsFor plan (t .n)) (allocationBytes a) ++ mark 255 0
+unfolding sheetOf headBytes
+timely-bytes plan t a e =
+    let first = mark 1 4 ++ bytesOf (t .head .ttrt) in
+    let header : first ++ modeBytes (t .head .mode) ≡ first = ap (λ (s : List ℕ). first ++ s) (mode-none (t .head .mode) e) ∙ append-nil first in
+    ap (λ (s : List ℕ). s ++ rows (t .n) (stationBytes t) ++ rows (allocationsFor plan (t .n)) (allocationBytes a) ++ mark 255 0) header
+
+-- a mode that has no name is out of its range
+other-mode : (plan : Bool) (bs : List ℕ) → WholeSheet plan bs → tagAt bs 7 ≡ 4 → at bs 10 ≢ 2 → readSheet plan bs .number ≡ 4
+other-mode plan bs w e other =
+    let z : scanned plan bs .number ≡ 0 = ap (λ (r : Scanned). r .number) (end-there plan bs w) in
+    number-judged plan bs z ∙ mode-unnamed plan (setIn plan bs) (allocIn plan bs) (count-read plan bs z) (no-mode bs e other)
 
 pub promised : Promised
 promised =
     record {
       may-stand = may-stand;
+      timely-header = λ t e. none-further (t .head) e;
+      other-header = λ t other. some-further (t .head) other;
       request-length = λ t. let e = sheet-long false t blankAlloc in omega arith;
       plan-length = λ t a. let e = sheet-long true t a in omega arith;
-      shortest = λ t one. let e = sheet-long false t blankAlloc in omega arith;
-      longest = λ t all. let e = sheet-long false t blankAlloc in omega arith;
+      shortest = λ t one e. omega (arith, sheet-long false t blankAlloc, none-further (t .head) e);
+      longest-timely = λ t one e. omega (arith, sheet-long false t blankAlloc, none-further (t .head) e);
+      longest = λ t all other. omega (arith, sheet-long false t blankAlloc, some-further (t .head) other);
+      longest-plan = λ t a all other. omega (arith, sheet-long true t a, some-further (t .head) other);
+      timely-sheet = timely-bytes;
       written-out = small-written;
+      written-out-fddi = fddi-written;
       request-back = request-written;
       plan-back = plan-written;
       back-same = first-same;
@@ -388,6 +419,10 @@ promised =
       request-whole = whole-exactly false;
       plan-whole = whole-exactly true;
       stations-passed = counted;
+      allocations-passed = λ plan bs w. whole-ended plan bs w .all;
+      mode-absent = λ plan bs other. reads-absent bs other;
+      mode-fddi = λ plan bs e two. reads-mode bs 2 e two (λ one. omega arith);
+      mode-other = other-mode;
       request-judged = request-judgement;
       plan-judged = plan-judgement;
       plan-no-request = no-request;

@@ -1,15 +1,15 @@
 -- The table decides the sentence because each of its rows does, and no tag has two rows.
 use Prim.Native.Nat.{ℕ, _≤_, _<_}
 use mathlib.Core.Path.{_≡_, refl, sym, _∙_}
-use mathlib.Core.Bool.{Bool, true, false, not, _&&_, true≢false}
+use mathlib.Core.Bool.{Bool, true, false, not, true≢false}
 use mathlib.Core.Logic.{_↔_, _⊎_, inl, inr, _≢_, ⊎-elim}
 use native.Mathlib.Omega.{arith}
-use borrow.Author.Tests.{eqb-true, eqb-false, eq-eqb, ne-eqb, ltb-true, lt-ltb, leb-false, lt-leb}
+use borrow.Author.Tests.{eqb-true, eqb-false, eq-eqb, ltb-true, lt-ltb, leb-false, lt-leb}
 use lib.Dec.{leb, ltb, eqb}
 use Rattle.units.specs.JudgingLaws.{Decides, true-or-false, decides-le, decides-both}
-use Rattle.fields.specs.Fields.{allocationsFor, due, headed, row, isAllowed}
+use Rattle.fields.specs.Fields.{allocationsFor, due, headed, row, isFurther, inHeader, isAllowed}
 use Rattle.fields.specs.declared.Passed.{Passed}
-use Rattle.sheet_rules.specs.Standing.{MayStand, a-head, a-station, an-allocation, an-end}
+use Rattle.sheet_rules.specs.Standing.{MayStand, a-head, a-mode, a-station, an-allocation, an-end}
 
 decides-eq : (a b : ℕ) → Decides (eqb a b) (a ≡ b)
 decides-eq a b = (eqb-true a b, eq-eqb a b)
@@ -54,21 +54,35 @@ module _ (p : Passed) (tag size : ℕ) where
   abbrev End : Type 0
   End = (((size ≡ 0) × (1 ≤ p .head)) × (1 ≤ p .stations)) × (p .allocations ≡ due p)
 
+  abbrev Mode : Type 0
+  Mode = ((tag ≡ 4) × (size ≡ 1)) × (((1 ≤ p .head) × (p .head < tag)) × (p .stations ≡ 0))
+
   abbrev Rows : Type 0
-  Rows = ((tag ≡ 1) × Head) ⊎ ((tag ≢ 1) × (((tag ≡ 2) × Station) ⊎ ((tag ≢ 2) × (((tag ≡ 3) × Allocation) ⊎ ((tag ≢ 3) × (((tag ≡ 255) × End) ⊎ ((tag ≢ 255) × ⊥)))))))
+  Rows =
+      ((tag ≡ 1) × Head)
+      ⊎ ((tag ≢ 1) × (((tag ≡ 2) × Station) ⊎ ((tag ≢ 2) × (((tag ≡ 3) × Allocation) ⊎ ((tag ≢ 3) × (((tag ≡ 255) × End) ⊎ ((tag ≢ 255) × Mode)))))))
 
   rows-decided : Decides (isAllowed p tag size) Rows
   unfolding isAllowed
   rows-decided =
       let behind = decides-le 1 (p .head) in
       let head = decides-both (eqb size 4) (not (headed p)) _ _ (decides-eq size 4) (decides-none (p .head)) in
-      let station = decides-both _ (eqb (p .allocations) 0) _ _ (decides-both _ (ltb (p .stations) 128) _ _ (decides-both (eqb size 16) (headed p) _ _ (decides-eq size 16) behind) (decides-lt (p .stations) 128)) (decides-eq (p .allocations) 0) in
-      let allocation = decides-both _ (ltb (p .allocations) (due p)) _ _ (decides-both (eqb size 4) (headed p) _ _ (decides-eq size 4) behind) (decides-lt (p .allocations) (due p)) in
-      let end = decides-both _ (eqb (p .allocations) (due p)) _ _ (decides-both _ (leb 1 (p .stations)) _ _ (decides-both (eqb size 0) (headed p) _ _ (decides-eq size 0) behind) (decides-le 1 (p .stations))) (decides-eq (p .allocations) (due p)) in
+      let station = decides-both _ (eqb (p .allocations) 0) _ _
+      (decides-both _ (ltb (p .stations) 128) _ _ (decides-both (eqb size 16) (headed p) _ _ (decides-eq size 16) behind) (decides-lt (p .stations) 128))
+      (decides-eq (p .allocations) 0) in
+      let allocation = decides-both _ (ltb (p .allocations) (due p)) _ _
+      (decides-both (eqb size 4) (headed p) _ _ (decides-eq size 4) behind)
+      (decides-lt (p .allocations) (due p)) in
+      let end = decides-both _ (eqb (p .allocations) (due p)) _ _
+      (decides-both _ (leb 1 (p .stations)) _ _ (decides-both (eqb size 0) (headed p) _ _ (decides-eq size 0) behind) (decides-le 1 (p .stations)))
+      (decides-eq (p .allocations) (due p)) in
+      let mode = decides-both (isFurther tag size) (inHeader p tag) _ _
+      (decides-both (eqb tag 4) (eqb size 1) _ _ (decides-eq tag 4) (decides-eq size 1))
+      (decides-both _ (eqb (p .stations) 0) _ _ (decides-both (headed p) (ltb (p .head) tag) _ _ behind (decides-lt (p .head) tag)) (decides-eq (p .stations) 0)) in
       decides-row tag 1 _ _ _ _ head
       (decides-row tag 2 _ _ _ _ station
       (decides-row tag 3 _ _ _ _ allocation
-      (decides-row tag 255 _ _ _ _ end ((λ h. absurd (true≢false (sym h))), (λ x. absurd x)))))
+      (decides-row tag 255 _ _ _ _ end mode)))
 
 -- an allocation is due only in a plan, one for each station
 in-plan : (plan : Bool) (stations allocations : ℕ) → allocations < allocationsFor plan stations → (plan ≡ true) × (allocations < stations)
@@ -90,13 +104,14 @@ module _ (p : Passed) (tag size : ℕ) where
       an-allocation (z .0) (z .1 .0 .0) (z .1 .0 .1) (both .0) (both .1))
       (λ z.
       ⊎-elim (λ (w : (tag ≡ 255) × End p tag size). an-end (w .0) (w .1 .0 .0 .0) (w .1 .0 .0 .1) (w .1 .0 .1) (w .1 .1))
-      (λ w. absurd (w .1))
+      (λ w. a-mode (w .1 .0 .0) (w .1 .0 .1) (w .1 .1 .0 .0) (omega (arith, w .1 .0 .0, w .1 .1 .0 .1)) (w .1 .1 .1))
       (z .1))
       (y .1))
       (x .1))
 
   say-rows : MayStand p tag size → Rows p tag size
   say-rows (a-head e s h) = inl (e, (s, h))
+  say-rows (a-mode e s h l n) = inr (omega arith, inr (omega arith, inr (omega arith, inr (omega arith, ((e, s), ((h, omega arith), n))))))
   say-rows (a-station e s h n a) = inr (omega arith, inl (e, (((s, h), n), a)))
   say-rows (an-allocation e s h f a) = inr (omega arith, inr (omega arith, inl (e, ((s, h), due-in-plan (p .plan) (p .stations) (p .allocations) f a))))
   say-rows (an-end e s h n a) = inr (omega arith, inr (omega arith, inr (omega arith, inl (e, (((s, h), n), a)))))

@@ -5,18 +5,20 @@ use mathlib.Core.Bool.{Bool, true, false}
 use mathlib.Core.List.{List, [], _∷_, _++_}
 use mathlib.Core.Logic.{_↔_, _≢_}
 use lib.ListN.{length, take, drop}
+use Rattle.units.specs.Numbers.{timely, fddi}
 use Rattle.units.specs.Places.{at, fill}
 use Rattle.sets.specs.Rules.{SameSet, CountAllowed}
 use Rattle.sets.specs.Judged.{judged, blankSet, zeros}
 use Rattle.sets.specs.declared.Set.{Set}
 use Rattle.plans.specs.Planned.{judgedPlan, blankAlloc}
 use Rattle.plans.specs.declared.Alloc.{Alloc}
-use Rattle.fields.specs.Bytes.{AllBytes}
-use Rattle.fields.specs.Fields.{isAllowed}
+use Rattle.fields.specs.Rows.{rows}
+use Rattle.fields.specs.Bytes.{bytesOf, AllBytes}
+use Rattle.fields.specs.Fields.{isAllowed, allocationsFor, tagAt}
 use Rattle.fields.specs.declared.Passed.{Passed}
 use Rattle.scan.specs.FirstFault.{FirstFault, WholeSheet}
-use Rattle.sheets.specs.Layout.{requestSheet, planSheet}
-use Rattle.sheets.specs.Reading.{setIn, allocIn, readRequest, readPlan}
+use Rattle.sheets.specs.Layout.{mark, furtherLength, stationBytes, allocationBytes, sheetOf, requestSheet, planSheet}
+use Rattle.sheets.specs.Reading.{setIn, allocIn, readSheet, readRequest, readPlan}
 use Rattle.sheets.specs.Writing.{requestWritten, planWritten}
 use Rattle.sheet_rules.specs.Standing.{MayStand}
 
@@ -45,9 +47,10 @@ pub record ZeroPast (t : Set) : Type 0 where
   pub deadline : (i : ℕ) → t .n ≤ i → at (t .d) i ≡ 0
   pub gap : (i : ℕ) → t .n ≤ i → at (t .p) i ≡ 0
 
--- TTRT and the numbers of the first N stations are 32-bit numbers, as those of every set of the code are
+-- TTRT and the numbers of the first N stations are 32-bit numbers, as those of every set of the code are; the mode is one byte, as on a sheet
 pub record Numbers32 (t : Set) : Type 0 where
   pub header : t .head .ttrt < 2 ^ 32
+  pub mode : t .head .mode < 256
   pub walk : (i : ℕ) → i < t .n → at (t .w) i < 2 ^ 32
   pub longest : (i : ℕ) → i < t .n → at (t .c) i < 2 ^ 32
   pub deadline : (i : ℕ) → i < t .n → at (t .d) i < 2 ^ 32
@@ -67,37 +70,62 @@ GivenPlan bs =
     (t : Set) × (a : Alloc) × (out : List ℕ)
     × ((planWritten t a out .answer .number ≡ 0) × (bs ≡ take (planWritten t a out .answer .length) (planWritten t a out .buffer)))
 
--- ---- an example
+-- ---- lengths
 
--- TTRT 1, one station of w 1, C 0, D 1, P 1
-abbrev pub smallSet : Set
-smallSet =
-    record { head = record { ttrt = 1 }; n = 1; w = fill 1 (λ i. 1) zeros; c = zeros; d = fill 1 (λ i. 1) zeros; p = fill 1 (λ i. 1) zeros }
+-- a request sheet: 10 + 19N bytes, and what the header has behind TTRT
+abbrev pub requestLength : Set → ℕ
+requestLength t = 10 + 19 * t .n + furtherLength (t .head)
+
+-- a plan sheet: 10 + 26N bytes, and the same
+abbrev pub planLength : Set → ℕ
+planLength t = 10 + 26 * t .n + furtherLength (t .head)
+
+-- ---- examples
+
+-- TTRT 1, one station of w 1, C 0, D 1, P 1, in a mode
+abbrev pub smallSet : ℕ → Set
+smallSet mode =
+    record { head = record { ttrt = 1; mode = mode }; n = 1; w = fill 1 (λ i. 1) zeros; c = zeros; d = fill 1 (λ i. 1) zeros; p = fill 1 (λ i. 1) zeros }
 
 -- ---- the promises
 
 pub record Promised : Type 0 where
   -- what may stand where is what 01 says of each tag: the table that the reader goes by decides the sentence
   pub may-stand : (p : Passed) (tag size : ℕ) → (isAllowed p tag size ≡ true) ↔ MayStand p tag size
-  -- a request sheet has 10 + 19N bytes, a plan sheet 10 + 26N
-  pub request-length : (t : Set) → length (requestSheet t) ≡ 10 + 19 * t .n
-  pub plan-length : (t : Set) (a : Alloc) → length (planSheet t a) ≡ 10 + 26 * t .n
-  -- 29 bytes for one station, 2,442 for 128
-  pub shortest : (t : Set) → t .n ≡ 1 → length (requestSheet t) ≡ 29
-  pub longest : (t : Set) → t .n ≡ 128 → length (requestSheet t) ≡ 2_442
+  -- the header has nothing behind TTRT where the mode is 1, else the 4 bytes of the mode's field
+  pub timely-header : (t : Set) → t .head .mode ≡ timely → furtherLength (t .head) ≡ 0
+  pub other-header : (t : Set) → t .head .mode ≢ timely → furtherLength (t .head) ≡ 4
+  -- a request sheet has 10 + 19N bytes, a plan sheet 10 + 26N, and these
+  pub request-length : (t : Set) → length (requestSheet t) ≡ requestLength t
+  pub plan-length : (t : Set) (a : Alloc) → length (planSheet t a) ≡ planLength t
+  -- 29 bytes for one timely-token station, 2,442 for 128; 2,446 for 128 stations of another mode, and 3,342 for their plan
+  pub shortest : (t : Set) → t .n ≡ 1 → t .head .mode ≡ timely → length (requestSheet t) ≡ 29
+  pub longest-timely : (t : Set) → t .n ≡ 128 → t .head .mode ≡ timely → length (requestSheet t) ≡ 2_442
+  pub longest : (t : Set) → t .n ≡ 128 → t .head .mode ≢ timely → length (requestSheet t) ≡ 2_446
+  pub longest-plan : (t : Set) (a : Alloc) → t .n ≡ 128 → t .head .mode ≢ timely → length (planSheet t a) ≡ 3_342
+  -- a sheet of mode 1 is the sheet of before there were modes: TTRT's field, the stations, the allocations, the end
+  pub timely-sheet : (plan : Bool) (t : Set) (a : Alloc) → t .head .mode ≡ timely
+      → sheetOf plan t a
+      ≡ mark 1 4 ++ bytesOf (t .head .ttrt) ++ rows (t .n) (stationBytes t) ++ rows (allocationsFor plan (t .n)) (allocationBytes a) ++ mark 255 0
   -- one sheet written out: TTRT 1, one station of w 1, C 0, D 1, P 1
-  pub written-out : requestSheet smallSet
+  pub written-out : requestSheet (smallSet timely)
       ≡ 1 ∷ 0 ∷ 4 ∷ 0 ∷ 0 ∷ 0 ∷ 1
       ∷ 2 ∷ 0 ∷ 16 ∷ 0 ∷ 0 ∷ 0 ∷ 1 ∷ 0 ∷ 0 ∷ 0 ∷ 0 ∷ 0 ∷ 0 ∷ 0 ∷ 1 ∷ 0 ∷ 0 ∷ 0 ∷ 1
       ∷ 255 ∷ 0 ∷ 0 ∷ []
+  -- the same for FDDI: tag 4, length 1, value 2 directly behind TTRT
+  pub written-out-fddi : requestSheet (smallSet fddi)
+      ≡ 1 ∷ 0 ∷ 4 ∷ 0 ∷ 0 ∷ 0 ∷ 1
+      ∷ 4 ∷ 0 ∷ 1 ∷ 2
+      ∷ 2 ∷ 0 ∷ 16 ∷ 0 ∷ 0 ∷ 0 ∷ 1 ∷ 0 ∷ 0 ∷ 0 ∷ 0 ∷ 0 ∷ 0 ∷ 0 ∷ 1 ∷ 0 ∷ 0 ∷ 0 ∷ 1
+      ∷ 255 ∷ 0 ∷ 0 ∷ []
   -- read back as written: a request
-  pub request-back : (t : Set) (out : List ℕ) → judged t ≡ 0 → 10 + 19 * t .n ≤ length out
-      → (requestWritten t out .answer ≡ record { length = 10 + 19 * t .n; number = 0 })
-      × (readRequest (take (10 + 19 * t .n) (requestWritten t out .buffer)) ≡ record { set = firstPlaces t; number = 0 })
+  pub request-back : (t : Set) (out : List ℕ) → judged t ≡ 0 → requestLength t ≤ length out
+      → (requestWritten t out .answer ≡ record { length = requestLength t; number = 0 })
+      × (readRequest (take (requestLength t) (requestWritten t out .buffer)) ≡ record { set = firstPlaces t; number = 0 })
   -- and a plan
-  pub plan-back : (t : Set) (a : Alloc) (out : List ℕ) → judgedPlan t a ≡ 0 → 10 + 26 * t .n ≤ length out
-      → (planWritten t a out .answer ≡ record { length = 10 + 26 * t .n; number = 0 })
-      × (readPlan (take (10 + 26 * t .n) (planWritten t a out .buffer)) ≡ record { set = firstPlaces t; alloc = firstAllocations (t .n) a; number = 0 })
+  pub plan-back : (t : Set) (a : Alloc) (out : List ℕ) → judgedPlan t a ≡ 0 → planLength t ≤ length out
+      → (planWritten t a out .answer ≡ record { length = planLength t; number = 0 })
+      × (readPlan (take (planLength t) (planWritten t a out .buffer)) ≡ record { set = firstPlaces t; alloc = firstAllocations (t .n) a; number = 0 })
   -- what is read back is the same over the first N places
   pub back-same : (t : Set) → t .n ≤ 128 → SameSet t (firstPlaces t)
   pub back-allocations : (n : ℕ) (a : Alloc) → n ≤ 128 → (i : ℕ) → i < n → at (a .s) i ≡ at (firstAllocations n a .s) i
@@ -125,7 +153,13 @@ pub record Promised : Type 0 where
   pub plan-whole : (bs : List ℕ) → ((k : ℕ) → 1 ≤ k → k ≤ 3 → readPlan bs .number ≢ k) ↔ WholeSheet true bs
   -- its N is the number of the stations that passed, 1 to 128
   pub stations-passed : (plan : Bool) (bs : List ℕ) (w : WholeSheet plan bs) → (setIn plan bs .n ≡ w .passed .stations) × CountAllowed (setIn plan bs)
-  -- and its number is the judgement of what the bytes hold: 4 or 5, and 7 for plans, or 0
+  -- and in a plan as many allocations passed, in a request none
+  pub allocations-passed : (plan : Bool) (bs : List ℕ) (w : WholeSheet plan bs) → w .passed .allocations ≡ allocationsFor plan (w .passed .stations)
+  -- tag 4 directly behind TTRT names the mode: absent is timely-token, the value 2 is FDDI, and with any other value, 1 among them, the sheet gets 4
+  pub mode-absent : (plan : Bool) (bs : List ℕ) → tagAt bs 7 ≢ 4 → setIn plan bs .head .mode ≡ timely
+  pub mode-fddi : (plan : Bool) (bs : List ℕ) → tagAt bs 7 ≡ 4 → at bs 10 ≡ 2 → setIn plan bs .head .mode ≡ fddi
+  pub mode-other : (plan : Bool) (bs : List ℕ) → WholeSheet plan bs → tagAt bs 7 ≡ 4 → at bs 10 ≢ 2 → readSheet plan bs .number ≡ 4
+  -- its number is the judgement of what the bytes hold: 4 or 5, and 7 for plans, or 0
   pub request-judged : (bs : List ℕ) → WholeSheet false bs → readRequest bs .number ≡ judged (setIn false bs)
   pub plan-judged : (bs : List ℕ) → WholeSheet true bs → readPlan bs .number ≡ judgedPlan (setIn true bs) (allocIn true bs)
   -- a plan sheet that is accepted is no request: its first allocation may not stand there
@@ -141,8 +175,8 @@ pub record Promised : Type 0 where
   pub request-refused : (t : Set) (out : List ℕ) → judged t ≢ 0 → requestWritten t out .answer .number ≡ judged t
   pub plan-refused : (t : Set) (a : Alloc) (out : List ℕ) → judgedPlan t a ≢ 0 → planWritten t a out .answer .number ≡ judgedPlan t a
   -- and 14 exactly if it is 0 and the buffer is shorter than the sheet
-  pub request-fourteen : (t : Set) (out : List ℕ) → (requestWritten t out .answer .number ≡ 14) ↔ ((judged t ≡ 0) × (length out < 10 + 19 * t .n))
-  pub plan-fourteen : (t : Set) (a : Alloc) (out : List ℕ) → (planWritten t a out .answer .number ≡ 14) ↔ ((judgedPlan t a ≡ 0) × (length out < 10 + 26 * t .n))
+  pub request-fourteen : (t : Set) (out : List ℕ) → (requestWritten t out .answer .number ≡ 14) ↔ ((judged t ≡ 0) × (length out < requestLength t))
+  pub plan-fourteen : (t : Set) (a : Alloc) (out : List ℕ) → (planWritten t a out .answer .number ≡ 14) ↔ ((judgedPlan t a ≡ 0) × (length out < planLength t))
   -- refused writing changes no byte
   pub request-unchanged : (t : Set) (out : List ℕ) → requestWritten t out .answer .number ≢ 0 → requestWritten t out .buffer ≡ out
   pub plan-unchanged : (t : Set) (a : Alloc) (out : List ℕ) → planWritten t a out .answer .number ≢ 0 → planWritten t a out .buffer ≡ out

@@ -1,33 +1,56 @@
 -- The laws of layout and writing.
-use Prim.Native.Nat.{ℕ, zero, suc, _+_, _*_, _≤_, _<_}
+use Prim.Native.Nat.{ℕ, zero, suc, _+_, _*_, _%_, _≤_, _<_}
 use mathlib.Core.Path.{_≡_, refl, sym, ap, _∙_}
-use mathlib.Core.Bool.{Bool}
-use mathlib.Core.List.{List, _++_}
-use mathlib.Core.Logic.{_≢_}
+use mathlib.Core.Bool.{Bool, true, false}
+use mathlib.Core.List.{List, [], _∷_, _++_}
+use mathlib.Core.Logic.{⊎-elim, _≢_}
 use native.Mathlib.Numerals.{add-one}
 use native.Mathlib.Nat.{mul-zero, mul-suc, mul-le-mul-left}
 use native.Mathlib.Omega.{arith}
 use lib.ListN.{length, drop, length-append}
-use borrow.Author.Tests.{le-leb, lt-leb}
-use Rattle.units.specs.JudgingLaws.{held, failed}
+use lib.Dec.{eqb}
+use borrow.Author.Tests.{le-leb, lt-leb, ne-eqb}
+use Rattle.units.specs.JudgingLaws.{held, failed, true-or-false}
 use Rattle.sets.specs.declared.Head.{Head}
 use Rattle.sets.specs.declared.Set.{Set}
 use Rattle.plans.specs.declared.Alloc.{Alloc}
 use Rattle.fields.specs.Rows.{rows, laid}
 use Rattle.fields.specs.Bytes.{bytesOf}
 use Rattle.fields.specs.Fields.{allocationsFor}
+use Rattle.fields.specs.Header.{absent}
 use Rattle.fields.specs.RowLaws.{rows-none, laid-none, laid-first}
 use Rattle.fields.proofs.SegmentLaws.{rows-length, laid-more, rows-then}
-use Rattle.sheets.specs.Layout.{headBytes, stationWith, allocationWith, stationBytes, allocationBytes, endBytes, sheetOf, sheetLength}
+use Rattle.sheets.specs.Layout.{mark, modeBytes, headBytes, furtherLength, stationWith, allocationWith, stationBytes, allocationBytes, endBytes, sheetOf, sheetLength}
 use Rattle.sheets.specs.Reading.{judgedSheet}
 use Rattle.sheets.specs.ReadLaws.{then-rest, then-keeps}
 use Rattle.sheets.specs.Writing.{writeNumber, writeAnswer, bufferAfter, refusedWriting, Wrote}
 
 -- ---- lengths
 
-pub head-length : (h : Head) → length (headBytes h) ≡ 7
+pub mode-none : (mode : ℕ) → mode ≡ absent → modeBytes mode ≡ []
+unfolding modeBytes
+mode-none mode e = rw e refl
+
+pub mode-some : (mode : ℕ) → mode ≢ absent → modeBytes mode ≡ mark 4 1 ++ (mode % 256 ∷ [])
+unfolding modeBytes
+mode-some mode other = rw (ne-eqb mode absent other) refl
+
+pub mode-long : (mode : ℕ) → mode ≢ absent → length (modeBytes mode) ≡ 4
+mode-long mode other = ap length (mode-some mode other)
+
+pub further-small : (h : Head) → furtherLength h ≤ 4
+unfolding furtherLength
+further-small h =
+    ⊎-elim (λ (e : eqb (h .mode) absent ≡ true). rw e (omega arith)) (λ (e : eqb (h .mode) absent ≡ false). rw e (omega arith)) (true-or-false (eqb (h .mode) absent))
+
+pub further-length : (h : Head) → length (modeBytes (h .mode)) ≡ furtherLength h
+unfolding modeBytes furtherLength
+further-length h =
+    ⊎-elim (λ (e : eqb (h .mode) absent ≡ true). rw e refl) (λ (e : eqb (h .mode) absent ≡ false). rw e refl) (true-or-false (eqb (h .mode) absent))
+
+pub head-length : (h : Head) → length (headBytes h) ≡ 7 + furtherLength h
 unfolding headBytes bytesOf
-head-length h = refl
+head-length h = length-append (mark 1 4 ++ bytesOf (h .ttrt)) (modeBytes (h .mode)) ∙ ap (λ (k : ℕ). 7 + k) (further-length h)
 
 pub station-length : (w c d p : ℕ) → length (stationWith w c d p) ≡ 19
 unfolding stationWith bytesOf
@@ -43,7 +66,7 @@ stations-length t n = rows-length n 19 (stationBytes t) (λ i. station-length _ 
 pub allocations-length : (a : Alloc) (m : ℕ) → length (rows m (allocationBytes a)) ≡ 7 * m
 allocations-length a m = rows-length m 7 (allocationBytes a) (λ i. allocation-length _)
 
-pub sheet-long : (plan : Bool) (t : Set) (a : Alloc) → length (sheetOf plan t a) ≡ sheetLength plan (t .n)
+pub sheet-long : (plan : Bool) (t : Set) (a : Alloc) → length (sheetOf plan t a) ≡ sheetLength plan t
 unfolding sheetOf
 sheet-long plan t a =
     let n = t .n in
@@ -90,29 +113,29 @@ module _ (out₀ : List ℕ) (from step n : ℕ) (row : ℕ → List ℕ) (each 
 
 -- ---- the fields of a sheet, laid one after another
 
--- the buffer behind each of the four parts
-pub record PartsLaid (t : Set) (a : Alloc) (m : ℕ) (o o₁ o₂ o₃ o₄ : List ℕ) : Type 0 where
+-- the buffer behind each of the four parts; the stations begin at the place `from`
+pub record PartsLaid (t : Set) (a : Alloc) (from m : ℕ) (o o₁ o₂ o₃ o₄ : List ℕ) : Type 0 where
   pub head : o₁ ≡ laid o 0 (headBytes (t .head))
-  pub stations : o₂ ≡ laid o₁ 7 (rows (t .n) (stationBytes t))
-  pub allocations : o₃ ≡ laid o₂ (7 + 19 * t .n) (rows m (allocationBytes a))
-  pub end : o₄ ≡ laid o₃ (7 + 19 * t .n + 7 * m) endBytes
+  pub stations : o₂ ≡ laid o₁ from (rows (t .n) (stationBytes t))
+  pub allocations : o₃ ≡ laid o₂ (from + 19 * t .n) (rows m (allocationBytes a))
+  pub end : o₄ ≡ laid o₃ (from + 19 * t .n + 7 * m) endBytes
 
-pub sheet-laid : (plan : Bool) (t : Set) (a : Alloc) (m : ℕ) (o o₁ o₂ o₃ o₄ : List ℕ) → PartsLaid t a m o o₁ o₂ o₃ o₄
-    → m ≡ allocationsFor plan (t .n) → sheetLength plan (t .n) ≤ length o → o₄ ≡ laid o 0 (sheetOf plan t a)
+pub sheet-laid : (plan : Bool) (t : Set) (a : Alloc) (from m : ℕ) (o o₁ o₂ o₃ o₄ : List ℕ) → PartsLaid t a from m o o₁ o₂ o₃ o₄
+    → from ≡ 7 + furtherLength (t .head) → m ≡ allocationsFor plan (t .n) → sheetLength plan t ≤ length o → o₄ ≡ laid o 0 (sheetOf plan t a)
 unfolding sheetOf
-sheet-laid plan t a m o o₁ o₂ o₃ o₄ parts e fit =
+sheet-laid plan t a from m o o₁ o₂ o₃ o₄ parts begun e fit =
     let n = t .n in
     let head = headBytes (t .head) in
     let stations = rows n (stationBytes t) in
     let allocations = rows m (allocationBytes a) in
-    let l₁ : length (headBytes (t .head)) ≡ 7 = head-length (t .head) in
+    let l₁ : length (headBytes (t .head)) ≡ 7 + furtherLength (t .head) = head-length (t .head) in
     let l₂ : length (rows (t .n) (stationBytes t)) ≡ 19 * t .n = stations-length t n in
     let l₃ : length (rows m (allocationBytes a)) ≡ 7 * m = allocations-length a m in
     let j₁ = length-append head stations in
     let j₂ = length-append (head ++ stations) allocations in
-    let s₂ = laid-more o o₁ o₂ 0 7 head stations (parts .head) (omega arith) (parts .stations) (omega arith) in
-    let s₃ = laid-more o o₂ o₃ 0 (7 + 19 * n) (head ++ stations) allocations s₂ (omega arith) (parts .allocations) (omega arith) in
-    let s₄ = laid-more o o₃ o₄ 0 (7 + 19 * n + 7 * m) (head ++ stations ++ allocations) endBytes s₃ (omega arith) (parts .end) (omega arith) in
+    let s₂ = laid-more o o₁ o₂ 0 from head stations (parts .head) (omega arith) (parts .stations) (omega arith) in
+    let s₃ = laid-more o o₂ o₃ 0 (from + 19 * n) (head ++ stations) allocations s₂ (omega arith) (parts .allocations) (omega arith) in
+    let s₄ = laid-more o o₃ o₄ 0 (from + 19 * n + 7 * m) (head ++ stations ++ allocations) endBytes s₃ (omega arith) (parts .end) (omega arith) in
     rw (← e) s₄
 
 -- ---- answers
@@ -145,25 +168,25 @@ module _ (plan : Bool) (t : Set) (a : Alloc) (out : List ℕ) where
   pub number-judged : judgedSheet plan t a ≢ 0 → writeNumber plan t a (length out) ≡ judgedSheet plan t a
   number-judged h = then-keeps _ _ h
 
-  pub number-short : judgedSheet plan t a ≡ 0 → length out < sheetLength plan (t .n) → writeNumber plan t a (length out) ≡ 14
+  pub number-short : judgedSheet plan t a ≡ 0 → length out < sheetLength plan t → writeNumber plan t a (length out) ≡ 14
   number-short e h = then-rest _ _ e ∙ failed _ _ _ (lt-leb _ _ h)
 
-  pub number-none : judgedSheet plan t a ≡ 0 → sheetLength plan (t .n) ≤ length out → writeNumber plan t a (length out) ≡ 0
+  pub number-none : judgedSheet plan t a ≡ 0 → sheetLength plan t ≤ length out → writeNumber plan t a (length out) ≡ 0
   number-none e h = then-rest _ _ e ∙ held _ _ _ (le-leb _ _ h)
 
   -- a writing that was refused with the number k
   pub wrote-refused : (k : ℕ) → k ≢ 0 → writeNumber plan t a (length out) ≡ k → Wrote plan t a out out (refusedWriting k)
   wrote-refused k h e =
       record {
-        answer = rw e (sym (answer-refused k (sheetLength plan (t .n)) h));
+        answer = rw e (sym (answer-refused k (sheetLength plan t) h));
         buffer = rw e (sym (buffer-refused k (sheetOf plan t a) out h));
       }
 
   -- and one that was accepted
-  pub wrote-all : judgedSheet plan t a ≡ 0 → sheetLength plan (t .n) ≤ length out
-      → Wrote plan t a out (laid out 0 (sheetOf plan t a)) (record { length = sheetLength plan (t .n); number = 0 })
+  pub wrote-all : judgedSheet plan t a ≡ 0 → sheetLength plan t ≤ length out
+      → Wrote plan t a out (laid out 0 (sheetOf plan t a)) (record { length = sheetLength plan t; number = 0 })
   wrote-all e h =
       record {
-        answer = sym (answer-accepted _ (sheetLength plan (t .n)) (number-none e h));
+        answer = sym (answer-accepted _ (sheetLength plan t) (number-none e h));
         buffer = laid-first out (sheetOf plan t a) ∙ sym (buffer-accepted _ (sheetOf plan t a) out (number-none e h));
       }

@@ -4,9 +4,10 @@ use mathlib.Core.List.{List}
 use lib.ListN.{length}
 use Rattle.fields.specs.declared.Passed.{Passed}
 
--- the fields that have passed lie inside the bytes, the header's first among them
+-- the fields that have passed lie inside the bytes, the header's first and a station among them
 pub record PassedFits (bs : List ℕ) (p : Passed) : Type 0 where
   pub header : 7 ≤ p .from
+  pub some : 1 ≤ p .stations
   pub few : p .stations ≤ 128
   pub fewer : p .allocations ≤ 128
   pub inside : p .from + 19 * p .stations + 7 * p .allocations ≤ length bs

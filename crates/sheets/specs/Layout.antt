@@ -1,7 +1,8 @@
 -- How a sheet is laid out (01, "Sheets"): the bytes of a request and of a plan.
-use Prim.Native.Nat.{ℕ, _+_, _*_}
-use mathlib.Core.Bool.{Bool, true, false}
+use Prim.Native.Nat.{ℕ, _+_, _*_, _%_}
+use mathlib.Core.Bool.{Bool, true, false, cond}
 use mathlib.Core.List.{List, [], _∷_, _++_}
+use lib.Dec.{eqb}
 use Rattle.units.specs.Places.{at}
 use Rattle.sets.specs.declared.Head.{Head}
 use Rattle.sets.specs.declared.Set.{Set}
@@ -9,15 +10,24 @@ use Rattle.plans.specs.Planned.{blankAlloc}
 use Rattle.plans.specs.declared.Alloc.{Alloc}
 use Rattle.fields.specs.Rows.{rows}
 use Rattle.fields.specs.Bytes.{bytesOf}
-use Rattle.fields.specs.Fields.{headTag, headSize, stationTag, stationSize, allocationTag, allocationSize, endTag, endSize, allocationsFor}
+use Rattle.fields.specs.Fields.{headTag, headSize, stationTag, stationSize, allocationTag, allocationSize, modeTag, modeSize, endTag, endSize, allocationsFor}
+use Rattle.fields.specs.Header.{absent}
 
 -- the start of a field: one tag byte, two length bytes; no length here is above 255
 abbrev pub mark : ℕ → ℕ → List ℕ
 mark tag size = tag ∷ 0 ∷ size ∷ []
 
--- tag 1, length 4, TTRT. Later header fields follow here
+-- the mode: tag 4, length 1; no field where it is what its absence means
+unfoldable pub modeBytes : ℕ → List ℕ
+modeBytes mode = cond (eqb mode absent) [] (mark modeTag modeSize ++ (mode % 256 ∷ []))
+
+-- the header: tag 1, length 4, TTRT; then the mode. Later header fields follow here
 unfoldable pub headBytes : Head → List ℕ
-headBytes h = mark headTag headSize ++ bytesOf (h .ttrt)
+headBytes h = mark headTag headSize ++ bytesOf (h .ttrt) ++ modeBytes (h .mode)
+
+-- how many bytes the header has behind TTRT: none where the mode is 1, else 4
+unfoldable pub furtherLength : Head → ℕ
+furtherLength h = cond (eqb (h .mode) absent) 0 (3 + modeSize)
 
 -- a station: tag 2, length 16, holding w, C, D, P
 unfoldable pub stationWith : ℕ → ℕ → ℕ → ℕ → List ℕ
@@ -55,6 +65,6 @@ requestSheet t = sheetOf false t blankAlloc
 abbrev pub planSheet : Set → Alloc → List ℕ
 planSheet t a = sheetOf true t a
 
--- how many bytes a sheet with n stations has: 10 + 19N for a request, 10 + 26N for a plan
-abbrev pub sheetLength : Bool → ℕ → ℕ
-sheetLength plan n = 10 + 19 * n + 7 * allocationsFor plan n
+-- how many bytes a sheet has: 10 + 19N for a request, 10 + 26N for a plan, and what the header has behind TTRT
+abbrev pub sheetLength : Bool → Set → ℕ
+sheetLength plan t = 10 + furtherLength (t .head) + 19 * t .n + 7 * allocationsFor plan (t .n)

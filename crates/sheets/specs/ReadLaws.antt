@@ -50,7 +50,8 @@ unfolding readAnswer
 read-number zero t a = refl
 read-number (suc k) t a = refl
 
-pub sheet-accepted : (plan : Bool) (bs : List ℕ) → scanned plan bs .number ≡ 0 → judgedSheet plan (setIn plan bs) (allocIn plan bs) ≡ 0 → readSheet plan bs ≡ record { set = setIn plan bs; alloc = allocIn plan bs; number = 0 }
+pub sheet-accepted : (plan : Bool) (bs : List ℕ) → scanned plan bs .number ≡ 0
+    → judgedSheet plan (setIn plan bs) (allocIn plan bs) ≡ 0 → readSheet plan bs ≡ record { set = setIn plan bs; alloc = allocIn plan bs; number = 0 }
 unfolding readSheet
 sheet-accepted plan bs e h = rw (then-rest (scanned plan bs .number) (judgedSheet plan (setIn plan bs) (allocIn plan bs)) e) (read-accepted _ _ _ h)
 

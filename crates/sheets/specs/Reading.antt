@@ -3,13 +3,16 @@
 use Prim.Native.Nat.{ℕ, zero, suc, _+_, _*_}
 use mathlib.Core.Bool.{Bool, cond, true, false}
 use mathlib.Core.List.{List}
-use Rattle.units.specs.Places.{fill}
+use lib.Dec.{eqb}
+use Rattle.units.specs.Places.{at, fill}
 use Rattle.sets.specs.Judged.{judged, blankSet, zeros}
 use Rattle.sets.specs.declared.Head.{Head}
 use Rattle.sets.specs.declared.Set.{Set}
 use Rattle.plans.specs.Planned.{judgedPlan, blankAlloc}
 use Rattle.plans.specs.declared.Alloc.{Alloc}
 use Rattle.fields.specs.Bytes.{numberAt}
+use Rattle.fields.specs.Fields.{modeTag, tagAt}
+use Rattle.fields.specs.Header.{headerNumber}
 use Rattle.fields.specs.declared.Passed.{Passed}
 use Rattle.scan.specs.Scanned.{scanned}
 use Rattle.sheets.specs.declared.ReadRequest.{ReadRequest}
@@ -21,8 +24,12 @@ use Rattle.sheets.specs.declared.ReadPlan.{ReadPlan}
 abbrev pub column : List ℕ → ℕ → ℕ → ℕ → List ℕ
 column bs from step n = fill n (λ i. numberAt bs (from + step * i)) zeros
 
+-- the mode's field stands behind the 7 bytes of TTRT's, if it is there; its one byte is the eleventh
+abbrev pub modeIn : List ℕ → ℕ
+modeIn bs = headerNumber (eqb (tagAt bs 7) modeTag) (at bs 10)
+
 abbrev pub headIn : List ℕ → Head
-headIn bs = record { ttrt = numberAt bs 3 }
+headIn bs = record { ttrt = numberAt bs 3; mode = modeIn bs }
 
 -- w, C, D and P of the stations that have passed, 19 bytes each
 abbrev pub setOf : List ℕ → Passed → Set

@@ -21,5 +21,5 @@ answer-fits (suc k) size room h = omega arith
 -- a sheet that was written lies inside the buffer
 pub written-fits : (plan : Bool) (t : Set) (a : Alloc) (out : List ℕ) → writtenAnswer plan t a out .length ≤ length out
 written-fits plan t a out =
-    answer-fits _ (sheetLength plan (t .n)) (length out)
+    answer-fits _ (sheetLength plan t) (length out)
     (λ e. leb-true _ _ (passed _ 14 0 (λ x. absurd (omega arith)) (then-none _ _ e .1) .0))

@@ -16,7 +16,7 @@ use Rattle.sheets.specs.declared.Written.{Written}
 
 -- N (2), then 4, 5, for plans 7; then 14 where the buffer is too short
 abbrev pub writeNumber : Bool → Set → Alloc → ℕ → ℕ
-writeNumber plan t a room = thenNumber (judgedSheet plan t a) (orElse (leb (sheetLength plan (t .n)) room) bufferTooShort accepted)
+writeNumber plan t a room = thenNumber (judgedSheet plan t a) (orElse (leb (sheetLength plan t) room) bufferTooShort accepted)
 
 -- refused: nothing is written
 abbrev pub refusedWriting : ℕ → Written
@@ -33,7 +33,7 @@ bufferAfter (suc k) sheet out = out
 
 -- the answer of writing into `out`
 abbrev pub writtenAnswer : Bool → Set → Alloc → List ℕ → Written
-writtenAnswer plan t a out = writeAnswer (writeNumber plan t a (length out)) (sheetLength plan (t .n))
+writtenAnswer plan t a out = writeAnswer (writeNumber plan t a (length out)) (sheetLength plan t)
 
 -- what `out` then holds
 abbrev pub writtenBuffer : Bool → Set → Alloc → List ℕ → List ℕ

@@ -37,6 +37,14 @@ pub(crate) fn put_number(out: &mut [u8], at: usize, x: u32)
     out[at + 3] = low_byte(x);
 }
 
+// Writes the lowest byte of a number.
+pub(crate) fn put_byte(out: &mut [u8], at: usize, x: u32)
+    requires { ⌜ at + 1 ≤ length (now out) ⌝ }
+    ensures { λ _. ⌜ now (out .exit) ≡ laid (now (out .entry)) at (x % 256 ∷ []) ⌝ }
+{
+    out[at] = low_byte(x);
+}
+
 // Writes the start of a field: its tag, and its length in two bytes.
 pub(crate) fn put_mark(out: &mut [u8], at: usize, tag: u8, size: u8)
     requires { ⌜ at + 3 ≤ length (now out) ⌝ }

@@ -1,9 +1,11 @@
 // Reading: the fields are handed out one after another from the left; then the numbers that they hold are read and judged.
 ghost use mathlib.Core.Path.{_≡_};
+ghost use Prim.Native.Nat.{_≤_};
+ghost use lib.ListN.{length};
 ghost use Rattle.sets.specs.Judged.{blankSet};
 ghost use Rattle.plans.specs.Planned.{blankAlloc};
 ghost use Rattle.sheets.specs.Bounds.{PassedFits, ColumnFits};
-ghost use Rattle.sheets.specs.Reading.{column, setOf, allocOf, readSheet};
+ghost use Rattle.sheets.specs.Reading.{column, modeIn, setOf, allocOf, readSheet};
 use crate::ReadPlan;
 use crate::bytes;
 use fields::Passed;
@@ -29,12 +31,23 @@ fn read_column(bs: &[u8], from: usize, step: usize, n: usize) -> [u32; 128]
     numbers
 }
 
-// The set that the stations hold.
+// The mode that the header holds.
+fn read_mode(bs: &[u8]) -> u32
+    requires { ⌜ 11 ≤ length (now bs) ⌝ }
+    ensures { λ r. ⌜ r ≡ modeIn (now (bs .entry)) ⌝ }
+{
+    let there = bs[7] == fields::MODE_TAG;
+    let number = fields::bytes::wide(bs[10]);
+    fields::header_number(there, number)
+}
+
+// The set that the header and the stations hold.
 fn read_set(bs: &[u8], passed: Passed) -> Set
     requires { ⌜ PassedFits (now bs) passed ⌝ }
     ensures { λ r. ⌜ r ≡ setOf (now (bs .entry)) passed ⌝ }
 {
     let ttrt = bytes::number_at(bs, 3);
+    let mode = read_mode(bs);
     let from = passed.from;
     let n = passed.stations;
     let count = n as u32;
@@ -43,7 +56,7 @@ fn read_set(bs: &[u8], passed: Passed) -> Set
     let d = read_column(bs, from + 11, 19, n);
     let p = read_column(bs, from + 15, 19, n);
     Set {
-        head: Head { ttrt },
+        head: Head { ttrt, mode },
         n: count,
         w,
         c,

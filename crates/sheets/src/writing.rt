@@ -3,7 +3,7 @@ ghost use mathlib.Core.Path.{_≡_};
 ghost use Prim.Native.Nat.{_+_, _*_, _≤_};
 ghost use lib.ListN.{length};
 ghost use Rattle.fields.specs.Rows.{laid, rows};
-ghost use Rattle.sheets.specs.Layout.{headBytes, stationWith, allocationWith, stationBytes, allocationBytes, sheetOf, sheetLength};
+ghost use Rattle.sheets.specs.Layout.{modeBytes, headBytes, furtherLength, stationWith, allocationWith, stationBytes, allocationBytes, sheetOf, sheetLength};
 ghost use Rattle.sheets.specs.Writing.{Wrote, refusedWriting};
 use crate::Written;
 use crate::bytes;
@@ -12,13 +12,32 @@ use sets::Head;
 use sets::Set;
 use units::numbers;
 
+// Writes the mode, if it is not what its absence means.
+fn put_mode(out: &mut [u8], at: usize, mode: u32)
+    requires { ⌜ at + length (modeBytes mode) ≤ length (now out) ⌝ }
+    ensures { λ _. ⌜ now (out .exit) ≡ laid (now (out .entry)) at (modeBytes mode) ⌝ }
+{
+    if mode != fields::ABSENT {
+        bytes::put_mark(out, at, fields::MODE_TAG, 1);
+        bytes::put_byte(out, at + 3, mode);
+    }
+}
+
 // Writes the header.
 fn put_head(out: &mut [u8], h: Head)
-    requires { ⌜ 7 ≤ length (now out) ⌝ }
+    requires { ⌜ 7 + furtherLength h ≤ length (now out) ⌝ }
     ensures { λ _. ⌜ now (out .exit) ≡ laid (now (out .entry)) 0 (headBytes h) ⌝ }
 {
     bytes::put_mark(out, 0, fields::HEAD_TAG, 4);
     bytes::put_number(out, 3, h.ttrt);
+    put_mode(out, 7, h.mode);
+}
+
+// How many bytes the header has behind TTRT.
+fn further_length(h: Head) -> usize
+    ensures { λ r. ⌜ r ≡ furtherLength h ⌝ }
+{
+    if h.mode == fields::ABSENT { 0 } else { 4 }
 }
 
 // Writes one station.
@@ -70,25 +89,28 @@ fn put_allocations(out: &mut [u8], from: usize, a: Alloc, m: usize)
     }
 }
 
-// How many bytes a sheet with n stations has.
-fn sheet_length(plan: bool, n: usize) -> usize
-    requires { ⌜ n ≤ 128 ⌝ }
-    ensures { λ r. ⌜ r ≡ sheetLength plan n ⌝ }
+// How many bytes a sheet has.
+fn sheet_length(plan: bool, t: Set) -> usize
+    requires { ⌜ t .n ≤ 128 ⌝ }
+    ensures { λ r. ⌜ r ≡ sheetLength plan t ⌝ }
 {
-    10 + 19 * n + 7 * fields::allocations_for(plan, n)
+    let h = t.head;
+    let n = t.n as usize;
+    10 + further_length(h) + 19 * n + 7 * fields::allocations_for(plan, n)
 }
 
 // Writes all fields of a sheet.
 fn put_sheet(plan: bool, t: Set, a: Alloc, out: &mut [u8])
-    requires { ⌜ (t .n ≤ 128) × (sheetLength plan (t .n) ≤ length (now out)) ⌝ }
+    requires { ⌜ (t .n ≤ 128) × (sheetLength plan t ≤ length (now out)) ⌝ }
     ensures { λ _. ⌜ now (out .exit) ≡ laid (now (out .entry)) 0 (sheetOf plan t a) ⌝ }
 {
     let n = t.n as usize;
     let m = fields::allocations_for(plan, n);
     let h = t.head;
-    let behind = 7 + 19 * n;
+    let from = 7 + further_length(h);
+    let behind = from + 19 * n;
     put_head(out, h);
-    put_stations(out, 7, t, n);
+    put_stations(out, from, t, n);
     put_allocations(out, behind, a, m);
     bytes::put_mark(out, behind + 7 * m, fields::END_TAG, 0);
 }
@@ -108,7 +130,7 @@ pub(crate) fn write_sheet(plan: bool, t: Set, a: Alloc, out: &mut [u8]) -> Writt
     if number != numbers::ACCEPTED {
         return refused(number);
     }
-    let length = sheet_length(plan, t.n as usize);
+    let length = sheet_length(plan, t);
     if out.len() < length {
         return refused(numbers::BUFFER_TOO_SHORT);
     }

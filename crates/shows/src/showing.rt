@@ -1,20 +1,34 @@
 // What `show` prints: a request or plan sheet as text.
 ghost use Prim.Native.Nat.{_+_, _*_, _<_, _≤_};
+ghost use mathlib.Core.List.{[], _∷_, _++_};
 ghost use lib.ListN.{length};
 ghost use Rattle.fields.specs.Rows.{rows};
-ghost use Rattle.text.specs.Text.{PutShort, lineOn};
-ghost use Rattle.outputs.specs.ShowText.{ttrtLine, shareWords, stationLine, sheetText};
+ghost use Rattle.text.specs.Text.{PutShort, decimalOf, lineOn, line};
+ghost use Rattle.outputs.specs.ShowText.{ttrtLine, modeLine, shareWords, stationLine, sheetText};
 use plans::Alloc;
+use sets::Head;
 use sets::Set;
 
-// `ttrt N`.
-fn put_ttrt(page: &mut [u8], ttrt: u64) -> usize
-    requires { ⌜ 42 ≤ length (now page) ⌝ }
-    ensures { λ r. ⌜ PutShort 42 (now (page .entry)) 0 (ttrtLine ttrt) (now (page .exit)) r ⌝ }
+// A line of a word and a number.
+fn put_named(page: &mut [u8], at: usize, word: &[u8], number: u64) -> usize
+    requires { ⌜ (length (now word) ≤ 20) × (at + 42 ≤ length (now page)) ⌝ }
+    ensures { λ r. ⌜ PutShort 42 (now (page .entry)) at (line (now (word .entry) ∷ decimalOf number ∷ [])) (now (page .exit)) r ⌝ }
 {
-    let named = text::put_short(page, 0, b"ttrt");
-    let numbered = text::put_field(page, named, ttrt);
+    let named = text::put_short(page, at, word);
+    let numbered = text::put_field(page, named, number);
     text::put_end(page, numbered)
+}
+
+// The header's lines: `ttrt N`, and `mode M` if it is not what its absence means.
+fn put_header(page: &mut [u8], h: Head) -> usize
+    requires { ⌜ 84 ≤ length (now page) ⌝ }
+    ensures { λ r. ⌜ PutShort 84 (now (page .entry)) 0 (ttrtLine (h .ttrt) ++ modeLine (h .mode)) (now (page .exit)) r ⌝ }
+{
+    let first = put_named(page, 0, b"ttrt", units::wide(h.ttrt));
+    if h.mode == fields::ABSENT {
+        return first;
+    }
+    put_named(page, first, b"mode", units::wide(h.mode))
 }
 
 // S, in a plan; and the line's end.
@@ -57,11 +71,12 @@ fn put_stations(page: &mut [u8], at: usize, plan: bool, t: Set, a: Alloc) -> usi
     next
 }
 
-// The header's line, then the stations.
+// The header's lines, then the stations.
 pub(crate) fn put_sheet(page: &mut [u8], plan: bool, t: Set, a: Alloc) -> usize
     requires { ⌜ (t .n ≤ 128) × (20_000 ≤ length (now page)) ⌝ }
     ensures { λ r. ⌜ PutShort 20_000 (now (page .entry)) 0 (sheetText plan t a) (now (page .exit)) r ⌝ }
 {
-    let first = put_ttrt(page, units::wide(t.head.ttrt));
+    let h = t.head;
+    let first = put_header(page, h);
     put_stations(page, first, plan, t, a)
 }

@@ -3,6 +3,7 @@ use Prim.Native.Nat.{ℕ, _-_}
 use mathlib.Core.Path.{_≡_}
 use mathlib.Core.List.{List, [], _∷_, _++_}
 use lib.ListN.{length, replicate}
+use Rattle.units.specs.Numbers.{timely}
 use Rattle.units.specs.Places.{at}
 use Rattle.sets.specs.declared.Set.{Set}
 use Rattle.plans.specs.Rules.{IsSmallest, spareTime}
@@ -38,10 +39,10 @@ CaseHolds r = IsSmallest 100 (r .c) (r .d) (r .s)
 abbrev pub places : List ℕ → List ℕ
 places xs = xs ++ replicate (128 - length xs) 0
 
--- a set of TTRT and, station by station, w, C and D; P, which the cases leave open, is D
+-- a timely-token set of TTRT and, station by station, w, C and D; P, which the cases leave open, is D
 abbrev pub setOf : ℕ → List ℕ → List ℕ → List ℕ → Set
 setOf ttrt w c d =
-    record { head = record { ttrt = ttrt }; n = length w; w = places w; c = places c; d = places d; p = places d }
+    record { head = record { ttrt = ttrt; mode = timely }; n = length w; w = places w; c = places c; d = places d; p = places d }
 
 pub record SetCase : Type 0 where
   pub set : Set

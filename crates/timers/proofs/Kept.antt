@@ -1,10 +1,11 @@
--- One visit keeps the invariants: for stations that do not have the token every number rises by the same x, so their differences stay; the pairs with the token's station come from what the others say of them.
-use Prim.Native.Nat.{ℕ, _+_, _*_, _≤_, _<_}
+-- One visit keeps the invariants: for stations that do not have the token every number rises by the same x, so their differences stay;
+-- the pairs with the token's station come from what the others say of them.
+use Prim.Native.Nat.{ℕ, _+_, _≤_, _<_}
 use mathlib.Core.Path.{_≡_}
 use mathlib.Core.Logic.{_⊎_, inl, inr, ⊎-elim, _≢_}
 use native.Mathlib.Omega.{arith}
 use Rattle.units.specs.Places.{sumBelow, sumFrom}
-use Rattle.units.specs.PlaceLaws.{sum-step, sum-split, sum-none, sum-part}
+use Rattle.units.specs.PlaceLaws.{sum-step, sum-split, sum-none}
 use Rattle.units.specs.SmallLaws.{below-or-not}
 use Rattle.timers.specs.Kept.{Plan, walk, tau, shares, allShares, TokenRule, Visit, Kept, Since}
 
@@ -171,17 +172,7 @@ first r v p k inside i l =
 pub arrival : (r : Plan) (v : ℕ → ℕ) (p : ℕ) → Kept r v p → p < r .n → v p ≤ r .ttrt + allShares r + r .f
 arrival r v p k inside = omega (arith, k .late-ahead p (omega arith) inside)
 
--- τ is at most what the token's station has run
-pub round-walked : (r : Plan) (v : ℕ → ℕ) (p : ℕ) → Kept r v p → p < r .n → tau r ≤ v p
-round-walked r v p k inside = omega (arith, k .walked-ahead p (omega arith) inside)
-
-pub since : (r : Plan) (v u : ℕ → ℕ) (p x : ℕ) (last later : ℕ → ℕ) (clock : ℕ) → Visit r v u p x → Since r v last clock → later p ≡ clock → ((i : ℕ) → i ≢ p → later i ≡ last i) → Since r u later (clock + x)
+pub since : (r : Plan) (v u : ℕ → ℕ) (p x : ℕ) (last later : ℕ → ℕ) (clock : ℕ) → Visit r v u p x → Since r v last clock → later p ≡ clock → ((i : ℕ) → i ≢ p → later i ≡ last i)
+    → Since r u later (clock + x)
 since r v u p x last later clock t h here there i l =
     ⊎-elim (λ (e : i ≡ p). rw e (omega (arith, t .here))) (λ (d : i ≢ p). omega (arith, t .there i l d, there i d, h i l)) (same-or-not i p)
-
--- a visit is at most as long as leaves every timer below three TTRTs
-pub short : (r : Plan) (v u : ℕ → ℕ) (p x : ℕ) → TokenRule r → Kept r v p → p < r .n → Visit r v u p x → (t : ℕ) → t < r .ttrt → t + x < 3 * r .ttrt
-short r v u p x rule k inside t timer b =
-    let own : r .s p ≤ allShares r = sum-part (r .n) (r .s) p inside in
-    let step : r .w p ≤ tau r = sum-part (r .n) (r .w) p inside in
-    ⊎-elim (λ none. omega (arith, t .length, t .within)) (λ early. omega (arith, t .length, t .within, round-walked r v p k inside)) (t .early)

@@ -5,8 +5,8 @@ use native.Mathlib.Omega.{arith}
 use Rattle.timers.specs.Timers.{Timer, ran}
 use Rattle.timers.specs.Kept.{Plan, tau, allShares, TokenRule, Visit, Kept, Since}
 use Rattle.timers.specs.Promised.{Promised}
-use Rattle.timers.proofs.Timers.{started, later-ran, later-below, visited-ran, offered-is, early, count-small}
-use Rattle.timers.proofs.Kept.{opened, stepped, wrapped, first, arrival, since, short}
+use Rattle.timers.proofs.Timers.{started, later-ticks, later-ran, later-below, visited-ran, offered-is, early, count-small}
+use Rattle.timers.proofs.Kept.{opened, stepped, wrapped, first, arrival, since}
 
 round : (r : Plan) (v u : ℕ → ℕ) (p x : ℕ) → TokenRule r → Kept r v p → Visit r v u p x → p + 1 ≡ r .n → Kept r u 0
 round r v u p x rule k t e = wrapped r u (rw e at (stepped r v u p x rule (omega arith) k t))
@@ -22,6 +22,7 @@ pub promised : Promised
 promised =
     record {
       started = started;
+      later-ticks = later-ticks;
       later-ran = later-ran;
       later-below = later-below;
       visited-ran = visited-ran;
@@ -36,5 +37,4 @@ promised =
       apart = apart;
       apart-with-walk = λ r v p last clock k inside h. omega (arith, apart r v p last clock k inside h);
       counts = counts;
-      short = short;
     }

@@ -1,17 +1,19 @@
 -- What is promised of FDDI's timers; `proofs/Promised.antt` proves it.
-use Prim.Native.Nat.{ℕ, _+_, _-_, _*_, _≤_, _<_}
+use Prim.Native.Nat.{ℕ, _+_, _-_, _≤_, _<_}
 use mathlib.Core.Path.{_≡_}
 use mathlib.Core.Logic.{_⊎_, _≢_}
 use Rattle.units.specs.Places.{sumFrom}
-use Rattle.timers.specs.Timers.{Timer, ran, lapped, later, visited, offered}
+use Rattle.timers.specs.Timers.{Timer, ran, ticks, later, startedAt, visited, offered}
 use Rattle.timers.specs.Kept.{Plan, tau, allShares, TokenRule, Visit, Kept, Since}
 
 pub record Promised : Type 0 where
   -- a timer that starts within TTRT stands at its number, and below TTRT: one that starts at TTRT is 0 with count 1
-  pub started : (ttrt x : ℕ) → 0 < ttrt → x ≤ ttrt → (ran ttrt (lapped ttrt (record { count = 0; timer = x })) ≡ x) × (lapped ttrt (record { count = 0; timer = x }) .timer < ttrt)
+  pub started : (ttrt x : ℕ) → 0 < ttrt → x ≤ ttrt → (ran ttrt (startedAt ttrt x) ≡ x) × (startedAt ttrt x .timer < ttrt)
+  -- x ticks at once are x ticks one after another
+  pub later-ticks : (ttrt x : ℕ) (t : Timer) → t .timer < ttrt → later ttrt x t ≡ ticks ttrt x t
   -- time passing raises the number by the ticks, and the timer stays below TTRT
-  pub later-ran : (ttrt x : ℕ) (t : Timer) → t .timer + x < 3 * ttrt → ran ttrt (later ttrt x t) ≡ ran ttrt t + x
-  pub later-below : (ttrt x : ℕ) (t : Timer) → t .timer + x < 3 * ttrt → later ttrt x t .timer < ttrt
+  pub later-ran : (ttrt x : ℕ) (t : Timer) → ran ttrt (later ttrt x t) ≡ ran ttrt t + x
+  pub later-below : (ttrt x : ℕ) (t : Timer) → 0 < ttrt → later ttrt x t .timer < ttrt
   -- a token takes TTRT off the number, held at 0, and offers TTRT less the number, held at 0
   pub visited-ran : (ttrt : ℕ) (t : Timer) → t .timer < ttrt → ran ttrt (visited t) ≡ ran ttrt t - ttrt
   pub offered-is : (ttrt : ℕ) (t : Timer) → t .timer < ttrt → offered ttrt t ≡ ttrt - ran ttrt t
@@ -37,5 +39,3 @@ pub record Promised : Type 0 where
   -- no late count is ever above 1
   pub counts : (r : Plan) (v : ℕ → ℕ) (p : ℕ) (i : ℕ) (t : Timer) → TokenRule r → 0 < tau r → Kept r v p → p < r .n → i < r .n → v i ≡ ran (r .ttrt) t
       → t .count ≤ 1
-  -- and a visit is short enough for two looks at the timer
-  pub short : (r : Plan) (v u : ℕ → ℕ) (p x : ℕ) → TokenRule r → Kept r v p → p < r .n → Visit r v u p x → (t : ℕ) → t < r .ttrt → t + x < 3 * r .ttrt

@@ -19,7 +19,7 @@ wrongShape = 2
 abbrev pub runsOn : ℕ
 runsOn = 3
 
--- 4: a number outside the ranges for w, C, D, P, TTRT or S
+-- 4: a number outside the ranges for w, C, D, P, TTRT, S or the mode
 abbrev pub outOfRange : ℕ
 outOfRange = 4
 
@@ -62,6 +62,20 @@ clockTooHigh = 13
 -- 14: output buffer too short
 abbrev pub bufferTooShort : ℕ
 bufferTooShort = 14
+
+-- ---- modes: the rules that a ring's timers go by
+
+-- the timely-token rules of 2003
+abbrev pub timely : ℕ
+timely = 1
+
+-- plain FDDI
+abbrev pub fddi : ℕ
+fddi = 2
+
+-- the last mode that has a name
+abbrev pub lastMode : ℕ
+lastMode = 2
 
 -- ---- ranges (01, "Numbers allowed")
 

@@ -9,7 +9,7 @@ pub const CUT_SHORT: u8 = 1;
 pub const WRONG_SHAPE: u8 = 2;
 // A byte follows the end field.
 pub const RUNS_ON: u8 = 3;
-// A number outside the ranges for w, C, D, P, TTRT or S.
+// A number outside the ranges for w, C, D, P, TTRT, S or the mode.
 pub const OUT_OF_RANGE: u8 = 4;
 // τ is 0 or above TTRT.
 pub const BAD_WALK_TIME: u8 = 5;
@@ -31,6 +31,15 @@ pub const BAD_ARRIVAL: u8 = 12;
 pub const CLOCK_TOO_HIGH: u8 = 13;
 // Output buffer too short.
 pub const BUFFER_TOO_SHORT: u8 = 14;
+
+// ---- modes: the rules that a ring's timers go by
+
+// The timely-token rules of 2003.
+pub const TIMELY: u32 = 1;
+// Plain FDDI.
+pub const FDDI: u32 = 2;
+// The last mode that has a name.
+pub const LAST_MODE: u32 = 2;
 
 // ---- ranges
 

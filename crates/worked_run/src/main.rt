@@ -8,6 +8,7 @@ use sets::Head;
 use sets::Set;
 use units::Station;
 use units::Ticks;
+use units::numbers;
 
 fn text(bytes: &[u8]) {
     io::write_all(STDOUT_FILENO, bytes);
@@ -55,7 +56,10 @@ fn four_stations() -> Set {
     let mut w: [u32; 128] = [0; 128];
     w[0] = 2;
     Set {
-        head: Head { ttrt: 100 },
+        head: Head {
+            ttrt: 100,
+            mode: numbers::TIMELY,
+        },
         n: 4,
         w,
         c: [20; 128],

@@ -4,7 +4,7 @@ use super::random::Random;
 use super::sets;
 use crate::planted::Planted;
 use crate::ring::{Message, Ring, StationNumber, Ticks};
-use crate::rules::{Plan, Request, Station, LAST_TIME};
+use crate::rules::{Head, Mode, Plan, Request, Station, LAST_TIME};
 use crate::text::Call;
 
 /// The calls of one script.
@@ -119,7 +119,7 @@ impl Script {
         let longest = self.longest(index);
         let length = if random.once_in(2) { longest } else { random.between(1, longest) };
         let earliest = self.ring.earliest_arrival(index).max(0) as u64;
-        let ttrt = u64::from(self.ring.plan().request.ttrt);
+        let ttrt = u64::from(self.ring.plan().request.head.ttrt);
         let clock = self.ring.clock() as u64;
         let arrival = match random.between(0, 5) {
             0 => clock.max(earliest),
@@ -171,8 +171,8 @@ impl Script {
 }
 
 /// A plan and a script for its ring.
-pub fn script(random: &mut Random) -> (Plan, Vec<Call>) {
-    let plan = sets::plan_to_run(random);
+pub fn script(random: &mut Random, mode: Mode) -> (Plan, Vec<Call>) {
+    let plan = sets::plan_to_run(random, mode);
     let mut script = Script::new(&plan, Manner::any(random));
     while script.calls.len() < CALLS {
         script.push_any(random);
@@ -181,19 +181,21 @@ pub fn script(random: &mut Random) -> (Plan, Vec<Call>) {
 }
 
 /// A ring of long rotations, whose clock comes near to the last time in few visits.
-fn slow_plan(random: &mut Random) -> Plan {
+fn slow_plan(random: &mut Random, mode: Mode) -> Plan {
     let count = random.index(3) + 1;
     let ttrt = 1_000_000;
     let walk_sum = random.between32(999_900, ttrt - 4 * count as u32);
     let walks = random.split(walk_sum, count);
     let share = (ttrt - walk_sum) / (2 * count as u32);
+    // In FDDI nothing is sure within the first rotation.
+    let sure_from = if mode == Mode::Fddi { ttrt } else { 0 };
     let station = |&walk: &u32| {
-        let deadline = random.pick(&[ttrt, 2 * ttrt, 2 * ttrt + 5]);
+        let deadline = sure_from + random.pick(&[ttrt, 2 * ttrt, 2 * ttrt + 5]);
         let longest = random.between32(1, share);
         Station { walk, longest, deadline, gap: deadline }
     };
     let stations = walks.iter().map(station).collect();
-    sets::smallest_plan(&Request { ttrt, stations })
+    sets::smallest_plan(&Request { head: Head::new(ttrt, mode), stations })
 }
 
 /// The two counts of visits that bring the clock to `target`: those that ask for one tick,
@@ -207,8 +209,8 @@ fn visits_to(plan: &Plan, target: u64) -> (u64, u64) {
 
 /// A script whose clock comes to the last time or next to it: the plan, the visits that ask
 /// for one tick, those that ask for none, and the calls after them.
-pub fn late_script(random: &mut Random) -> (Plan, [u64; 2], Vec<Call>) {
-    let plan = slow_plan(random);
+pub fn late_script(random: &mut Random, mode: Mode) -> (Plan, [u64; 2], Vec<Call>) {
+    let plan = slow_plan(random, mode);
     let target = LAST_TIME - 5_000_000 + random.pick(&[0, 4_999_999, 5_000_000, 5_000_001]);
     let (asking, silent) = visits_to(&plan, target);
     let mut script = Script::new(&plan, Manner::any(random));

@@ -3,7 +3,8 @@
 use super::random::Random;
 use crate::planner;
 use crate::planted::Planted;
-use crate::rules::{least_time, Plan, Request, Station, MOST_GAP, MOST_STATIONS};
+use crate::rules::{fddi_least_time, least_time, Head, Mode, Plan, Request, Station};
+use crate::rules::{MOST_GAP, MOST_STATIONS};
 
 const MOST_TICKS: u32 = 100_000_000;
 
@@ -48,6 +49,29 @@ fn short_deadline(random: &mut Random, ttrt: u32) -> u32 {
     }
 }
 
+/// The time of an FDDI rotation that is not the station's own: τ, and the other stations' S.
+struct Rotation {
+    ttrt: u32,
+    before: u32,
+}
+
+/// FDDI's deadlines: as others, a rotation longer, and with a rest in which about the share fits.
+fn fddi_deadline(
+    random: &mut Random,
+    rotation: &Rotation,
+    share: u32,
+    deadline: fn(&mut Random, u32) -> u32,
+) -> u32 {
+    let Rotation { ttrt, before } = *rotation;
+    let near = match random.between(0, 7) {
+        0 => deadline(random, ttrt),
+        1 | 2 => deadline(random, ttrt) + ttrt,
+        3 => ttrt * random.between32(1, 20) + before + random.between32(0, share + 1),
+        _ => ttrt * random.between32(1, 4) + before + random.between32(0, share + 1),
+    };
+    near.clamp(1, MOST_TICKS)
+}
+
 fn gap(random: &mut Random, deadline: u32) -> u32 {
     match random.between(0, 7) {
         0 => MOST_GAP,
@@ -58,9 +82,10 @@ fn gap(random: &mut Random, deadline: u32) -> u32 {
     }
 }
 
-/// A longest message that needs about the share: all that it carries, or a little less.
-fn longest(random: &mut Random, ttrt: u32, deadline: u32, share: u32) -> u32 {
-    let carried = |s: u32| least_time(ttrt, deadline, u64::from(s)).min(u64::from(MOST_TICKS));
+/// A longest message that needs about the share: all that it carries, or a little less. What a
+/// share carries is X.
+fn longest(random: &mut Random, share: u32, least_time: impl Fn(u64) -> u64) -> u32 {
+    let carried = |s: u32| least_time(u64::from(s)).min(u64::from(MOST_TICKS));
     let most = carried(share) as u32;
     match random.between(0, 5) {
         0 => random.between32(0, most),
@@ -80,17 +105,18 @@ fn walks(random: &mut Random, sum: u32, count: usize) -> Vec<u32> {
 }
 
 /// A set with a plan.
-pub fn feasible(random: &mut Random) -> Request {
-    let ttrt = rotation_target(random);
+pub fn feasible(random: &mut Random, mode: Mode) -> Request {
+    let head = Head::new(rotation_target(random), mode);
     let count = station_count(random);
-    feasible_of(random, ttrt, count, deadline)
+    feasible_of(random, head, count, deadline)
 }
 
 /// A set with a plan, whose messages take few rotations.
-fn lively(random: &mut Random) -> Request {
-    let ttrt = rotation_target(random);
+fn lively(random: &mut Random, mode: Mode) -> Request {
+    let head = Head::new(rotation_target(random), mode);
+    let ttrt = head.ttrt;
     let count = if random.once_in(30) { MOST_STATIONS } else { random.index(6) + 1 };
-    let mut request = feasible_of(random, ttrt, count, short_deadline);
+    let mut request = feasible_of(random, head, count, short_deadline);
     for station in &mut request.stations {
         let longer = random.pick(&[0, 0, 1, ttrt]);
         station.gap = (station.deadline + longer).min(MOST_GAP);
@@ -100,10 +126,11 @@ fn lively(random: &mut Random) -> Request {
 
 fn feasible_of(
     random: &mut Random,
-    ttrt: u32,
+    head: Head,
     count: usize,
     deadline: fn(&mut Random, u32) -> u32,
 ) -> Request {
+    let ttrt = head.ttrt;
     let walk_sum = match random.between(0, 5) {
         0 => ttrt,
         1 => random.between32(1, ttrt),
@@ -114,12 +141,31 @@ fn feasible_of(
     let shared = if random.once_in(2) { room } else { random.between32(0, room) };
     let shares = random.split(shared, count);
     let walks = walks(random, walk_sum, count);
+    let fddi = Mode::of(head.mode) == Some(Mode::Fddi);
     let station = |(&walk, &share): (&u32, &u32)| {
-        let deadline = deadline(random, ttrt);
-        let longest = longest(random, ttrt, deadline, share);
+        let (longest, deadline) = if fddi {
+            let rotation = Rotation { ttrt, before: walk_sum + shared - share };
+            fddi_message(random, &rotation, share, deadline)
+        } else {
+            let deadline = deadline(random, ttrt);
+            (longest(random, share, |s| least_time(ttrt, deadline, s)), deadline)
+        };
         Station { walk, longest, deadline, gap: gap(random, deadline) }
     };
-    Request { ttrt, stations: walks.iter().zip(&shares).map(station).collect() }
+    Request { head, stations: walks.iter().zip(&shares).map(station).collect() }
+}
+
+/// The longest message and the deadline of an FDDI station that has the share.
+fn fddi_message(
+    random: &mut Random,
+    rotation: &Rotation,
+    share: u32,
+    deadline: fn(&mut Random, u32) -> u32,
+) -> (u32, u32) {
+    let deadline = fddi_deadline(random, rotation, share, deadline);
+    let before = u64::from(rotation.before);
+    let carried = |s| fddi_least_time(rotation.ttrt, deadline, s, before);
+    (longest(random, share, carried), deadline)
 }
 
 /// The smallest plan of a feasible set.
@@ -128,17 +174,58 @@ pub fn smallest_plan(request: &Request) -> Plan {
 }
 
 /// A feasible set with all spare time walked away, and `over` ticks more.
-pub fn tight(random: &mut Random, over: u32) -> Request {
-    let mut request = feasible(random);
-    let spare = smallest_plan(&request).spare().expect("a plan keeps the token rule");
+pub fn tight(random: &mut Random, mode: Mode, over: u32) -> Request {
+    let mut request = feasible(random, mode);
+    let spare = smallest_plan(&request).spare().expect("a plan keeps the token rule") as u32;
     let index = random.index(request.stations.len());
-    request.stations[index].walk += spare as u32 + over;
+    let more = match mode {
+        Mode::Timely => spare,
+        Mode::Fddi => most_walk(&request, index, spare),
+    };
+    request.stations[index].walk += more + over;
     request
 }
 
+/// The most ticks, up to the spare ones, that a station may walk beside its own and leave a plan: in
+/// FDDI each S may rise with the walk.
+fn most_walk(request: &Request, index: usize, spare: u32) -> u32 {
+    let feasible = |more: u32| {
+        let mut request = request.clone();
+        request.stations[index].walk += more;
+        planner::plan(&request, Planted::Nothing).is_ok()
+    };
+    let (mut low, mut high) = (0, spare);
+    while low < high {
+        let middle = (low + high).div_ceil(2);
+        if feasible(middle) {
+            low = middle;
+        } else {
+            high = middle - 1;
+        }
+    }
+    low
+}
+
+/// A set of FDDI in which each station's S rises with every other's, by little at a time: the
+/// deadlines are of about as many rotations as there are stations.
+fn climbing(random: &mut Random) -> Request {
+    let ttrt = random.between32(20, 5_000);
+    let count = random.index(7) + 2;
+    let walk_sum = random.between32(1, ttrt / 8);
+    let rotations = count as u32 + random.between32(0, 1);
+    let walks = random.split(walk_sum, count);
+    let station = |&walk: &u32| {
+        let rest = random.between32(0, ttrt - 1);
+        let deadline = (rotations + random.pick(&[0, 0, 1])) * ttrt + rest;
+        let longest = (rest + random.between32(0, ttrt / 4)).saturating_sub(walk_sum);
+        Station { walk, longest, deadline, gap: deadline }
+    };
+    Request { head: Head::new(ttrt, Mode::Fddi), stations: walks.iter().map(station).collect() }
+}
+
 /// A tight set with one message longer by one tick; most often impossible by one tick.
-fn longer_by_one(random: &mut Random) -> Request {
-    let mut request = tight(random, 0);
+fn longer_by_one(random: &mut Random, mode: Mode) -> Request {
+    let mut request = tight(random, mode, 0);
     let index = random.index(request.stations.len());
     let station = &mut request.stations[index];
     station.longest = (station.longest + 1).min(MOST_TICKS);
@@ -146,8 +233,8 @@ fn longer_by_one(random: &mut Random) -> Request {
 }
 
 /// Numbers in range, without regard to the rules.
-fn wild(random: &mut Random) -> Request {
-    let mut request = feasible(random);
+fn wild(random: &mut Random, mode: Mode) -> Request {
+    let mut request = feasible(random, mode);
     for station in &mut request.stations {
         station.longest = random.between32(0, MOST_TICKS);
         station.deadline = random.between32(1, MOST_TICKS);
@@ -157,42 +244,50 @@ fn wild(random: &mut Random) -> Request {
 }
 
 /// A set in range, of any of these kinds.
-pub fn request(random: &mut Random) -> Request {
+pub fn request(random: &mut Random, mode: Mode) -> Request {
     match random.between(0, 9) {
-        0 => tight(random, 0),
-        1 => tight(random, 1),
-        2 => longer_by_one(random),
-        3 => wild(random),
-        _ => feasible(random),
+        0 => tight(random, mode, 0),
+        1 => tight(random, mode, 1),
+        2 => longer_by_one(random, mode),
+        3 => wild(random, mode),
+        4 | 5 if mode == Mode::Fddi => climbing(random),
+        _ => feasible(random, mode),
     }
 }
 
 /// The smallest plan of a feasible set, or one with some of the spare time given away.
-pub fn sound_plan(random: &mut Random) -> Plan {
-    let request = feasible(random);
+pub fn sound_plan(random: &mut Random, mode: Mode) -> Plan {
+    let request = feasible(random, mode);
     generous_plan(random, &request)
 }
 
 /// The same of a set that suits a run of a few hundred calls.
-pub fn plan_to_run(random: &mut Random) -> Plan {
-    let request = if random.once_in(8) { feasible(random) } else { lively(random) };
+pub fn plan_to_run(random: &mut Random, mode: Mode) -> Plan {
+    let request = if random.once_in(8) { feasible(random, mode) } else { lively(random, mode) };
     generous_plan(random, &request)
 }
 
 fn generous_plan(random: &mut Random, request: &Request) -> Plan {
-    let mut plan = smallest_plan(request);
-    if random.once_in(3) {
-        let spare = plan.spare().expect("a plan keeps the token rule") as u32;
-        let given = random.between32(0, spare);
-        let extra = random.split(given, plan.allocation.len());
-        plan.allocation.iter_mut().zip(extra).for_each(|(s, more)| *s += more);
+    let smallest = smallest_plan(request);
+    if !random.once_in(3) {
+        return smallest;
     }
-    plan
+    let mut plan = smallest.clone();
+    let spare = plan.spare().expect("a plan keeps the token rule") as u32;
+    let given = random.between32(0, spare);
+    let extra = random.split(given, plan.allocation.len());
+    plan.allocation.iter_mut().zip(extra).for_each(|(s, more)| *s += more);
+    // In FDDI what one station gets may be missing at another.
+    if plan.judge().is_ok() {
+        plan
+    } else {
+        smallest
+    }
 }
 
 /// A plan in range, now and then with one S too small by a tick, or too large by one.
-pub fn plan(random: &mut Random) -> Plan {
-    let mut plan = sound_plan(random);
+pub fn plan(random: &mut Random, mode: Mode) -> Plan {
+    let mut plan = sound_plan(random, mode);
     let index = random.index(plan.allocation.len());
     match random.between(0, 9) {
         0 => plan.allocation[index] = plan.allocation[index].saturating_sub(1),
@@ -207,7 +302,7 @@ pub fn plan(random: &mut Random) -> Plan {
 
 /// Every number of the plan in turn at the ends of its range, and one past them.
 pub fn at_edges(plan: &Plan) -> Vec<Plan> {
-    let mut edges = ttrt_edges(plan);
+    let mut edges = head_edges(plan);
     for index in 0..plan.allocation.len() {
         edges.extend(station_edges(plan, index));
     }
@@ -220,11 +315,16 @@ fn changed(plan: &Plan, change: impl FnOnce(&mut Plan)) -> Plan {
     plan
 }
 
-fn ttrt_edges(plan: &Plan) -> Vec<Plan> {
+fn head_edges(plan: &Plan) -> Vec<Plan> {
     let walk_sum = plan.request.walk_sum() as u32;
     let values = [0, 1, walk_sum - 1, walk_sum, 1_000_000, 1_000_001, u32::MAX];
-    let edge = |&value| changed(plan, |plan| plan.request.ttrt = value);
-    values.iter().map(edge).collect()
+    let edge = |&value| changed(plan, |plan| plan.request.head.ttrt = value);
+    let mut edges: Vec<Plan> = values.iter().map(edge).collect();
+    if plan.request.mode() == Mode::Fddi {
+        let edge = |mode| changed(plan, |plan| plan.request.head.mode = mode);
+        edges.extend([0, 1, 3, 255, 256, 258, u32::MAX].map(edge));
+    }
+    edges
 }
 
 fn station_edges(plan: &Plan, index: usize) -> Vec<Plan> {
@@ -264,27 +364,27 @@ fn longest_times(plan: &mut Plan, index: usize) {
 
 /// TTRT and one walk time at the top, the only way to have such a walk time.
 fn one_long_walk(plan: &mut Plan, index: usize) {
-    plan.request.ttrt = 1_000_000;
+    plan.request.head.ttrt = 1_000_000;
     plan.request.stations.iter_mut().for_each(|station| station.walk = 0);
     plan.request.stations[index].walk = 1_000_000;
 }
 
 /// A small plan, to be damaged at every place.
-pub fn small_plan(random: &mut Random) -> Plan {
-    let ttrt = rotation_target(random);
+pub fn small_plan(random: &mut Random, mode: Mode) -> Plan {
+    let head = Head::new(rotation_target(random), mode);
     let count = random.index(3) + 1;
-    smallest_plan(&feasible_of(random, ttrt, count, deadline))
+    smallest_plan(&feasible_of(random, head, count, deadline))
 }
 
 /// A plan with any of its numbers at an edge.
-pub fn plan_at_edge(random: &mut Random) -> Plan {
-    let edges = at_edges(&small_plan(random));
+pub fn plan_at_edge(random: &mut Random, mode: Mode) -> Plan {
+    let edges = at_edges(&small_plan(random, mode));
     random.pick(&edges)
 }
 
 /// A plan of any kind, in range or not, now and then of a wrong count of stations.
-pub fn any_plan(random: &mut Random) -> Plan {
-    let mut plan = if random.once_in(3) { plan_at_edge(random) } else { plan(random) };
+pub fn any_plan(random: &mut Random, mode: Mode) -> Plan {
+    let mut plan = if random.once_in(3) { plan_at_edge(random, mode) } else { plan(random, mode) };
     if random.once_in(10) {
         let count = random.pick(&[0, MOST_STATIONS + 1, MOST_STATIONS + 2]);
         plan.request.stations.resize(count, plan.request.stations[0]);

@@ -2,8 +2,8 @@
 
 use super::random::Random;
 use super::sets;
-use crate::rules::Plan;
-use crate::sheet::fields;
+use crate::rules::{Mode, Plan};
+use crate::sheet::{fields, mode_field, STATION_TAG};
 
 const TAGS: [u8; 7] = [0, 1, 2, 3, 4, 254, 255];
 
@@ -20,28 +20,48 @@ fn fields_of(kind: SheetKind, plan: &Plan) -> Vec<Vec<u8>> {
     }
 }
 
-fn sound_fields(random: &mut Random, kind: SheetKind) -> Vec<Vec<u8>> {
+fn sound_fields(random: &mut Random, kind: SheetKind, mode: Mode) -> Vec<Vec<u8>> {
     match kind {
-        SheetKind::Request => fields(&sets::request(random), &[]),
-        SheetKind::Plan => fields_of(kind, &sets::plan(random)),
+        SheetKind::Request => fields(&sets::request(random, mode), &[]),
+        SheetKind::Plan => fields_of(kind, &sets::plan(random, mode)),
     }
 }
 
 /// A sheet: sound, with a number at an edge, or damaged once or twice.
-pub fn sheet(random: &mut Random, kind: SheetKind) -> Vec<u8> {
+pub fn sheet(random: &mut Random, kind: SheetKind, mode: Mode) -> Vec<u8> {
     match random.between(0, 9) {
-        0..=3 => sound_fields(random, kind).concat(),
-        4 => fields_of(kind, &sets::plan_at_edge(random)).concat(),
+        0..=3 => sound_fields(random, kind, mode).concat(),
+        4 => fields_of(kind, &sets::plan_at_edge(random, mode)).concat(),
         5 => {
-            let fields = sound_fields(random, kind);
+            let fields = sound_fields(random, kind, mode);
             let once = damaged(random, fields);
             damaged_bytes(random, once)
         }
+        6 if mode == Mode::Fddi => {
+            let fields = sound_fields(random, kind, mode);
+            damaged_mode(random, fields).concat()
+        }
         _ => {
-            let fields = sound_fields(random, kind);
+            let fields = sound_fields(random, kind, mode);
             damaged(random, fields)
         }
     }
+}
+
+/// The mode's field, which is the second, with another value or length, elsewhere, or twice.
+fn damaged_mode(random: &mut Random, mut fields: Vec<Vec<u8>>) -> Vec<Vec<u8>> {
+    let mode = random.pick(&[0, 1, 2, 3, 255]);
+    let elsewhere = random.index(fields.len() + 1);
+    match random.between(0, 3) {
+        0 => fields[1] = mode_field(random.pick(&[0, 1, 3, 4, 255])),
+        1 => fields[1] = [vec![4, 0, random.pick(&[0, 2, 4])], vec![mode; 4]].concat(),
+        2 => fields.insert(elsewhere, mode_field(mode)),
+        _ => {
+            let moved = fields.remove(1);
+            fields.insert(elsewhere.min(fields.len()), moved);
+        }
+    }
+    fields
 }
 
 fn damaged(random: &mut Random, fields: Vec<Vec<u8>>) -> Vec<u8> {
@@ -66,12 +86,13 @@ fn damaged_fields(random: &mut Random, mut fields: Vec<Vec<u8>>) -> Vec<Vec<u8>>
     fields
 }
 
-/// The second field again and again, to 127, 128 or 129 fields of it or beyond.
+/// The first station again and again, to 127, 128 or 129 fields of it or beyond.
 fn many_stations(random: &mut Random, fields: &[Vec<u8>]) -> Vec<Vec<u8>> {
     let times = random.between(124, 130) as usize;
-    let mut many = vec![fields[0].clone()];
-    many.extend(vec![fields[1].clone(); times]);
-    many.extend_from_slice(&fields[2..]);
+    let first = if fields[1][0] == STATION_TAG { 1 } else { 2 };
+    let mut many = fields[..first].to_vec();
+    many.extend(vec![fields[first].clone(); times]);
+    many.extend_from_slice(&fields[first + 1..]);
     many
 }
 
@@ -93,13 +114,16 @@ fn damaged_bytes(random: &mut Random, mut bytes: Vec<u8>) -> Vec<u8> {
 }
 
 /// A small sheet damaged in every way in turn, each at every place.
-pub fn every_damage(random: &mut Random, kind: SheetKind) -> Vec<Vec<u8>> {
-    let plan = sets::small_plan(random);
+pub fn every_damage(random: &mut Random, kind: SheetKind, mode: Mode) -> Vec<Vec<u8>> {
+    let plan = sets::small_plan(random, mode);
     let fields = fields_of(kind, &plan);
     let whole = fields.concat();
     let mut sheets: Vec<Vec<u8>> = (0..=whole.len()).map(|cut| whole[..cut].to_vec()).collect();
     sheets.extend(every_byte_changed(random, &whole));
     sheets.extend(every_field_damaged(&fields));
+    if mode == Mode::Fddi {
+        sheets.extend(every_mode_damaged(&fields));
+    }
     sheets.extend([0, 1, 3, 255].map(|byte| [&whole[..], &[byte]].concat()));
     sheets.extend(sets::at_edges(&plan).iter().map(|plan| fields_of(kind, plan).concat()));
     sheets
@@ -113,6 +137,20 @@ fn every_byte_changed(random: &mut Random, whole: &[u8]) -> Vec<Vec<u8>> {
             sheet[index] = value;
             sheets.push(sheet);
         }
+    }
+    sheets
+}
+
+/// Every value of the mode's field, and the field at every place, alone and as a second one.
+fn every_mode_damaged(fields: &[Vec<u8>]) -> Vec<Vec<u8>> {
+    let others = [&fields[..1], &fields[2..]].concat();
+    let with = |fields: &[Vec<u8>], at: usize, mode: u8| {
+        [&fields[..at], &[mode_field(mode)], &fields[at..]].concat().concat()
+    };
+    let mut sheets: Vec<Vec<u8>> = (0..=255).map(|mode| with(&others, 1, mode)).collect();
+    for mode in [1, 2] {
+        sheets.extend((0..=others.len()).map(|at| with(&others, at, mode)));
+        sheets.extend((0..=fields.len()).map(|at| with(fields, at, mode)));
     }
     sheets
 }

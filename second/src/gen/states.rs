@@ -3,23 +3,26 @@
 use super::random::Random;
 use super::sets;
 use crate::ring::{Message, StationNumber};
-use crate::rules::{Plan, LAST_TIME};
-use crate::state::{Place, State, LAST_CLOCK, VISITS_END};
+use crate::rules::{Mode, Plan, LAST_TIME};
+use crate::state::{Place, State, LAST_CLOCK, MOST_LATE, VISITS_END};
 use crate::text::Call;
 
+/// Most states have a u of 32 bits.
+const LAST_UNUSED: u64 = u32::MAX as u64;
+
 /// A state, and one to three calls.
-pub fn state_with_calls(random: &mut Random) -> (State, Vec<Call>) {
-    let mut state = state(random);
+pub fn state_with_calls(random: &mut Random, mode: Mode) -> (State, Vec<Call>) {
+    let mut state = state(random, mode);
     add_histories(random, &mut state);
     let calls = (0..random.between(1, 3)).map(|_| call(random, &state)).collect();
     (state, calls)
 }
 
 /// A sound state of a ring in which messages take few visits, and one to six calls.
-pub fn sound_with_calls(random: &mut Random) -> (State, Vec<Call>) {
-    let plan = sets::plan_to_run(random);
-    let mut state = state_of(random, plan);
-    let ttrt = u64::from(state.plan.request.ttrt);
+pub fn sound_with_calls(random: &mut Random, mode: Mode) -> (State, Vec<Call>) {
+    let plan = sets::plan_to_run(random, mode);
+    let mut state = state_of(random, plan, mode);
+    let ttrt = u64::from(state.plan.request.head.ttrt);
     if random.once_in(8) {
         state.clock = random.pick(&[LAST_TIME - ttrt, LAST_TIME, LAST_TIME + 1, LAST_CLOCK]);
     }
@@ -65,7 +68,7 @@ fn call(random: &mut Random, state: &State) -> Call {
 }
 
 fn ask(random: &mut Random, state: &State) -> u32 {
-    let asked = random.between32(0, state.plan.request.ttrt);
+    let asked = random.between32(0, state.plan.request.head.ttrt);
     random.pick(&[0, 1, asked, u32::MAX])
 }
 
@@ -121,35 +124,42 @@ fn spoil(random: &mut Random, state: &State, message: &mut Message) {
 }
 
 /// A state, sound unless its plan is not, and then often with one or two numbers at an edge.
-fn state(random: &mut Random) -> State {
-    let plan = if random.once_in(4) { sets::any_plan(random) } else { sets::sound_plan(random) };
-    let mut state = state_of(random, plan);
+fn state(random: &mut Random, mode: Mode) -> State {
+    let any = random.once_in(4);
+    let plan = if any { sets::any_plan(random, mode) } else { sets::sound_plan(random, mode) };
+    let mut state = state_of(random, plan, mode);
     if !random.once_in(4) {
         for _ in 0..random.between(1, 2) {
-            edge(random, &mut state);
+            edge(random, mode, &mut state);
         }
     }
     state
 }
 
-fn state_of(random: &mut Random, plan: Plan) -> State {
+fn state_of(random: &mut Random, plan: Plan, mode: Mode) -> State {
     let places: Vec<Place> =
-        (0..plan.allocation.len()).map(|index| place(random, &plan, index)).collect();
+        (0..plan.allocation.len()).map(|index| place(random, &plan, index, mode)).collect();
     let sent: u64 = places.iter().map(|place| u64::from(place.sent)).sum();
     State {
         clock: random.between(0, LAST_TIME),
         token: random.between32(0, places.len().saturating_sub(1) as u32),
         visits: random.between(0, VISITS_END - 1),
-        unused: (plan.allocated() - sent).min(u64::from(u32::MAX)) as u32,
+        unused: (plan.allocated() - sent).min(LAST_UNUSED),
         plan,
         places,
     }
 }
 
-fn place(random: &mut Random, plan: &Plan, index: usize) -> Place {
+fn place(random: &mut Random, plan: &Plan, index: usize, mode: Mode) -> Place {
     let longest = plan.request.stations[index].longest;
+    let ttrt = plan.request.head.ttrt;
+    let (trt, late) = match mode {
+        Mode::Timely => (random.between32(0, ttrt), 0),
+        Mode::Fddi => fddi_timer(random, ttrt),
+    };
     Place {
-        trt: random.between32(0, plan.request.ttrt),
+        trt,
+        late,
         sent: random.between32(0, plan.allocation[index]),
         remaining: if random.once_in(2) { random.between32(0, longest) } else { 0 },
         arrival: random.between(0, LAST_TIME),
@@ -157,18 +167,26 @@ fn place(random: &mut Random, plan: &Plan, index: usize) -> Place {
     }
 }
 
+/// A sound timer and late count: most counts are 0 or 1, as in a ring that comes from an opening.
+fn fddi_timer(random: &mut Random, ttrt: u32) -> (u32, u32) {
+    let last = ttrt.saturating_sub(1);
+    let timer = if random.once_in(8) { last } else { random.between32(0, last) };
+    (timer, random.pick(&[0, 0, 0, 0, 1, 1, 2, MOST_LATE]))
+}
+
 /// Puts one number at an end of what is sound, or past it.
-fn edge(random: &mut Random, state: &mut State) {
+fn edge(random: &mut Random, mode: Mode, state: &mut State) {
     let count = state.places.len();
     match random.between(0, 6) {
+        4 if mode == Mode::Fddi && random.once_in(2) => mode_edge(random, state),
         0 => {
             let count = count as u32;
             state.token = random.pick(&[count, count.saturating_sub(1), count + 1, u32::MAX]);
         }
         1 => {
             let unused = state.unused;
-            state.unused =
-                random.pick(&[0, unused.saturating_sub(1), unused.saturating_add(1), u32::MAX]);
+            let more = unused.saturating_add(1).min(LAST_UNUSED);
+            state.unused = random.pick(&[0, unused.saturating_sub(1), more, LAST_UNUSED]);
         }
         2 => {
             let clocks = [LAST_TIME, LAST_TIME + 1, LAST_CLOCK, LAST_CLOCK + 1, u64::MAX];
@@ -177,23 +195,37 @@ fn edge(random: &mut Random, state: &mut State) {
         3 => state.visits = random.pick(&[VISITS_END - 1, VISITS_END, u64::MAX]),
         _ if count > 0 => {
             let index = random.index(count);
-            place_edge(random, state, index);
+            place_edge(random, mode, state, index);
         }
         _ => (),
     }
 }
 
-fn place_edge(random: &mut Random, state: &mut State, index: usize) {
-    let ttrt = state.plan.request.ttrt;
+/// A mode that there is not; or the other one, whose rings keep the late counts and look at u, which
+/// may have any number of 64 bits.
+fn mode_edge(random: &mut Random, state: &mut State) {
+    state.plan.request.head.mode = random.pick(&[0, 1, 1, 1, 1, 3, 258, u32::MAX]);
+    let unused = state.unused;
+    state.unused = random.pick(&[unused, unused, unused, unused.saturating_add(1 << 32), u64::MAX]);
+}
+
+fn place_edge(random: &mut Random, mode: Mode, state: &mut State, index: usize) {
+    let ttrt = state.plan.request.head.ttrt;
     let longest = state.plan.request.stations[index].longest;
     let s = state.plan.allocation[index];
     let place = &mut state.places[index];
+    let fddi = mode == Mode::Fddi;
     match random.between(0, 4) {
+        0 if fddi && random.once_in(2) => {
+            place.late = random.pick(&[0, MOST_LATE, MOST_LATE + 1, MOST_LATE + 2, u32::MAX]);
+        }
+        0 if fddi => place.trt = random.pick(&[0, ttrt.saturating_sub(1), ttrt, u32::MAX]),
         0 => place.trt = random.pick(&[0, ttrt, ttrt.saturating_add(1), u32::MAX]),
         1 => {
-            // All else stays as it was: u is moved by what s is.
+            // All else stays as it was: u is moved by what s is, below 0 to the last of 32 bits.
             let sent = random.pick(&[0, s, s.saturating_add(1)]);
-            state.unused = state.unused.wrapping_add(place.sent).wrapping_sub(sent);
+            let unused = (state.unused as u32).wrapping_add(place.sent).wrapping_sub(sent);
+            state.unused = u64::from(unused);
             place.sent = sent;
         }
         2 => place.sent = random.pick(&[0, s, s.saturating_add(1), u32::MAX]),

@@ -3,7 +3,7 @@
 use super::calls;
 use super::random::Random;
 use super::sets;
-use crate::rules::Plan;
+use crate::rules::{Mode, Plan};
 use crate::text::show_stations;
 
 /// Lines that fit nowhere, or not everywhere.
@@ -30,41 +30,55 @@ const STRAY_LINES: [&str; 20] = [
     "message 0 1 18446744073709551616",
 ];
 
+/// The same for texts that have a mode.
+const STRAY_MODES: [&str; 10] = [
+    "mode",
+    "mode 0",
+    "mode 1",
+    "mode 2",
+    "mode 3",
+    "mode 255",
+    "mode 256",
+    "mode 258",
+    "mode 4294967296",
+    "mode 2 2",
+];
+
 /// The text of a request or plan, at times with a stray line or a broken byte.
-pub fn sheet_text(random: &mut Random) -> Vec<u8> {
+pub fn sheet_text(random: &mut Random, mode: Mode) -> Vec<u8> {
     let text = match random.between(0, 5) {
-        0 | 1 => show_stations(&sets::request(random), &[]),
+        0 | 1 => show_stations(&sets::request(random, mode), &[]),
         2 => {
-            let plan = sets::plan_at_edge(random);
+            let plan = sets::plan_at_edge(random, mode);
             let shown = random.pick(&[&plan.allocation[..], &[]]);
             show_stations(&plan.request, shown)
         }
         3 => {
             // Lines of both kinds, unless the allocation has one number only.
-            let plan = sets::plan(random);
+            let plan = sets::plan(random, mode);
             show_stations(&plan.request, &plan.allocation[..1])
         }
         _ => {
-            let plan = sets::plan(random);
+            let plan = sets::plan(random, mode);
             show_stations(&plan.request, &plan.allocation)
         }
     };
-    untidy(random, &text)
+    untidy(random, mode, &text)
 }
 
 /// The plan and the calls of a script as text.
-pub fn script_text(random: &mut Random) -> (Plan, Vec<u8>) {
-    let (plan, calls) = calls::script(random);
+pub fn script_text(random: &mut Random, mode: Mode) -> (Plan, Vec<u8>) {
+    let (plan, calls) = calls::script(random, mode);
     let text: String = calls.iter().map(|call| format!("{call}\n")).collect();
-    (plan, untidy(random, &text))
+    (plan, untidy(random, mode, &text))
 }
 
 /// The text with blanks, comments and stray lines put in, and now and then a byte changed.
-fn untidy(random: &mut Random, text: &str) -> Vec<u8> {
+fn untidy(random: &mut Random, mode: Mode, text: &str) -> Vec<u8> {
     let mut lines: Vec<String> = text.lines().map(str::to_string).collect();
     for _ in 0..random.between(0, 4) {
         let index = random.index(lines.len());
-        put_in(random, &mut lines, index);
+        put_in(random, mode, &mut lines, index);
     }
     let mut bytes = lines.join("\n").into_bytes();
     if !random.once_in(4) {
@@ -77,7 +91,7 @@ fn untidy(random: &mut Random, text: &str) -> Vec<u8> {
     bytes
 }
 
-fn put_in(random: &mut Random, lines: &mut Vec<String>, index: usize) {
+fn put_in(random: &mut Random, mode: Mode, lines: &mut Vec<String>, index: usize) {
     match random.between(0, 7) {
         0 => lines.insert(index, String::new()),
         1 => lines.insert(index, " \t# a comment: ttrt 5".to_string()),
@@ -85,6 +99,9 @@ fn put_in(random: &mut Random, lines: &mut Vec<String>, index: usize) {
         3 => lines[index] = format!("  {} ", lines[index].replace(' ', "  ")),
         4 => lines[index] = lines[index].replace(' ', "\t") + "\r",
         5 => lines[index] = lines[index].replace(' ', " 00"),
+        6 if mode == Mode::Fddi && random.once_in(2) => {
+            lines.insert(random.pick(&[0, 1, 2, index + 1]), random.pick(&STRAY_MODES).to_string());
+        }
         6 => lines.insert(index + 1, random.pick(&STRAY_LINES).to_string()),
         _ => drop(lines.remove(index)),
     }

@@ -1,15 +1,15 @@
-use crate::station;
+use crate::{station, timely};
 use second::gen::{random::Random, sets};
 use second::planner;
 use second::planted::Planted;
-use second::rules::{least_time, Plan, Refusal, Request};
+use second::rules::{least_time, Mode, Plan, Refusal, Request};
 
 fn plan(request: &Request) -> Result<Plan, Refusal> {
     planner::plan(request, Planted::Nothing)
 }
 
 fn lone(ttrt: u32, walk: u32, deadline: u32, longest: u32) -> Request {
-    Request { ttrt, stations: vec![station(walk, longest, deadline, deadline)] }
+    Request { head: timely(ttrt), stations: vec![station(walk, longest, deadline, deadline)] }
 }
 
 /// S of a lone station, wherever the token rule allows it.
@@ -36,7 +36,8 @@ fn the_table_at_ttrt_100() {
 
 #[test]
 fn two_stations_fit_exactly_and_then_not() {
-    let pair = |longest| Request { ttrt: 100, stations: vec![station(1, longest, 60, 60); 2] };
+    let pair =
+        |longest| Request { head: timely(100), stations: vec![station(1, longest, 60, 60); 2] };
     let fits = plan(&pair(9)).expect("feasible");
     assert_eq!((fits.allocation.clone(), fits.spare()), (vec![49, 49], Some(0)));
     assert_eq!(plan(&pair(10)), Err(Refusal::NoAllocation));
@@ -68,7 +69,7 @@ fn the_search_finds_what_trying_every_s_finds() {
 #[test]
 fn every_s_of_a_plan_is_the_smallest() {
     for place in 0..1_000 {
-        let request = sets::feasible(&mut Random::of_case(8, place));
+        let request = sets::feasible(&mut Random::of_case(8, place), Mode::Timely);
         let smallest = plan(&request).expect("feasible");
         assert_eq!(smallest.judge(), Ok(()));
         for index in 0..smallest.allocation.len() {
@@ -104,9 +105,9 @@ fn with(change: impl FnOnce(&mut Plan)) -> u8 {
 
 #[test]
 fn ranges_at_both_ends_and_one_past() {
-    assert_eq!(with(|plan| plan.request.ttrt = 0), 4);
-    assert_eq!(with(|plan| plan.request.ttrt = 1_000_000), 7);
-    assert_eq!(with(|plan| plan.request.ttrt = 1_000_001), 4);
+    assert_eq!(with(|plan| plan.request.head.ttrt = 0), 4);
+    assert_eq!(with(|plan| plan.request.head.ttrt = 1_000_000), 7);
+    assert_eq!(with(|plan| plan.request.head.ttrt = 1_000_001), 4);
     assert_eq!(with(|plan| plan.request.stations[0].walk = 1_000_000), 5);
     assert_eq!(with(|plan| plan.request.stations[0].walk = 1_000_001), 4);
     assert_eq!(with(|plan| plan.request.stations[0].longest = 0), 0);
@@ -132,13 +133,14 @@ fn walk_sum_and_counts() {
     assert_eq!(with(|plan| plan.request.stations[0].walk = 101), 5);
     assert_eq!(with(|plan| plan.allocation.push(0)), 2);
     assert_eq!(with(|plan| plan.request.stations.clear()), 2);
-    let many = |count| Request { ttrt: 200, stations: vec![station(1, 0, 1, 1); count] }.judge();
+    let many =
+        |count| Request { head: timely(200), stations: vec![station(1, 0, 1, 1); count] }.judge();
     assert_eq!(many(128), Ok(()));
     assert_eq!(many(129), Err(Refusal::WrongField));
 }
 
 #[test]
 fn the_lowest_number_is_given() {
-    assert_eq!(with(|plan| (plan.request.ttrt, plan.allocation[0]) = (1, 1_000_001)), 4);
-    assert_eq!(with(|plan| (plan.request.ttrt, plan.allocation[0]) = (1, 0)), 5);
+    assert_eq!(with(|plan| (plan.request.head.ttrt, plan.allocation[0]) = (1, 1_000_001)), 4);
+    assert_eq!(with(|plan| (plan.request.head.ttrt, plan.allocation[0]) = (1, 0)), 5);
 }

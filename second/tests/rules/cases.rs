@@ -4,6 +4,7 @@ use crate::{worked_plan, worked_request};
 use second::frames::{answer, from_hex, show_set, to_hex, NO_CASE};
 use second::gen::{write_cases, Kind};
 use second::planted::Planted;
+use second::rules::Mode;
 use second::sheet::fields;
 
 fn answered(case: &str) -> String {
@@ -111,7 +112,7 @@ fn hex() {
     assert_eq!((to_hex(&[]), from_hex("-")), ("-".to_string(), Some(vec![])));
 }
 
-fn cases(kind: Kind, seed: u64, count: u64) -> Vec<String> {
+fn cases(kind: (Kind, Mode), seed: u64, count: u64) -> Vec<String> {
     let mut bytes = vec![];
     write_cases(kind, seed, count, &mut bytes).expect("room in memory");
     String::from_utf8(bytes).expect("text").lines().map(str::to_string).collect()
@@ -120,17 +121,21 @@ fn cases(kind: Kind, seed: u64, count: u64) -> Vec<String> {
 #[test]
 fn every_case_is_framed_and_comes_again_from_its_seed() {
     for kind in Kind::ALL.into_iter().filter(|&kind| kind != Kind::Late) {
-        let made = cases(kind, 3, 40);
-        assert!(made.len() >= 40);
-        assert!(made.iter().all(|case| answered(case) != NO_CASE), "{}", kind.name());
-        assert_eq!(made, cases(kind, 3, 40));
-        assert_ne!(made, cases(kind, 4, 40));
-        assert_eq!(Kind::from_name(kind.name()), Some(kind));
+        for (mode, name) in [(Mode::Timely, ""), (Mode::Fddi, "fddi-")] {
+            let kind = (kind, mode);
+            let made = cases(kind, 3, 40);
+            let name = format!("{name}{}", kind.0.name());
+            assert!(made.len() >= 40);
+            assert!(made.iter().all(|case| answered(case) != NO_CASE), "{name}");
+            assert_eq!(made, cases(kind, 3, 40));
+            assert_ne!(made, cases(kind, 4, 40));
+            assert_eq!(Kind::from_name(&name), Some(kind));
+        }
     }
 }
 
 /// The numbers that begin the answers to a kind's cases, each once, in order.
-fn numbers(kind: Kind, count: u64) -> Vec<u8> {
+fn numbers(kind: (Kind, Mode), count: u64) -> Vec<u8> {
     let first = |case: &String| {
         let answer = answered(case);
         answer.split(' ').next().and_then(|word| word.parse().ok()).expect("a number")
@@ -145,7 +150,7 @@ fn each_once(mut numbers: Vec<u8>) -> Vec<u8> {
 }
 
 /// The numbers that the calls of a kind's cases are refused with, and 0 for an accepted call.
-fn numbers_of_calls(kind: Kind, count: u64) -> Vec<u8> {
+fn numbers_of_calls(kind: (Kind, Mode), count: u64) -> Vec<u8> {
     let of_calls = |case: &String| -> Vec<u8> {
         let said = answered(case);
         let calls = &said[..said.rfind('|').expect("a call")];
@@ -158,35 +163,40 @@ fn numbers_of_calls(kind: Kind, count: u64) -> Vec<u8> {
 
 #[test]
 fn every_number_of_a_kind_is_reached() {
-    assert_eq!(numbers(Kind::Requests, 600), [0, 1, 2, 3, 4, 5]);
-    assert_eq!(numbers(Kind::Plans, 600), [0, 1, 2, 3, 4, 5, 7]);
-    assert_eq!(numbers(Kind::Edges, 3), [0, 1, 2, 3, 4, 5, 7]);
-    assert_eq!(numbers(Kind::Planning, 600), [0, 2, 4, 5, 6]);
-    assert_eq!(numbers(Kind::Writing, 600), [0, 2, 4, 5, 7, 14]);
-    assert_eq!(numbers(Kind::Openings, 600), [0, 2, 4, 5, 7]);
-    for kind in [Kind::States, Kind::Steps] {
-        assert_eq!(numbers_of_calls(kind, 2_000), [0, 8, 9, 10, 11, 12, 13]);
+    for mode in Mode::ALL {
+        assert_eq!(numbers((Kind::Requests, mode), 600), [0, 1, 2, 3, 4, 5]);
+        assert_eq!(numbers((Kind::Plans, mode), 600), [0, 1, 2, 3, 4, 5, 7]);
+        assert_eq!(numbers((Kind::Edges, mode), 3), [0, 1, 2, 3, 4, 5, 7]);
+        assert_eq!(numbers((Kind::Planning, mode), 600), [0, 2, 4, 5, 6]);
+        assert_eq!(numbers((Kind::Writing, mode), 600), [0, 2, 4, 5, 7, 14]);
+        assert_eq!(numbers((Kind::Openings, mode), 600), [0, 2, 4, 5, 7]);
+        for kind in [Kind::States, Kind::Steps] {
+            assert_eq!(numbers_of_calls((kind, mode), 2_000), [0, 8, 9, 10, 11, 12, 13]);
+        }
     }
 }
 
 #[test]
 fn the_empty_text_is_among_the_commands() {
-    let made = cases(Kind::Commands, 7, 2_000);
+    let made = cases((Kind::Commands, Mode::Timely), 7, 2_000);
     assert!(made.iter().any(|case| case == "command compose;-"));
 }
 
 #[test]
 fn accepted_sheets_are_written_again_the_same() {
     for (kind, name) in [(Kind::Requests, "request"), (Kind::Plans, "plan")] {
-        for case in cases(kind, 21, 500) {
-            let sheet = case.split(' ').nth(1).expect("a sheet");
-            if let Some(read) = answered(&case).strip_prefix("0 ") {
-                let set = read.split_once(' ').expect("a count").1;
-                let written = answered(&format!("write-{name} 4000;{set}"));
-                assert_eq!(written, format!("0 {sheet}"));
-                shown_and_composed(sheet);
-            }
-        }
+        let both = Mode::ALL.map(|mode| cases((kind, mode), 21, 500));
+        both.concat().iter().for_each(|case| written_again(name, case));
+    }
+}
+
+fn written_again(name: &str, case: &str) {
+    let sheet = case.split(' ').nth(1).expect("a sheet");
+    if let Some(read) = answered(case).strip_prefix("0 ") {
+        let set = read.split_once(' ').expect("a count").1;
+        let written = answered(&format!("write-{name} 4000;{set}"));
+        assert_eq!(written, format!("0 {sheet}"));
+        shown_and_composed(sheet);
     }
 }
 
@@ -201,7 +211,7 @@ fn feasible_and_impossible_by_one_tick() {
     use second::gen::{random::Random, sets};
     for place in 0..500 {
         let planned = |over| {
-            let request = sets::tight(&mut Random::of_case(5, place), over);
+            let request = sets::tight(&mut Random::of_case(5, place), Mode::Timely, over);
             answered(&format!("planning {}", show_set(&request, &[])))
         };
         let exact = planned(0);
@@ -210,4 +220,19 @@ fn feasible_and_impossible_by_one_tick() {
         let impossible = if list.contains(|digit| digit > '0') { &["6"][..] } else { &["4", "5"] };
         assert!(impossible.contains(&&*planned(1)), "{list}");
     }
+}
+
+#[test]
+fn fddi_sets_that_one_tick_of_walking_makes_impossible() {
+    use second::gen::{random::Random, sets};
+    let mut impossible = 0;
+    for place in 0..500 {
+        let planned = |over| {
+            let request = sets::tight(&mut Random::of_case(5, place), Mode::Fddi, over);
+            answered(&format!("planning {}", show_set(&request, &[])))
+        };
+        assert!(planned(0).starts_with("0 "));
+        impossible += usize::from(planned(1) == "6");
+    }
+    assert!(impossible > 250, "{impossible}");
 }

@@ -2,6 +2,9 @@
 
 mod allocations;
 mod cases;
+mod fddi_plans;
+mod fddi_rings;
+mod fddi_sheets;
 mod planted;
 mod program;
 mod promises;
@@ -10,8 +13,17 @@ mod sheets;
 mod states;
 mod steps;
 mod texts;
+mod ticks;
 
-use second::rules::{Plan, Request, Station};
+use second::rules::{Head, Mode, Plan, Request, Station};
+
+pub fn timely(ttrt: u32) -> Head {
+    Head::new(ttrt, Mode::Timely)
+}
+
+pub fn fddi(ttrt: u32) -> Head {
+    Head::new(ttrt, Mode::Fddi)
+}
 
 pub fn station(walk: u32, longest: u32, deadline: u32, gap: u32) -> Station {
     Station { walk, longest, deadline, gap }
@@ -20,7 +32,7 @@ pub fn station(walk: u32, longest: u32, deadline: u32, gap: u32) -> Station {
 /// The ring of the worked run.
 pub fn worked_request() -> Request {
     let later = station(0, 20, 100, 100);
-    Request { ttrt: 100, stations: vec![station(2, 20, 100, 100), later, later, later] }
+    Request { head: timely(100), stations: vec![station(2, 20, 100, 100), later, later, later] }
 }
 
 pub fn worked_plan() -> Plan {

@@ -7,15 +7,16 @@ use second::frames::answer;
 use second::gen::{calls, random::Random, Kind};
 use second::planted::Planted;
 use second::ring::Ring;
-use second::rules::{Refusal, LAST_TIME};
+use second::rules::{Mode, Refusal, LAST_TIME};
 use second::text::{Answer, Call};
 use second::waits;
 
-/// How often each answer was given: its number, or 0 for taken and 100 for a completion.
+/// How often each answer was given: its number, or 0 for taken, 100 for a completion and 102 for
+/// one after the deadline.
 type Counts = HashMap<u8, usize>;
 
-fn follow(place: u64, counts: &mut Counts) {
-    let (plan, script) = calls::script(&mut Random::of_case(1, place));
+fn follow(place: u64, mode: Mode, counts: &mut Counts) {
+    let (plan, script) = calls::script(&mut Random::of_case(1, place), mode);
     let ring = Ring::open(&plan, Planted::Nothing).expect("sound");
     let mut ring = WatchedRing::new(ring, Planted::Nothing);
     for call in &script {
@@ -32,6 +33,7 @@ fn follow(place: u64, counts: &mut Counts) {
 fn kind(answer: &Result<Answer, Refusal>) -> u8 {
     match answer {
         Ok(Answer::Taken) => 0,
+        Ok(Answer::Visited(visit)) if visit.completed.is_some_and(|done| done.margin < 0) => 102,
         Ok(Answer::Visited(visit)) if visit.completed.is_some() => 100,
         Ok(Answer::Visited(_)) => 101,
         Err(refusal) => refusal.number(),
@@ -40,12 +42,14 @@ fn kind(answer: &Result<Answer, Refusal>) -> u8 {
 
 #[test]
 fn thousands_of_runs_keep_every_promise() {
-    let mut counts = Counts::new();
-    (0..3_000).for_each(|place| follow(place, &mut counts));
-    for kind in [0, 9, 10, 11, 12, 100, 101] {
-        assert!(counts[&kind] > 1_000, "{kind}: {counts:?}");
+    for mode in Mode::ALL {
+        let mut counts = Counts::new();
+        (0..3_000).for_each(|place| follow(place, mode, &mut counts));
+        for kind in [0, 9, 10, 11, 12, 100, 101] {
+            assert!(counts[&kind] > 1_000, "{mode:?}, {kind}: {counts:?}");
+        }
+        assert_eq!(counts.len(), 7, "{mode:?}: {counts:?}");
     }
-    assert_eq!(counts.len(), 7);
 }
 
 /// What the scripts reach: asks at both ends, margins of 0 or 1, messages ahead of the clock,
@@ -54,7 +58,7 @@ fn thousands_of_runs_keep_every_promise() {
 fn the_scripts_reach_the_edges() {
     let mut reached = [0; 7];
     for place in 0..1_000 {
-        let (plan, script) = calls::script(&mut Random::of_case(2, place));
+        let (plan, script) = calls::script(&mut Random::of_case(2, place), Mode::Timely);
         let mut ring = Ring::open(&plan, Planted::Nothing).expect("sound");
         script.iter().for_each(|call| count_edges(&mut ring, call, &mut reached));
     }
@@ -102,7 +106,8 @@ fn waits_for_asynchronous_time() {
 #[test]
 fn a_clock_at_the_last_time() {
     for place in 0..4 {
-        let case = &Kind::Late.case(1, place)[0];
+        let mode = if place < 2 { Mode::Timely } else { Mode::Fddi };
+        let case = &Kind::Late.case(mode, 1, place)[0];
         let answers = answer(case, Planted::Nothing);
         assert!(answers.contains("|refused 13"), "{answers}");
     }
@@ -113,9 +118,9 @@ fn the_extremes_are_among_the_rings() {
     let mut sizes = HashMap::<usize, usize>::new();
     let (mut shortest, mut no_walk) = (0, 0);
     for place in 0..3_000 {
-        let (plan, _) = calls::script(&mut Random::of_case(1, place));
+        let (plan, _) = calls::script(&mut Random::of_case(1, place), Mode::Timely);
         *sizes.entry(plan.allocation.len()).or_default() += 1;
-        shortest += usize::from(plan.request.ttrt == 1);
+        shortest += usize::from(plan.request.head.ttrt == 1);
         no_walk += usize::from(plan.request.stations.iter().any(|station| station.walk == 0));
     }
     assert!(sizes[&1] > 100 && sizes[&128] > 20 && shortest > 20 && no_walk > 100);

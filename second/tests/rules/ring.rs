@@ -1,4 +1,4 @@
-use crate::{station, worked_plan};
+use crate::{station, timely, worked_plan};
 use second::planted::Planted;
 use second::ring::{Completed, Message, Ring, StationNumber, Ticks, Visit};
 use second::rules::{Plan, Refusal, Request, LAST_TIME};
@@ -20,7 +20,7 @@ fn hand_in(ring: &mut Ring, station: u32, length: u64, arrival: u64) -> u8 {
 
 /// A lone station of TTRT 10, w 2, C 4, D 20, P 30; S is 2 and A* is 6.
 fn lone() -> Ring {
-    let request = Request { ttrt: 10, stations: vec![station(2, 4, 20, 30)] };
+    let request = Request { head: timely(10), stations: vec![station(2, 4, 20, 30)] };
     open(&Plan { request, allocation: vec![2] })
 }
 
@@ -48,7 +48,7 @@ fn the_worked_run() {
 #[test]
 fn the_opening() {
     let stations = vec![station(3, 0, 1, 1), station(0, 9, 100, 100), station(4, 5, 100, 100)];
-    let plan = Plan { request: Request { ttrt: 100, stations }, allocation: vec![7, 9, 5] };
+    let plan = Plan { request: Request { head: timely(100), stations }, allocation: vec![7, 9, 5] };
     let ring = open(&plan);
     assert_eq!((ring.clock(), ring.token(), ring.visits(), ring.unused()), (0, 0, 0, 21));
     assert_eq!([0, 1, 2].map(|index| ring.trt(index)), [7, 4, 4]);
@@ -107,7 +107,7 @@ fn an_arrival_is_later_than_the_last_start() {
 #[test]
 fn before_its_first_visit_a_station_takes_any_arrival() {
     let stations = vec![station(1, 4, 20, 20), station(0, 4, 20, 20)];
-    let request = Request { ttrt: 10, stations };
+    let request = Request { head: timely(10), stations };
     let mut ring = open(&Plan { request, allocation: vec![2, 2] });
     ring.visit(0).expect("in time");
     assert_eq!(ring.clock(), 1);
@@ -133,7 +133,7 @@ fn a_message_ahead_of_the_clock_waits() {
 
 #[test]
 fn the_last_time_at_which_a_visit_may_start() {
-    let request = Request { ttrt: 1_000_000, stations: vec![station(1_000_000, 0, 1, 1)] };
+    let request = Request { head: timely(1_000_000), stations: vec![station(1_000_000, 0, 1, 1)] };
     let mut ring = open(&Plan { request, allocation: vec![0] });
     for _ in 0..1_000_000 {
         ring.visit(0).expect("in time");

@@ -1,4 +1,4 @@
-use crate::{station, worked_plan, worked_request};
+use crate::{station, timely, worked_plan, worked_request};
 use second::rules::{Plan, Refusal, Request};
 use second::sheet::*;
 
@@ -28,7 +28,7 @@ fn changed(sheet: &[u8], index: usize, byte: u8) -> Vec<u8> {
 
 #[test]
 fn the_layout() {
-    let lone = Request { ttrt: 100, stations: vec![station(2, 20, 250, 0x0102_0304)] };
+    let lone = Request { head: timely(100), stations: vec![station(2, 20, 250, 0x0102_0304)] };
     assert_eq!(write_request(&lone, ROOM), {
         let mut bytes = vec![1, 0, 4, 0, 0, 0, 100, 2, 0, 16, 0, 0, 0, 2, 0, 0, 0, 20];
         bytes.extend([0, 0, 0, 250, 1, 2, 3, 4, 255, 0, 0]);
@@ -41,7 +41,7 @@ fn the_layout() {
 
 #[test]
 fn lengths() {
-    let many = |count| Request { ttrt: 200, stations: vec![station(1, 0, 1, 1); count] };
+    let many = |count| Request { head: timely(200), stations: vec![station(1, 0, 1, 1); count] };
     for (count, length) in [(1, 29), (128, 2_442)] {
         assert_eq!(write_request(&many(count), ROOM).expect("sound").len(), length);
         let plan = Plan { request: many(count), allocation: vec![0; count] };
@@ -87,7 +87,7 @@ fn a_wrong_head_comes_before_a_body_cut_short() {
 
 #[test]
 fn counts_of_stations_and_allocations() {
-    let many = |count| Request { ttrt: 200, stations: vec![station(1, 0, 1, 1); count] };
+    let many = |count| Request { head: timely(200), stations: vec![station(1, 0, 1, 1); count] };
     let request = |count| request_number(&fields(&many(count), &[]).concat());
     assert_eq!([0, 1, 128, 129].map(request), [2, 0, 0, 2]);
     let plan = |count, given: usize| plan_number(&fields(&many(count), &vec![0; given]).concat());
@@ -115,7 +115,7 @@ fn the_kinds_are_not_taken_for_each_other() {
 #[test]
 fn faults_of_the_layout_come_before_numbers() {
     let mut request = worked_request();
-    request.ttrt = 0;
+    request.head.ttrt = 0;
     let sheet = fields(&request, &[]).concat();
     assert_eq!(request_number(&sheet), 4);
     assert_eq!(request_number(&sheet[..sheet.len() - 1]), 1);
@@ -146,6 +146,6 @@ fn writing_needs_room_last_of_all() {
     let mut broken = worked_plan();
     broken.allocation[0] = 0;
     assert_eq!(write_plan(&broken, 0), Err(Refusal::RuleBroken));
-    let empty = Request { ttrt: 0, stations: vec![] };
+    let empty = Request { head: timely(0), stations: vec![] };
     assert_eq!(write_request(&empty, 0), Err(Refusal::WrongField));
 }

@@ -4,19 +4,24 @@
 use second::gen::{calls, random::Random};
 use second::planted::Planted;
 use second::ring::{Ring, Ticks};
-use second::rules::Plan;
+use second::rules::{Mode, Plan};
 use second::state::{Place, State};
 use second::text::Call;
 
 fn opened(plan: &Plan) -> State {
     let stations = &plan.request.stations;
     let walk_from = |index: usize| stations[index..].iter().map(|station| station.walk).sum();
-    let place = |index| Place { trt: walk_from(index), ..Place::default() };
+    let place = |index| {
+        let trt = walk_from(index);
+        let late = plan.request.mode() == Mode::Fddi && trt == plan.request.head.ttrt;
+        let trt = if late { 0 } else { trt };
+        Place { trt, late: u32::from(late), ..Place::default() }
+    };
     State {
         clock: 0,
         token: 0,
         visits: 0,
-        unused: plan.allocated() as u32,
+        unused: plan.allocated(),
         plan: plan.clone(),
         places: (0..stations.len()).map(place).collect(),
     }
@@ -24,11 +29,11 @@ fn opened(plan: &Plan) -> State {
 
 fn assert_same(ring: &Ring, state: &State) {
     assert_eq!((ring.clock(), ring.visits()), (state.clock as Ticks, state.visits));
-    assert_eq!((ring.token(), ring.unused()), (state.token as usize, state.unused.into()));
+    assert_eq!((ring.token(), ring.unused()), (state.token as usize, state.unused as Ticks));
     for (index, place) in state.places.iter().enumerate() {
         let held = ring.held(index).map_or(0, |held| held.remaining);
         assert_eq!((ring.trt(index), ring.sent(index)), (place.trt.into(), place.sent.into()));
-        assert_eq!(held, place.remaining.into());
+        assert_eq!((ring.late(index), held), (place.late.into(), place.remaining.into()));
         let accepted = (place.had != 0).then_some(place.arrival as Ticks);
         let last_start = ((index as u64) < state.visits).then_some(place.last as Ticks);
         assert_eq!((ring.last_accepted(index), ring.last_start(index)), (accepted, last_start));
@@ -37,8 +42,8 @@ fn assert_same(ring: &Ring, state: &State) {
 
 #[test]
 fn absolute_times_and_timers_agree() {
-    for place in 0..1_000 {
-        let (plan, script) = calls::script(&mut Random::of_case(9, place));
+    for (place, mode) in (0..1_000).flat_map(|place| Mode::ALL.map(|mode| (place, mode))) {
+        let (plan, script) = calls::script(&mut Random::of_case(9, place), mode);
         let mut ring = Ring::open(&plan, Planted::Nothing).expect("sound");
         let mut state = opened(&plan);
         for call in &script {

@@ -1,10 +1,43 @@
 -- `line_drafted` is right because it goes by what the line is, as the definition does.
-use mathlib.Core.Path.{sym, _∙_}
-use Rattle.drafts.specs.Compose.{lineDrafted}
+use mathlib.Core.Path.{_≡_, sym, _∙_}
+use mathlib.Core.Bool.{true, false}
+use Rattle.lines.specs.Scan.{codeOf, isEmptyLine}
+use Rattle.drafts.specs.Compose.{ttrtWord, modeWord, isTtrt, isMode, isStation, isPlanStation, lineDrafted}
 use Rattle.drafts.specs.ComposeLaws.{line-fits}
 use borrow.Author.Needs.{needs}
 use Rattle.drafts.proofs.line_drafted.Statement.{statement}
 use Rattle.drafts.proofs.line_drafted.Tie as tie
+
+-- ---- what the line is, and what it is not
+
+some-line : (c : tie.Else1) → isEmptyLine (c .before .before .args .s) ≡ false
+some-line c = sym (c .before .is-empty-line .ensures) ∙ c .if1 .left
+
+a-ttrt : (c : tie.Then2) → isTtrt (c .before .before .before .before .args .s) ≡ true
+a-ttrt c = sym (c .before .is-line .ensures) ∙ c .if2 .taken
+
+no-ttrt : (c : tie.Else2) → isTtrt (c .before .before .before .before .args .s) ≡ false
+no-ttrt c = sym (c .before .is-line .ensures) ∙ c .if2 .left
+
+a-mode : (c : tie.Then3) → isMode (c .before .before .before .before .before .before .args .s) ≡ true
+a-mode c = sym (c .before .is-line2 .ensures) ∙ c .if3 .taken
+
+no-mode : (c : tie.Else3) → isMode (c .before .before .before .before .before .before .args .s) ≡ false
+no-mode c = sym (c .before .is-line2 .ensures) ∙ c .if3 .left
+
+a-station : (c : tie.Then4) → isStation (c .before .before .before .before .before .before .before .before .args .s) ≡ true
+a-station c = sym (c .before .is-line3 .ensures) ∙ c .if4 .taken
+
+no-station : (c : tie.Else4) → isStation (c .before .before .before .before .before .before .before .before .args .s) ≡ false
+no-station c = sym (c .before .is-line3 .ensures) ∙ c .if4 .left
+
+a-plan-station : (c : tie.Then5) → isPlanStation (c .before .before .before .before .before .before .before .before .before .before .args .s) ≡ true
+a-plan-station c = sym (c .before .is-line4 .ensures) ∙ c .if5 .taken
+
+no-plan-station : (c : tie.Else5) → isPlanStation (c .before .before .before .before .before .before .before .before .before .before .args .s) ≡ false
+no-plan-station c = sym (c .before .is-line4 .ensures) ∙ c .if5 .left
+
+-- ---- the needs
 
 is-empty-line-requires : tie.Need-is-empty-line-requires
 is-empty-line-requires c κs = search needs
@@ -21,8 +54,8 @@ array-read-narrow c = search needs
 
 narrow-requires : tie.Need-narrow-requires
 narrow-requires c κs =
-    let heads = c .before in
-    line-fits (heads .before .before .before .before .args .s) 1_953_788_532 1 (sym (heads .before .is-line .ensures) ∙ heads .if2 .taken) .first
+    let here = c .before in
+    line-fits (here .before .before .before .before .args .s) (codeOf ttrtWord) 1 (a-ttrt here) .first
 
 with-ttrt-requires : tie.Need-with-ttrt-requires
 with-ttrt-requires c κs = search needs
@@ -30,63 +63,70 @@ with-ttrt-requires c κs = search needs
 returns-2 : tie.Need-returns-2
 unfolding lineDrafted
 returns-2 c =
-    let heads = c .before .before .before in
-    let filled = heads .before .before in
-    rw (sym (filled .before .is-empty-line .ensures) ∙ filled .if1 .left, sym (heads .before .is-line .ensures) ∙ heads .if2 .taken, ← c .before .narrow .ensures) (c .with-ttrt .ensures)
+    let here = c .before .before .before in
+    rw (some-line (here .before .before), a-ttrt here, ← c .before .narrow .ensures) (c .with-ttrt .ensures)
 
 is-line-requires-2 : tie.Need-is-line-requires-2
 is-line-requires-2 c κs = search needs
 
-with-station-requires : tie.Need-with-station-requires
-with-station-requires c κs = line-fits _ _ _ (sym (c .before .is-line2 .ensures) ∙ c .if3 .taken)
+array-read-narrow-2 : tie.Need-array-read-narrow-2
+array-read-narrow-2 c = search needs
+
+narrow-requires-2 : tie.Need-narrow-requires-2
+narrow-requires-2 c κs =
+    let here = c .before in
+    line-fits (here .before .before .before .before .before .before .args .s) (codeOf modeWord) 1 (a-mode here) .first
+
+with-mode-requires : tie.Need-with-mode-requires
+with-mode-requires c κs = search needs
 
 returns-3 : tie.Need-returns-3
 unfolding lineDrafted
 returns-3 c =
-    let adds = c .before in
-    let other = adds .before .before in
-    let filled = other .before .before in
-    rw (sym (filled .before .is-empty-line .ensures) ∙ filled .if1 .left, sym (other .before .is-line .ensures) ∙ other .if2 .left, sym (adds .before .is-line2 .ensures) ∙ adds .if3 .taken)
-    (c .with-station .ensures)
+    let here = c .before .before .before in
+    let second = here .before .before in
+    rw (some-line (second .before .before), no-ttrt second, a-mode here, ← c .before .narrow2 .ensures) (c .with-mode .ensures)
 
 is-line-requires-3 : tie.Need-is-line-requires-3
 is-line-requires-3 c κs = search needs
 
-with-station-requires-2 : tie.Need-with-station-requires-2
-with-station-requires-2 c κs = line-fits _ _ _ (sym (c .before .is-line3 .ensures) ∙ c .if4 .taken)
+with-station-requires : tie.Need-with-station-requires
+with-station-requires c κs = line-fits _ _ _ (a-station c)
 
 returns-4 : tie.Need-returns-4
 unfolding lineDrafted
 returns-4 c =
-    let adds = c .before in
-    let none = adds .before .before in
-    let other = none .before .before in
-    let filled = other .before .before in
-    rw (
-      sym (filled .before .is-empty-line .ensures) ∙ filled .if1 .left,
-      sym (other .before .is-line .ensures) ∙ other .if2 .left,
-      sym (none .before .is-line2 .ensures) ∙ none .if3 .left,
-      sym (adds .before .is-line3 .ensures) ∙ adds .if4 .taken,
-    )
-    (c .with-station2 .ensures)
+    let here = c .before in
+    let third = here .before .before in
+    let second = third .before .before in
+    rw (some-line (second .before .before), no-ttrt second, no-mode third, a-station here) (c .with-station .ensures)
 
-with-unread-requires : tie.Need-with-unread-requires
-with-unread-requires c κs = search needs
+is-line-requires-4 : tie.Need-is-line-requires-4
+is-line-requires-4 c κs = search needs
+
+with-station-requires-2 : tie.Need-with-station-requires-2
+with-station-requires-2 c κs = line-fits _ _ _ (a-plan-station c)
 
 returns-5 : tie.Need-returns-5
 unfolding lineDrafted
 returns-5 c =
-    let nothing = c .before in
-    let none = nothing .before .before in
-    let other = none .before .before in
-    let filled = other .before .before in
-    rw (
-      sym (filled .before .is-empty-line .ensures) ∙ filled .if1 .left,
-      sym (other .before .is-line .ensures) ∙ other .if2 .left,
-      sym (none .before .is-line2 .ensures) ∙ none .if3 .left,
-      sym (nothing .before .is-line3 .ensures) ∙ nothing .if4 .left,
-    )
-    (c .with-unread .ensures)
+    let here = c .before in
+    let fourth = here .before .before in
+    let third = fourth .before .before in
+    let second = third .before .before in
+    rw (some-line (second .before .before), no-ttrt second, no-mode third, no-station fourth, a-plan-station here) (c .with-station2 .ensures)
+
+with-unread-requires : tie.Need-with-unread-requires
+with-unread-requires c κs = search needs
+
+returns-6 : tie.Need-returns-6
+unfolding lineDrafted
+returns-6 c =
+    let here = c .before in
+    let fourth = here .before .before in
+    let third = fourth .before .before in
+    let second = third .before .before in
+    rw (some-line (second .before .before), no-ttrt second, no-mode third, no-station fourth, no-plan-station here) (c .with-unread .ensures)
 
 pub line-drafted-spec : {M : Type 1} → statement M
 line-drafted-spec =
@@ -100,10 +140,15 @@ line-drafted-spec =
     with-ttrt-requires
     returns-2
     is-line-requires-2
-    with-station-requires
+    array-read-narrow-2
+    narrow-requires-2
+    with-mode-requires
     returns-3
     is-line-requires-3
-    with-station-requires-2
+    with-station-requires
     returns-4
+    is-line-requires-4
+    with-station-requires-2
+    returns-5
     with-unread-requires
-    returns-5)
+    returns-6)

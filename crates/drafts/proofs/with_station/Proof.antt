@@ -2,7 +2,7 @@
 use mathlib.Core.Path.{_≡_}
 use mathlib.Core.Bool.{true, false, _&&_, _||_}
 use borrow.Author.Tests.{not-true, not-false, ltb-true}
-use lib.Dec.{ltb, eqb}
+use lib.Dec.{leb, ltb, eqb}
 use Prim.Native.Nat.{_<_}
 use Rattle.units.specs.JudgingLaws.{and-true}
 use Rattle.drafts.specs.Compose.{withStation}
@@ -12,18 +12,18 @@ use Rattle.drafts.proofs.with_station.Tie as tie
 
 placed : (c : tie.Else1)
     → let args = c .before .before .before .before .before .before .args in
-    (eqb (args .d .head) 1 && (ltb (args .d .set .n) 128 && (eqb (args .d .kind) 0 || eqb (args .d .kind) (args .kind)))) ≡ true
+    (leb 1 (args .d .head) && (ltb (args .d .set .n) 128 && (eqb (args .d .kind) 0 || eqb (args .d .kind) (args .kind)))) ≡ true
 placed c = not-false _ (c .if1 .left)
 
 out-of-place : (c : tie.Then1)
     → let args = c .before .before .before .before .before .before .args in
-    (eqb (args .d .head) 1 && (ltb (args .d .set .n) 128 && (eqb (args .d .kind) 0 || eqb (args .d .kind) (args .kind)))) ≡ false
+    (leb 1 (args .d .head) && (ltb (args .d .set .n) 128 && (eqb (args .d .kind) 0 || eqb (args .d .kind) (args .kind)))) ≡ false
 out-of-place c = not-true _ (c .if1 .taken)
 
 few : (c : tie.Else1) → c .before .before .before .before .before .before .args .d .set .n < 128
 few c =
     let args = c .before .before .before .before .before .before .args in
-    ltb-true _ _ (and-true (ltb (args .d .set .n) 128) _ (and-true (eqb (args .d .head) 1) _ (placed c) .1) .0)
+    ltb-true _ _ (and-true (ltb (args .d .set .n) 128) _ (and-true (leb 1 (args .d .head)) _ (placed c) .1) .0)
 
 misplaced-in-requires : tie.Need-misplaced-in-requires
 misplaced-in-requires c κs = search needs

@@ -25,13 +25,25 @@ returns-4 : tie.Need-returns-4
 unfolding isAllowed
 returns-4 c = rw (c .before .before .if4 .taken, c .before .before .before .before .before .before .allocations-for .ensures) refl
 
+is-further-requires : tie.Need-is-further-requires
+is-further-requires c κs = search needs
+
+in-header-requires : tie.Need-in-header-requires
+in-header-requires c κs = search needs
+
 returns-5 : tie.Need-returns-5
 unfolding isAllowed
 returns-5 c =
-    rw
-    (ne-eqb _ _ (c .before .before .before .if1 .left), ne-eqb _ _ (c .before .before .if2 .left), ne-eqb _ _ (c .before .if3 .left), ne-eqb _ _ (c .if4 .left))
+    rw (
+      ne-eqb _ _ (c .before .before .before .before .before .if1 .left),
+      ne-eqb _ _ (c .before .before .before .before .if2 .left),
+      ne-eqb _ _ (c .before .before .before .if3 .left),
+      ne-eqb _ _ (c .before .before .if4 .left),
+      c .before .is-further .ensures,
+      c .in-header .ensures,
+    )
     refl
 
 pub is-allowed-spec : {M : Type 1} → statement M
 is-allowed-spec =
-    tie.close (tie.spec allocations-for-requires returns returns-2 returns-3 returns-4 returns-5)
+    tie.close (tie.spec allocations-for-requires returns returns-2 returns-3 returns-4 is-further-requires in-header-requires returns-5)

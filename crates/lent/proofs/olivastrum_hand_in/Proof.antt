@@ -44,4 +44,5 @@ olivastrum-hand-in-spec 𝓤 H 𝓜 𝓖 𝓡 =
     (tables 𝓤 H 𝓜 𝓡 code.env .C) (tables 𝓤 H 𝓜 𝓡 code.env .Λ) key.name code.function (code.unfolded 𝓤 H 𝓜 𝓡)
     (meets ring.the-type ring′.the-laws ring′.the-plain ToHandIn (of-uint w8) RingAndNumber handedIn HandInLent (promised .hand-in)
     𝓤 H (𝓖 .A) (givenOf 𝓤 H 𝓜 𝓖) (tablesOf 𝓤 H 𝓜 (tables 𝓤 H 𝓜 𝓡 code.env)) hand-in-def.name
-    (cited 𝓤 H (tripleOf 𝓤 H (𝓖 .A) hand-in.signature (hand-in.spec 𝓤 H (𝓖 .A) (𝓜 .mem) (𝓡 .run))) 𝓜 𝓡 code.env hand-in-def.name hand-in-def.routine code.calls-rings·Ring·hand-in (hand-in-thm.met 𝓤 H 𝓜 𝓖 𝓡)))
+    (cited 𝓤 H (tripleOf 𝓤 H (𝓖 .A) hand-in.signature (hand-in.spec 𝓤 H (𝓖 .A) (𝓜 .mem) (𝓡 .run))) 𝓜 𝓡 code.env hand-in-def.name hand-in-def.routine code.calls-rings·Ring·hand-in
+    (hand-in-thm.met 𝓤 H 𝓜 𝓖 𝓡)))

@@ -1,4 +1,5 @@
--- `olivastrum_read_request_sheet` is right because it is the reading of a request by the layer below. The proof does not name the function that is called, so that a call of another one is refused at what it does.
+-- `olivastrum_read_request_sheet` is right because it is the reading of a request by the layer below.
+-- The proof does not name the function that is called, so that a call of another one is refused at what it does.
 use borrow.Author.Needs.{needs}
 use Rattle.lent.proofs.olivastrum_read_request_sheet.Statement.{statement}
 use Rattle.lent.proofs.olivastrum_read_request_sheet.Tie as tie

@@ -5,7 +5,7 @@ use native.Mathlib.Omega.{arith}
 use Rattle.units.specs.Places.{at, allBelow}
 use Rattle.units.specs.PlaceLaws.{all-none}
 use lib.Dec.{leb}
-use Rattle.places.proofs.LoopLaws.{tested-next, tested, within-past}
+use Rattle.places.proofs.LoopLaws.{tested-next, within-all}
 use borrow.Author.Needs.{needs}
 use Rattle.places.proofs.none_above.Statement.{statement}
 use Rattle.places.proofs.none_above.Tie as tie
@@ -43,7 +43,7 @@ returns : tie.Need-returns Inv-loop μ-loop
 returns c =
     let args = c .before .before .before .args in
     let end : c .before .loop .i ≡ min (args .n) 128 = omega arith in
-    tested (λ j. leb (at (args .t1) j) (args .most)) _ _ (c .before .loop .inv .1) (args .n) end (within-past (args .t1) (search needs) (λ j. args .most))
+    within-all (args .t1) (λ j. args .most) (search needs) _ _ (c .before .loop .inv .1) (args .n) end
 
 pub none-above-spec : {M : Type 1} → statement M
 none-above-spec =

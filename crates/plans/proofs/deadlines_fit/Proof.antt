@@ -5,13 +5,13 @@ use native.Mathlib.Omega.{arith}
 use lib.Dec.{leb}
 use Rattle.units.specs.Places.{at, allBelow}
 use Rattle.units.specs.PlaceLaws.{all-then, all-none}
-use Rattle.plans.specs.Rules.{deadlineFitsAt}
+use Rattle.plans.specs.Rules.{timelyFitsAt}
 use borrow.Author.Needs.{needs}
 use Rattle.plans.proofs.deadlines_fit.Statement.{statement}
 use Rattle.plans.proofs.deadlines_fit.Tie as tie
 
 abbrev Inv-loop : tie.InvT-loop
-Inv-loop t a end all₀ i₀ all i = (i ≤ end) × (all ≡ allBelow i (deadlineFitsAt t (at (a .s))))
+Inv-loop t a end all₀ i₀ all i = (i ≤ end) × (all ≡ allBelow i (timelyFitsAt t (at (a .s))))
 
 abbrev μ-loop : tie.MeasureT-loop
 μ-loop t a end all₀ i₀ all i = end - i
@@ -55,7 +55,7 @@ loop-less c = search needs
 loop-again : tie.Need-loop-again Inv-loop μ-loop
 loop-again c =
     let at-loop = c .before .before .before .before .before .before in
-    let fits = deadlineFitsAt (at-loop .before .before .args .t1) (at (at-loop .before .before .args .t2 .s)) in
+    let fits = timelyFitsAt (at-loop .before .before .args .t1) (at (at-loop .before .before .args .t2 .s)) in
     let one : leb (c .wide .result) (c .before .before .least-time .result) ≡ fits (at-loop .loop .i) = rw (c .wide .ensures .same, c .before .before .least-time .ensures) refl in
     (omega arith, all-then (at-loop .loop .i) fits (at-loop .loop .all) (leb (c .wide .result) (c .before .before .least-time .result)) (at-loop .loop .inv .1) one)
 

@@ -1,6 +1,6 @@
 -- `judge_plan` is right because it asks the definition's tests in the definition's order; the judgement of the set answers three of them at once.
 use Prim.Native.Nat.{ℕ, _≤_}
-use mathlib.Core.Path.{_≡_, refl, sym, _∙_}
+use mathlib.Core.Path.{_≡_, sym, _∙_}
 use mathlib.Core.Bool.{true, false, _&&_}
 use mathlib.Core.Logic.{_≢_}
 use borrow.Author.Tests.{not-true, not-false}
@@ -10,7 +10,7 @@ use Rattle.sets.specs.Rules.{countAllowed, numbersAllowed, walkTimeAllowed}
 use Rattle.sets.specs.Judged.{judged}
 use Rattle.sets.specs.SetLaws.{decides-count, decides-numbers, decides-walk, count-held, numbers-held, walk-held, judged-two, judged-four, judged-five}
 use Rattle.sets.specs.declared.Set.{Set}
-use Rattle.plans.specs.Rules.{allocInRange, deadlinesFit, tokenFits}
+use Rattle.plans.specs.Rules.{allocInRange}
 use Rattle.plans.specs.PlanLaws.{given-2, given-4, given-5, given-7, given-0}
 use borrow.Author.Needs.{needs}
 use Rattle.plans.proofs.judge_plan.Statement.{statement}
@@ -51,10 +51,6 @@ in-range c =
 past-5 : (c : tie.Else4) → judged (set-of (c .before .before .before)) ≢ 5
 past-5 c e = c .if4 .left (c .before .before .before .before .before .judge .ensures ∙ e)
 
--- the rules were asked of them
-rules-said : (c : tie.After-token-fits) → let e = c .before .before .before .before .before in (c .before .deadlines-fit .result && c .token-fits .result) ≡ (deadlinesFit (set-of e) (share-of e) && tokenFits (set-of e) (share-of e))
-rules-said c = rw (c .before .deadlines-fit .ensures, c .token-fits .ensures) refl
-
 judge-requires : tie.Need-judge-requires
 judge-requires c κs = search needs
 
@@ -86,29 +82,26 @@ returns-4 c =
     let said = c .before .before .before .before .before .judge .ensures in
     c .if4 .taken ∙ sym (given-5 (args .t) (args .a) (count-held (args .t) (past .0)) (in-range (c .before)) (walk-false (args .t) (sym said ∙ c .if4 .taken)))
 
-deadlines-fit-requires : tie.Need-deadlines-fit-requires
-deadlines-fit-requires c κs = few (c .before .before .before)
-
-token-fits-requires : tie.Need-token-fits-requires
-token-fits-requires c κs = search needs
+rules-fit-requires : tie.Need-rules-fit-requires
+rules-fit-requires c κs = few (c .before .before .before)
 
 returns-5 : tie.Need-returns-5
 returns-5 c =
-    let at-4 = c .before .before .before in
+    let at-4 = c .before .before in
     let args = at-4 .before .before .before .before .before .before .args in
     let past = past-4 (at-4 .before .before .before) in
     sym
     (given-7 (args .t) (args .a) (count-held (args .t) (past .0)) (in-range (at-4 .before)) (walk-held (args .t) (past .0) (past .1) (past-5 at-4))
-    (sym (rules-said (c .before)) ∙ not-true _ (c .if5 .taken)))
+    (sym (c .before .rules-fit .ensures) ∙ not-true _ (c .if5 .taken)))
 
 returns-6 : tie.Need-returns-6
 returns-6 c =
-    let at-4 = c .before .before .before in
+    let at-4 = c .before .before in
     let args = at-4 .before .before .before .before .before .before .args in
     let past = past-4 (at-4 .before .before .before) in
     sym
     (given-0 (args .t) (args .a) (count-held (args .t) (past .0)) (in-range (at-4 .before)) (walk-held (args .t) (past .0) (past .1) (past-5 at-4))
-    (sym (rules-said (c .before)) ∙ not-false _ (c .if5 .left)))
+    (sym (c .before .rules-fit .ensures) ∙ not-false _ (c .if5 .left)))
 
 pub judge-plan-spec : {M : Type 1} → statement M
 judge-plan-spec =
@@ -120,7 +113,6 @@ judge-plan-spec =
     alloc-in-range-requires
     returns-3
     returns-4
-    deadlines-fit-requires
-    token-fits-requires
+    rules-fit-requires
     returns-5
     returns-6)

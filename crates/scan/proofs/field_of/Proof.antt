@@ -1,4 +1,5 @@
--- `field_of` meets its contract: a walk of its MIR, by hand. A reader is made of the bytes and the place in a local, and passed to `peek`. All that the proof knows of `peek` is that it meets its contract.
+-- `field_of` meets its contract: a walk of its MIR, by hand. A reader is made of the bytes and the place in a local, and passed to `peek`.
+-- All that the proof knows of `peek` is that it meets its contract.
 -- In a local of a body MIR erases the lifetime of the reader's type; what the reader owns does not say the lifetime's name.
 use mathlib.Core.Path.{_≡_, refl}
 use mathlib.Core.List.{List, [], _∷_}
@@ -118,27 +119,34 @@ module _ {M : Type 1} (𝓤 : URA M) (H : Heap 𝓤) (A : Atoms 𝓤) (W : Given
   exits : (r : Field) (u : Val) → r ≡ found → ent 𝓤 (⋆ 𝓤 H A (‵ (field-type.the-row .own r (u ∷ [])) ∷ (‵ (flft κ q) ⊛ ‵ ftrue) ∷ ‵ Own ∷ [])) (Post u)
   exits r u e =
       qed W (‵ (field-type.the-row .own r (u ∷ [])) ∷ (‵ (flft κ q) ⊛ ‵ ftrue) ∷ ‵ Own ∷ []) ∵
-      suffices ! _ (ends-at 𝓤 H A field-of.ended stayed (field-of.clauses 𝓤 H A mem run) W (((κ, tt), (q, tt), tt, (s, (n, (passed, tt))), at), tt) u r (tt, (tt, (tt, tt))) (tt, (tt, (tt, tt)))) $ says ! e $
+      suffices ! _ (ends-at 𝓤 H A field-of.ended stayed (field-of.clauses 𝓤 H A mem run) W (((κ, tt), (q, tt), tt, (s, (n, (passed, tt))), at), tt) u r (tt, (tt, (tt, tt)))
+      (tt, (tt, (tt, tt)))) $ says ! e $
       move ! (1 ∷ []) $ frame ! $ nothing ! $ owned ! passed-type.the-row (Is passed-type.the-row) (LL.makes passed-type.the-type passed-laws.the-plain 𝓤 H A) passed _ is-passed $ fjoin ! $
       owned ! usize (Is usize) (uint-makes 𝓤 H A W w64) n _ (refl, fits) $ fjoin ! $ move ! (2 ∷ 0 ∷ []) $ fjoin ! $ frame ! $ done !
 
   module _ (C : Calls 𝓤 H) (Λ : Loops 𝓤 H) (fm : FmC 𝓤 H (W .laws) C) (known : Triple 𝓤 (C #scan·peek) (Peek 𝓤 H A mem run)) where
-    walk : Is (ShrSlice (named 0) κ u8) s (v ∷ []) → ent 𝓤 (onEntry 𝓤 H A field-of.signature (κ, tt) (q, tt) (s, (n, (passed, tt))) at) (WpFn 𝓤 H C Λ code.function (v ∷ vint w64 n ∷ LL.vals passed-type.the-type passed-laws.the-laws passed) Post)
+    walk : Is (ShrSlice (named 0) κ u8) s (v ∷ []) → ent 𝓤 (onEntry 𝓤 H A field-of.signature (κ, tt) (q, tt) (s, (n, (passed, tt))) at)
+        (WpFn 𝓤 H C Λ code.function (v ∷ vint w64 n ∷ LL.vals passed-type.the-type passed-laws.the-laws passed) Post)
     walk p =
-        qed W (raw (onEntry 𝓤 H A field-of.signature (κ, tt) (q, tt) (s, (n, (passed, tt))) at) ∷ []) ∵ enter ! C Λ code.function (v ∷ vint w64 n ∷ LL.vals passed-type.the-type passed-laws.the-laws passed) _ $
-        alloc1 ! (λ l₀. alloc1 ! (λ l₁. alloc1 ! (λ l₂. alloc1 ! (λ l₃. alloc1 ! (λ l₄. alloc0 ! $ params1 ! $ pass1 ! (init ! 6 refl (shr-slice-lawful 𝓤 H A W (named 0) κ u8 .typed s (v ∷ []) p .0)) $ pass1 ! (init ! 4 refl (tt, record { fits = fits })) $
+        qed W (raw (onEntry 𝓤 H A field-of.signature (κ, tt) (q, tt) (s, (n, (passed, tt))) at) ∷ []) ∵ enter ! C Λ code.function
+        (v ∷ vint w64 n ∷ LL.vals passed-type.the-type passed-laws.the-laws passed) _ $
+        alloc1 ! (λ l₀. alloc1 ! (λ l₁. alloc1 ! (λ l₂. alloc1 ! (λ l₃. alloc1 ! (λ l₄. alloc0 ! $ params1 ! $
+        pass1 ! (init ! 6 refl (shr-slice-lawful 𝓤 H A W (named 0) κ u8 .typed s (v ∷ []) p .0)) $ pass1 ! (init ! 4 refl (tt, record { fits = fits })) $
         pass1 ! (init ! 2 refl (LL.lawful passed-type.the-type passed-laws.the-laws 𝓤 H A W .typed passed _ is-passed .0)) $ pass0 ! $
-        assigns ! (agg ! (and-then ! (load ! (from ! (stop !)) (look ! 6 refl)) (and-then ! (load ! (from ! (stop !)) (look ! 4 refl)) (no-more !)))) (from ! (stop !)) (init ! 0 refl (tt, (shr-slice-lawful 𝓤 H A W (named 0) κ u8 .typed s (v ∷ []) p .0 .1, (record { fits = fits }, tt)))) $
+        assigns ! (agg ! (and-then ! (load ! (from ! (stop !)) (look ! 6 refl)) (and-then ! (load ! (from ! (stop !)) (look ! 4 refl)) (no-more !)))) (from ! (stop !))
+        (init ! 0 refl (tt, (shr-slice-lawful 𝓤 H A W (named 0) κ u8 .typed s (v ∷ []) p .0 .1, (record { fits = fits }, tt)))) $
         move ! (10 ∷ []) $ use1 W (raw (Peek 𝓤 H A mem run .pre to-peek) ⊛ ‵ Own) goes-peek $ split ! $
         -- [what `peek` asks; what the bytes own; _4; …; _3; …; _2; …; _1; …; room for _0; …]
         calls-at ! fm (Peek 𝓤 H A mem run) known to-peek (and-then ! (load ! (from ! (stop !)) (look ! 2 refl)) (and-then ! (load ! (from ! (stop !)) (look ! 4 refl)) (no-more !))) (λ u.
-        use1 W (later (some (λ (r : Field). ((‵ (flft κ q) ⊛ ‵ ftrue) ⊛ ‵ (field-type.the-row .own r (u ∷ []))) ⊛ raw (ensured 𝓤 H A peek.ended (peek.clauses 𝓤 H A mem run) (κ, tt) (made, (passed, tt)) tt r)))) (id⊢ 𝓤 _) $ await ! tt $ pick ! (λ r.
+        use1 W (later (some (λ (r : Field). ((‵ (flft κ q) ⊛ ‵ ftrue) ⊛ ‵ (field-type.the-row .own r (u ∷ []))) ⊛ raw
+        (ensured 𝓤 H A peek.ended (peek.clauses 𝓤 H A mem run) (κ, tt) (made, (passed, tt)) tt r)))) (id⊢ 𝓤 _) $ await ! tt $ pick ! (λ r.
         split ! $ move ! (1 ∷ []) $ use1 W (raw (fact 𝓤 (r ≡ found))) (said r) $ heard ! (r ≡ found) (λ e. split ! $ move ! (1 ∷ []) $
         -- [the result; the token; what the bytes own; _4; …; _3; …; _2; …; _1; …; room for _0; …]
         peeks ! field-type.the-row (Is field-type.the-row) (shows 𝓤 H A field-type.the-row) r (u ∷ []) (λ is.
         land ! (from ! (stop !)) (init ! 11 refl (LL.lawful field-type.the-type field-laws.the-laws 𝓤 H A W .typed r _ is .0)) $
         returns ! (look ! 11 refl) $ forget ! 3 refl $ forget ! 5 refl $ forget ! 7 refl $ forget ! 9 refl $ forget ! 11 refl $
-        move ! (11 ∷ 12 ∷ []) $ free1 ! $ move ! (9 ∷ 10 ∷ []) $ free1 ! $ move ! (7 ∷ 8 ∷ []) $ free1 ! $ move ! (5 ∷ 6 ∷ []) $ free1 ! $ move ! (3 ∷ 4 ∷ []) $ free1 ! $ free0 ! $ by ! (exits r u e))))))))))
+        move ! (11 ∷ 12 ∷ []) $ free1 ! $ move ! (9 ∷ 10 ∷ []) $ free1 ! $ move ! (7 ∷ 8 ∷ []) $ free1 ! $ move ! (5 ∷ 6 ∷ []) $ free1 ! $ move ! (3 ∷ 4 ∷ []) $ free1 ! $ free0 ! $
+        by ! (exits r u e))))))))))
 
 module _ {M : Type 1} (𝓤 : URA M) (H : Heap 𝓤) (A : Atoms 𝓤) (W : Given 𝓤 H A) (mem : Memory → SProp 𝓤) (run : Routine → Fun 𝓤) where
   field-of-walks : (C : Calls 𝓤 H) (Λ : Loops 𝓤 H) → FmC 𝓤 H (W .laws) C → Triple 𝓤 (C #scan·peek) (Peek 𝓤 H A mem run)
@@ -151,7 +159,11 @@ module _ {M : Type 1} (𝓤 : URA M) (H : Heap 𝓤) (A : Atoms 𝓤) (W : Given
 field-of-meets : {M : Type 1} (𝓤 : URA M) (H : Heap 𝓤) (A : Atoms 𝓤) (W : Given 𝓤 H A) (mem : Memory → SProp 𝓤) (run : Routine → Fun 𝓤) (𝓣 : Tables 𝓤 H)
     → Triple 𝓤 (𝓣 .C #scan·peek) (Peek 𝓤 H A mem run)
     → Meets 𝓤 H A field-of.signature (WpFn 𝓤 H (𝓣 .C) (𝓣 .Λ) code.function) (field-of.spec 𝓤 H A mem run)
-field-of-meets 𝓤 H A W mem run 𝓣 known = walk-meets 𝓤 H A field-of.ended stayed W (goes-none-slice 𝓤 H A W 1 (0 ∷ []) tt (plain (λ _. u8)) yes, (goes-none 𝓤 H A W 1 (λ _. usize) yes (λ κs x f. refl), (goes-none 𝓤 H A W 1 (λ _. passed-type.the-row) yes (λ κs x f. refl), tt)))
+field-of-meets 𝓤 H A W mem run 𝓣 known =
+    walk-meets 𝓤 H A field-of.ended stayed W (
+      goes-none-slice 𝓤 H A W 1 (0 ∷ []) tt (plain (λ _. u8)) yes,
+      (goes-none 𝓤 H A W 1 (λ _. usize) yes (λ κs x f. refl), (goes-none 𝓤 H A W 1 (λ _. passed-type.the-row) yes (λ κs x f. refl), tt)),
+    )
     (field-of.clauses 𝓤 H A mem run) (WpFn 𝓤 H (𝓣 .C) (𝓣 .Λ) code.function) (WpFn-mono 𝓤 H (W .laws) 𝓣 code.function)
     (field-of-walks 𝓤 H A W mem run (𝓣 .C) (𝓣 .Λ) (fmOf 𝓤 H (W .laws) 𝓣) known)
 

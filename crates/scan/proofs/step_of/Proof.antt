@@ -1,4 +1,6 @@
--- `step_of` meets its contract: a walk of its MIR, by hand. A reader is made of the bytes and the place in a local, the local is lent to `next` for the call (`Lending`), and the cursor is read when it has come back. All that the proof knows of `next` is that it meets its contract.
+-- `step_of` meets its contract: a walk of its MIR, by hand.
+-- A reader is made of the bytes and the place in a local, the local is lent to `next` for the call (`Lending`), and the cursor is read when it has come back.
+-- All that the proof knows of `next` is that it meets its contract.
 use mathlib.Core.Path.{_≡_, refl, ap, subst, _∙_}
 use mathlib.Core.List.{List, [], _∷_}
 use Prim.Native.Nat.{ℕ, _<_, _^_}
@@ -100,32 +102,42 @@ module _ {M : Type 1} (𝓤 : URA M) (H : Heap 𝓤) (A : Atoms 𝓤) (W : Given
   made-step d r e = ap (λ (f : Field). record { field = f; at = d .at }) (e .handed) ∙ ap (λ (m : ℕ). record { field = fieldAt (now s) n passed; at = m }) (e .cursor)
 
   exits : (r : Field) (m : ℕ) → m < 2 ^ 64 → record { field = r; at = m } ≡ stepOf (now s) n passed
-      → ent 𝓤 (⋆ 𝓤 H A (‵ (flft κ q) ∷ ‵ (field-type.the-row .own r (LL.vals field-type.the-type field-laws.the-laws r)) ∷ ‵ Own-bytes ∷ ‵ Own-rest ∷ [])) (Post (S′.lowered (record { field = r; at = m })))
+      → ent 𝓤 (⋆ 𝓤 H A (‵ (flft κ q) ∷ ‵ (field-type.the-row .own r (LL.vals field-type.the-type field-laws.the-laws r)) ∷ ‵ Own-bytes ∷ ‵ Own-rest ∷ []))
+      (Post (S′.lowered (record { field = r; at = m })))
   exits r m m-fits e =
       qed W (‵ (flft κ q) ∷ ‵ (field-type.the-row .own r (LL.vals field-type.the-type field-laws.the-laws r)) ∷ ‵ Own-bytes ∷ ‵ Own-rest ∷ []) ∵
-      suffices ! _ (ends-at 𝓤 H A step-of.ended stayed (step-of.clauses 𝓤 H A mem run) W (((κ, tt), (q, tt), tt, (s, (n, (passed, tt))), at), tt) (S′.lowered (record { field = r; at = m })) (record { field = r; at = m }) (tt, (tt, (tt, tt))) (tt, (tt, (tt, tt)))) $ says ! e $
+      suffices ! _ (ends-at 𝓤 H A step-of.ended stayed (step-of.clauses 𝓤 H A mem run) W (((κ, tt), (q, tt), tt, (s, (n, (passed, tt))), at), tt) (S′.lowered (record { field = r; at = m }))
+      (record { field = r; at = m }) (tt, (tt, (tt, tt))) (tt, (tt, (tt, tt)))) $ says ! e $
       nothing ! $ move ! (1 ∷ 0 ∷ []) $ join ! $ frame ! $ move ! (1 ∷ 2 ∷ []) $ fjoin ! $ frame ! $
       nothing ! $ owned ! usize (Is usize) (uint-makes 𝓤 H A W w64) m _ (refl, m-fits) $ fjoin ! $ move ! (1 ∷ 0 ∷ []) $ fjoin ! $ by ! (own-shut 𝓤 H A W S.the-type S′.the-laws (r, (m, tt)))
 
   module _ (C : Calls 𝓤 H) (Λ : Loops 𝓤 H) (fm : FmC 𝓤 H (W .laws) C) (known : Triple 𝓤 (C #scan·next) (Next 𝓤 H A mem run)) where
     walk : Is (ShrSlice (named 0) κ u8) s (v ∷ []) → ent 𝓤 (onEntry 𝓤 H A step-of.signature (κ, tt) (q, tt) (s, (n, (passed, tt))) at) (WpFn 𝓤 H C Λ code.function (v ∷ vint w64 n ∷ at .1 .1 .0) Post)
     walk p =
-        qed W ((‵ (flft κ q) ⊛ ‵ ftrue) ∷ ‵ (owns (ShrSlice (named 0) κ u8 ∷ usize ∷ passed-type.the-row ∷ []) (s, (n, (passed, tt))) at) ∷ []) ∵ enter ! C Λ code.function (v ∷ vint w64 n ∷ at .1 .1 .0) _ $
+        qed W ((‵ (flft κ q) ⊛ ‵ ftrue) ∷ ‵ (owns (ShrSlice (named 0) κ u8 ∷ usize ∷ passed-type.the-row ∷ []) (s, (n, (passed, tt))) at) ∷ []) ∵ enter ! C Λ code.function
+        (v ∷ vint w64 n ∷ at .1 .1 .0) _ $
         alloc1 ! (λ l₀. alloc1 ! (λ l₁. alloc1 ! (λ l₂. alloc1 ! (λ l₃. alloc1 ! (λ l₄. alloc1 ! (λ l₅. alloc1 ! (λ l₆. alloc1 ! (λ l₇. alloc0 ! $ params1 ! $
-        pass1 ! (init ! 12 refl (shr-slice-lawful 𝓤 H A W (named 0) κ u8 .typed s (v ∷ []) p .0)) $ pass1 ! (init ! 10 refl (tt, record { fits = fits })) $ pass1 ! (init ! 8 refl (LL.lawful passed-type.the-type passed-laws.the-laws 𝓤 H A W .typed passed _ is-passed .0)) $ pass0 ! $
+        pass1 ! (init ! 12 refl (shr-slice-lawful 𝓤 H A W (named 0) κ u8 .typed s (v ∷ []) p .0)) $ pass1 ! (init ! 10 refl (tt, record { fits = fits })) $
+        pass1 ! (init ! 8 refl (LL.lawful passed-type.the-type passed-laws.the-laws 𝓤 H A W .typed passed _ is-passed .0)) $ pass0 ! $
         -- the reader is made, and its address is taken
-        assigns ! (agg ! (and-then ! (load ! (from ! (stop !)) (look ! 12 refl)) (and-then ! (load ! (from ! (stop !)) (look ! 10 refl)) (no-more !)))) (from ! (stop !)) (init ! 6 refl (tt, (shr-slice-lawful 𝓤 H A W (named 0) κ u8 .typed s (v ∷ []) p .0 .1, (record { fits = fits }, tt)))) $
+        assigns ! (agg ! (and-then ! (load ! (from ! (stop !)) (look ! 12 refl)) (and-then ! (load ! (from ! (stop !)) (look ! 10 refl)) (no-more !)))) (from ! (stop !))
+        (init ! 6 refl (tt, (shr-slice-lawful 𝓤 H A W (named 0) κ u8 .typed s (v ∷ []) p .0 .1, (record { fits = fits }, tt)))) $
         assigns ! (addr ! (from ! (stop !))) (from ! (stop !)) (init ! 2 refl (tt, tt)) $
         -- what it owns: what the bytes own, once more, and the facts of the cursor
         move ! (17 ∷ []) $ fsplit ! $ use1 W (‵ Own-bytes ⊛ ‵ Own-bytes) (shr-slice-copy 𝓤 H A W (named 0) κ u8 .twice s (v ∷ [])) $ split ! $
-        nothing ! $ owned ! usize (Is usize) (uint-makes 𝓤 H A W w64) n _ (refl, fits) $ fjoin ! $ move ! (1 ∷ 0 ∷ []) $ fjoin ! $ use1 W (‵ (Own 𝓤 H A mem run κ q l₄ made)) (own-shut 𝓤 H A W (T.the-type α) (T′.the-laws α) (s, (n, tt))) $
+        nothing ! $ owned ! usize (Is usize) (uint-makes 𝓤 H A W w64) n _ (refl, fits) $ fjoin ! $ move ! (1 ∷ 0 ∷ []) $ fjoin ! $
+        use1 W (‵ (Own 𝓤 H A mem run κ q l₄ made)) (own-shut 𝓤 H A W (T.the-type α) (T′.the-laws α) (s, (n, tt))) $
         -- [what the reader owns; what the bytes own; what the other parameters own; _7; …; _6; …; _5; …; _4; …; _3; …; _2; …; _1; …; room for _0; …; the token]
         move ! (19 ∷ []) $ split ! $ move ! (1 ∷ []) $ drop ! $ move ! (10 ∷ 1 ∷ 0 ∷ []) $
-        use3 W (later (some (λ (ν : ℕ). some (λ (δ : GName). raw (Next 𝓤 H A mem run .pre (to-next 𝓤 H A mem run κ q l₄ made passed ν δ)) ⊛ Kept 𝓤 H A mem run κ q l₄ ν δ)))) (goes-next 𝓤 H A mem run κ q l₄ W made passed is-passed) $ await ! tt $ pick ! (λ ν. pick ! (λ δ. split ! $
+        use3 W (later (some (λ (ν : ℕ). some (λ (δ : GName). raw (Next 𝓤 H A mem run .pre (to-next 𝓤 H A mem run κ q l₄ made passed ν δ)) ⊛ Kept 𝓤 H A mem run κ q l₄ ν δ))))
+        (goes-next 𝓤 H A mem run κ q l₄ W made passed is-passed) $ await ! tt $ pick ! (λ ν. pick ! (λ δ. split ! $
         -- [what `next` asks; what is kept; what the bytes own; what the other parameters own; _7; …; _6; …; _5; …; _4's end; _3; …; _2; …; _1; …; room for _0; …]
-        calls-at ! fm (Next 𝓤 H A mem run) known (to-next 𝓤 H A mem run κ q l₄ made passed ν δ) (and-then ! (load ! (from ! (stop !)) (look ! 6 refl)) (and-then ! (load ! (from ! (stop !)) (look ! 11 refl)) (no-more !))) (λ u.
-        use1 W (later (some (λ (r : Field). (Tokens 𝓤 H A mem run κ q l₄ ν ⊛ ‵ (field-type.the-row .own r (u ∷ []))) ⊛ raw (ensured 𝓤 H A next.ended (next.clauses 𝓤 H A mem run) (ν ∷ κ, (κ, tt)) (args 𝓤 H A mem run κ q l₄ made passed δ) tt r)))) (id⊢ 𝓤 _) $ await ! tt $ pick ! (λ r.
-        split ! $ move ! (1 ∷ []) $ use1 W (some (λ (ws : Reader × (Unit {0} × Unit {0})). ‵ (lasts next.ended (ν ∷ κ, (κ, tt)) (args 𝓤 H A mem run κ q l₄ made passed δ) ws) ⊛ raw (fact 𝓤 (Advanced made passed (ws .0) r)))) (id⊢ 𝓤 _) $ pick ! (λ ws.
+        calls-at ! fm (Next 𝓤 H A mem run) known (to-next 𝓤 H A mem run κ q l₄ made passed ν δ)
+        (and-then ! (load ! (from ! (stop !)) (look ! 6 refl)) (and-then ! (load ! (from ! (stop !)) (look ! 11 refl)) (no-more !))) (λ u.
+        use1 W (later (some (λ (r : Field). (Tokens 𝓤 H A mem run κ q l₄ ν ⊛ ‵ (field-type.the-row .own r (u ∷ []))) ⊛ raw
+        (ensured 𝓤 H A next.ended (next.clauses 𝓤 H A mem run) (ν ∷ κ, (κ, tt)) (args 𝓤 H A mem run κ q l₄ made passed δ) tt r)))) (id⊢ 𝓤 _) $ await ! tt $ pick ! (λ r.
+        split ! $ move ! (1 ∷ []) $ use1 W (some (λ (ws : Reader × (Unit {0} × Unit {0})). ‵ (lasts next.ended (ν ∷ κ, (κ, tt)) (args 𝓤 H A mem run κ q l₄ made passed δ) ws) ⊛ raw
+        (fact 𝓤 (Advanced made passed (ws .0) r)))) (id⊢ 𝓤 _) $ pick ! (λ ws.
         split ! $ move ! (1 ∷ []) $ heard ! (Advanced made passed (ws .0) r) (λ e. fsplit ! $ move ! (1 ∷ []) $ drop ! $ move ! (1 ∷ []) $ split ! $ move ! (1 ∷ []) $
         -- [what the field owns; the tokens; the reader's last value; what was kept; what the bytes own; what the other parameters own; _7; …]
         peeks ! field-type.the-row (Is field-type.the-row) (shows 𝓤 H A field-type.the-row) r (u ∷ []) (λ is.
@@ -133,13 +145,24 @@ module _ {M : Type 1} (𝓤 : URA M) (H : Heap 𝓤) (A : Atoms 𝓤) (W : Given
         rewrite ! 10 (λ (us : List Val). ‵ (fat fullShare field-laws.mir l₅ 0 (only us))) (LL.tells field-type.the-type field-laws.the-laws r (u ∷ []) is) refl $
         rewrite ! 0 (λ (us : List Val). ‵ (field-type.the-row .own r us)) (LL.tells field-type.the-type field-laws.the-laws r (u ∷ []) is) refl $
         -- the reader comes back
-        move ! (1 ∷ 2 ∷ 3 ∷ []) $ use3 W (later (‵ (Cell 𝓤 H A mem run κ q l₄ (ws .0)) ⊛ ‵ (Own 𝓤 H A mem run κ q l₄ (ws .0)) ⊛ ‵ (flft κ q))) (comes-back 𝓤 H A mem run κ q l₄ W (ws .0) ν δ) $ await ! tt $ split ! $ move ! (1 ∷ []) $ split ! $
-        -- [what the reader owns; the token; the reader's cell; what the field owns; what the bytes own; what the other parameters own; _7; …; _6; …; _5; …; _4's end; _3; …; _2; …; _1; …; room for _0; …]
+        move ! (1 ∷ 2 ∷ 3 ∷ []) $ use3 W (later (‵ (Cell 𝓤 H A mem run κ q l₄ (ws .0)) ⊛ ‵ (Own 𝓤 H A mem run κ q l₄ (ws .0)) ⊛ ‵ (flft κ q))) (comes-back 𝓤 H A mem run κ q l₄ W (ws .0) ν δ) $
+        await ! tt $ split ! $ move ! (1 ∷ []) $ split ! $
+        -- [what the reader owns; the token; the reader's cell; what the field owns; what the bytes own; what the other parameters own; _7; …; _6; …; _5; …; _4's end; _3; …; _2; …; _1; …;
+        -- room for _0; …]
         peeks ! R (Is R) (shows 𝓤 H A R) (ws .0) (T′.lowered (ws .0) ∷ []) (λ was.
-        assigns ! (of-opd ! (load ! (from ! (fld ! refl (stop !))) (look-in ! 2 (sub ! 1 refl (whole !))))) (from ! (stop !)) (init ! 6 refl (tt, record { fits = LL.owed (T.the-type α) (T′.the-laws α) (ws .0) _ was .1 .0 .1 })) $
-        assigns ! (agg ! (and-then ! (load ! (from ! (stop !)) (look ! 10 refl)) (and-then ! (load ! (from ! (stop !)) (look ! 6 refl)) (no-more !)))) (from ! (stop !)) (init ! 19 refl (tt, (LL.lawful field-type.the-type field-laws.the-laws 𝓤 H A W .typed r _ (field-is r u is) .0 .1, (record { fits = LL.owed (T.the-type α) (T′.the-laws α) (ws .0) _ was .1 .0 .1 }, tt)))) $ drop ! $
+        assigns ! (of-opd ! (load ! (from ! (fld ! refl (stop !))) (look-in ! 2 (sub ! 1 refl (whole !))))) (from ! (stop !))
+        (init ! 6 refl (tt, record { fits = LL.owed (T.the-type α) (T′.the-laws α) (ws .0) _ was .1 .0 .1 })) $
+        assigns ! (agg ! (and-then ! (load ! (from ! (stop !)) (look ! 10 refl)) (and-then ! (load ! (from ! (stop !)) (look ! 6 refl)) (no-more !)))) (from ! (stop !))
+        (init ! 19 refl (
+          tt,
+          (
+            LL.lawful field-type.the-type field-laws.the-laws 𝓤 H A W .typed r _ (field-is r u is) .0 .1,
+            (record { fits = LL.owed (T.the-type α) (T′.the-laws α) (ws .0) _ was .1 .0 .1 }, tt),
+          ),
+        )) $ drop ! $
         returns ! (look ! 18 refl) $ forget ! 1 refl $ forget ! 5 refl $ forget ! 7 refl $ forget ! 9 refl $ forget ! 12 refl $ forget ! 14 refl $ forget ! 16 refl $ forget ! 18 refl $
-        move ! (18 ∷ 19 ∷ []) $ free1 ! $ move ! (16 ∷ 17 ∷ []) $ free1 ! $ move ! (14 ∷ 15 ∷ []) $ free1 ! $ move ! (12 ∷ 13 ∷ []) $ free1 ! $ move ! (1 ∷ 11 ∷ []) $ free1 ! $ move ! (8 ∷ 9 ∷ []) $ free1 ! $ move ! (6 ∷ 7 ∷ []) $ free1 ! $ move ! (4 ∷ 5 ∷ []) $ free1 ! $ free0 ! $
+        move ! (18 ∷ 19 ∷ []) $ free1 ! $ move ! (16 ∷ 17 ∷ []) $ free1 ! $ move ! (14 ∷ 15 ∷ []) $ free1 ! $ move ! (12 ∷ 13 ∷ []) $ free1 ! $ move ! (1 ∷ 11 ∷ []) $ free1 ! $
+        move ! (8 ∷ 9 ∷ []) $ free1 ! $ move ! (6 ∷ 7 ∷ []) $ free1 ! $ move ! (4 ∷ 5 ∷ []) $ free1 ! $ free0 ! $
         by ! (exits r (ws .0 .at) (LL.owed (T.the-type α) (T′.the-laws α) (ws .0) _ was .1 .0 .1) (made-step (ws .0) r e))))))))))))))))))
 
 module _ {M : Type 1} (𝓤 : URA M) (H : Heap 𝓤) (A : Atoms 𝓤) (W : Given 𝓤 H A) (mem : Memory → SProp 𝓤) (run : Routine → Fun 𝓤) where
@@ -153,7 +176,11 @@ module _ {M : Type 1} (𝓤 : URA M) (H : Heap 𝓤) (A : Atoms 𝓤) (W : Given
 step-of-meets : {M : Type 1} (𝓤 : URA M) (H : Heap 𝓤) (A : Atoms 𝓤) (W : Given 𝓤 H A) (mem : Memory → SProp 𝓤) (run : Routine → Fun 𝓤) (𝓣 : Tables 𝓤 H)
     → Triple 𝓤 (𝓣 .C #scan·next) (Next 𝓤 H A mem run)
     → Meets 𝓤 H A step-of.signature (WpFn 𝓤 H (𝓣 .C) (𝓣 .Λ) code.function) (step-of.spec 𝓤 H A mem run)
-step-of-meets 𝓤 H A W mem run 𝓣 known = walk-meets 𝓤 H A step-of.ended stayed W (goes-none-slice 𝓤 H A W 1 (0 ∷ []) tt (plain (λ _. u8)) yes, (goes-none 𝓤 H A W 1 (λ _. usize) yes (λ κs x f. refl), (goes-none 𝓤 H A W 1 (λ _. passed-type.the-row) yes (λ κs x f. refl), tt)))
+step-of-meets 𝓤 H A W mem run 𝓣 known =
+    walk-meets 𝓤 H A step-of.ended stayed W (
+      goes-none-slice 𝓤 H A W 1 (0 ∷ []) tt (plain (λ _. u8)) yes,
+      (goes-none 𝓤 H A W 1 (λ _. usize) yes (λ κs x f. refl), (goes-none 𝓤 H A W 1 (λ _. passed-type.the-row) yes (λ κs x f. refl), tt)),
+    )
     (step-of.clauses 𝓤 H A mem run) (WpFn 𝓤 H (𝓣 .C) (𝓣 .Λ) code.function) (WpFn-mono 𝓤 H (W .laws) 𝓣 code.function)
     (step-of-walks 𝓤 H A W mem run (𝓣 .C) (𝓣 .Λ) (fmOf 𝓤 H (W .laws) 𝓣) known)
 

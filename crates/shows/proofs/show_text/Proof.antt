@@ -41,7 +41,9 @@ returns-3 c =
     let refused = called .before .before in
     let shaped = refused .before .before in
     let read = shaped .before .before in
-    printed (called .put-refused .ensures .put (omega arith) (refused-short _)) (shown-request-refused _ _ (read .read-request .ensures) (shaped .if2 .left) (refused .if3 .taken)) (read .before .if1 .left) (omega arith)
+    printed (called .put-refused .ensures .put (omega arith) (refused-short _))
+    (shown-request-refused _ _ (read .read-request .ensures) (shaped .if2 .left) (refused .if3 .taken))
+    (read .before .if1 .left) (omega arith)
 
 blank-alloc-requires : tie.Need-blank-alloc-requires
 blank-alloc-requires c κs = search needs

@@ -3,43 +3,8 @@ use borrow.Author.Needs.{needs}
 use Rattle.olivastrum.proofs.composing.all.Statement.{statement}
 use Rattle.olivastrum.proofs.composing.all.Tie as tie
 
-abbrev Inv-loop : tie.InvT-loop
-Inv-loop stands₀ turns₀ stands turns = Unit {0}
-
-abbrev μ-loop : tie.MeasureT-loop
-μ-loop stands₀ turns₀ stands turns = turns
-
-loop-holds : tie.Need-loop-holds Inv-loop μ-loop
-loop-holds c = tt
-
-piece-requires : tie.Need-piece-requires Inv-loop μ-loop
-piece-requires c κs = search needs
-
-returns : tie.Need-returns Inv-loop μ-loop
-returns c = search needs
-
-sub-turns : tie.Need-sub-turns Inv-loop μ-loop
-sub-turns c = search needs
-
-loop-less : tie.Need-loop-less Inv-loop μ-loop
-loop-less c = search needs
-
-loop-again : tie.Need-loop-again Inv-loop μ-loop
-loop-again c = tt
-
-returns-2 : tie.Need-returns-2 Inv-loop μ-loop
-returns-2 c = search needs
-
 pub all-spec : {M : Type 1} → statement M
 all-spec =
     tie.close
-    (tie.spec
-    Inv-loop
-    μ-loop
-    loop-holds
-    piece-requires
-    returns
-    sub-turns
-    loop-less
-    loop-again
-    returns-2)
+    (tie.spec (λ stands₀ turns₀ stands turns. Unit {0}) (λ stands₀ turns₀ stands turns. turns) (λ c. tt) (λ c κs. search needs)
+    (λ c. search needs) (λ c. search needs) (λ c. search needs) (λ c. tt) (λ c. search needs))

@@ -27,10 +27,11 @@ sendable : (c : tie.After-sync-sent) → Sendable (c .before .before .before .be
 sendable c =
     let sync = c .sync-sent .ensures in
     let s = safe (c .before .before .before .before) .0 in
-    record { allotted = sync .allotted; rest = sync .rest; small = omega (arith, c .before .least .ensures, c .before .before .before .limit-of .ensures .small, s .rotation) }
+    record { allotted = sync .allotted; rest = sync .rest; short = omega (arith, c .before .least .ensures, c .before .before .before .limit-of .ensures .small, s .allotted) }
 
 -- the moved ring with the record of the same two amounts is the visit
-done : (r : Ring) (ask sync async : ℕ) (x : Ring) (v : VisitRecord) → visitNumber r ≡ 0 → sync ≡ syncSent r async → async ≡ asyncSent r ask → x ≡ moved r sync async → v ≡ recordOf r sync async → record { ring = x; answer = record { «record» = v; number = 0 } } ≡ visited r ask
+done : (r : Ring) (ask sync async : ℕ) (x : Ring) (v : VisitRecord) → visitNumber r ≡ 0 → sync ≡ syncSent r async → async ≡ asyncSent r ask → x ≡ moved r sync async
+    → v ≡ recordOf r sync async → record { ring = x; answer = record { «record» = v; number = 0 } } ≡ visited r ask
 done r ask sync async x v zero s a moves records = rw (moves, records, s, a) (sym (visit-accepted _ r ask zero))
 
 sound-requires : tie.Need-sound-requires
@@ -87,7 +88,8 @@ returns-3 c =
     let offered = sent .before in
     let start = sent .before .before .before .before .before .before .before .before .args in
     let sync : sent .sync-sent .result ≡ syncSent (start .self) (offered .least .result) = sent .sync-sent .ensures .is in
-    let async : offered .least .result ≡ asyncSent (start .self) (start .ask) = offered .least .ensures ∙ rw (offered .before .before .limit-of .ensures .is, offered .before .wide .ensures .same) refl in
+    let async : offered .least .result ≡ asyncSent (start .self) (start .ask) =
+    offered .least .ensures ∙ rw (offered .before .before .limit-of .ensures .is, offered .before .wide .ensures .same) refl in
     done (start .self) (start .ask) _ _ _ _ (passed (sent .before .before .before .before)) sync async (c .moved-on .ensures) (c .before .record-of .ensures)
 
 pub visit-spec : {M : Type 1} → statement M

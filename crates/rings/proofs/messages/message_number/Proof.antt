@@ -26,22 +26,25 @@ known : (c : tie.Else1) → stationKnown (c .before .before .before .args .r) (c
 known c = lt-ltb _ _ (below c)
 
 -- the length's test is the definition's
-length-said : (c : tie.After-wide2) → (leb 1 (c .before .before .before .before .before .before .before .args .m .length .0) && leb (c .before .before .before .before .before .before .before .args .m .length .0) (c .wide2 .result)) ≡ lengthAllowed (c .before .before .before .before .before .before .before .args .r) (c .before .before .before .before .before .before .before .args .m)
+length-said : (c : tie.After-wide2) → let args = c .before .before .before .before .before .before .before .args in
+    (leb 1 (args .m .length .0) && leb (args .m .length .0) (c .wide2 .result)) ≡ lengthAllowed (args .r) (args .m)
 length-said c = rw (c .wide2 .ensures .same) refl
 
-allowed : (c : tie.Else2) → lengthAllowed (c .before .before .before .before .before .before .before .before .before .args .r) (c .before .before .before .before .before .before .before .before .before .args .m) ≡ true
+allowed : (c : tie.Else2) → let args = c .before .before .before .before .before .before .before .before .before .args in lengthAllowed (args .r) (args .m) ≡ true
 allowed c = sym (length-said (c .before .before)) ∙ not-false _ (c .if2 .left)
 
 -- something of a message remains, or nothing does
-held : (c : tie.Then3) → nothingHeld (c .before .before .before .before .before .before .before .before .before .before .args .r) (c .before .before .before .before .before .before .before .before .before .before .args .m) ≡ false
+held : (c : tie.Then3) → let args = c .before .before .before .before .before .before .before .before .before .before .args in nothingHeld (args .r) (args .m) ≡ false
 held c =
-    let some : 0 < at (c .before .before .before .before .before .before .before .before .before .before .args .r .rest) (c .before .before .before .before .before .before .before .before .before .before .args .m .station .0) = ltb-true 0 _ (c .if3 .taken) in
-    ne-eqb (at (c .before .before .before .before .before .before .before .before .before .before .args .r .rest) (c .before .before .before .before .before .before .before .before .before .before .args .m .station .0)) 0 (omega arith)
+    let args = c .before .before .before .before .before .before .before .before .before .before .args in
+    let some : 0 < at (args .r .rest) (args .m .station .0) = ltb-true 0 _ (c .if3 .taken) in
+    ne-eqb (at (args .r .rest) (args .m .station .0)) 0 (omega arith)
 
-free : (c : tie.Else3) → nothingHeld (c .before .before .before .before .before .before .before .before .before .before .args .r) (c .before .before .before .before .before .before .before .before .before .before .args .m) ≡ true
+free : (c : tie.Else3) → let args = c .before .before .before .before .before .before .before .before .before .before .args in nothingHeld (args .r) (args .m) ≡ true
 free c =
-    let none : at (c .before .before .before .before .before .before .before .before .before .before .args .r .rest) (c .before .before .before .before .before .before .before .before .before .before .args .m .station .0) ≤ 0 = ltb-false 0 _ (c .if3 .left) in
-    eq-eqb (at (c .before .before .before .before .before .before .before .before .before .before .args .r .rest) (c .before .before .before .before .before .before .before .before .before .before .args .m .station .0)) 0 (omega arith)
+    let args = c .before .before .before .before .before .before .before .before .before .before .args in
+    let none : at (args .r .rest) (args .m .station .0) ≤ 0 = ltb-false 0 _ (c .if3 .left) in
+    eq-eqb (at (args .r .rest) (args .m .station .0)) 0 (omega arith)
 
 wide-requires : tie.Need-wide-requires
 wide-requires c κs = search needs

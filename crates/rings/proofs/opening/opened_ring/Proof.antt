@@ -9,7 +9,7 @@ silent-timers-requires c κs = c .pre
 
 returns : tie.Need-returns
 unfolding openedRing
-returns c = rw (c .before .silent-timers .ensures) refl
+returns c = rw (c .before .before .silent-timers .ensures) refl
 
 pub opened-ring-spec : {M : Type 1} → statement M
 opened-ring-spec = tie.close (tie.spec silent-timers-requires returns)

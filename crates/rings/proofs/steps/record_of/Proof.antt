@@ -19,10 +19,22 @@ use Rattle.rings.proofs.steps.record_of.Statement.{statement}
 use Rattle.rings.proofs.steps.record_of.Tie as tie
 
 -- a record is the definition's if its numbers are
-told : (r : Ring) (sync async : ℕ) (x : VisitRecord) → x .station .0 ≡ r .token → x .start .0 ≡ r .clock → x .trt .0 ≡ at (r .trt) (r .token) → x .limit .0 ≡ limit r → x .synchronous .0 ≡ sync → x .asynchronous .0 ≡ async → x .finish .0 ≡ cond (completes r sync) (finish r sync async) 0 → x .margin ≡ cond (completes r sync) (margin r sync async) (pos 0) → x .completed ≡ cond (completes r sync) 1 0 → x ≡ recordOf r sync async
+told : (r : Ring) (sync async : ℕ) (x : VisitRecord) → x .station .0 ≡ r .token → x .start .0 ≡ r .clock → x .trt .0 ≡ at (r .trt) (r .token) → x .limit .0 ≡ limit r
+    → x .synchronous .0 ≡ sync → x .asynchronous .0 ≡ async → x .finish .0 ≡ cond (completes r sync) (finish r sync async) 0
+    → x .margin ≡ cond (completes r sync) (margin r sync async) (pos 0) → x .completed ≡ cond (completes r sync) 1 0 → x ≡ recordOf r sync async
 unfolding recordOf
 told r sync async x station start trt lim sent extra end late done =
-    λ i. record { station = record { 0 = station i }; start = record { 0 = start i }; trt = record { 0 = trt i }; limit = record { 0 = lim i }; synchronous = record { 0 = sent i }; asynchronous = record { 0 = extra i }; finish = record { 0 = end i }; margin = late i; completed = done i }
+    λ i. record {
+      station = record { 0 = station i };
+      start = record { 0 = start i };
+      trt = record { 0 = trt i };
+      limit = record { 0 = lim i };
+      synchronous = record { 0 = sent i };
+      asynchronous = record { 0 = extra i };
+      finish = record { 0 = end i };
+      margin = late i;
+      completed = done i;
+    }
 
 -- the deadline and the finish of a safe ring are far below the signed range's end
 due-small : (r : Ring) → Safe r → deadline r < 2 ^ 62
@@ -81,15 +93,19 @@ returns c =
     let yes : completes (args .r) (args .sync) ≡ true = sym (seen .completes-with .ensures) ∙ began .before .if1 .taken in
     let begins : began .sync-start .result ≡ syncStart (args .r) (args .asynchronous) = began .sync-start .ensures in
     let is : c .margin-of .result ≡ margin (args .r) (args .sync) (args .asynchronous) = c .margin-of .ensures ∙ rw (c .before .deadline-of .ensures, begins) in
-    let kept : toZ w64 (ofZ w64 (c .margin-of .result)) ≡ margin (args .r) (args .sync) (args .asynchronous) = rw is (toZ-ofZ w64 _ (difference-fits (deadline (args .r)) (finish (args .r) (args .sync) (args .asynchronous)) (due-small (args .r) (start .pre .0)) (end-small (args .r) (args .sync) (args .asynchronous) (start .pre .0) (start .pre .1)))) in
-    told (args .r) (args .sync) (args .asynchronous) _ (seen .before .before .before .before .wide .ensures .same) refl (seen .before .before .wide2 .ensures .same) (seen .before .limit-of .ensures .is) refl refl (rw (yes, begins)) (kept ∙ rw yes) (rw yes)
+    let kept : toZ w64 (ofZ w64 (c .margin-of .result)) ≡ margin (args .r) (args .sync) (args .asynchronous) =
+    rw is (toZ-ofZ w64 _ (difference-fits (deadline (args .r)) (finish (args .r) (args .sync) (args .asynchronous)) (due-small (args .r) (start .pre .0))
+    (end-small (args .r) (args .sync) (args .asynchronous) (start .pre .0) (start .pre .1)))) in
+    told (args .r) (args .sync) (args .asynchronous) _ (seen .before .before .before .before .wide .ensures .same) refl (seen .before .before .wide2 .ensures .same)
+    (seen .before .limit-of .ensures .is) refl refl (rw (yes, begins)) (kept ∙ rw yes) (rw yes)
 
 returns-2 : tie.Need-returns-2
 returns-2 c =
     let seen = c .before in
     let args = seen .before .before .before .before .before .before .args in
     let no : completes (args .r) (args .sync) ≡ false = sym (seen .completes-with .ensures) ∙ c .if1 .left in
-    told (args .r) (args .sync) (args .asynchronous) _ (seen .before .before .before .before .wide .ensures .same) refl (seen .before .before .wide2 .ensures .same) (seen .before .limit-of .ensures .is) refl refl (rw no) (rw no) (rw no)
+    told (args .r) (args .sync) (args .asynchronous) _ (seen .before .before .before .before .wide .ensures .same) refl (seen .before .before .wide2 .ensures .same)
+    (seen .before .limit-of .ensures .is) refl refl (rw no) (rw no) (rw no)
 
 pub record-of-spec : {M : Type 1} → statement M
 record-of-spec =

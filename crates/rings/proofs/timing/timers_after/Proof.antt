@@ -1,74 +1,25 @@
--- `timers_after` is right because its stores are the definition's; a safe ring's numbers leave room for every sum.
-use Prim.Native.Nat.{ℕ}
-use mathlib.Core.Path.{_≡_, _∙_}
-use mathlib.Core.List.{List}
-use native.Mathlib.Omega.{arith}
-use lib.ListN.{set}
-use Rattle.units.specs.Places.{raise}
-use Rattle.units.specs.PlaceLaws.{set-zero}
-use Rattle.places.specs.Held.{raisedHeld}
-use Rattle.places.proofs.Promised.{promised}
-use Rattle.rings.specs.State.{count}
-use Rattle.rings.specs.Timers.{rise, unusedAfter, timersAfter}
-use Rattle.rings.specs.Bounds.{Safe, SafeTimers, Sendable}
-use Rattle.rings.specs.declared.Ring.{Ring}
-use Rattle.rings.specs.declared.Timers.{Timers}
-use borrow.Author.Needs.{needs}
+-- `timers_after` is right because it asks for the mode as the definition does.
+use mathlib.Core.Path.{sym, _∙_}
+use Rattle.rings.specs.TimerLaws.{after-fddi, after-timely}
 use Rattle.rings.proofs.timing.timers_after.Statement.{statement}
 use Rattle.rings.proofs.timing.timers_after.Tie as tie
 
--- no TRT of a safe ring is held: a visit's rise leaves each far below 2^32
-unheld : (r : Ring) (sync async : ℕ) → Safe r → SafeTimers r → Sendable r sync async → raisedHeld (count r) (rise r sync async) (set (r .trt) (r .token) 0) ≡ raise (count r) (rise r sync async) (set (r .trt) (r .token) 0)
-unheld r sync async s m t =
-    promised .rise-fits (count r) _ (set (r .trt) (r .token) 0) (λ i l. let low = set-zero (r .trt) (r .token) i in let most = m .trts i l in omega arith)
-
--- timers are the definition's if both parts are
-stored : (r : Ring) (sync async by : ℕ) (x : Timers) → x .trt ≡ raisedHeld (count r) by (set (r .trt) (r .token) 0) → x .unused ≡ unusedAfter r sync → by ≡ rise r sync async → Safe r → SafeTimers r → Sendable r sync async → x ≡ timersAfter r sync async
-unfolding timersAfter
-stored r sync async by x trt unused rises s m t =
-    (λ i. record { trt = trt i; unused = unused i }) ∙ rw (rises, unheld r sync async s m t)
-
-cast-p : tie.Need-cast-p
-cast-p c = search needs
-
-rise-of-requires : tie.Need-rise-of-requires
-rise-of-requires c κs = (c .before .pre .0, c .before .pre .2)
-
-cast-unused-after : tie.Need-cast-unused-after
-cast-unused-after c = search needs
-
-unused-after-requires : tie.Need-unused-after-requires
-unused-after-requires c κs =
-    let pre = c .before .before .pre in
-    (pre .0, pre .1, pre .2 .allotted)
-
-mul-trt : tie.Need-mul-trt
-mul-trt c = search needs
-
-array-write-trt : tie.Need-array-write-trt
-array-write-trt c = search needs
-
-cast-raised : tie.Need-cast-raised
-cast-raised c = search needs
-
-raised-requires : tie.Need-raised-requires
-raised-requires c κs = search needs
+fddi-after-requires : tie.Need-fddi-after-requires
+fddi-after-requires c κs =
+    let pre = c .before .pre in
+    (pre .0, pre .1 .fddi (c .if1 .taken), pre .2)
 
 returns : tie.Need-returns
-returns c =
-    let pre = c .before .before .before .before .before .pre in
-    stored _ _ _ _ _ (c .raised .ensures) (c .before .before .unused-after .ensures) (c .before .before .before .rise-of .ensures) (pre .0) (pre .1) (pre .2)
+returns c = c .fddi-after .ensures ∙ sym (after-fddi _ (c .before .if1 .taken) _ _)
+
+timely-after-requires : tie.Need-timely-after-requires
+timely-after-requires c κs =
+    let pre = c .before .pre in
+    (pre .0, pre .1 .timely (c .if1 .left), pre .2)
+
+returns-2 : tie.Need-returns-2
+returns-2 c = c .timely-after .ensures ∙ sym (after-timely _ (c .before .if1 .left) _ _)
 
 pub timers-after-spec : {M : Type 1} → statement M
 timers-after-spec =
-    tie.close
-    (tie.spec
-    cast-p
-    rise-of-requires
-    cast-unused-after
-    unused-after-requires
-    mul-trt
-    array-write-trt
-    cast-raised
-    raised-requires
-    returns)
+    tie.close (tie.spec fddi-after-requires returns timely-after-requires returns-2)

@@ -7,17 +7,23 @@ use Rattle.rings.proofs.timing.unused_after.Tie as tie
 cast-p : tie.Need-cast-p
 cast-p c = search needs
 
-mul-share : tie.Need-mul-share
-mul-share c = search needs
+mul-wide : tie.Need-mul-wide
+mul-wide c = search needs
 
-array-read-share : tie.Need-array-read-share
-array-read-share c = search needs
+array-read-wide : tie.Need-array-read-wide
+array-read-wide c = search needs
 
-mul-fallen : tie.Need-mul-fallen
-mul-fallen c = search needs
+wide-requires : tie.Need-wide-requires
+wide-requires c κs = search needs
 
-array-read-fallen : tie.Need-array-read-fallen
-array-read-fallen c = search needs
+mul-wide-2 : tie.Need-mul-wide-2
+mul-wide-2 c = search needs
+
+array-read-wide-2 : tie.Need-array-read-wide-2
+array-read-wide-2 c = search needs
+
+wide-requires-2 : tie.Need-wide-requires-2
+wide-requires-2 c κs = search needs
 
 sub-fallen : tie.Need-sub-fallen
 sub-fallen c = search needs
@@ -32,17 +38,19 @@ add-result : tie.Need-add-result
 add-result c = search needs
 
 returns : tie.Need-returns
-returns c = refl
+returns c = rw (c .before .before .before .wide .ensures .same, c .before .wide2 .ensures .same) refl
 
 pub unused-after-spec : {M : Type 1} → statement M
 unused-after-spec =
     tie.close
     (tie.spec
     cast-p
-    mul-share
-    array-read-share
-    mul-fallen
-    array-read-fallen
+    mul-wide
+    array-read-wide
+    wide-requires
+    mul-wide-2
+    array-read-wide-2
+    wide-requires-2
     sub-fallen
     sub-fallen-2
     sub-result

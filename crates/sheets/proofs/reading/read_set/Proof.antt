@@ -1,10 +1,13 @@
--- `read_set` is right because it reads the four columns of the stations.
+-- `read_set` is right because it reads TTRT, the mode and the four columns of the stations.
 use borrow.Author.Needs.{needs}
 use Rattle.sheets.proofs.reading.read_set.Statement.{statement}
 use Rattle.sheets.proofs.reading.read_set.Tie as tie
 
 number-at-requires : tie.Need-number-at-requires
 number-at-requires c κs = search needs
+
+read-mode-requires : tie.Need-read-mode-requires
+read-mode-requires c κs = search needs
 
 cast-count : tie.Need-cast-count
 cast-count c = search needs
@@ -38,13 +41,21 @@ returns c =
     let third = c .before in
     let second = third .before in
     let first = second .before in
-    rw (first .before .number-at .ensures, first .read-column .ensures, second .read-column2 .ensures, third .read-column3 .ensures, c .read-column4 .ensures)
+    rw (
+      first .before .before .number-at .ensures,
+      first .before .read-mode .ensures,
+      first .read-column .ensures,
+      second .read-column2 .ensures,
+      third .read-column3 .ensures,
+      c .read-column4 .ensures,
+    )
 
 pub read-set-spec : {M : Type 1} → statement M
 read-set-spec =
     tie.close
     (tie.spec
     number-at-requires
+    read-mode-requires
     cast-count
     add-read-column
     read-column-requires

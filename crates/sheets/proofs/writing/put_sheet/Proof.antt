@@ -1,4 +1,6 @@
 -- `put_sheet` is right because header, stations, allocations and end are laid one behind the other.
+use Prim.Native.Nat.{ℕ, _+_}
+use mathlib.Core.Path.{ap}
 use native.Mathlib.Omega.{arith}
 use Rattle.fields.proofs.FieldLaws.{allocations-few}
 use Rattle.sheets.proofs.WritingLaws.{sheet-laid}
@@ -11,6 +13,12 @@ cast-n c = search needs
 
 allocations-for-requires : tie.Need-allocations-for-requires
 allocations-for-requires c κs = search needs
+
+further-length-requires : tie.Need-further-length-requires
+further-length-requires c κs = search needs
+
+add-from : tie.Need-add-from
+add-from c = search needs
 
 mul-behind : tie.Need-mul-behind
 mul-behind c = search needs
@@ -26,10 +34,12 @@ put-stations-requires c κs = search needs
 
 put-allocations-requires : tie.Need-put-allocations-requires
 put-allocations-requires c κs =
-    let counted = c .before .before .before .before .before .before .before .before .before .before in
+    let measured = c .before .before .before .before .before .before .before .before .before in
+    let counted = measured .before .before in
     let start = counted .before .before .before in
     let few = allocations-few (start .args .plan) (start .args .t .n) in
     let said = counted .allocations-for .ensures in
+    let begun = measured .further-length .ensures in
     let fit = start .pre in
     (omega arith, omega arith)
 
@@ -51,16 +61,17 @@ returns c =
     let allocated = ended .before .before .before .before in
     let placed = allocated .before .before .before .before in
     let headed = placed .before .before .before .before in
-    let counted = headed .before .before .before in
+    let measured = headed .before .before in
+    let counted = measured .before .before in
     let start = counted .before .before .before in
-    sheet-laid (start .args .plan) (start .args .t) (start .args .a) _ _ _ _ _ _
+    sheet-laid (start .args .plan) (start .args .t) (start .args .a) _ _ _ _ _ _ _
     (record {
       head = headed .put-head .ensures;
       stations = placed .put-stations .ensures;
       allocations = allocated .put-allocations .ensures;
       end = ended .put-mark .ensures;
     })
-    (counted .allocations-for .ensures) (start .pre .1)
+    (ap (λ (k : ℕ). 7 + k) (measured .further-length .ensures)) (counted .allocations-for .ensures) (start .pre .1)
 
 pub put-sheet-spec : {M : Type 1} → statement M
 put-sheet-spec =
@@ -68,6 +79,8 @@ put-sheet-spec =
     (tie.spec
     cast-n
     allocations-for-requires
+    further-length-requires
+    add-from
     mul-behind
     add-behind
     put-head-requires

@@ -36,11 +36,8 @@ returns c =
     rw (c .refused .ensures, said)
     (wrote-refused (args .plan) (args .t) (args .a) (args .out .now) _ refused (number-judged (args .plan) (args .t) (args .a) (args .out .now) refused))
 
-cast-sheet-length : tie.Need-cast-sheet-length
-cast-sheet-length c = search needs
-
 sheet-length-requires : tie.Need-sheet-length-requires
-sheet-length-requires c κs = few (c .before)
+sheet-length-requires c κs = few c
 
 refused-requires-2 : tie.Need-refused-requires-2
 refused-requires-2 c κs = search needs
@@ -48,17 +45,17 @@ refused-requires-2 c κs = search needs
 returns-2 : tie.Need-returns-2
 returns-2 c =
     let measured = c .before .before in
-    let args = measured .before .before .before .before .before .args in
+    let args = measured .before .before .before .before .args in
     let said = measured .sheet-length .ensures in
-    let short : length (args .out .now) < sheetLength (args .plan) (args .t .n) = omega arith in
+    let short : length (args .out .now) < sheetLength (args .plan) (args .t) = omega arith in
     rw (c .refused2 .ensures)
-    (wrote-refused (args .plan) (args .t) (args .a) (args .out .now) 14 (omega arith) (number-short (args .plan) (args .t) (args .a) (args .out .now) (judged-0 (measured .before .before)) short))
+    (wrote-refused (args .plan) (args .t) (args .a) (args .out .now) 14 (omega arith) (number-short (args .plan) (args .t) (args .a) (args .out .now) (judged-0 (measured .before)) short))
 
 put-sheet-requires : tie.Need-put-sheet-requires
 put-sheet-requires c κs =
     let measured = c .before .before in
     let said = measured .sheet-length .ensures in
-    (few (measured .before .before), omega arith)
+    (few (measured .before), omega arith)
 
 same-length : tie.Need-same-length
 same-length c = search needs
@@ -67,11 +64,11 @@ returns-3 : tie.Need-returns-3
 returns-3 c =
     let put = c .before .before in
     let measured = put .before .before .before in
-    let args = measured .before .before .before .before .before .args in
+    let args = measured .before .before .before .before .args in
     let said = measured .sheet-length .ensures in
-    let long : sheetLength (args .plan) (args .t .n) ≤ length (args .out .now) = omega arith in
+    let long : sheetLength (args .plan) (args .t) ≤ length (args .out .now) = omega arith in
     rw (put .put-sheet .ensures, said)
-    (wrote-all (args .plan) (args .t) (args .a) (args .out .now) (judged-0 (measured .before .before)) long)
+    (wrote-all (args .plan) (args .t) (args .a) (args .out .now) (judged-0 (measured .before)) long)
 
 pub write-sheet-spec : {M : Type 1} → statement M
 write-sheet-spec =
@@ -80,7 +77,6 @@ write-sheet-spec =
     judge-sheet-requires
     refused-requires
     returns
-    cast-sheet-length
     sheet-length-requires
     refused-requires-2
     returns-2

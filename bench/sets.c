@@ -1,0 +1,43 @@
+#include "sets.h"
+
+uint32_t random_number(void)
+{
+    static uint64_t seed = 1;
+    seed ^= seed << 13;
+    seed ^= seed >> 7;
+    seed ^= seed << 17;
+    return (uint32_t)(seed >> 16);
+}
+
+/* FDDI gives nothing in the first rotation of a deadline, so there each is a rotation longer. */
+struct olivastrum_set stations(uint32_t n, uint32_t mode)
+{
+    struct olivastrum_set set = {.head = {100000, mode}, .n = n};
+    uint32_t longer = mode == OLIVASTRUM_FDDI ? 100000 : 0;
+    for (uint32_t i = 0; i < n; i++) {
+        set.w[i] = 10 + i % 3;
+        set.c[i] = 300 + 37 * i % 400;
+        set.d[i] = longer + (i % 16 == 5 ? 99900 : 100000 * (1 + i % 7) + 13337 * (i % 5));
+        set.p[i] = set.d[i] + 1000 * (i % 2);
+    }
+    return set;
+}
+
+struct olivastrum_set random_fddi(uint32_t n, uint32_t load)
+{
+    uint32_t ttrt = 2000 + random_number() % 998001;
+    struct olivastrum_set set = {.head = {ttrt, OLIVASTRUM_FDDI}, .n = n};
+    uint32_t weight[OLIVASTRUM_MOST_STATIONS], all = 0, walk = 1 + random_number() % (ttrt / 10 / n);
+    for (uint32_t i = 0; i < n; i++)
+        all += weight[i] = 1 + random_number() % 1000;
+    uint64_t room = (uint64_t)(ttrt - n * walk) * load / 100;
+    for (uint32_t i = 0; i < n; i++) {
+        uint32_t share = (uint32_t)(room * weight[i] / all);
+        uint32_t q = random_number() % (8 * n) == 0 ? 1 : 2 + random_number() % 18;
+        set.w[i] = walk;
+        set.c[i] = q == 1 ? share : (q - 1) * share;
+        set.d[i] = q * ttrt + random_number() % ttrt;
+        set.p[i] = set.d[i];
+    }
+    return set;
+}

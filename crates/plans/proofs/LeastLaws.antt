@@ -1,0 +1,208 @@
+-- What planning tries is the least vector, in every mode: at each station at most every vector that meets the rules, and it meets them wherever any vector does. So 6 is right where it breaks one, and it is the plan where it does not.
+use Prim.Native.Nat.{ℕ, _+_, _≤_, _<_}
+use mathlib.Core.Path.{_≡_, refl, sym, _∙_}
+use mathlib.Core.Bool.{Bool, true, false, true≢false}
+use mathlib.Core.Logic.{_≢_, ⊎-elim}
+use native.Mathlib.Omega.{arith}
+use lib.ListN.{length, getD-replicate, List·getD-eq-default}
+use Rattle.units.specs.Places.{at, sumBelow, allBelow}
+use Rattle.units.specs.PlaceLaws.{sum-mono, sum-part, all-same, fill-length, fill-inside, fill-outside}
+use Rattle.units.specs.Judging.{orElse}
+use Rattle.units.specs.JudgingLaws.{true-or-false, true-and, Decides, held, failed}
+use Rattle.units.specs.SmallLaws.{below-or-not}
+use Rattle.sets.specs.Rules.{tau}
+use Rattle.sets.specs.Judged.{judged, zeros}
+use Rattle.sets.specs.SetLaws.{decides-count, decides-numbers, decides-walk, allowed, judged-rest, judged-keeps}
+use Rattle.sets.specs.declared.Set.{Set}
+use Rattle.fddi.specs.Rules.{stations, MeetsFddi, rulesKept}
+use Rattle.fddi.specs.Climb.{none, leastPlan}
+use Rattle.fddi.specs.Answer as fddi-answer
+use Rattle.fddi.proofs.Promised as fddi-plans
+use Rattle.plans.specs.Rules.{isFddi, loadOf, MeetsRules, IsSmallest, AllocInRange, deadlineFitsAt, deadlinesFit, tokenFits, rulesFit, timelyFitsAt}
+use Rattle.plans.specs.Planned.{smallestAt, smallestAlloc, leastAlloc, leastFits, judgedPlan, blankAlloc, planned}
+use Rattle.plans.specs.Answer.{IsPlan}
+use Rattle.plans.specs.PlanLaws.{smallest-is, time-timely, time-fddi, decides-alloc, decides-token, decides-rules, given-0, answered-refused, answered-plan}
+
+zeros-at : (i : ℕ) → at zeros i ≡ 0
+zeros-at i =
+    ⊎-elim (λ (b : i < 128). getD-replicate 128 i 0 0 b)
+    (λ (b : 128 ≤ i). List·getD-eq-default zeros 0 b)
+    (below-or-not i 128)
+
+-- ---- timely-token: the smallest S at each station by itself
+
+-- a place of the smallest allocation
+smallest-inside : (t : Set) → t .n ≤ 128 → (i : ℕ) → i < t .n → at (smallestAlloc t .s) i ≡ smallestAt t i
+smallest-inside t few i l = fill-inside (t .n) (smallestAt t) zeros i l few
+
+-- a vector that meets the rules is at least as large at every station
+smallest-below : (t : Set) → isFddi t ≡ false → t .n ≤ 128 → (v : ℕ → ℕ) → MeetsRules t v → (i : ℕ) → i < t .n → at (smallestAlloc t .s) i ≤ v i
+smallest-below t h few v m i l =
+    rw (smallest-inside t few i l)
+    (smallest-is (t .head .ttrt) (at (t .c) i) (at (t .d) i) .least (v i) (rw (time-timely t v i h) at (m .deadlines i l)))
+
+-- the smallest allocation keeps the deadline rule, so the token rule decides
+pub smallest-token : (t : Set) → isFddi t ≡ false → t .n ≤ 128 → sumBelow (t .n) (at (smallestAlloc t .s)) + tau t ≤ t .head .ttrt → MeetsRules t (at (smallestAlloc t .s))
+smallest-token t h few fits =
+    record {
+      deadlines = λ i l.
+          rw (time-timely t (at (smallestAlloc t .s)) i h, smallest-inside t few i l)
+          (smallest-is (t .head .ttrt) (at (t .c) i) (at (t .d) i) .meets);
+      token = fits;
+    }
+
+-- where a vector meets the rules, it does
+smallest-rules : (t : Set) → isFddi t ≡ false → t .n ≤ 128 → (v : ℕ → ℕ) → MeetsRules t v → MeetsRules t (at (smallestAlloc t .s))
+smallest-rules t h few v m =
+    smallest-token t h few (omega (arith, sum-mono (t .n) (at (smallestAlloc t .s)) v (smallest-below t h few v m), m .token))
+
+-- ---- FDDI: the rules of the load are the set's, and the climb finds the least vector
+
+module _ (t : Set) (h : isFddi t ≡ true) (few : t .n ≤ 128) where
+  sums-all : (s : ℕ → ℕ) → sumBelow (stations (loadOf t)) s ≡ sumBelow (t .n) s
+  sums-all s = let e : stations (loadOf t) ≡ t .n = omega arith in rw e
+
+  pub from-load : (s : ℕ → ℕ) → MeetsFddi (loadOf t) s → MeetsRules t s
+  from-load s m =
+      record {
+        deadlines = λ i l. rw (time-fddi t s i h) (m .deadlines i (omega arith));
+        token = omega (arith, sums-all s, m .token);
+      }
+
+  pub to-load : (s : ℕ → ℕ) → MeetsRules t s → MeetsFddi (loadOf t) s
+  to-load s m =
+      record {
+        deadlines = λ i l. rw (time-fddi t s i h) at (m .deadlines i (omega arith));
+        token = omega (arith, sums-all s, m .token);
+        grid = λ i l. (s i, omega arith);
+      }
+
+  -- where a vector meets the rules, the climb finds the least one
+  climb-found : (v : ℕ → ℕ) → MeetsRules t v → fddi-answer.IsLeast (loadOf t) (leastPlan (loadOf t) .s)
+  climb-found v m =
+      fddi-plans.promised .found (loadOf t)
+      (⊎-elim (λ e. e) (λ e. absurd (fddi-plans.promised .missing (loadOf t) .0 e v (to-load v m))) (true-or-false (leastPlan (loadOf t) .found)))
+
+-- what the climb answers has 128 places, and 0 in those from N on
+climb-long : (t : Set) → length (leastPlan (loadOf t) .s) ≡ 128
+climb-long t =
+    ⊎-elim (λ e. fddi-plans.promised .found (loadOf t) e .places)
+    (λ e. rw (fddi-plans.promised .blank (loadOf t) e) refl)
+    (true-or-false (leastPlan (loadOf t) .found))
+
+climb-past : (t : Set) (i : ℕ) → t .n ≤ i → at (leastPlan (loadOf t) .s) i ≡ 0
+climb-past t i l =
+    ⊎-elim (λ e. fddi-plans.promised .found (loadOf t) e .past i (omega arith))
+    (λ e. rw (fddi-plans.promised .blank (loadOf t) e) (zeros-at i))
+    (true-or-false (leastPlan (loadOf t) .found))
+
+-- ---- what planning tries, in every mode
+
+pub least-timely : (t : Set) → isFddi t ≡ false → leastAlloc t ≡ smallestAlloc t
+unfolding leastAlloc
+least-timely t h = rw h
+
+pub least-fddi : (t : Set) → isFddi t ≡ true → leastAlloc t ≡ record { s = leastPlan (loadOf t) .s }
+unfolding leastAlloc
+least-fddi t h = rw h
+
+pub least-long : (t : Set) → length (leastAlloc t .s) ≡ 128
+least-long t =
+    ⊎-elim (λ h. rw (least-fddi t h) (climb-long t))
+    (λ h. rw (least-timely t h) (fill-length (t .n) (smallestAt t) zeros))
+    (true-or-false (isFddi t))
+
+pub least-past : (t : Set) (i : ℕ) → t .n ≤ i → at (leastAlloc t .s) i ≡ 0
+least-past t i l =
+    ⊎-elim (λ h. rw (least-fddi t h) (climb-past t i l))
+    (λ h. rw (least-timely t h) (fill-outside (t .n) (smallestAt t) zeros i l ∙ zeros-at i))
+    (true-or-false (isFddi t))
+
+-- a vector that meets the rules is at least as large at every station
+pub least-below : (t : Set) → t .n ≤ 128 → (v : ℕ → ℕ) → MeetsRules t v → (i : ℕ) → i < t .n → at (leastAlloc t .s) i ≤ v i
+least-below t few v m i l =
+    ⊎-elim (λ h. rw (least-fddi t h) (climb-found t h few v m .least v (to-load t h few v m) i (omega arith)))
+    (λ h. rw (least-timely t h) (smallest-below t h few v m i l))
+    (true-or-false (isFddi t))
+
+-- where a vector meets the rules, what planning tries does
+pub least-needed : (t : Set) → t .n ≤ 128 → (v : ℕ → ℕ) → MeetsRules t v → leastFits t ≡ true
+least-needed t few v m =
+    decides-rules t (at (leastAlloc t .s)) .1
+    (⊎-elim (λ h. rw (least-fddi t h) (from-load t h few (at (leastPlan (loadOf t) .s)) (climb-found t h few v m .meets)))
+    (λ h. rw (least-timely t h) (smallest-rules t h few v m))
+    (true-or-false (isFddi t)))
+
+-- ---- what the code asks is what the rules say
+
+-- two tests that decide the same are the same
+same-test : (a b : Bool) (P Q : Type 0) → Decides a P → Decides b Q → (P → Q) → (Q → P) → a ≡ b
+same-test a b P Q p q there back =
+    ⊎-elim (λ h. h ∙ sym (q .1 (there (p .0 h))))
+    (λ h. ⊎-elim (λ k. absurd (true≢false (sym (p .1 (back (q .0 k))) ∙ h))) (λ k. h ∙ sym k) (true-or-false b))
+    (true-or-false a)
+
+pub timely-deadlines : (t : Set) (s : ℕ → ℕ) → isFddi t ≡ false → allBelow (t .n) (timelyFitsAt t s) ≡ deadlinesFit t s
+timely-deadlines t s h = all-same (t .n) (timelyFitsAt t s) (deadlineFitsAt t s) (λ i l. rw (time-timely t s i h))
+
+pub load-rules : (t : Set) (s : ℕ → ℕ) → isFddi t ≡ true → t .n ≤ 128 → rulesKept (loadOf t) s ≡ rulesFit t s
+load-rules t s h few =
+    same-test _ _ _ _ (fddi-plans.promised .test (loadOf t) s) (decides-rules t s) (from-load t h few s) (to-load t h few s)
+
+-- FDDI: the climb finds a vector exactly where what planning tries meets the rules
+pub climb-fits : (t : Set) → isFddi t ≡ true → t .n ≤ 128 → leastPlan (loadOf t) .found ≡ leastFits t
+climb-fits t h few =
+    let found = leastPlan (loadOf t) .found in
+    ⊎-elim (λ e.
+    let meets = fddi-plans.promised .found (loadOf t) e .meets in
+    e ∙ sym (least-needed t few (at (leastPlan (loadOf t) .s)) (from-load t h few (at (leastPlan (loadOf t) .s)) meets)))
+    (λ e.
+    let none : (m : leastFits t ≡ true) → ⊥ = λ m.
+    fddi-plans.promised .missing (loadOf t) .0 e (at (leastAlloc t .s)) (to-load t h few (at (leastAlloc t .s)) (decides-rules t (at (leastAlloc t .s)) .0 m)) in
+    ⊎-elim (λ k. absurd (none k)) (λ k. e ∙ sym k) (true-or-false (leastFits t)))
+    (true-or-false found)
+
+-- timely-token: the token rule decides whether the smallest allocation meets the rules
+pub smallest-fits : (t : Set) → isFddi t ≡ false → t .n ≤ 128 → tokenFits t (at (smallestAlloc t .s)) ≡ leastFits t
+smallest-fits t h few =
+    rw (least-timely t h)
+    (same-test _ _ _ _ (decides-token t (at (smallestAlloc t .s))) (decides-rules t (at (smallestAlloc t .s))) (smallest-token t h few) (λ m. m .token))
+
+-- each S of an allocation that meets the rules is at most TTRT
+pub alloc-small : (t : Set) (v : ℕ → ℕ) → MeetsRules t v → (i : ℕ) → i < t .n → v i ≤ t .head .ttrt
+alloc-small t v m i l = omega (arith, sum-part (t .n) v i l, m .token)
+
+-- ---- planning, test by test
+
+pub plan-refused-set : (t : Set) → judged t ≢ 0 → planned t ≡ record { alloc = blankAlloc; number = judged t }
+plan-refused-set t h = rw (judged-keeps t (orElse (leastFits t) 6 0) h) (answered-refused (judged t) (leastAlloc t) h)
+
+pub plan-none : (t : Set) → judged t ≡ 0 → leastFits t ≡ false → planned t ≡ record { alloc = blankAlloc; number = 6 }
+plan-none t h f = rw (judged-rest t (orElse (leastFits t) 6 0) h, failed (leastFits t) 6 0 f) (answered-refused 6 (leastAlloc t) (omega arith))
+
+pub plan-found : (t : Set) → judged t ≡ 0 → leastFits t ≡ true → planned t ≡ record { alloc = leastAlloc t; number = 0 }
+plan-found t h f = rw (judged-rest t (orElse (leastFits t) 6 0) h, held (leastFits t) 6 0 f) (answered-plan 0 (leastAlloc t) refl)
+
+-- ---- a plan that planning answered
+
+pub is-plan : (t : Set) → t .n ≤ 128 → leastFits t ≡ true → IsPlan t (record { alloc = leastAlloc t; number = 0 })
+is-plan t few f =
+    record {
+      accepted = refl;
+      places = least-long t;
+      least = record { meets = decides-rules t (at (leastAlloc t .s)) .0 f; least = least-below t few };
+      past = least-past t;
+    }
+
+pub smallest-each : (t : Set) → t .n ≤ 128 → isFddi t ≡ false → (i : ℕ) → i < t .n → IsSmallest (t .head .ttrt) (at (t .c) i) (at (t .d) i) (at (leastAlloc t .s) i)
+smallest-each t few h i l = rw (least-timely t h, smallest-inside t few i l) (smallest-is (t .head .ttrt) (at (t .c) i) (at (t .d) i))
+
+pub plan-judged : (t : Set) → judged t ≡ 0 → leastFits t ≡ true → judgedPlan t (leastAlloc t) ≡ 0
+plan-judged t h f =
+    let all = allowed t .0 h in
+    let meets = decides-rules t (at (leastAlloc t .s)) .0 f in
+    let small : AllocInRange t (at (leastAlloc t .s)) = λ i l. omega (arith, alloc-small t (at (leastAlloc t .s)) meets i l, all .1 .0 .header .ttrt .1) in
+    given-0 t (leastAlloc t) (decides-count t .1 (all .0))
+    (true-and _ _ (decides-numbers t .1 (all .1 .0)) (decides-alloc t (at (leastAlloc t .s)) .1 small))
+    (decides-walk t .1 (all .1 .1))
+    f

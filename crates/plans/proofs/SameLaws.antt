@@ -1,0 +1,104 @@
+-- Places from N on are never looked at: the judgement of a plan and planning ask for the first N places alone, in every mode.
+use Prim.Native.Nat.{ℕ, _+_, _-_, _<_}
+use mathlib.Core.Path.{_≡_, refl, sym, ap, _∙_}
+use mathlib.Core.List.{List}
+use mathlib.Core.Logic.{⊎-elim}
+use native.Mathlib.Omega.{arith}
+use lib.Dec.{eqb}
+use Rattle.units.specs.Numbers.{fddi}
+use Rattle.units.specs.Places.{at, sumBelow, allBelow, fill}
+use Rattle.units.specs.PlaceLaws.{all-same, fill-same, sum-same}
+use Rattle.units.specs.Judging.{orElse}
+use Rattle.units.specs.JudgingLaws.{true-or-false}
+use Rattle.sets.specs.Rules.{SameSet}
+use Rattle.sets.specs.Judged.{zeros}
+use Rattle.sets.specs.SetLaws.{judged-same, tau-same, stations-same}
+use Rattle.sets.specs.declared.Head.{Head}
+use Rattle.sets.specs.declared.Set.{Set}
+use Rattle.fddi.specs.Rules as fddi-rules
+use Rattle.fddi.specs.declared.Found.{Found}
+use Rattle.fddi.proofs.Promised as fddi-plans
+use Rattle.plans.specs.Rules.{isFddi, loadOf, timeAt, inRangeS, deadlineFitsAt, deadlinesFit, tokenFits, rulesFit, allocInRange}
+use Rattle.plans.specs.Planned.{smallestAt, smallestAlloc, leastAlloc, leastFits, judgedPlan, planned}
+use Rattle.plans.specs.PlanLaws.{time-timely, time-fddi}
+use Rattle.plans.specs.declared.Alloc.{Alloc}
+use Rattle.plans.proofs.LeastLaws.{least-timely, least-fddi}
+
+module _ (a b : Set) (same : SameSet a b) where
+  mode-same : isFddi a ≡ isFddi b
+  mode-same = ap (λ (h : Head). eqb (h .mode) fddi) (same .header)
+
+  ttrt-same : a .head .ttrt ≡ b .head .ttrt
+  ttrt-same = ap (λ (h : Head). h .ttrt) (same .header)
+
+  load-same : fddi-rules.SameLoad (loadOf a) (loadOf b)
+  load-same =
+      record {
+        count = same .count;
+        ttrt = ttrt-same;
+        frame = refl;
+        grid = refl;
+        tau = tau-same a b same;
+        longest = λ i l. same .longest i (omega arith);
+        deadline = λ i l. same .deadline i (omega arith);
+      }
+
+  module _ (s v : ℕ → ℕ) (each : (i : ℕ) → i < a .n → s i ≡ v i) where
+    others-same : (i : ℕ) → i < a .n → fddi-rules.others (fddi-rules.stations (loadOf a)) s i ≡ fddi-rules.others (fddi-rules.stations (loadOf b)) v i
+    others-same i l =
+        let n = fddi-rules.stations (loadOf a) in
+        let before = sum-same i s v (λ j k. each j (omega arith)) in
+        let behind = sum-same (n - (i + 1)) (λ k. s (i + 1 + k)) (λ k. v (i + 1 + k)) (λ k m. each (i + 1 + k) (omega arith)) in
+        rw (before, behind, same .count)
+
+    time-same : (i : ℕ) → i < a .n → timeAt a s i ≡ timeAt b v i
+    time-same i l =
+        ⊎-elim (λ h.
+        time-fddi a s i h ∙
+        rw (others-same i l, ttrt-same, tau-same a b same, same .deadline i l, each i l) (sym (time-fddi b v i (sym mode-same ∙ h))))
+        (λ h.
+        time-timely a s i h ∙ rw (ttrt-same, same .deadline i l, each i l) (sym (time-timely b v i (sym mode-same ∙ h))))
+        (true-or-false (isFddi a))
+
+    token-same : tokenFits a s ≡ tokenFits b v
+    token-same =
+        let sums : sumBelow (a .n) s ≡ sumBelow (b .n) v = sum-same (a .n) s v each ∙ ap (λ (n : ℕ). sumBelow n v) (same .count) in
+        rw (sums, tau-same a b same, same .header)
+
+    deadlines-same : deadlinesFit a s ≡ deadlinesFit b v
+    deadlines-same =
+        all-same (a .n) (deadlineFitsAt a s) (deadlineFitsAt b v) (λ i l. rw (same .longest i l, time-same i l)) ∙
+        ap (λ (n : ℕ). allBelow n (deadlineFitsAt b v)) (same .count)
+
+    rules-same : rulesFit a s ≡ rulesFit b v
+    rules-same = rw (deadlines-same, token-same)
+
+  smallest-same : smallestAlloc a ≡ smallestAlloc b
+  smallest-same =
+      ap (λ (s : List ℕ). record { s = s })
+      (fill-same (a .n) (smallestAt a) (smallestAt b) zeros (λ i l. rw (ttrt-same, same .longest i l, same .deadline i l)) ∙
+      ap (λ (n : ℕ). fill n (smallestAt b) zeros) (same .count))
+
+  least-same : leastAlloc a ≡ leastAlloc b
+  least-same =
+      ⊎-elim (λ h.
+      least-fddi a h ∙
+      ap (λ (f : Found). record { s = f .s }) (fddi-plans.promised .first-places (loadOf a) (loadOf b) load-same) ∙
+      sym (least-fddi b (sym mode-same ∙ h)))
+      (λ h. least-timely a h ∙ smallest-same ∙ sym (least-timely b (sym mode-same ∙ h)))
+      (true-or-false (isFddi a))
+
+  fits-same : leastFits a ≡ leastFits b
+  fits-same = rw least-same (rules-same (at (leastAlloc b .s)) (at (leastAlloc b .s)) (λ i l. refl))
+
+pub planned-same : (a b : Set) → SameSet a b → planned a ≡ planned b
+planned-same a b same =
+    rw (fits-same a b same, least-same a b same, judged-same a b (orElse (leastFits b) 6 0) same)
+
+pub judged-plan-same : (t u : Set) (a b : Alloc) → SameSet t u → ((i : ℕ) → i < t .n → at (a .s) i ≡ at (b .s) i) → judgedPlan t a ≡ judgedPlan u b
+unfolding judgedPlan
+judged-plan-same t u a b same each =
+    let range : allocInRange t (at (a .s)) ≡ allocInRange u (at (b .s)) =
+    all-same (t .n) (inRangeS (at (a .s))) (inRangeS (at (b .s))) (λ i l. rw (each i l)) ∙
+    ap (λ (n : ℕ). allBelow n (inRangeS (at (b .s)))) (same .count) in
+    rw (range, rules-same t u same (at (a .s)) (at (b .s)) each, stations-same t u same, tau-same t u same, same .count, same .header)

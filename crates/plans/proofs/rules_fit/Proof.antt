@@ -1,0 +1,49 @@
+-- `rules_fit` is right because FDDI's test decides the same sentence over the set's load, and a timely-token set's X looks at the stations' own S.
+use mathlib.Core.Path.{refl, ap, _∙_}
+use borrow.Author.Needs.{needs}
+use borrow.Author.Tests.{eq-eqb, ne-eqb}
+use Rattle.units.specs.Places.{at}
+use Rattle.fddi.specs.Rules.{rulesKept}
+use Rattle.fddi.specs.declared.Load.{Load}
+use Rattle.plans.proofs.LeastLaws.{timely-deadlines, load-rules}
+use Rattle.plans.proofs.rules_fit.Statement.{statement}
+use Rattle.plans.proofs.rules_fit.Tie as tie
+
+load-of-requires : tie.Need-load-of-requires
+load-of-requires c κs = search needs
+
+meets-rules-requires : tie.Need-meets-rules-requires
+meets-rules-requires c κs = search needs
+
+returns : tie.Need-returns
+returns c =
+    let entry = c .before .before .before in
+    let t = entry .before .before .args .t in
+    let s = at (entry .before .before .args .a .s) in
+    let few = entry .before .before .pre in
+    c .meets-rules .ensures ∙ ap (λ (l : Load). rulesKept l s) (c .before .load-of .ensures) ∙ load-rules t s (eq-eqb _ _ (entry .if1 .taken)) few
+
+deadlines-fit-requires : tie.Need-deadlines-fit-requires
+deadlines-fit-requires c κs = search needs
+
+token-fits-requires : tie.Need-token-fits-requires
+token-fits-requires c κs = search needs
+
+returns-2 : tie.Need-returns-2
+returns-2 c =
+    let entry = c .before .before in
+    let t = entry .before .before .args .t in
+    let s = at (entry .before .before .args .a .s) in
+    let deadlines = c .before .deadlines-fit .ensures ∙ timely-deadlines t s (ne-eqb _ _ (entry .if1 .left)) in
+    rw (deadlines, c .token-fits .ensures) refl
+
+pub rules-fit-spec : {M : Type 1} → statement M
+rules-fit-spec =
+    tie.close
+    (tie.spec
+    load-of-requires
+    meets-rules-requires
+    returns
+    deadlines-fit-requires
+    token-fits-requires
+    returns-2)

@@ -1,0 +1,122 @@
+-- What every run of an FDDI ring keeps beside what every run keeps: the stations' numbers, and with them how far apart the token's arrivals are.
+use Prim.Native.Nat.{ℕ, _+_, _≤_}
+use mathlib.Core.Path.{_≡_, sym, ap, _∙_}
+use mathlib.Core.List.{List}
+use native.Mathlib.Omega.{arith}
+use Rattle.units.specs.Numbers.{mostClock}
+use Rattle.sets.specs.Rules.{tau}
+use Rattle.sets.specs.declared.Set.{Set}
+use Rattle.plans.specs.declared.Alloc.{Alloc}
+use Rattle.rings.specs.Steps.{Ask}
+use Rattle.rings.specs.Timers.{Fddi, silentTrt}
+use Rattle.rings.specs.HandingIn.{handInNumber}
+use Rattle.rings.specs.declared.Message.{Message}
+use Rattle.promises.specs.Run.{Call, Run, opened, runOf, ringOf, recordsOf}
+use Rattle.promises.specs.History.{latestOf, Each}
+use Rattle.promises.specs.Facts.{timing, VisitLaps}
+use Rattle.promises.specs.Valid.{Apart, FirstWithin, NeverLate, FddiKept, allShares}
+use Rattle.promises.proofs.Lists.{each-of}
+use Rattle.promises.proofs.Course.{Plan}
+use Rattle.promises.proofs.Laps.{Lapped, latest-within, first-within, late-small, rise-small, lapped-kept}
+use Rattle.promises.proofs.Steps.{visit-laps}
+use Rattle.promises.proofs.Opening.{opened-places, opened-lapped, opened-stored, opened-told}
+use Rattle.promises.proofs.Soundness.{is-sound, lapped-sound}
+use Rattle.promises.proofs.Runs.{Kept, made, movedRun, heldRun, sound-ring, course-facts, next-stored, kept-moved, message-facts, kept-held, Steady, steady-run}
+
+pub record Older (t : Set) (a : Alloc) (s : Run) : Type 0 where
+  pub common : Kept t a s
+  pub lapped : Lapped t a (timing (s .ring)) (s .records)
+  pub apart : Each (Apart (t .head .ttrt + allShares t a)) (s .records)
+  pub first : Each (FirstWithin t (t .head .ttrt + allShares t a)) (s .records)
+
+module _ (t : Set) (a : Alloc) (P : Plan t a) (s : Run) (K : Older t a s) where
+  lap-facts : (ask : Ask) → VisitLaps t a (timing (s .ring)) (timing (movedRun s ask .ring)) (made s ask)
+  lap-facts ask = visit-laps (s .ring) (K .common .places) (sound-ring t a P s (K .common)) ask t a (K .common .course .set) (K .common .course .alloc) (K .lapped .mode)
+
+  -- the token's station was visited at most so long ago
+  made-apart : (ask : Ask) → Apart (t .head .ttrt + allShares t a) (made s ask) (s .records)
+  made-apart ask u e =
+      let C = course-facts t a P s (K .common) ask in
+      let own = ap (λ (i : ℕ). latestOf i (s .records)) (sym (C .station)) ∙ e in
+      omega (arith, C .start, latest-within t a (timing (s .ring)) (s .records) P (K .lapped) (s .ring .token) (K .common .course .token) u own)
+
+  -- or, at its first visit, passed by the silent rotation at most so long ago
+  made-first : (ask : Ask) → FirstWithin t (t .head .ttrt + allShares t a) (made s ask) (s .records)
+  made-first ask e =
+      let C = course-facts t a P s (K .common) ask in
+      let own = ap (λ (i : ℕ). latestOf i (s .records)) (sym (C .station)) ∙ e in
+      omega (arith, C .start, ap (silentTrt t) (C .station), first-within t a (timing (s .ring)) (s .records) P (K .lapped) (s .ring .token) (K .common .course .token) own)
+
+  older-moved : (ask : Ask) → s .ring .clock ≤ mostClock → Older t a (movedRun s ask)
+  older-moved ask early =
+      let r = timing (s .ring) in
+      let q = timing (movedRun s ask .ring) in
+      let C = course-facts t a P s (K .common) ask in
+      let lapped = lapped-kept t a r q (made s ask) (s .records) P (K .lapped) C (lap-facts ask) early in
+      let timers = lapped-sound t a (movedRun s ask .ring) (movedRun s ask .records) P lapped in
+      let sound = is-sound t a (movedRun s ask .ring) (movedRun s ask .records) P (lapped .course) timers (next-stored t a P s (K .common) ask) in
+      record {
+        common = kept-moved t a P s (K .common) ask (rise-small t a r q (made s ask) (s .records) P (K .lapped) C (lap-facts ask)) early sound;
+        lapped = lapped;
+        apart = (made-apart ask, K .apart);
+        first = (made-first ask, K .first);
+      }
+
+  older-held : (m : Message) → handInNumber (s .ring) m ≡ 0 → Older t a (heldRun s m)
+  older-held m e =
+      record {
+        common = kept-held t a P s (K .common) m e;
+        lapped = rw (message-facts t a P s (K .common) m e .timing-same) (K .lapped);
+        apart = K .apart;
+        first = K .first;
+      }
+
+pub older-steady : (t : Set) (a : Alloc) → Plan t a → Steady t a (Older t a)
+older-steady t a P = record { common = λ s K. K .common; moves = older-moved t a P; takes = older-held t a P }
+
+older-opened : (t : Set) (a : Alloc) → Plan t a → Fddi t → Older t a (opened t a)
+older-opened t a P e =
+    let lapped = opened-lapped t a P e in
+    let timers = lapped-sound t a (opened t a .ring) (opened t a .records) P lapped in
+    record {
+      common =
+          record {
+            places = opened-places t a P;
+            course = lapped .course;
+            stored = opened-stored t a P;
+            told = opened-told t a P;
+            turns = tt;
+            shares = tt;
+            sound = is-sound t a (opened t a .ring) (opened t a .records) P (lapped .course) timers (opened-stored t a P);
+          };
+      lapped = lapped;
+      apart = tt;
+      first = tt;
+    }
+
+pub older : (t : Set) (a : Alloc) → Plan t a → Fddi t → (calls : List Call) → Older t a (runOf t a calls)
+older t a P e calls = steady-run t a P (Older t a) (older-steady t a P) (opened t a) (older-opened t a P e) calls
+
+-- ---- what is promised
+
+-- arrivals that are at most so much apart are at most more apart
+wider : (t : Set) (a : Alloc) (x y : ℕ) → x ≤ y → NeverLate t a x → NeverLate t a y
+wider t a x y l N =
+    record {
+      apart = λ calls. each-of (λ v before k u e. omega (arith, k u e)) (recordsOf t a calls) (N .apart calls);
+      since = λ calls i b u e. omega (arith, N .since calls i b u e);
+    }
+
+pub fddi-kept : (t : Set) (a : Alloc) → Plan t a → Fddi t → FddiKept t a
+fddi-kept t a P e =
+    let sooner : NeverLate t a (t .head .ttrt + allShares t a) = record {
+      apart = λ calls. older t a P e calls .apart;
+      since = λ calls i l u g. latest-within t a (timing (ringOf t a calls)) (recordsOf t a calls) P (older t a P e calls .lapped) i l u g;
+    } in
+    record {
+      never-late = wider t a (t .head .ttrt + allShares t a) (t .head .ttrt + allShares t a + tau t) (omega arith) sooner;
+      sooner = sooner;
+      first = λ calls. older t a P e calls .first;
+      first-since = λ calls. first-within t a (timing (ringOf t a calls)) (recordsOf t a calls) P (older t a P e calls .lapped);
+      lates = λ calls. late-small t a (timing (ringOf t a calls)) (recordsOf t a calls) P (older t a P e calls .lapped);
+    }

@@ -1,0 +1,57 @@
+-- Runs of an FDDI ring, so that what is promised of it is not kept by never being called upon: the token comes as late as `FddiKept.sooner` allows, TTRT + the sum of S; a station is late, and a message of a sound ring is.
+use Prim.Native.Nat.{ℕ}
+use mathlib.Core.Path.{_≡_}
+use mathlib.Core.Bool.{true}
+use mathlib.Core.List.{List, [], _∷_}
+use lib.IntN.{pos, negsuc}
+use Rattle.units.specs.Numbers.{fddi}
+use Rattle.units.specs.Places.{at}
+use Rattle.sets.specs.Judged.{zeros}
+use Rattle.sets.specs.declared.Set.{Set}
+use Rattle.plans.specs.Planned.{judgedPlan, planned}
+use Rattle.rings.specs.Sound.{isSound}
+use Rattle.rings.specs.Steps.{visited}
+use Rattle.rings.specs.declared.Ring.{Ring}
+use Rattle.promises.specs.Run.{Call, message, ringOf, recordsOf}
+use Rattle.promises.specs.Witness.{two, pairOf, shares, thirty, greedy, completed, row}
+
+-- the set of `Witness` as an FDDI ring: TTRT 100, w 1 each; planning gives the same S, 15 and 0
+abbrev pub older : Set
+older = pairOf fddi
+
+-- a message is handed in, and station 0 is visited
+abbrev pub first : List Call
+first = message (thirty 0) ∷ greedy ∷ []
+
+-- a sound ring: station 0 still holds half of its message at this clock. No run reaches it: 6 visits are three rotations, each of 2 ticks at least, so station 0's last start would be 4 or later, and here it is 0
+abbrev pub belated : ℕ → Ring
+belated clock =
+    record {
+      set = older;
+      alloc = shares;
+      trt = two 50 50;
+      late = two 1 0;
+      sent = zeros;
+      rest = two 15 0;
+      token = 0;
+      arrival = zeros;
+      had = two 1 0;
+      last = zeros;
+      clock = clock;
+      visits = 6;
+      unused = 15;
+    }
+
+pub record FddiHappens : Type 0 where
+  -- planning gives this plan, and it meets the rules
+  pub plan : planned older ≡ record { alloc = shares; number = 0 }
+  pub judged : judgedPlan older shares ≡ 0
+  -- the first visit takes longer than TTRT: both stations are late, and so are offered nothing; the token is back after 115 ticks, TTRT + the sum of S
+  pub records : recordsOf older shares completed ≡ row 0 115 15 0 15 0 130 (pos 120) 1 ∷ row 1 114 15 0 0 0 0 (pos 0) 0 ∷ row 0 0 2 98 15 98 0 (pos 0) 0 ∷ []
+  pub late-here : at (ringOf older shares first .late) 0 ≡ 1
+  pub late-there : at (ringOf older shares first .late) 1 ≡ 1
+  -- margins are exact: 1 tick before the deadline, on it, and behind it
+  pub sound : isSound (belated 300) ≡ true
+  pub early : visited (belated 234) 1000 .answer .«record» ≡ row 0 234 50 0 15 0 249 (pos 1) 1
+  pub just : visited (belated 235) 1000 .answer .«record» ≡ row 0 235 50 0 15 0 250 (pos 0) 1
+  pub tardy : visited (belated 300) 1000 .answer .«record» ≡ row 0 300 50 0 15 0 315 (negsuc 64) 1
