@@ -388,9 +388,9 @@ static const struct job older[] = {
 
 static struct work work;
 
-static void prepare(uint32_t n, uint32_t mode)
+static void prepare(set_t set)
 {
-    work.set = stations(n, mode);
+    work.set = set;
     work.alloc = olivastrum_plan_set(work.set).alloc;
     work.opened = olivastrum_open_ring(work.set, work.alloc).ring;
     work.length = olivastrum_write_plan_sheet(work.set, work.alloc, work.sheet, sizeof work.sheet).length;
@@ -428,9 +428,35 @@ static struct measured measure(const struct job *job)
     return (struct measured){proved[TURNS / 2], plain[TURNS / 2], ratio[TURNS / 2], ratio[TURNS / 4], ratio[3 * TURNS / 4]};
 }
 
-static void show(const struct job *job, struct measured m)
+static void show(const char *name, struct measured m, const char *aim)
 {
-    printf("%-20s %10.0f %12.0f   %5.2f (%.2f to %.2f)   %s\n", job->name, m.proved, m.plain, m.ratio, m.low, m.high, job->aim);
+    printf("%-20s %10.0f %12.0f   %5.2f (%.2f to %.2f)   %s\n", name, m.proved, m.plain, m.ratio, m.low, m.high, aim);
+}
+
+static int none_refused(void)
+{
+    if (work.refused != 0)
+        printf("a timed call was refused\n");
+    return work.refused == 0;
+}
+
+/* Planning, opening and a lent visit at 128 stations, by how many rotations a deadline has. */
+static int show_rotations(const struct job *first)
+{
+    static const uint32_t whole[] = {2, 10, 1000};
+    for (uint32_t mode = OLIVASTRUM_TIMELY; mode <= OLIVASTRUM_FDDI; mode++) {
+        printf("\nD / TTRT%-17s proved ns   plain C ns   ratio (quartiles)\n", mode == OLIVASTRUM_FDDI ? ", FDDI" : "");
+        for (const struct job *job = first; job < first + 3; job++)
+            for (size_t k = 0; k < sizeof whole / sizeof *whole; k++) {
+                prepare(rotations(whole[k], mode));
+                struct measured m = measure(job);
+                if (!none_refused())
+                    return 0;
+                printf("%4u ", whole[k]);
+                show(job->name, m, "");
+            }
+    }
+    return 1;
 }
 
 int main(void)
@@ -443,23 +469,21 @@ int main(void)
         return 1;
     printf("answers compared before timing: %lu, all the same\n", compared);
     for (int k = 0; k < COUNTS; k++) {
-        prepare(counts[k], OLIVASTRUM_TIMELY);
+        prepare(stations(counts[k], OLIVASTRUM_TIMELY));
         for (size_t j = 0; j < JOBS; j++)
             all[j][k] = measure(&jobs[j]);
     }
-    prepare(counts[LAST], OLIVASTRUM_FDDI);
+    prepare(stations(counts[LAST], OLIVASTRUM_FDDI));
     for (size_t j = 0; j < OLDER; j++)
         fddi[j] = measure(&older[j]);
-    if (work.refused != 0) {
-        printf("a timed call was refused\n");
+    if (!none_refused())
         return 1;
-    }
 
     printf("\n128 stations          proved ns   plain C ns   ratio (quartiles)     aim\n");
     for (size_t j = 0; j < JOBS; j++)
-        show(&jobs[j], all[j][LAST]);
+        show(jobs[j].name, all[j][LAST], jobs[j].aim);
     for (size_t j = 0; j < OLDER; j++)
-        show(&older[j], fddi[j]);
+        show(older[j].name, fddi[j], older[j].aim);
     printf("\nproved ns at N =    ");
     for (int k = 0; k < COUNTS; k++)
         printf("%8u", counts[k]);
@@ -470,5 +494,5 @@ int main(void)
             printf("%8.0f", all[j][k].proved);
         printf("   %10.1f %32.1f\n", all[j][LAST].proved / all[j][0].proved, all[j][LAST].plain / all[j][0].plain);
     }
-    return 0;
+    return !show_rotations(&jobs[2]);
 }

@@ -73,6 +73,44 @@ static uint32_t sum(const uint32_t *xs, uint32_t n)
     return all;
 }
 
+/* The whole quotient by a number above 0, and the quotient rounded up: with the machine's divide, as one writes it; or, with
+ * -DBY_SHIFTING, by shifting and subtracting, as the proved library has to. */
+#ifdef BY_SHIFTING
+static uint32_t quotient(uint32_t a, uint32_t b)
+{
+    if (a < b)
+        return 0;
+    uint32_t part = b, q = 1;
+    while (part <= a - part)
+        part += part;
+    for (a -= part; part > b;) {
+        part >>= 1;
+        q += q;
+        if (part <= a) {
+            a -= part;
+            q++;
+        }
+    }
+    return q;
+}
+
+static uint32_t rounded_up(uint32_t a, uint32_t b)
+{
+    uint32_t q = quotient(a, b);
+    return q * b < a ? q + 1 : q;
+}
+#else
+static uint32_t quotient(uint32_t a, uint32_t b)
+{
+    return a / b;
+}
+
+static uint32_t rounded_up(uint32_t a, uint32_t b)
+{
+    return (a + b - 1) / b;
+}
+#endif
+
 /* The first less the second, held at 0. */
 static uint32_t room(uint32_t a, uint32_t b)
 {
@@ -92,7 +130,7 @@ static uint8_t judge(const set_t *set)
 /* X, the least synchronous time in any interval d. */
 static uint64_t least_time(uint32_t ttrt, uint32_t d, uint32_t s)
 {
-    uint32_t m = d / ttrt;
+    uint32_t m = quotient(d, ttrt);
     uint32_t alpha = (m + 1) * ttrt - d;
     return (uint64_t)m * s + (s > alpha ? s - alpha : 0);
 }
@@ -100,7 +138,7 @@ static uint64_t least_time(uint32_t ttrt, uint32_t d, uint32_t s)
 /* X of FDDI, where `away` ticks of a rotation are τ and the other stations' S. */
 static uint64_t fddi_least_time(uint32_t ttrt, uint32_t d, uint32_t away, uint32_t s)
 {
-    uint32_t q = d / ttrt;
+    uint32_t q = quotient(d, ttrt);
     if (q == 0)
         return 0;
     uint32_t last = room(d - q * ttrt, away);
@@ -267,11 +305,11 @@ struct olivastrum_written plain_write_plan(const set_t *set, const alloc_t *allo
 /* The smallest S that meets the deadline rule. All numbers are in range, so 32 bits hold every one of them. */
 static uint32_t smallest(uint32_t ttrt, uint32_t c, uint32_t d)
 {
-    uint32_t m = d / ttrt;
+    uint32_t m = quotient(d, ttrt);
     uint32_t alpha = (m + 1) * ttrt - d;
     if (c <= m * alpha)
-        return m == 0 ? 0 : (c + m - 1) / m;
-    return (c + alpha + m) / (m + 1);
+        return m == 0 ? 0 : rounded_up(c, m);
+    return rounded_up(c + alpha, m + 1);
 }
 
 /* The smallest S at each station by its own numbers, and whether the token rule holds. */
@@ -288,8 +326,8 @@ static int timely_plan(const set_t *set, alloc_t *alloc)
 /* FDDI: the smallest S of a station of which q are at least `more`, or q − 1 at least c. */
 static uint32_t raised(uint32_t q, uint32_t c, uint32_t more)
 {
-    uint32_t s = (more + q - 1) / q;
-    return (q - 1) * s >= c ? (c + q - 2) / (q - 1) : s;
+    uint32_t s = rounded_up(more, q);
+    return (q - 1) * s >= c ? rounded_up(c, q - 1) : s;
 }
 
 /* FDDI: up from zeros, each station raised whose rule does not hold at the present sum, until the sum stays. An S is
@@ -299,7 +337,7 @@ int plain_climb(const set_t *set, alloc_t *alloc, struct plain_climbed *took)
     uint32_t q[OLIVASTRUM_MOST_STATIONS], rest[OLIVASTRUM_MOST_STATIONS];
     uint32_t ttrt = set->head.ttrt, tau = sum(set->w, set->n);
     for (uint32_t i = 0; i < set->n; i++) {
-        q[i] = set->d[i] / ttrt;
+        q[i] = quotient(set->d[i], ttrt);
         rest[i] = set->d[i] - q[i] * ttrt;
     }
     for (uint32_t all = 0;;) {

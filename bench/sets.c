@@ -23,6 +23,18 @@ struct olivastrum_set stations(uint32_t n, uint32_t mode)
     return set;
 }
 
+struct olivastrum_set rotations(uint32_t q, uint32_t mode)
+{
+    struct olivastrum_set set = {.head = {90000, mode}, .n = OLIVASTRUM_MOST_STATIONS};
+    for (uint32_t i = 0; i < set.n; i++) {
+        set.w[i] = 1;
+        set.c[i] = (q - 1) * (100 + 37 * i % 400);
+        set.d[i] = q * 90000 + 7919 * i % 90000;
+        set.p[i] = set.d[i];
+    }
+    return set;
+}
+
 struct olivastrum_set random_fddi(uint32_t n, uint32_t load)
 {
     uint32_t ttrt = 2000 + random_number() % 998001;

@@ -44,9 +44,9 @@
 
 /* The version of the header and the library, as `./olivastrum version` prints it. */
 #define OLIVASTRUM_VERSION_MAJOR 0
-#define OLIVASTRUM_VERSION_MINOR 3
+#define OLIVASTRUM_VERSION_MINOR 4
 #define OLIVASTRUM_VERSION_PATCH 0
-#define OLIVASTRUM_VERSION "0.3.0"
+#define OLIVASTRUM_VERSION "0.4.0"
 
 #ifdef __cplusplus
 extern "C" {

@@ -18,11 +18,6 @@ pub record Lost (l : Load) (r : ℕ) : Type 0 where
   pub is : r ≡ lost l
   pub small : r < 2 ^ 33
 
--- the two numbers of a share are small enough to add
-pub record Sharable (a b : ℕ) : Type 0 where
-  pub whole : a < 2 ^ 40
-  pub parts : b < 2 ^ 40
-
 -- the numbers of a step are small enough to multiply
 pub record Steppable (grid q x : ℕ) : Type 0 where
   pub shares : q * grid < 2 ^ 32

@@ -83,6 +83,9 @@ fn deadlines_fit(l: Load, s: [u32; 128]) -> bool
 fn on_grid(grid: u32, s: u32) -> bool
     ensures { λ r. ⌜ r ≡ onGrid grid s ⌝ }
 {
+    if grid == 1 {
+        return true;
+    }
     let own = units::wide(s);
     let step = units::wide(grid);
     shares::whole(own, step) * step == own

@@ -1,15 +1,13 @@
--- How large the numbers of the divisions are, for whoever adds and multiplies on.
-use Prim.Native.Nat.{ℕ, _*_, _≤_, _<_, _^_}
+-- What the quotient of planning hands back: the definitions' numbers and, for whoever adds and multiplies on, how large they can be.
+use Prim.Native.Nat.{ℕ, _*_, _≤_}
 use mathlib.Core.Path.{_≡_}
-use Rattle.plans.specs.Rules.{wholeRotations}
+use Rattle.plans.specs.Rules.{wholeRotations, alpha}
+use Rattle.plans.specs.declared.shares.Turns.{Turns}
 
--- r is m
-pub record Rotations (ttrt d r : ℕ) : Type 0 where
-  pub is : r ≡ wholeRotations ttrt d
-  pub small : r ≤ d
-  pub within : r * ttrt ≤ d
-
--- the two numbers of a share are small enough to add
-pub record Sharable (a b : ℕ) : Type 0 where
-  pub whole : a < 2 ^ 40
-  pub parts : b < 2 ^ 40
+-- r is m and α
+pub record Rotated (ttrt d : ℕ) (r : Turns) : Type 0 where
+  pub whole : r .whole ≡ wholeRotations ttrt d
+  pub alpha : r .alpha ≡ alpha ttrt d
+  pub small : r .whole ≤ d
+  pub within : r .whole * ttrt ≤ d
+  pub alpha-small : r .alpha ≤ ttrt

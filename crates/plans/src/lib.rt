@@ -42,23 +42,21 @@ pub fn blank_alloc() -> Alloc
 pub fn least_time(ttrt: u32, d: u32, s: u32) -> u64
     ensures { λ r. ⌜ r ≡ leastTime ttrt d s ⌝ }
 {
-    let m = shares::whole_rotations(ttrt, d);
-    let a = shares::alpha(ttrt, d);
+    let turns = shares::rotations(ttrt, d);
     let long = units::wide(s);
-    m * long + units::room(long, a)
+    turns.whole * long + units::room(long, turns.alpha)
 }
 
 // The smallest S that meets the deadline rule.
 pub fn smallest(ttrt: u32, c: u32, d: u32) -> u64
     ensures { λ r. ⌜ UpTo (c + ttrt) (smallestFor ttrt c d) r ⌝ }
 {
-    let m = shares::whole_rotations(ttrt, d);
-    let a = shares::alpha(ttrt, d);
+    let turns = shares::rotations(ttrt, d);
     let longest = units::wide(c);
-    if longest <= m * a {
-        shares::rounded_up(longest, m)
+    if longest <= turns.whole * turns.alpha {
+        quotients::rounded_up(longest, turns.whole)
     } else {
-        shares::rounded_up(longest + a, m + 1)
+        quotients::rounded_up(longest + turns.alpha, turns.whole + 1)
     }
 }
 

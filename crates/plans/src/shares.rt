@@ -1,34 +1,20 @@
-// The divisions of planning, all in this place: how many whole rotations fit into a deadline, and a share rounded up.
-ghost use Rattle.units.specs.Small.{UpTo, roundedUp};
-ghost use Rattle.plans.specs.Rules.{alpha};
-ghost use Rattle.plans.specs.Bounds.{Rotations, Sharable};
+// The quotients of planning: how many whole rotations fit into a deadline, and what the next one lacks. Nothing divides.
+ghost use Rattle.plans.specs.Bounds.{Rotated};
 
-// m = D / TTRT rounded down; 0 at TTRT 0.
-pub(crate) fn whole_rotations(ttrt: u32, d: u32) -> u64
-    ensures { λ r. ⌜ Rotations ttrt d r ⌝ }
-{
-    if ttrt == 0 {
-        return 0;
-    }
-    units::wide(d / ttrt)
+// m and α of a deadline.
+pub(crate) struct Turns {
+    pub(crate) whole: u64,
+    pub(crate) alpha: u64,
 }
 
-// α = (m + 1)·TTRT − D; 0 at TTRT 0.
-pub(crate) fn alpha(ttrt: u32, d: u32) -> u64
-    ensures { λ r. ⌜ UpTo ttrt (alpha ttrt d) r ⌝ }
+// m = D / TTRT rounded down, and α = (m + 1)·TTRT − D, which is TTRT less the remainder; both 0 at TTRT 0.
+pub(crate) fn rotations(ttrt: u32, d: u32) -> Turns
+    ensures { λ r. ⌜ Rotated ttrt d r ⌝ }
 {
-    let m = whole_rotations(ttrt, d);
-    let up = (m + 1) * units::wide(ttrt);
-    units::room(up, units::wide(d))
-}
-
-// a / b rounded up; 0 at b = 0.
-pub(crate) fn rounded_up(a: u64, b: u64) -> u64
-    requires { ⌜ Sharable a b ⌝ }
-    ensures { λ r. ⌜ UpTo a (roundedUp a b) r ⌝ }
-{
-    if b == 0 {
-        return 0;
+    let both = quotients::divide_narrow(d, ttrt);
+    let alpha = units::room(units::wide(ttrt), units::wide(both.remainder));
+    Turns {
+        whole: units::wide(both.quotient),
+        alpha,
     }
-    (a + (b - 1)) / b
 }

@@ -5,38 +5,31 @@ use borrow.Author.Needs.{needs}
 use Rattle.plans.proofs.least_time.Statement.{statement}
 use Rattle.plans.proofs.least_time.Tie as tie
 
-whole-rotations-requires : tie.Need-whole-rotations-requires
-whole-rotations-requires c κs = search needs
-
-alpha-requires : tie.Need-alpha-requires
-alpha-requires c κs = search needs
+rotations-requires : tie.Need-rotations-requires
+rotations-requires c κs = search needs
 
 wide-requires : tie.Need-wide-requires
 wide-requires c κs = search needs
 
 mul-result : tie.Need-mul-result
 mul-result c =
-    omega (arith, product-room (c .before .before .whole-rotations .result) (c .wide .result) 0 (omega arith) (omega arith) (omega arith))
+    let at-wide = c .before in
+    omega (arith, at-wide .before .rotations .ensures .small, product-room (at-wide .before .rotations .result .whole) (at-wide .wide .result) 0 (omega (arith, at-wide .before .rotations .ensures .small)) (omega arith) (omega arith))
 
 room-requires : tie.Need-room-requires
 room-requires c κs = search needs
 
 add-result : tie.Need-add-result
 add-result c =
+    let at-wide = c .before .before in
     omega
-    (arith, product-room (c .before .before .before .whole-rotations .result) (c .before .wide .result) (c .room .result) (omega arith) (omega arith) (omega arith))
+    (arith, product-room (at-wide .before .rotations .result .whole) (at-wide .wide .result) (c .room .result) (omega (arith, at-wide .before .rotations .ensures .small)) (omega arith) (omega arith))
 
 returns : tie.Need-returns
-returns c = rw (c .before .before .before .whole-rotations .ensures .is, c .before .wide .ensures .same) (omega arith)
+returns c =
+    let at-wide = c .before .before in
+    let turns = at-wide .before .rotations .ensures in
+    rw (turns .whole, at-wide .wide .ensures .same) (omega (arith, c .room .ensures, turns .alpha, at-wide .wide .ensures .same))
 
 pub least-time-spec : {M : Type 1} → statement M
-least-time-spec =
-    tie.close
-    (tie.spec
-    whole-rotations-requires
-    alpha-requires
-    wide-requires
-    mul-result
-    room-requires
-    add-result
-    returns)
+least-time-spec = tie.close (tie.spec rotations-requires wide-requires mul-result room-requires add-result returns)

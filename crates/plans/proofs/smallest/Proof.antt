@@ -10,30 +10,26 @@ use borrow.Author.Needs.{needs}
 use Rattle.plans.proofs.smallest.Statement.{statement}
 use Rattle.plans.proofs.smallest.Tie as tie
 
-whole-rotations-requires : tie.Need-whole-rotations-requires
-whole-rotations-requires c κs = search needs
-
-alpha-requires : tie.Need-alpha-requires
-alpha-requires c κs = search needs
+rotations-requires : tie.Need-rotations-requires
+rotations-requires c κs = search needs
 
 wide-requires : tie.Need-wide-requires
 wide-requires c κs = search needs
 
 -- m, α and C as the code has them are the definition's
 abbrev computed : tie.After-wide → ℕ
-computed w = smallestWith (w .before .before .whole-rotations .result) (w .before .alpha .result) (w .wide .result)
+computed w = smallestWith (w .before .rotations .result .whole) (w .before .rotations .result .alpha) (w .wide .result)
 
-said : (w : tie.After-wide) → let args = w .before .before .before .args in computed w ≡ smallestFor (args .ttrt) (args .c) (args .d)
-said w = rw (w .before .before .whole-rotations .ensures .is, w .before .alpha .ensures .is, w .wide .ensures .same)
+said : (w : tie.After-wide) → let args = w .before .before .args in computed w ≡ smallestFor (args .ttrt) (args .c) (args .d)
+said w = rw (w .before .rotations .ensures .whole, w .before .rotations .ensures .alpha, w .wide .ensures .same)
 
 bounded : (ttrt c d r : ℕ) → r ≡ smallestFor ttrt c d → UpTo (c + ttrt) (smallestFor ttrt c d) r
 bounded ttrt c d r is = record { is = is; small = rw is (smallest-small ttrt c d) }
 
 mul-if1 : tie.Need-mul-if1
 mul-if1 c =
-    let m = c .before .before .whole-rotations .result in
-    let α = c .before .alpha .result in
-    omega (arith, mul-le-mul-left m (c .before .alpha .ensures .small))
+    let turns = c .before .before .rotations in
+    omega (arith, mul-le-mul-left (turns .result .whole) (turns .ensures .alpha-small), turns .ensures .within)
 
 rounded-up-requires : tie.Need-rounded-up-requires
 rounded-up-requires c κs = search needs
@@ -49,22 +45,21 @@ rounded-up-requires-2 c κs = search needs
 
 returns : tie.Need-returns
 returns c =
-    let w = c .before .before in
-    let whole = smallest-whole (w .before .before .whole-rotations .result) (w .before .alpha .result) (w .wide .result) (omega arith) in
+    let w = c .before .before .before in
+    let whole = smallest-whole (w .before .rotations .result .whole) (w .before .rotations .result .alpha) (w .wide .result) (omega arith) in
     bounded _ _ _ _ (c .rounded-up .ensures .is ∙ sym whole ∙ said w)
 
 returns-2 : tie.Need-returns-2
 returns-2 c =
-    let w = c .before .before in
-    let part = smallest-part (w .before .before .whole-rotations .result) (w .before .alpha .result) (w .wide .result) (omega arith) in
+    let w = c .before .before .before .before .before in
+    let part = smallest-part (w .before .rotations .result .whole) (w .before .rotations .result .alpha) (w .wide .result) (omega arith) in
     bounded _ _ _ _ (c .rounded-up2 .ensures .is ∙ sym part ∙ said w)
 
 pub smallest-spec : {M : Type 1} → statement M
 smallest-spec =
     tie.close
     (tie.spec
-    whole-rotations-requires
-    alpha-requires
+    rotations-requires
     wide-requires
     mul-if1
     rounded-up-requires

@@ -18,11 +18,11 @@ mul-rounded-up : tie.Need-mul-rounded-up
 mul-rounded-up c = rw (c .wide2 .ensures .same, c .before .wide .ensures .same) (search needs)
 
 rounded-up-requires : tie.Need-rounded-up-requires
-rounded-up-requires c κs = rw (c .wide2 .ensures .same, c .before .wide .ensures .same) (search needs)
+rounded-up-requires c κs = search needs
 
 -- what the code multiplies is the definition's number
 stepped-is : (c : tie.After-rounded-up) → c .rounded-up .result * c .before .before .wide .result ≡ stepped (c .before .before .before .args .grid) (c .before .before .before .args .q) (c .before .before .before .args .x)
-stepped-is c = rw (c .rounded-up .ensures, c .before .wide2 .ensures .same, c .before .before .wide .ensures .same) refl
+stepped-is c = rw (c .rounded-up .ensures .is, c .before .wide2 .ensures .same, c .before .before .wide .ensures .same) refl
 
 mul-result : tie.Need-mul-result
 mul-result c =

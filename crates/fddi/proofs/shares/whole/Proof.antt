@@ -1,24 +1,17 @@
--- `whole` is right because it divides; a divisor 0 is answered 0 before.
-use mathlib.Core.Path.{_≡_, refl, sym}
-use native.Mathlib.Omega.{arith}
-use native.Mathlib.Nat.{div-zero, div-le-self, div-mul-le-self, zero-mul}
+-- `whole` is right because it hands on the quotient; by 0 that is 0.
+use native.Mathlib.Nat.{div-mul-le-self}
 use borrow.Author.Needs.{needs}
 use Rattle.fddi.proofs.shares.whole.Statement.{statement}
 use Rattle.fddi.proofs.shares.whole.Tie as tie
 
+divide-requires : tie.Need-divide-requires
+divide-requires c κs = search needs
+
 returns : tie.Need-returns
 returns c =
-    let nobody : c .before .args .b ≡ 0 = c .if1 .taken in
-    record { is = sym (rw nobody (div-zero (c .before .args .a))); small = omega arith; within = rw zero-mul (omega arith) }
-
-div-result : tie.Need-div-result
-div-result c = search needs
-
-returns-2 : tie.Need-returns-2
-returns-2 c =
-    let a = c .before .args .a in
-    let b = c .before .args .b in
-    record { is = refl; small = div-le-self a b; within = div-mul-le-self a b }
+    let args = c .before .args in
+    let both = c .divide .ensures in
+    record { is = both .whole; small = both .small; within = rw (both .whole) (div-mul-le-self (args .a) (args .b)) }
 
 pub whole-spec : {M : Type 1} → statement M
-whole-spec = tie.close (tie.spec returns div-result returns-2)
+whole-spec = tie.close (tie.spec divide-requires returns)
