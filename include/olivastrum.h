@@ -44,9 +44,9 @@
 
 /* The version of the header and the library, as `./olivastrum version` prints it. */
 #define OLIVASTRUM_VERSION_MAJOR 0
-#define OLIVASTRUM_VERSION_MINOR 4
+#define OLIVASTRUM_VERSION_MINOR 5
 #define OLIVASTRUM_VERSION_PATCH 0
-#define OLIVASTRUM_VERSION "0.4.0"
+#define OLIVASTRUM_VERSION "0.5.0"
 
 #ifdef __cplusplus
 extern "C" {
