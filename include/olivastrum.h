@@ -230,7 +230,7 @@ struct olivastrum_written olivastrum_write_request_sheet(struct olivastrum_set s
 struct olivastrum_written olivastrum_write_plan_sheet(struct olivastrum_set set, struct olivastrum_alloc alloc, uint8_t *out, size_t length);
 
 /* Plans a set: the least vector, no allocation that meets the rules has less at any station; or 2, 4, 5 or 6. 6 is given
- * exactly if no allocation exists. */
+ * exactly if no allocation exists. With mode 2 the plan meets FDDI's rules and promises no deadline. */
 #define OLIVASTRUM_STACK_PLAN_SET 8704
 struct olivastrum_planned olivastrum_plan_set(struct olivastrum_set set);
 
