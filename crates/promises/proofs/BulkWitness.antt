@@ -28,4 +28,25 @@ bulk-waits =
       ends = refl;
       begin = refl;
       promised = refl;
+      nine-asks = (
+        λ _ _. omega arith,
+        (
+          tt,
+          (
+            λ _ _. omega arith,
+            (
+              λ _ _. omega arith,
+              (
+                λ _ _. omega arith,
+                (
+                  λ _ _. omega arith,
+                  (λ _ _. omega arith, (λ _ _. omega arith, (λ _ _. omega arith, (λ _ _. omega arith, tt)))),
+                ),
+              ),
+            ),
+          ),
+        ),
+      );
+      nine-visits = refl;
+      nine-clock = refl;
     }

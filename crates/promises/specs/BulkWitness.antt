@@ -2,6 +2,7 @@
 use mathlib.Core.Path.{_≡_}
 use mathlib.Core.List.{List, [], _∷_, _++_}
 use lib.IntN.{pos}
+use lib.ListN.{length}
 use Rattle.units.specs.Numbers.{timely}
 use Rattle.units.specs.Places.{at}
 use Rattle.sets.specs.declared.Set.{Set}
@@ -9,7 +10,7 @@ use Rattle.plans.specs.Rules.{spareTime}
 use Rattle.plans.specs.Planned.{judgedPlan, planned}
 use Rattle.plans.specs.declared.Alloc.{Alloc}
 use Rattle.rings.specs.declared.Message.{Message}
-use Rattle.promises.specs.Run.{Call, message, Run, runOf}
+use Rattle.promises.specs.Run.{Call, message, Run, run, runOf}
 use Rattle.promises.specs.Bulk.{visitsAmong, AlwaysAsks, longestWait}
 use Rattle.promises.specs.Witness.{two, greedy, row}
 
@@ -33,6 +34,10 @@ sent = runOf crowded crowdedShares (message long ∷ greedy ∷ greedy ∷ greed
 abbrev pub five : List Call
 five = greedy ∷ message long ∷ greedy ∷ greedy ∷ greedy ∷ greedy ∷ []
 
+-- four visits more: (N + 1)·(N + 1) in all
+abbrev pub nine : List Call
+nine = five ++ greedy ∷ greedy ∷ greedy ∷ greedy ∷ []
+
 pub record BulkWaits : Type 0 where
   -- planning gives this plan; A* is 1, and it meets the rules
   pub plan : planned crowded ≡ record { alloc = crowdedShares; number = 0 }
@@ -47,3 +52,7 @@ pub record BulkWaits : Type 0 where
   -- it starts 298 ticks after the first of them did; the promise is 300
   pub begin : sent .ring .clock ≡ 200
   pub promised : longestWait crowded ≡ 300
+  -- over (N + 1)·(N + 1) visits it asks for at least A* all the time, and the clock passes the 500 ticks by which it must have been offered some
+  pub nine-asks : AlwaysAsks 1 1 sent nine
+  pub nine-visits : length (visitsAmong sent nine) ≡ 9
+  pub nine-clock : run sent nine .ring .clock ≡ 698
