@@ -45,38 +45,43 @@ static int same_reading(const uint8_t *sheet, size_t length)
     return 1;
 }
 
-#define MOST_PLAN_BYTES (OLIVASTRUM_PLAN_BYTES(128) + OLIVASTRUM_MODE_BYTES)
+#define MOST_PLAN_BYTES (OLIVASTRUM_PLAN_BYTES(128) + OLIVASTRUM_MODE_BYTES + OLIVASTRUM_FRAME_BYTES)
 
-/* The sheet with the mode's field put in at every place. */
-static int same_with_a_mode(const uint8_t *sheet, size_t length, uint8_t mode)
+/* The longest frame of the rings that are timed with frames. */
+#define FRAME 40
+
+/* The sheet with a field of the header put in at every place. */
+static int same_with(const uint8_t *sheet, size_t length, const uint8_t *field, size_t size)
 {
-    static uint8_t longer[MOST_PLAN_BYTES + OLIVASTRUM_MODE_BYTES];
-    const uint8_t field[OLIVASTRUM_MODE_BYTES] = {4, 0, 1, mode};
+    static uint8_t longer[MOST_PLAN_BYTES + OLIVASTRUM_FRAME_BYTES];
     for (size_t at = 0; at <= length; at++) {
         memcpy(longer, sheet, at);
-        memcpy(longer + at, field, sizeof field);
-        memcpy(longer + at + sizeof field, sheet + at, length - at);
-        if (!same_reading(longer, length + sizeof field))
+        memcpy(longer + at, field, size);
+        memcpy(longer + at + size, sheet + at, length - at);
+        if (!same_reading(longer, length + size))
             return 0;
     }
     return 1;
 }
 
-static int same_sheets(uint32_t n, uint32_t mode)
+static int same_sheets(uint32_t n, uint32_t mode, uint32_t frame)
 {
     static uint8_t sheet[MOST_PLAN_BYTES + 1];
-    set_t set = stations(n, mode);
+    set_t set = stations(n, mode, frame);
     size_t length = olivastrum_write_plan_sheet(set, olivastrum_plan_set(set).alloc, sheet, sizeof sheet).length;
-    SAME(length == OLIVASTRUM_PLAN_BYTES(n) + (mode == OLIVASTRUM_FDDI ? OLIVASTRUM_MODE_BYTES : 0));
-    for (uint8_t named = 0; named <= 3; named++)
-        if (!same_with_a_mode(sheet, length, named))
+    SAME(length == OLIVASTRUM_PLAN_BYTES(n) + (mode == OLIVASTRUM_FDDI ? OLIVASTRUM_MODE_BYTES : 0) + (frame > 1 ? OLIVASTRUM_FRAME_BYTES : 0));
+    for (uint8_t number = 0; number <= 3; number++) {
+        const uint8_t modes[OLIVASTRUM_MODE_BYTES] = {4, 0, 1, number};
+        const uint8_t frames[OLIVASTRUM_FRAME_BYTES] = {5, 0, 4, 0, number / 3, 0, number};
+        if (!same_with(sheet, length, modes, sizeof modes) || !same_with(sheet, length, frames, sizeof frames))
             return 0;
+    }
     for (size_t cut = 0; cut <= length + 1; cut++)
         if (!same_reading(sheet, cut))
             return 0;
     for (size_t at = 0; at < length; at++) {
         uint8_t byte = sheet[at];
-        static const uint8_t others[] = {0, 1, 2, 3, 4, 16, 255};
+        static const uint8_t others[] = {0, 1, 2, 3, 4, 5, 16, 255};
         for (size_t k = 0; k < sizeof others; k++) {
             sheet[at] = others[k];
             if (!same_reading(sheet, length) || !same_reading(sheet, at + random_number() % 20))
@@ -111,9 +116,9 @@ static int same_plan(set_t set, alloc_t alloc)
     return 1;
 }
 
-static int same_plans(uint32_t n, uint32_t mode)
+static int same_plans(uint32_t n, uint32_t mode, uint32_t frame)
 {
-    set_t set = stations(n, mode);
+    set_t set = stations(n, mode, frame);
     alloc_t alloc = olivastrum_plan_set(set).alloc;
     if (!same_plan(set, alloc))
         return 0;
@@ -121,7 +126,7 @@ static int same_plans(uint32_t n, uint32_t mode)
         set_t other = set;
         alloc_t share = alloc;
         uint32_t i = random_number() % n;
-        switch (random_number() % 8) {
+        switch (random_number() % 9) {
         case 0: other.w[i] = edge(); break;
         case 1: other.c[i] = edge(); break;
         case 2: other.d[i] = edge(); break;
@@ -130,6 +135,7 @@ static int same_plans(uint32_t n, uint32_t mode)
         case 5: other.n = edge(); break;
         case 6: share.s[i] += random_number() % 3 - 1; break;
         case 7: other.head.mode = edge(); break;
+        case 8: other.head.frame = random_number() % 2 ? edge() : random_number() % 70000; break;
         }
         if (random_number() % 4 == 0)
             share.s[random_number() % n] = edge();
@@ -147,6 +153,8 @@ static int same_older(uint32_t n)
 {
     for (int k = 0; k < 500; k++) {
         set_t set = random_fddi(n, 1 + random_number() % 120);
+        if (random_number() % 2)
+            set.head.frame = 1 + random_number() % 1000;
         alloc_t share = olivastrum_plan_set(set).alloc;
         if (!same_plan(set, share))
             return 0;
@@ -154,7 +162,7 @@ static int same_older(uint32_t n)
         if (!same_plan(set, share))
             return 0;
     }
-    set_t walk = stations(n, OLIVASTRUM_FDDI);
+    set_t walk = stations(n, OLIVASTRUM_FDDI, 1);
     walk.head.ttrt = 0;
     for (uint32_t i = 0; i < n; i++) {
         walk.head.ttrt += walk.w[i];
@@ -163,7 +171,7 @@ static int same_older(uint32_t n)
     return same_plan(walk, olivastrum_plan_set(walk).alloc);
 }
 
-static int same_visit(ring_t *proved, ring_t *plain, uint32_t ask)
+static int same_visit(ring_t *proved, ring_t *plain, struct olivastrum_ask ask)
 {
     struct olivastrum_visit_answer answer = olivastrum_visit(proved, ask), plain_answer;
     plain_visit(plain, ask, &plain_answer);
@@ -190,13 +198,20 @@ static message_t any_message(const ring_t *ring)
     return message;
 }
 
-/* A long run of visits and handings in, some refused; now and then a number of the ring is overwritten first. */
-static int same_runs(uint32_t n, uint32_t mode)
+/* Some frames, few or many, of a length that is mostly one of the ring's. */
+static struct olivastrum_ask any_ask(uint32_t frame)
 {
-    set_t set = stations(n, mode);
+    uint32_t frames = random_number() % 2 ? random_number() % 1000 : random_number();
+    return (struct olivastrum_ask){frames, random_number() % 16 ? 1 + random_number() % frame : edge()};
+}
+
+/* A long run of visits and handings in, some refused; now and then a number of the ring is overwritten first. */
+static int same_runs(uint32_t n, uint32_t mode, uint32_t frame)
+{
+    set_t set = stations(n, mode, frame);
     ring_t proved = olivastrum_open_ring(set, olivastrum_plan_set(set).alloc).ring, plain = proved;
     for (int k = 0; k < 5000; k++) {
-        uint32_t ask = random_number() % 2 ? random_number() % 1000 : random_number();
+        struct olivastrum_ask ask = any_ask(frame);
         if (!same_hand_in(&proved, &plain, any_message(&proved)) || !same_visit(&proved, &plain, ask))
             return 0;
         ring_t damaged = proved;
@@ -209,7 +224,7 @@ static int same_runs(uint32_t n, uint32_t mode)
         if (!same_hand_in(&damaged, &plain_damaged, any_message(&proved)))
             return 0;
     }
-    SAME(proved.visits == 5000);
+    SAME(proved.visits > 4000);
     return 1;
 }
 
@@ -219,8 +234,9 @@ static int agree(void)
     for (size_t k = 0; k < sizeof counts / sizeof *counts; k++) {
         uint32_t n = counts[k];
         for (uint32_t mode = OLIVASTRUM_TIMELY; mode <= OLIVASTRUM_FDDI; mode++)
-            if (!same_sheets(n, mode) || !same_plans(n, mode) || !same_runs(n, mode))
-                return 0;
+            for (uint32_t frame = 1; frame <= FRAME; frame += FRAME - 1)
+                if (!same_sheets(n, mode, frame) || !same_plans(n, mode, frame) || !same_runs(n, mode, frame))
+                    return 0;
         if (!same_older(n))
             return 0;
     }
@@ -311,11 +327,18 @@ static void arrive(ring_t *ring)
     ring->arrival[p] = ring->clock;
 }
 
+/* Ticks are asked for one by one; where the ring has frames, the longest ones are. */
+static struct olivastrum_ask asked(const ring_t *ring)
+{
+    uint32_t length = ring->set.head.frame;
+    return (struct olivastrum_ask){length > 1 ? 2 : 50, length};
+}
+
 static void visit_proved(struct work *w, unsigned long calls)
 {
     while (calls-- > 0) {
         arrive(&w->ring);
-        struct olivastrum_visit_answer answer = olivastrum_visit(&w->ring, 50);
+        struct olivastrum_visit_answer answer = olivastrum_visit(&w->ring, asked(&w->ring));
         w->refused += answer.number;
     }
 }
@@ -325,7 +348,7 @@ static void visit_plain(struct work *w, unsigned long calls)
     while (calls-- > 0) {
         arrive(&w->ring);
         struct olivastrum_visit_answer answer;
-        plain_visit(&w->ring, 50, &answer);
+        plain_visit(&w->ring, asked(&w->ring), &answer);
         w->refused += answer.number;
     }
 }
@@ -380,6 +403,9 @@ static const struct job older[] = {
 };
 
 #define OLDER (sizeof older / sizeof *older)
+
+/* On a set whose frames are not cut. */
+static const struct job uncut = {"a lent visit, frames", visit_proved, visit_plain, "2.5"};
 
 /* ---- timing */
 
@@ -469,13 +495,15 @@ int main(void)
         return 1;
     printf("answers compared before timing: %lu, all the same\n", compared);
     for (int k = 0; k < COUNTS; k++) {
-        prepare(stations(counts[k], OLIVASTRUM_TIMELY));
+        prepare(stations(counts[k], OLIVASTRUM_TIMELY, 1));
         for (size_t j = 0; j < JOBS; j++)
             all[j][k] = measure(&jobs[j]);
     }
-    prepare(stations(counts[LAST], OLIVASTRUM_FDDI));
+    prepare(stations(counts[LAST], OLIVASTRUM_FDDI, 1));
     for (size_t j = 0; j < OLDER; j++)
         fddi[j] = measure(&older[j]);
+    prepare(stations(counts[LAST], OLIVASTRUM_TIMELY, FRAME));
+    struct measured frames = measure(&uncut);
     if (!none_refused())
         return 1;
 
@@ -484,6 +512,7 @@ int main(void)
         show(jobs[j].name, all[j][LAST], jobs[j].aim);
     for (size_t j = 0; j < OLDER; j++)
         show(older[j].name, fddi[j], older[j].aim);
+    show(uncut.name, frames, uncut.aim);
     printf("\nproved ns at N =    ");
     for (int k = 0; k < COUNTS; k++)
         printf("%8u", counts[k]);

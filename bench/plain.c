@@ -6,6 +6,7 @@
 #include <string.h>
 
 #define MOST_TTRT 1000000u
+#define MOST_FRAME 65535u
 #define MOST_WALK 1000000u
 #define MOST_C 100000000u
 #define MOST_D 100000000u
@@ -45,6 +46,8 @@ static int numbers_fit(const set_t *set)
     if (set->head.ttrt < 1 || set->head.ttrt > MOST_TTRT)
         return 0;
     if (set->head.mode != OLIVASTRUM_TIMELY && set->head.mode != OLIVASTRUM_FDDI)
+        return 0;
+    if (set->head.frame < 1 || set->head.frame > MOST_FRAME)
         return 0;
     for (uint32_t i = 0; i < set->n; i++) {
         FAULT(set->w[i] > MOST_WALK);
@@ -135,7 +138,7 @@ static uint64_t least_time(uint32_t ttrt, uint32_t d, uint32_t s)
     return (uint64_t)m * s + (s > alpha ? s - alpha : 0);
 }
 
-/* X of FDDI, where `away` ticks of a rotation are τ and the other stations' S. */
+/* X of FDDI, where `away` ticks of a rotation are τ, the other stations' S and what a frame runs on. */
 static uint64_t fddi_least_time(uint32_t ttrt, uint32_t d, uint32_t away, uint32_t s)
 {
     uint32_t q = quotient(d, ttrt);
@@ -145,7 +148,7 @@ static uint64_t fddi_least_time(uint32_t ttrt, uint32_t d, uint32_t away, uint32
     return (uint64_t)(q - 1) * s + (last < s ? last : s);
 }
 
-/* The deadline rule at every station, by the mode; `taken` is τ and the sum of S. */
+/* The deadline rule at every station, by the mode; `taken` is τ, the sum of S and what a frame runs on. */
 static int deadlines_fit(const set_t *set, const alloc_t *alloc, uint32_t taken)
 {
     uint32_t ttrt = set->head.ttrt;
@@ -170,7 +173,7 @@ static uint8_t judge_plan(const set_t *set, const alloc_t *alloc)
     uint32_t tau = sum(set->w, set->n);
     if (tau < 1 || tau > set->head.ttrt)
         return OLIVASTRUM_WALK_TIME;
-    uint32_t taken = sum(alloc->s, set->n) + tau;
+    uint32_t taken = sum(alloc->s, set->n) + tau + set->head.frame - 1;
     if (taken > set->head.ttrt || !deadlines_fit(set, alloc, taken))
         return OLIVASTRUM_RULE_BROKEN;
     return OLIVASTRUM_ACCEPTED;
@@ -208,6 +211,7 @@ static uint8_t read_fields(const uint8_t *sheet, size_t length, struct olivastru
     uint32_t stations = 0, allocations = 0;
     uint32_t head = 0; /* the highest tag of the header's fields that has passed */
     set->head.mode = OLIVASTRUM_TIMELY;
+    set->head.frame = 1;
     for (;;) {
         if (length - at < 3)
             return OLIVASTRUM_SHEET_ENDS;
@@ -227,8 +231,8 @@ static uint8_t read_fields(const uint8_t *sheet, size_t length, struct olivastru
         case 255:
             allowed = stations > 0 && allocations == stations && size == 0;
             break;
-        default: /* tag 4, the mode; a case of its own makes the loop 5 % slower */
-            allowed = tag == 4 && head == 1 && stations == 0 && size == 1;
+        default: /* tag 4, the mode, and tag 5, F; cases of their own make the loop slower */
+            allowed = (tag == 4 || tag == 5) && head > 0 && head < tag && stations == 0 && size == (tag == 4 ? 1 : 4);
         }
         if (!allowed)
             return OLIVASTRUM_SHEET_WRONG;
@@ -248,9 +252,12 @@ static uint8_t read_fields(const uint8_t *sheet, size_t length, struct olivastru
             stations++;
         } else if (tag == 3) {
             answer->alloc.s[allocations++] = number_at(body);
-        } else if (tag == 4) { /* a mode that its absence means is none */
+        } else if (tag == 4) { /* what its absence means is none */
             head = 4;
-            set->head.mode = body[0] == OLIVASTRUM_TIMELY ? 0 : body[0];
+            set->head.mode = body[0] == 1 ? 0 : body[0];
+        } else if (tag == 5) {
+            head = 5;
+            set->head.frame = number_at(body) == 1 ? 0 : number_at(body);
         } else {
             set->n = stations;
             return at < length ? OLIVASTRUM_SHEET_GOES_ON : OLIVASTRUM_ACCEPTED;
@@ -277,6 +284,8 @@ struct olivastrum_written plain_write_plan(const set_t *set, const alloc_t *allo
     size_t needed = OLIVASTRUM_PLAN_BYTES(set->n);
     if (set->head.mode != OLIVASTRUM_TIMELY)
         needed += OLIVASTRUM_MODE_BYTES;
+    if (set->head.frame != 1)
+        needed += OLIVASTRUM_FRAME_BYTES;
     if (length < needed) {
         answer.number = OLIVASTRUM_BUFFER_TOO_SHORT;
         return answer;
@@ -286,6 +295,8 @@ struct olivastrum_written plain_write_plan(const set_t *set, const alloc_t *allo
         at = put_mark(at, 4, 1);
         *at++ = (uint8_t)set->head.mode;
     }
+    if (set->head.frame != 1)
+        at = put_number(put_mark(at, 5, 4), set->head.frame);
     for (uint32_t i = 0; i < set->n; i++) {
         at = put_mark(at, 2, 16);
         at = put_number(at, set->w[i]);
@@ -315,7 +326,7 @@ static uint32_t smallest(uint32_t ttrt, uint32_t c, uint32_t d)
 /* The smallest S at each station by its own numbers, and whether the token rule holds. */
 static int timely_plan(const set_t *set, alloc_t *alloc)
 {
-    uint64_t all = sum(set->w, set->n);
+    uint64_t all = sum(set->w, set->n) + set->head.frame - 1;
     for (uint32_t i = 0; i < set->n; i++) {
         alloc->s[i] = smallest(set->head.ttrt, set->c[i], set->d[i]);
         all += alloc->s[i];
@@ -335,7 +346,9 @@ static uint32_t raised(uint32_t q, uint32_t c, uint32_t more)
 int plain_climb(const set_t *set, alloc_t *alloc, struct plain_climbed *took)
 {
     uint32_t q[OLIVASTRUM_MOST_STATIONS], rest[OLIVASTRUM_MOST_STATIONS];
-    uint32_t ttrt = set->head.ttrt, tau = sum(set->w, set->n);
+    uint32_t ttrt = set->head.ttrt, lost = sum(set->w, set->n) + set->head.frame - 1;
+    if (lost > ttrt)
+        return 0;
     for (uint32_t i = 0; i < set->n; i++) {
         q[i] = quotient(set->d[i], ttrt);
         rest[i] = set->d[i] - q[i] * ttrt;
@@ -345,7 +358,7 @@ int plain_climb(const set_t *set, alloc_t *alloc, struct plain_climbed *took)
         took->rounds++;
         for (uint32_t i = 0; i < set->n; i++) {
             uint32_t c = set->c[i], s = alloc->s[i];
-            uint32_t more = c + room(tau + all, rest[i]);
+            uint32_t more = c + room(lost + all, rest[i]);
             if (room(q[i], 1) * s < c && q[i] * s < more) {
                 if (q[i] == 0 || (q[i] == 1 && c <= s))
                     return 0;
@@ -357,7 +370,7 @@ int plain_climb(const set_t *set, alloc_t *alloc, struct plain_climbed *took)
             }
             next += s;
         }
-        if (next > ttrt - tau)
+        if (next > ttrt - lost)
             return 0;
         if (next == all)
             return 1;
@@ -442,8 +455,15 @@ static uint32_t limit_of(const ring_t *ring, uint32_t p)
 {
     if (ring->set.head.mode == OLIVASTRUM_FDDI)
         return ring->late[p] > 0 ? 0 : ring->set.head.ttrt - ring->trt[p];
-    uint64_t taken = ring->unused + ring->trt[p];
+    uint64_t taken = ring->unused + ring->trt[p] + ring->set.head.frame - 1;
     return taken < ring->set.head.ttrt ? (uint32_t)(ring->set.head.ttrt - taken) : 0;
+}
+
+/* Frames of one length start while the time used is below the limit, and each is finished. */
+static uint32_t sent_in_frames(struct olivastrum_ask ask, uint32_t limit)
+{
+    uint32_t most = ask.length == 1 ? limit : rounded_up(limit, ask.length);
+    return (ask.frames < most ? ask.frames : most) * ask.length;
 }
 
 /* The timers after a visit at p that sent sync, and in which the clock rose. */
@@ -464,11 +484,15 @@ static void move_timers(ring_t *ring, uint32_t p, uint32_t sync, uint32_t rise)
         ring->trt[i] += rise;
 }
 
-void plain_visit(ring_t *ring, uint32_t ask, struct olivastrum_visit_answer *answer)
+void plain_visit(ring_t *ring, struct olivastrum_ask ask, struct olivastrum_visit_answer *answer)
 {
     memset(answer, 0, sizeof *answer);
     if (!sound(ring)) {
         answer->number = OLIVASTRUM_UNSOUND;
+        return;
+    }
+    if (ask.length < 1 || ask.length > ring->set.head.frame) {
+        answer->number = OLIVASTRUM_BAD_LENGTH;
         return;
     }
     if (ring->clock > MOST_CLOCK) {
@@ -480,7 +504,7 @@ void plain_visit(ring_t *ring, uint32_t ask, struct olivastrum_visit_answer *ans
     uint32_t sync = 0;
     if (ring->rest[p] > 0 && ring->arrival[p] <= ring->clock)
         sync = share < ring->rest[p] ? share : ring->rest[p];
-    uint32_t async = limit < ask ? limit : ask;
+    uint32_t async = sent_in_frames(ask, limit);
 
     struct olivastrum_visit_record *record = &answer->record;
     record->station.number = p;

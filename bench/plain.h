@@ -11,7 +11,7 @@ void plain_read_plan(const uint8_t *sheet, size_t length, struct olivastrum_read
 struct olivastrum_written plain_write_plan(const struct olivastrum_set *set, const struct olivastrum_alloc *alloc, uint8_t *out, size_t length);
 void plain_plan(const struct olivastrum_set *set, struct olivastrum_planned *answer);
 void plain_open(const struct olivastrum_set *set, const struct olivastrum_alloc *alloc, struct olivastrum_opened *answer);
-void plain_visit(struct olivastrum_ring *ring, uint32_t ask, struct olivastrum_visit_answer *answer);
+void plain_visit(struct olivastrum_ring *ring, struct olivastrum_ask ask, struct olivastrum_visit_answer *answer);
 uint8_t plain_hand_in(struct olivastrum_ring *ring, const struct olivastrum_message *message);
 
 /* What a climb to FDDI's least vector took: rounds over the stations, and how often a station was raised, each time by a

@@ -12,7 +12,7 @@
  * What the host owes. A pointer is never null, not even beside a length of 0. It points at as many bytes as its
  * length says, or at a whole ring, aligned for uint64_t. While a call runs nothing else reads or writes what is
  * lent to be written (a ring, an `out` buffer). Nothing more: every bit pattern of a set, an allocation, a
- * message and a ring is a value, and gets its answer.
+ * message, an ask and a ring is a value, and gets its answer.
  *
  * Refusals. `number` is 0 for accepted, or the refusal; the numbers are below, and within one call the lowest
  * that applies is given (1, 2 and 3: the first fault from the left of the sheet). A refused call changes nothing:
@@ -20,8 +20,8 @@
  * it 0. On a ring it stores the same bytes again, so a refused call too is one that writes: a ring that two threads
  * share is locked for it.
  *
- * Padding. What a host lends or passes (olivastrum_set, olivastrum_alloc, olivastrum_message, olivastrum_ring)
- * has none, so two rings can be compared by their bytes. Answers end in a byte, and bytes after it say nothing.
+ * Padding. What a host lends or passes (olivastrum_set, olivastrum_alloc, olivastrum_ask, olivastrum_message,
+ * olivastrum_ring) has none, so two rings can be compared by their bytes. Answers end in a byte, and bytes after it say nothing.
  *
  * Stack. OLIVASTRUM_STACK_.. before each function says how many bytes of the caller's stack a call needs: what is
  * passed by value, and all that the function does. It is measured (tests/host/vendor). The room for the answer is not
@@ -44,9 +44,9 @@
 
 /* The version of the header and the library, as `./olivastrum version` prints it. */
 #define OLIVASTRUM_VERSION_MAJOR 0
-#define OLIVASTRUM_VERSION_MINOR 5
+#define OLIVASTRUM_VERSION_MINOR 6
 #define OLIVASTRUM_VERSION_PATCH 0
-#define OLIVASTRUM_VERSION "0.5.0"
+#define OLIVASTRUM_VERSION "0.6.0"
 
 #ifdef __cplusplus
 extern "C" {
@@ -58,14 +58,15 @@ enum {
     OLIVASTRUM_SHEET_ENDS = 1,        /* the sheet ends inside a field, or before the end field */
     OLIVASTRUM_SHEET_WRONG = 2,       /* wrong tag, wrong length, wrong count of stations or allocations */
     OLIVASTRUM_SHEET_GOES_ON = 3,     /* a byte follows the end field */
-    OLIVASTRUM_OUT_OF_RANGE = 4,      /* w, C, D, P, TTRT or S outside its range, or a mode that is not 1 or 2; on a
-                                         sheet or in a text a mode that is named and is not 2 */
+    OLIVASTRUM_OUT_OF_RANGE = 4,      /* w, C, D, P, TTRT, F or S outside its range, or a mode that is not 1 or 2; on a
+                                         sheet or in a text a mode that is named and is not 2, or
+                                         an F that is named and is 1 */
     OLIVASTRUM_WALK_TIME = 5,         /* the sum of all w is 0 or above TTRT */
     OLIVASTRUM_NO_ALLOCATION = 6,     /* planning: no allocation exists */
     OLIVASTRUM_RULE_BROKEN = 7,       /* the given allocation breaks the token or the deadline rule */
     OLIVASTRUM_UNSOUND = 8,           /* the ring's state is unsound */
     OLIVASTRUM_NO_SUCH_STATION = 9,   /* station number not below N */
-    OLIVASTRUM_BAD_LENGTH = 10,       /* message length 0 or above C */
+    OLIVASTRUM_BAD_LENGTH = 10,       /* message length 0 or above C; visit: frame length 0 or above F */
     OLIVASTRUM_STILL_HELD = 11,       /* that station still holds an unsent message */
     OLIVASTRUM_BAD_ARRIVAL = 12,      /* arrival time not allowed */
     OLIVASTRUM_CLOCK_TOO_HIGH = 13,   /* visit: the clock is above 1,000,000,000,000 */
@@ -79,10 +80,12 @@ enum {
 #define OLIVASTRUM_TIMELY 1u
 #define OLIVASTRUM_FDDI 2u
 
-/* The bytes of a request sheet and of a plan sheet of n stations, and what a mode other than timely-token takes beside. */
+/* The bytes of a request sheet and of a plan sheet of n stations; and what a mode other than timely-token, and a longest
+ * frame F other than 1, take beside. */
 #define OLIVASTRUM_REQUEST_BYTES(n) (10u + 19u * (n))
 #define OLIVASTRUM_PLAN_BYTES(n) (10u + 26u * (n))
 #define OLIVASTRUM_MODE_BYTES 4u
+#define OLIVASTRUM_FRAME_BYTES 7u
 
 /* A count of ticks, and a station's number from 0 in ring order. The one is never the other. */
 struct olivastrum_ticks {
@@ -93,10 +96,12 @@ struct olivastrum_station {
     uint64_t number;
 };
 
-/* What a sheet says before its stations. A set that is made by hand names its mode: 1 is timely-token. */
+/* What a sheet says before its stations. A set that is made by hand names its mode, 1 is timely-token, and its longest
+ * frame F, 1 to 65,535: with 1 asynchronous traffic may be cut at any tick. */
 struct olivastrum_head {
     uint32_t ttrt;
     uint32_t mode;
+    uint32_t frame;
 };
 
 /* N stations in ring order: walk time w to the next, longest message C (0: no stream), deadline D, least gap P. */
@@ -123,12 +128,20 @@ struct olivastrum_ring {
     uint32_t sent[OLIVASTRUM_MOST_STATIONS];    /* synchronous ticks sent at its last visit */
     uint32_t rest[OLIVASTRUM_MOST_STATIONS];    /* what remains of the held message; 0: none is held */
     uint32_t token;                             /* the station that has the token */
+    uint32_t filler;                            /* nothing looks at it and nothing changes it */
     uint64_t arrival[OLIVASTRUM_MOST_STATIONS]; /* the held message's arrival, and after it the last accepted one */
     uint8_t had[OLIVASTRUM_MOST_STATIONS];      /* a message was ever accepted: 0 is no, anything else yes */
     uint64_t last[OLIVASTRUM_MOST_STATIONS];    /* the start of the last visit, where the station is below visits */
     uint64_t clock;
     uint64_t visits;
     uint64_t unused;                            /* u, the sum of S - s; FDDI leaves it as opening set it */
+};
+
+/* What a visit is asked for: a number of frames, any, of one length, 1 to F. A frame starts while the time used is below
+ * the limit, and is finished. */
+struct olivastrum_ask {
+    uint32_t frames;
+    uint32_t length;
 };
 
 /* A message to hand in. */
@@ -145,9 +158,9 @@ struct olivastrum_visit_record {
     struct olivastrum_station station;
     struct olivastrum_ticks start;
     struct olivastrum_ticks trt;
-    struct olivastrum_ticks limit;
+    struct olivastrum_ticks limit; /* asynchronous frames may start below it */
     struct olivastrum_ticks synchronous;
-    struct olivastrum_ticks asynchronous;
+    struct olivastrum_ticks asynchronous; /* the last frame may run on past the limit, by up to F - 1 */
     struct olivastrum_ticks finish;
     int64_t margin;
     uint8_t completed;
@@ -196,17 +209,18 @@ OLIVASTRUM_SIZE(void *, 8);
 OLIVASTRUM_SIZE(size_t, 8);
 OLIVASTRUM_SIZE(struct olivastrum_ticks, 8);
 OLIVASTRUM_SIZE(struct olivastrum_station, 8);
-OLIVASTRUM_SIZE(struct olivastrum_head, 8);
-OLIVASTRUM_SIZE(struct olivastrum_set, 2060);
+OLIVASTRUM_SIZE(struct olivastrum_head, 12);
+OLIVASTRUM_SIZE(struct olivastrum_set, 2064);
 OLIVASTRUM_SIZE(struct olivastrum_alloc, 512);
-OLIVASTRUM_SIZE(struct olivastrum_ring, 6824);
+OLIVASTRUM_SIZE(struct olivastrum_ring, 6832);
+OLIVASTRUM_SIZE(struct olivastrum_ask, 8);
 OLIVASTRUM_SIZE(struct olivastrum_message, 24);
 OLIVASTRUM_SIZE(struct olivastrum_visit_record, 72);
-OLIVASTRUM_SIZE(struct olivastrum_read_request, 2064);
-OLIVASTRUM_SIZE(struct olivastrum_read_plan, 2576);
+OLIVASTRUM_SIZE(struct olivastrum_read_request, 2068);
+OLIVASTRUM_SIZE(struct olivastrum_read_plan, 2580);
 OLIVASTRUM_SIZE(struct olivastrum_written, 16);
 OLIVASTRUM_SIZE(struct olivastrum_planned, 516);
-OLIVASTRUM_SIZE(struct olivastrum_opened, 6832);
+OLIVASTRUM_SIZE(struct olivastrum_opened, 6840);
 OLIVASTRUM_SIZE(struct olivastrum_visit_answer, 80);
 
 #undef OLIVASTRUM_SIZE
@@ -238,17 +252,17 @@ struct olivastrum_planned olivastrum_plan_set(struct olivastrum_set set);
 #define OLIVASTRUM_STACK_OPEN_RING 15360
 struct olivastrum_opened olivastrum_open_ring(struct olivastrum_set set, struct olivastrum_alloc alloc);
 
-/* A visit at the station that has the token, any number of asynchronous ticks asked for. The ring is changed where
- * it stands; 8 or 13 leave it as it was. */
-#define OLIVASTRUM_STACK_VISIT 24576
-struct olivastrum_visit_answer olivastrum_visit(struct olivastrum_ring *ring, uint32_t ask);
+/* A visit at the station that has the token, with frames asked for. The ring is changed where it stands; 8, 10 or 13
+ * leave it as it was. */
+#define OLIVASTRUM_STACK_VISIT 31744
+struct olivastrum_visit_answer olivastrum_visit(struct olivastrum_ring *ring, struct olivastrum_ask ask);
 
 /* Hands in a message. The ring is changed where it stands; 8 to 12 leave it as it was. Returns the number. */
 #define OLIVASTRUM_STACK_HAND_IN 25088
 uint8_t olivastrum_hand_in(struct olivastrum_ring *ring, struct olivastrum_message message);
 
 /* The most that a call of any of them needs. */
-#define OLIVASTRUM_STACK_MOST 25088
+#define OLIVASTRUM_STACK_MOST 31744
 
 #ifdef __cplusplus
 }

@@ -5,21 +5,26 @@ use std::collections::VecDeque;
 
 use crate::planted::Planted;
 use crate::ring::{Message, Ring, Ticks, Visit};
-use crate::rules::{Mode, Refusal};
+use crate::rules::{Ask, Mode, Refusal};
 use crate::state::{LAST_CLOCK, MOST_LATE, VISITS_END};
 use crate::text::{Answer, Call};
 
 /// A promise that a call broke.
 #[derive(Clone, Copy, Debug, PartialEq, Eq, Hash)]
 pub enum Broken {
-    /// The token came back later than TTRT; in FDDI, than TTRT, all S and τ.
+    /// The token came back later than TTRT; in FDDI, than TTRT, all S and F − 1. (With τ beside
+    /// them it is promised; this is the sharper bound.)
     TokenLate,
     /// A visit sent more synchronous time than S.
     TooMuchSynchronous,
-    /// The limit is not A* less the asynchronous time of the N visits before.
+    /// The limit is not A* less the asynchronous time of the N visits before, held at 0.
     LimitNotExact,
-    /// A visit sent more asynchronous time than its limit.
+    /// A visit did not send whole frames, not all that it might, or one that may not begin.
+    FramesNotExact,
+    /// A visit sent more asynchronous time than its limit and F − 1, or any at a limit of 0.
     TooMuchAsynchronous,
+    /// N successive visits sent more asynchronous time than A* and F − 1.
+    TooMuchInRotation,
     /// A message finished after its deadline.
     MessageLate,
     /// A message is unsent though the clock has reached its deadline.
@@ -40,22 +45,23 @@ struct Watch {
 
 impl Watch {
     fn new(ring: &Ring) -> Watch {
-        let spare = ring.plan().spare().expect("an opened plan keeps the token rule");
         Watch {
-            spare: spare as Ticks,
+            spare: ring.plan().spare() as Ticks,
             before: VecDeque::from(vec![0; ring.size()]),
             last_starts: vec![None; ring.size()],
         }
     }
 
-    fn visited(&mut self, ring: &Ring, visit: &Visit) -> Vec<Broken> {
+    fn visited(&mut self, ring: &Ring, ask: Ask, visit: &Visit) -> Vec<Broken> {
         let index = visit.station.index();
         let apart = self.last_starts[index].replace(visit.start).map(|last| visit.start - last);
         let synchronous = visit.synchronous <= ring.allocation(index);
+        let most = if visit.limit == 0 { 0 } else { visit.limit + ring.overrun() };
         let mut broken = broken(&[
             (in_time(ring, visit, apart), Broken::TokenLate),
             (synchronous, Broken::TooMuchSynchronous),
-            (visit.asynchronous <= visit.limit, Broken::TooMuchAsynchronous),
+            (whole_frames(ask, visit), Broken::FramesNotExact),
+            (visit.asynchronous <= most, Broken::TooMuchAsynchronous),
             (sound(ring), Broken::Unsound),
         ]);
         if ring.mode() == Mode::Timely {
@@ -65,17 +71,30 @@ impl Watch {
     }
 
     fn timely_visited(&mut self, ring: &Ring, visit: &Visit) -> Vec<Broken> {
-        let limit = self.spare - self.before.iter().sum::<Ticks>();
+        let limit = (self.spare - self.before.iter().sum::<Ticks>()).max(0);
         self.before.pop_front();
         self.before.push_back(visit.asynchronous);
+        let rotation = self.before.iter().sum::<Ticks>();
         let completed = visit.completed.is_none_or(|completed| completed.margin >= 0);
         let unsent = (0..ring.size()).all(|index| unsent_in_time(ring, index));
         broken(&[
             (visit.limit == limit, Broken::LimitNotExact),
+            (rotation <= self.spare + ring.overrun(), Broken::TooMuchInRotation),
             (completed, Broken::MessageLate),
             (unsent, Broken::UnsentAtDeadline),
         ])
     }
+}
+
+/// Whether the frames sent are the most that fit: the last of them began below the limit, and if
+/// there were more to send, the time used has reached it.
+fn whole_frames(ask: Ask, visit: &Visit) -> bool {
+    let length = Ticks::from(ask.length);
+    let frames = visit.asynchronous / length;
+    let whole = visit.asynchronous % length == 0 && frames <= Ticks::from(ask.frames);
+    let began = frames == 0 || visit.asynchronous - length < visit.limit;
+    let all = frames == Ticks::from(ask.frames) || visit.asynchronous >= visit.limit;
+    whole && began && all
 }
 
 /// Whether the token came in time, so long after it last came; before the first visit that is TRT.
@@ -85,8 +104,8 @@ fn in_time(ring: &Ring, visit: &Visit, apart: Option<Ticks>) -> bool {
     match ring.mode() {
         Mode::Timely => apart.unwrap_or(visit.trt) == visit.trt && visit.trt <= ttrt,
         Mode::Fddi => {
-            let rotation = (ring.plan().allocated() + request.walk_sum()) as Ticks;
-            apart.is_none_or(|apart| apart <= ttrt + rotation)
+            let most = ttrt + ring.plan().allocated() as Ticks + ring.overrun();
+            apart.is_none_or(|apart| apart <= most)
         }
     }
 }
@@ -185,10 +204,10 @@ impl WatchedRing {
         }
     }
 
-    fn visit(&mut self, ask: u32) -> (Result<Answer, Refusal>, Vec<Broken>) {
+    fn visit(&mut self, ask: Ask) -> (Result<Answer, Refusal>, Vec<Broken>) {
         let answer = self.ring.visit(ask);
         let broken = match (&mut self.watch, &answer) {
-            (Some(watch), Ok(visit)) => watch.visited(&self.ring, visit),
+            (Some(watch), Ok(visit)) => watch.visited(&self.ring, ask, visit),
             _ => vec![],
         };
         (answer.map(Answer::Visited), broken)

@@ -29,7 +29,8 @@ usage: second [--planted K] [COMMAND]
   run PLAN    calls as text in, one line of answer for each out
                 second run ring.plan < calls.txt
   generate KIND SEED COUNT [DIR]
-              framed cases out, or into a file in DIR; fddi-KIND for sets that run FDDI
+              framed cases out, or into a file in DIR; fddi-KIND for sets that run FDDI,
+              uncut-KIND and fddi-uncut-KIND for such with a longest frame F
                 second generate requests 1 20000 > cases
   answers     framed cases in, one line of answer for each out
                 second answers < cases

@@ -5,10 +5,10 @@ use crate::commands::framed_command;
 use crate::planner;
 use crate::planted::Planted;
 use crate::ring::Ring;
-use crate::rules::{Head, Mode, Plan, Refusal, Request, Station, MOST_STATIONS};
+use crate::rules::{Head, Plan, Refusal, Request, Station, MOST_STATIONS};
 use crate::sheet::{read_plan, read_request, write_plan, write_request};
 use crate::state::{Place, State};
-use crate::text::{answer_line, call, number, Answer, Call};
+use crate::text::{answer_line, ask, call, number, Answer, Call};
 
 /// What is answered to a line that is no case.
 pub const NO_CASE: &str = "no case";
@@ -70,22 +70,26 @@ pub fn show_set(request: &Request, allocation: &[u32]) -> String {
     parts.join(";")
 }
 
-/// `TTRT`, and with a mode other than timely-token `TTRT,MODE`.
+/// `TTRT`, `TTRT,MODE` or `TTRT,MODE,FRAME`: as many as the last that is not 1.
 pub fn show_head(head: &Head) -> String {
-    let Head { ttrt, mode } = *head;
-    if mode == Mode::Timely.number() {
-        return ttrt.to_string();
+    let Head { ttrt, mode, frame } = *head;
+    match (mode, frame) {
+        (1, 1) => ttrt.to_string(),
+        (_, 1) => joined(&[ttrt, mode]),
+        _ => joined(&[ttrt, mode, frame]),
     }
-    joined(&[ttrt, mode])
 }
 
-/// What `show_head` shows; the mode may stand there in any case.
+/// What `show_head` shows; the mode and F may stand there in any case.
 pub fn read_head(part: &str) -> Option<Head> {
-    let (ttrt, mode) = match part.split_once(',') {
-        Some((ttrt, mode)) => (ttrt, parse(mode)?),
-        None => (part, Mode::Timely.number()),
+    let numbers: Option<Vec<u32>> = part.split(',').map(parse).collect();
+    let (ttrt, mode, frame) = match numbers?[..] {
+        [ttrt] => (ttrt, 1, 1),
+        [ttrt, mode] => (ttrt, mode, 1),
+        [ttrt, mode, frame] => (ttrt, mode, frame),
+        _ => return None,
     };
-    Some(Head { ttrt: parse(ttrt)?, mode })
+    Some(Head { ttrt, mode, frame })
 }
 
 fn joined<T: ToString>(numbers: &[T]) -> String {
@@ -96,10 +100,7 @@ fn joined<T: ToString>(numbers: &[T]) -> String {
 fn planning(rest: &str, planted: Planted) -> Option<String> {
     let mut parts = rest.split(';');
     let request = read_set(&mut parts)?;
-    let show = |plan: Plan| {
-        let spare = plan.spare().expect("a plan keeps the token rule");
-        format!("{spare} {}", joined(&plan.allocation))
-    };
+    let show = |plan: Plan| format!("{} {}", plan.spare(), joined(&plan.allocation));
     Some(line(planner::plan(&request, planted), show))
 }
 
@@ -206,12 +207,12 @@ fn read_steps<'a>(parts: impl Iterator<Item = &'a str>) -> Option<Vec<Step>> {
     parts.map(read_step).collect()
 }
 
-/// A call as text, or `visits COUNT ASK`.
+/// A call as text, or `visits COUNT` and what is asked for.
 fn read_step(part: &str) -> Option<Step> {
     let words: Vec<&[u8]> = part.split(' ').map(str::as_bytes).collect();
-    if let [b"visits", times, ask] = words[..] {
+    if let [b"visits", times, asked @ ..] = &words[..] {
         let times = number(times).filter(|&times| times > 0)?;
-        return Some(Step { times, call: Call::Visit(number(ask)?) });
+        return Some(Step { times, call: Call::Visit(ask(asked)?) });
     }
     Some(Step { times: 1, call: call(&words)? })
 }

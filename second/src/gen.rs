@@ -17,8 +17,34 @@ use crate::text::Call;
 use random::Random;
 use sheets::SheetKind;
 
-/// What stands before the name of a kind whose sets run FDDI.
-const FDDI: &str = "fddi-";
+/// What sets a case has: their mode, and whether they have an F.
+#[derive(Clone, Copy, Debug, PartialEq, Eq)]
+pub struct Sort {
+    pub mode: Mode,
+    pub uncut: bool,
+}
+
+impl Sort {
+    pub const TIMELY: Sort = Sort { mode: Mode::Timely, uncut: false };
+    pub const FDDI: Sort = Sort { mode: Mode::Fddi, uncut: false };
+    pub const UNCUT: Sort = Sort { mode: Mode::Timely, uncut: true };
+    pub const FDDI_UNCUT: Sort = Sort { mode: Mode::Fddi, uncut: true };
+    pub const ALL: [Sort; 4] = [Sort::TIMELY, Sort::FDDI, Sort::UNCUT, Sort::FDDI_UNCUT];
+
+    pub fn is_fddi(self) -> bool {
+        self.mode == Mode::Fddi
+    }
+
+    /// What stands before the name of a kind of such sets.
+    pub fn prefix(self) -> &'static str {
+        match (self.mode, self.uncut) {
+            (Mode::Timely, false) => "",
+            (Mode::Fddi, false) => "fddi-",
+            (Mode::Timely, true) => "uncut-",
+            (Mode::Fddi, true) => "fddi-uncut-",
+        }
+    }
+}
 
 #[derive(Clone, Copy, Debug, PartialEq, Eq)]
 pub enum Kind {
@@ -69,52 +95,51 @@ impl Kind {
         }
     }
 
-    /// A kind and the mode of its sets: `KIND` is timely-token, `fddi-KIND` is FDDI.
-    pub fn from_name(name: &str) -> Option<(Kind, Mode)> {
-        let (name, mode) = match name.strip_prefix(FDDI) {
-            Some(name) => (name, Mode::Fddi),
-            None => (name, Mode::Timely),
-        };
-        Kind::ALL.into_iter().find(|kind| kind.name() == name).map(|kind| (kind, mode))
+    /// A kind and the sort of its sets: `KIND` is timely-token and has no F, `fddi-KIND` is FDDI,
+    /// `uncut-KIND` and `fddi-uncut-KIND` have an F.
+    pub fn from_name(name: &str) -> Option<(Kind, Sort)> {
+        let names = |kind: Kind| Sort::ALL.map(|sort| (kind, sort));
+        let mut every = Kind::ALL.into_iter().flat_map(names);
+        every.find(|(kind, sort)| format!("{}{}", sort.prefix(), kind.name()) == name)
     }
 
     /// The lines of one case; more than one only for `edges`.
-    pub fn case(self, mode: Mode, seed: u64, place: u64) -> Vec<String> {
+    pub fn case(self, sort: Sort, seed: u64, place: u64) -> Vec<String> {
         let random = &mut Random::of_case(seed, place);
         match self {
-            Kind::Requests => vec![sheet_case(random, SheetKind::Request, mode)],
-            Kind::Plans => vec![sheet_case(random, SheetKind::Plan, mode)],
-            Kind::Planning => vec![planning_case(random, mode)],
-            Kind::Writing => vec![writing_case(random, mode)],
-            Kind::Runs => vec![run_case(random, "run", mode)],
-            Kind::Rings => vec![run_case(random, "ring", mode)],
-            Kind::Late => vec![late_case(random, mode)],
-            Kind::States => vec![state_case(states::state_with_calls(random, mode))],
-            Kind::Steps => vec![state_case(states::sound_with_calls(random, mode))],
-            Kind::Edges => edge_cases(random, mode),
-            Kind::Openings => vec![opening_case(random, mode)],
-            Kind::Commands => vec![command_case(random, mode)],
+            Kind::Requests => vec![sheet_case(random, SheetKind::Request, sort)],
+            Kind::Plans => vec![sheet_case(random, SheetKind::Plan, sort)],
+            Kind::Planning => vec![planning_case(random, sort)],
+            Kind::Writing => vec![writing_case(random, sort)],
+            Kind::Runs => vec![run_case(random, "run", sort)],
+            Kind::Rings => vec![run_case(random, "ring", sort)],
+            Kind::Late => vec![late_case(random, sort)],
+            Kind::States => vec![state_case(states::state_with_calls(random, sort))],
+            Kind::Steps => vec![state_case(states::sound_with_calls(random, sort))],
+            Kind::Edges => edge_cases(random, sort),
+            Kind::Openings => vec![opening_case(random, sort)],
+            Kind::Commands => vec![command_case(random, sort)],
         }
     }
 }
 
 /// Writes the cases of a kind, one on a line.
 pub fn write_cases(
-    (kind, mode): (Kind, Mode),
+    (kind, sort): (Kind, Sort),
     seed: u64,
     count: u64,
     out: &mut impl Write,
 ) -> Result<()> {
     for place in 0..count {
-        for case in kind.case(mode, seed, place) {
+        for case in kind.case(sort, seed, place) {
             writeln!(out, "{case}")?;
         }
     }
     Ok(())
 }
 
-fn sheet_case(random: &mut Random, kind: SheetKind, mode: Mode) -> String {
-    framed_sheet(kind, &sheets::sheet(random, kind, mode))
+fn sheet_case(random: &mut Random, kind: SheetKind, sort: Sort) -> String {
+    framed_sheet(kind, &sheets::sheet(random, kind, sort))
 }
 
 fn framed_sheet(kind: SheetKind, sheet: &[u8]) -> String {
@@ -124,17 +149,17 @@ fn framed_sheet(kind: SheetKind, sheet: &[u8]) -> String {
     }
 }
 
-fn planning_case(random: &mut Random, mode: Mode) -> String {
+fn planning_case(random: &mut Random, sort: Sort) -> String {
     let request = match random.once_in(4) {
-        false => sets::request(random, mode),
-        true => sets::any_plan(random, mode).request,
+        false => sets::request(random, sort),
+        true => sets::any_plan(random, sort).request,
     };
     format!("planning {}", show_set(&request, &[]))
 }
 
 /// A set or plan to write, into room enough or too short by a byte or more.
-fn writing_case(random: &mut Random, mode: Mode) -> String {
-    let plan = sets::any_plan(random, mode);
+fn writing_case(random: &mut Random, sort: Sort) -> String {
+    let plan = sets::any_plan(random, sort);
     let choices = [("write-request", &[][..]), ("write-plan", &plan.allocation[..])];
     let (kind, allocation) = random.pick(&choices);
     let length = fields(&plan.request, allocation).concat().len();
@@ -142,8 +167,8 @@ fn writing_case(random: &mut Random, mode: Mode) -> String {
     format!("{kind} {room};{}", show_set(&plan.request, allocation))
 }
 
-fn run_case(random: &mut Random, kind: &str, mode: Mode) -> String {
-    let (plan, calls) = calls::script(random, mode);
+fn run_case(random: &mut Random, kind: &str, sort: Sort) -> String {
+    let (plan, calls) = calls::script(random, sort);
     let sheet = fields(&plan.request, &plan.allocation).concat();
     format!("{kind} {}{}", to_hex(&sheet), framed_calls(&calls))
 }
@@ -152,8 +177,8 @@ fn framed_calls(calls: &[Call]) -> String {
     calls.iter().map(|call| format!(";{call}")).collect()
 }
 
-fn late_case(random: &mut Random, mode: Mode) -> String {
-    let (plan, [asking, silent], calls) = calls::late_script(random, mode);
+fn late_case(random: &mut Random, sort: Sort) -> String {
+    let (plan, [asking, silent], calls) = calls::late_script(random, sort);
     let sheet = to_hex(&fields(&plan.request, &plan.allocation).concat());
     let visits = |(count, ask): (u64, u32)| match count {
         0 => String::new(),
@@ -167,38 +192,38 @@ fn state_case((state, calls): (State, Vec<Call>)) -> String {
     format!("state {}{}", state.show(), framed_calls(&calls))
 }
 
-fn opening_case(random: &mut Random, mode: Mode) -> String {
-    let plan = sets::any_plan(random, mode);
+fn opening_case(random: &mut Random, sort: Sort) -> String {
+    let plan = sets::any_plan(random, sort);
     format!("open {}", show_set(&plan.request, &plan.allocation))
 }
 
-fn edge_cases(random: &mut Random, mode: Mode) -> Vec<String> {
+fn edge_cases(random: &mut Random, sort: Sort) -> Vec<String> {
     let mut cases = vec![];
     for kind in [SheetKind::Request, SheetKind::Plan] {
-        let sheets = sheets::every_damage(random, kind, mode);
+        let sheets = sheets::every_damage(random, kind, sort);
         cases.extend(sheets.iter().map(|sheet| framed_sheet(kind, sheet)));
     }
     cases
 }
 
-fn command_case(random: &mut Random, mode: Mode) -> String {
+fn command_case(random: &mut Random, sort: Sort) -> String {
     let name = random.pick(&["plan", "plan-sheet", "show", "compose", "run"]);
     let kind = random.pick(&[SheetKind::Request, SheetKind::Plan]);
     let input = match name {
-        "plan" | "plan-sheet" => to_hex(&sheets::sheet(random, SheetKind::Request, mode)),
-        "show" => to_hex(&sheets::sheet(random, kind, mode)),
-        "compose" => to_hex(&texts::sheet_text(random, mode)),
-        _ => run_input(random, mode),
+        "plan" | "plan-sheet" => to_hex(&sheets::sheet(random, SheetKind::Request, sort)),
+        "show" => to_hex(&sheets::sheet(random, kind, sort)),
+        "compose" => to_hex(&texts::sheet_text(random, sort)),
+        _ => run_input(random, sort),
     };
     format!("command {name};{input}")
 }
 
 /// A script for its plan; now and then the plan's sheet is damaged.
-fn run_input(random: &mut Random, mode: Mode) -> String {
-    let (plan, text) = texts::script_text(random, mode);
+fn run_input(random: &mut Random, sort: Sort) -> String {
+    let (plan, text) = texts::script_text(random, sort);
     let mut sheet = fields(&plan.request, &plan.allocation).concat();
     if random.once_in(8) {
-        sheet = sheets::sheet(random, SheetKind::Plan, mode);
+        sheet = sheets::sheet(random, SheetKind::Plan, sort);
     }
     format!("{};{}", to_hex(&sheet), to_hex(&text))
 }

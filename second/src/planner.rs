@@ -12,8 +12,14 @@ pub fn plan(request: &Request, planted: Planted) -> Result<Plan, Refusal> {
         Mode::Fddi => raised(request, planted)?,
     };
     let plan = Plan { request: request.clone(), allocation };
-    require(plan.spare().is_some(), Refusal::NoAllocation)?;
+    require(plan.token_in_time() || passed(&plan, planted), Refusal::NoAllocation)?;
     Ok(plan)
+}
+
+/// Whether a planted error takes a plan that breaks the token rule.
+fn passed(plan: &Plan, planted: Planted) -> bool {
+    let reserved = plan.allocated() + plan.request.walk_sum();
+    planted == Planted::OverrunLeftOut && reserved <= u64::from(plan.request.head.ttrt)
 }
 
 /// A timely-token station's rule looks at its own S alone.

@@ -27,10 +27,18 @@ pub enum Planted {
     OthersLeftOut,
     /// 12: X of an FDDI station with q·S in the place of (q − 1)·S.
     OneVisitTooMany,
+    /// 13: a frame is cut at the limit.
+    FrameCut,
+    /// 14: a frame begins when the time used is just the limit.
+    FrameAtLimit,
+    /// 15: the limit with F in the place of F − 1.
+    WholeFrameKept,
+    /// 16: the token rule without F − 1.
+    OverrunLeftOut,
 }
 
 impl Planted {
-    pub const ALL: [Planted; 12] = [
+    pub const ALL: [Planted; 16] = [
         Planted::TimeForNobody,
         Planted::RoundedDown,
         Planted::LimitWithoutUnused,
@@ -43,6 +51,10 @@ impl Planted {
         Planted::HoldingAfterSending,
         Planted::OthersLeftOut,
         Planted::OneVisitTooMany,
+        Planted::FrameCut,
+        Planted::FrameAtLimit,
+        Planted::WholeFrameKept,
+        Planted::OverrunLeftOut,
     ];
 
     /// The error of a number, from 1 on.

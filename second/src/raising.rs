@@ -11,7 +11,7 @@ use crate::rules::{fddi_least_time, require, Refusal, Request};
 
 /// The least S at each station of a judged set, or number 6.
 pub fn raised(request: &Request, planted: Planted) -> Result<Vec<u32>, Refusal> {
-    let mut raising = Raising::new(request, planted);
+    let mut raising = Raising::new(request, planted)?;
     while let Some(index) = raising.next_failing() {
         raising.raise(index)?;
     }
@@ -21,7 +21,8 @@ pub fn raised(request: &Request, planted: Planted) -> Result<Vec<u32>, Refusal> 
 struct Raising<'a> {
     request: &'a Request,
     planted: Planted,
-    walk_sum: u64,
+    /// τ + F − 1.
+    lost: u64,
     /// The most that all S together may be.
     most: u64,
     allocation: Vec<u64>,
@@ -31,19 +32,24 @@ struct Raising<'a> {
 }
 
 impl Raising<'_> {
-    fn new(request: &Request, planted: Planted) -> Raising<'_> {
-        let walk_sum = request.walk_sum();
+    fn new(request: &Request, planted: Planted) -> Result<Raising<'_>, Refusal> {
+        let lost = request.lost();
+        let counted = match planted {
+            Planted::OverrunLeftOut => request.walk_sum(),
+            _ => lost,
+        };
+        let room = u64::from(request.head.ttrt).checked_sub(counted);
         let mut raising = Raising {
             request,
             planted,
-            walk_sum,
-            most: u64::from(request.head.ttrt) - walk_sum,
+            lost,
+            most: room.ok_or(Refusal::NoAllocation)?,
             allocation: vec![0; request.stations.len()],
             sum: 0,
             fails_from: BinaryHeap::new(),
         };
         (0..request.stations.len()).for_each(|index| raising.expect_failure(index));
-        raising
+        Ok(raising)
     }
 
     /// Whether a station's rule holds with this S while the others have so much.
@@ -51,7 +57,7 @@ impl Raising<'_> {
         let station = &self.request.stations[index];
         let (ttrt, deadline) = (self.request.head.ttrt, station.deadline);
         let others = if self.planted == Planted::OthersLeftOut { 0 } else { others };
-        let mut least = fddi_least_time(ttrt, deadline, s, self.walk_sum + others);
+        let mut least = fddi_least_time(ttrt, deadline, s, self.lost + others);
         if self.planted == Planted::OneVisitTooMany && deadline >= ttrt {
             least += s;
         }

@@ -4,7 +4,7 @@
 //! timer runs from there, and its late count is how many whole TTRTs it has run.
 
 use crate::planted::Planted;
-use crate::rules::{require, Mode, Plan, Refusal, Station, LAST_TIME};
+use crate::rules::{require, Ask, Mode, Plan, Refusal, Station, LAST_TIME};
 
 /// A time, or a length of time.
 pub type Ticks = i64;
@@ -190,15 +190,17 @@ impl Ring {
         self.allocation(index) - self.sent(index)
     }
 
-    /// One visit at the station that has the token, or number 13.
-    pub fn visit(&mut self, ask: u32) -> Result<Visit, Refusal> {
+    /// One visit at the station that has the token, or number 10 or 13.
+    pub fn visit(&mut self, ask: impl Into<Ask>) -> Result<Visit, Refusal> {
+        let ask = ask.into();
+        ask.judge(&self.plan.request.head)?;
         require(self.clock <= LAST_TIME as Ticks, Refusal::ClockPast)?;
         let here = self.token();
         let start = self.clock;
         let trt = self.trt(here);
         let (synchronous, completed) = self.serve(here);
         let limit = self.limit(here, synchronous);
-        let asynchronous = limit.min(Ticks::from(ask));
+        let asynchronous = self.sent_in_frames(ask, limit);
         self.memories[here].token_came = start;
         self.memories[here].timer_began = match self.mode() {
             Mode::Timely => self.trt_began(synchronous + asynchronous),
@@ -212,17 +214,34 @@ impl Ring {
         Ok(Visit { station, start, trt, limit, synchronous, asynchronous, completed })
     }
 
-    /// What the station may send beside its synchronous part.
+    /// The time before which the station may begin to send beside its synchronous part.
     fn limit(&self, here: usize, synchronous: Ticks) -> Ticks {
         let kept = match (self.mode(), self.planted) {
-            (Mode::Timely, Planted::LimitWithoutUnused) | (Mode::Fddi, _) => 0,
-            (Mode::Timely, _) => self.unused(),
+            (Mode::Fddi, _) => 0,
+            (Mode::Timely, Planted::LimitWithoutUnused) => self.overrun(),
+            (Mode::Timely, Planted::WholeFrameKept) => self.unused() + self.overrun() + 1,
+            (Mode::Timely, _) => self.unused() + self.overrun(),
         };
         let sent = match (self.mode(), self.planted) {
             (Mode::Fddi, Planted::HoldingAfterSending) => synchronous,
             _ => 0,
         };
         (self.ttrt() - kept - sent - self.since(here)).max(0)
+    }
+
+    /// F − 1.
+    pub fn overrun(&self) -> Ticks {
+        self.plan.request.head.overrun() as Ticks
+    }
+
+    fn sent_in_frames(&self, ask: Ask, limit: Ticks) -> Ticks {
+        let limit = limit as u64;
+        let sent = match self.planted {
+            Planted::FrameCut => ask.sent(limit).min(limit),
+            Planted::FrameAtLimit => ask.sent(limit + 1),
+            _ => ask.sent(limit),
+        };
+        sent as Ticks
     }
 
     fn trt_began(&self, sent: Ticks) -> Ticks {

@@ -10,6 +10,8 @@ pub const DEADLINE: RangeInclusive<u32> = 1..=100_000_000;
 /// The least gap goes from the deadline to this.
 pub const MOST_GAP: u32 = 100_000_000;
 pub const ALLOCATION: RangeInclusive<u32> = 0..=1_000_000;
+/// F, the longest frame; 1 says that asynchronous traffic may be cut at any tick.
+pub const FRAME: RangeInclusive<u32> = 1..=65_535;
 /// The last arrival time, and the last clock at which a visit may start.
 pub const LAST_TIME: u64 = 1_000_000_000_000;
 
@@ -89,20 +91,74 @@ impl Station {
     }
 }
 
-/// What a sheet says before its stations: TTRT, and the number of the mode, any number at first.
+/// What a sheet says before its stations: TTRT, the number of the mode, any number at first, and
+/// the longest frame F.
 #[derive(Clone, Copy, Debug, PartialEq, Eq)]
 pub struct Head {
     pub ttrt: u32,
     pub mode: u32,
+    pub frame: u32,
 }
 
 impl Head {
+    /// A head without F: frames are of one tick.
     pub fn new(ttrt: u32, mode: Mode) -> Head {
-        Head { ttrt, mode: mode.number() }
+        Head { ttrt, mode: mode.number(), frame: 1 }
     }
 
     fn in_range(&self) -> bool {
-        TTRT.contains(&self.ttrt) && Mode::of(self.mode).is_some()
+        let frame = FRAME.contains(&self.frame);
+        TTRT.contains(&self.ttrt) && Mode::of(self.mode).is_some() && frame
+    }
+
+    /// F − 1, the most that a frame runs past the moment before which it must start. A head that
+    /// is out of range may have none.
+    pub fn overrun(&self) -> u64 {
+        u64::from(self.frame.saturating_sub(1))
+    }
+}
+
+/// What a header number's field or line says: where there is none, 1. One that says 1 itself has
+/// no number (0 is none), so that each head is written in one way only.
+pub fn header_number(said: Option<u32>) -> u32 {
+    match said {
+        None => 1,
+        Some(1) => 0,
+        Some(number) => number,
+    }
+}
+
+/// What a visit is asked for: a number of frames of one length.
+#[derive(Clone, Copy, Debug, PartialEq, Eq)]
+pub struct Ask {
+    pub frames: u32,
+    pub length: u32,
+}
+
+/// A number alone asks for frames of one tick.
+impl From<u32> for Ask {
+    fn from(frames: u32) -> Ask {
+        Ask { frames, length: 1 }
+    }
+}
+
+impl Ask {
+    /// Number 10 unless the length is that of a frame.
+    pub fn judge(&self, head: &Head) -> Result<(), Refusal> {
+        require((1..=head.frame).contains(&self.length), Refusal::WrongLength)
+    }
+
+    /// What is sent under a limit, frame by frame: each starts while the time used is below the
+    /// limit, and is finished.
+    pub fn sent(&self, limit: u64) -> u64 {
+        let mut used = 0;
+        for _ in 0..self.frames {
+            if used >= limit {
+                break;
+            }
+            used += u64::from(self.length);
+        }
+        used
     }
 }
 
@@ -122,6 +178,11 @@ impl Request {
     /// τ, the sum of all walk times.
     pub fn walk_sum(&self) -> u64 {
         self.stations.iter().map(|station| u64::from(station.walk)).sum()
+    }
+
+    /// The time of a rotation that no station sends in, and that a frame may run over: τ + F − 1.
+    pub fn lost(&self) -> u64 {
+        self.walk_sum() + self.head.overrun()
     }
 
     /// Numbers 2, 4 and 5, in this order.
@@ -157,9 +218,19 @@ impl Plan {
         self.allocation.iter().map(|&s| u64::from(s)).sum()
     }
 
-    /// The spare time A*; `None` when the token rule is broken.
-    pub fn spare(&self) -> Option<u64> {
-        u64::from(self.request.head.ttrt).checked_sub(self.request.walk_sum() + self.allocated())
+    /// What the token rule counts: all S, τ and F − 1.
+    fn reserved(&self) -> u64 {
+        self.allocated() + self.request.lost()
+    }
+
+    /// The token rule.
+    pub fn token_in_time(&self) -> bool {
+        self.reserved() <= u64::from(self.request.head.ttrt)
+    }
+
+    /// The spare time A*; 0 where the token rule is broken.
+    pub fn spare(&self) -> u64 {
+        u64::from(self.request.head.ttrt).saturating_sub(self.reserved())
     }
 
     /// Numbers 2, 4, 5 and 7, in this order.
@@ -169,7 +240,7 @@ impl Plan {
         let in_range = self.allocation.iter().all(|s| ALLOCATION.contains(s));
         require(in_range && self.request.in_range(), Refusal::OutOfRange)?;
         require(self.request.walk_sum_allowed(), Refusal::WalkSum)?;
-        let rules = self.spare().is_some() && self.meets_deadlines();
+        let rules = self.token_in_time() && self.meets_deadlines();
         require(rules, Refusal::RuleBroken)
     }
 
@@ -186,7 +257,7 @@ impl Plan {
             Mode::Timely => least_time(ttrt, deadline, s),
             Mode::Fddi => {
                 let others = self.allocated() - s;
-                fddi_least_time(ttrt, deadline, s, self.request.walk_sum() + others)
+                fddi_least_time(ttrt, deadline, s, self.request.lost() + others)
             }
         }
     }
@@ -206,7 +277,7 @@ pub fn least_time(ttrt: u32, deadline: u32, s: u64) -> u64 {
 }
 
 /// X in FDDI (source document 003, Theorem 2): all of S at each rotation in the deadline but one,
-/// and of the last S what the rest of the deadline leaves behind τ and the other stations' S.
+/// and of the last S what the rest of the deadline leaves behind τ + F − 1 and the others' S.
 pub fn fddi_least_time(ttrt: u32, deadline: u32, s: u64, before: u64) -> u64 {
     let (whole, rest) = (u64::from(deadline / ttrt), u64::from(deadline % ttrt));
     match whole {

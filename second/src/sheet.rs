@@ -1,20 +1,22 @@
 //! Request and plan sheets: a reader driven by a table of the fields allowed at each place,
 //! and a writer.
 
-use crate::rules::{require, Head, Mode, Plan, Refusal, Request, Station, MOST_STATIONS};
+use crate::rules::MOST_STATIONS;
+use crate::rules::{header_number, require, Head, Plan, Refusal, Request, Station};
 
 const TTRT_TAG: u8 = 1;
 pub const STATION_TAG: u8 = 2;
 const ALLOCATION_TAG: u8 = 3;
 const MODE_TAG: u8 = 4;
+pub const FRAME_TAG: u8 = 5;
 const END_TAG: u8 = 255;
 
-/// What TTRT, the mode and the end take on a sheet.
-const FRAME: usize = 7 + 4 + 3;
+/// What TTRT, the mode, F and the end take on a sheet.
+const AROUND_STATIONS: usize = 7 + 4 + 7 + 3;
 /// The most bytes that a program needs to read of a request sheet: the longest, and one more.
-pub const REQUEST_READ: usize = FRAME + 19 * MOST_STATIONS + 1;
+pub const REQUEST_READ: usize = AROUND_STATIONS + 19 * MOST_STATIONS + 1;
 /// The same of a plan sheet.
-pub const PLAN_READ: usize = FRAME + 26 * MOST_STATIONS + 1;
+pub const PLAN_READ: usize = AROUND_STATIONS + 26 * MOST_STATIONS + 1;
 
 /// A sheet of either kind.
 #[derive(Clone, Debug, PartialEq, Eq)]
@@ -27,7 +29,10 @@ pub enum Sheet {
 #[derive(Clone, Copy, PartialEq, Eq)]
 enum Place {
     Start,
+    /// Behind TTRT.
     Head,
+    /// Behind the mode.
+    Moded,
     Stations,
     Allocations,
     Done,
@@ -37,21 +42,16 @@ enum Place {
 #[derive(Default)]
 struct Contents {
     ttrt: u32,
-    mode: Option<u8>,
+    mode: Option<u32>,
+    frame: Option<u32>,
     stations: Vec<Station>,
     allocation: Vec<u32>,
 }
 
 impl Contents {
-    /// The head of the set. A mode that its absence would say as well has no number: 0 is none.
     fn head(&self) -> Head {
-        let absent = Mode::Timely.number();
-        let mode = match self.mode.map(u32::from) {
-            None => absent,
-            Some(mode) if mode == absent => 0,
-            Some(mode) => mode,
-        };
-        Head { ttrt: self.ttrt, mode }
+        let [mode, frame] = [self.mode, self.frame].map(header_number);
+        Head { ttrt: self.ttrt, mode, frame }
     }
 }
 
@@ -79,12 +79,21 @@ const MODE_FIELD: Row = Row {
     tag: MODE_TAG,
     length: 1,
     when: |_| true,
-    keep: |contents, body| contents.mode = Some(body[0]),
+    keep: |contents, body| contents.mode = Some(body[0].into()),
+    then: Place::Moded,
+};
+
+const FRAME_FIELD: Row = Row {
+    at: &[Place::Head, Place::Moded],
+    tag: FRAME_TAG,
+    length: 4,
+    when: |_| true,
+    keep: |contents, body| contents.frame = Some(number(body, 0)),
     then: Place::Stations,
 };
 
 const STATION_FIELD: Row = Row {
-    at: &[Place::Head, Place::Stations],
+    at: &[Place::Head, Place::Moded, Place::Stations],
     tag: STATION_TAG,
     length: 16,
     when: |contents| contents.stations.len() < MOST_STATIONS,
@@ -92,9 +101,10 @@ const STATION_FIELD: Row = Row {
     then: Place::Stations,
 };
 
-const REQUEST_TABLE: [Row; 4] = [
+const REQUEST_TABLE: [Row; 5] = [
     TTRT_FIELD,
     MODE_FIELD,
+    FRAME_FIELD,
     STATION_FIELD,
     Row {
         at: &[Place::Stations],
@@ -106,9 +116,10 @@ const REQUEST_TABLE: [Row; 4] = [
     },
 ];
 
-const PLAN_TABLE: [Row; 6] = [
+const PLAN_TABLE: [Row; 7] = [
     TTRT_FIELD,
     MODE_FIELD,
+    FRAME_FIELD,
     STATION_FIELD,
     Row {
         at: &[Place::Stations],
@@ -207,10 +218,13 @@ pub fn read_either(sheet: &[u8]) -> Result<Sheet, Refusal> {
 
 /// The fields of a sheet, unjudged; with an allocation they are those of a plan.
 pub fn fields(request: &Request, allocation: &[u32]) -> Vec<Vec<u8>> {
-    let Head { ttrt, mode } = request.head;
+    let Head { ttrt, mode, frame } = request.head;
     let mut fields = vec![field(TTRT_TAG, &[ttrt])];
-    if mode != Mode::Timely.number() {
+    if mode != header_number(None) {
         fields.push(mode_field(mode as u8));
+    }
+    if frame != header_number(None) {
+        fields.push(frame_field(frame));
     }
     for station in &request.stations {
         let Station { walk, longest, deadline, gap } = *station;
@@ -224,6 +238,11 @@ pub fn fields(request: &Request, allocation: &[u32]) -> Vec<Vec<u8>> {
 /// The field of a mode, any byte.
 pub fn mode_field(mode: u8) -> Vec<u8> {
     vec![MODE_TAG, 0, 1, mode]
+}
+
+/// The field of F, any number.
+pub fn frame_field(frame: u32) -> Vec<u8> {
+    field(FRAME_TAG, &[frame])
 }
 
 fn field(tag: u8, numbers: &[u32]) -> Vec<u8> {

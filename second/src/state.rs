@@ -4,7 +4,7 @@
 
 use crate::frames::{read_head, show_head};
 use crate::ring::{Completed, Message, StationNumber, Ticks, Visit};
-use crate::rules::{require, Mode, Plan, Refusal, Request, Station, LAST_TIME};
+use crate::rules::{require, Ask, Mode, Plan, Refusal, Request, Station, LAST_TIME};
 use crate::text::{number, Answer, Call};
 
 /// The clock of no sound ring is above this.
@@ -108,9 +108,11 @@ impl State {
         }
     }
 
-    /// One visit at the station that has the token, or number 8 or 13.
-    pub fn visit(&mut self, ask: u32) -> Result<Visit, Refusal> {
+    /// One visit at the station that has the token, or number 8, 10 or 13.
+    pub fn visit(&mut self, ask: impl Into<Ask>) -> Result<Visit, Refusal> {
+        let ask = ask.into();
         require(!self.unsound(), Refusal::Unsound)?;
+        ask.judge(&self.plan.request.head)?;
         require(self.clock <= LAST_TIME, Refusal::ClockPast)?;
         let here = self.token as usize;
         let (start, trt) = (self.clock, self.places[here].trt);
@@ -125,8 +127,8 @@ impl State {
         if self.plan.request.mode() == Mode::Timely {
             self.unused += self.unused_at(here);
         }
-        // 4: the asynchronous part.
-        let asynchronous = limit.min(ask);
+        // 4: the asynchronous part, in whole frames.
+        let asynchronous = ask.sent(limit.into()) as u32;
         // 5: time passes, and the token moves on.
         self.pass(synchronous + asynchronous + self.plan.request.stations[here].walk);
         self.places[here].last = start;
@@ -148,12 +150,14 @@ impl State {
         u64::from(self.plan.allocation[index] - self.places[index].sent)
     }
 
-    /// TTRT − u − TRT, held at 0; TRT becomes 0, and u falls by the old unused time.
+    /// TTRT − (F − 1) − u − TRT, held at 0; TRT becomes 0, and u falls by the old unused time.
     fn timely_limit(&mut self, here: usize) -> u32 {
-        let spent = self.unused + u64::from(self.places[here].trt);
+        let head = &self.plan.request.head;
+        let (ttrt, overrun) = (u64::from(head.ttrt), head.overrun());
+        let spent = overrun + self.unused + u64::from(self.places[here].trt);
         self.places[here].trt = 0;
         self.unused -= self.unused_at(here);
-        u64::from(self.plan.request.head.ttrt).saturating_sub(spent) as u32
+        ttrt.saturating_sub(spent) as u32
     }
 
     /// A late token lowers the count, lets the timer run on and gives nothing. Any other gives
@@ -217,7 +221,7 @@ impl State {
         Ok(())
     }
 
-    /// `CLOCK,TOKEN,VISITS,U`, `TTRT` or `TTRT,MODE`, and for each station
+    /// `CLOCK,TOKEN,VISITS,U`, the head of the set, and for each station
     /// `W,C,D,P,S,TRT,s,REMAINING,HAD,ARRIVAL,LAST`, with its late count behind or without.
     pub fn read(parts: &[&str]) -> Option<State> {
         let [ring, head, places @ ..] = parts else {

@@ -6,7 +6,8 @@ use std::str::FromStr;
 
 use crate::lines::{Line, Lines};
 use crate::ring::{Message, StationNumber, Visit};
-use crate::rules::{require, Head, Mode, Plan, Refusal, Request, Station, MOST_STATIONS};
+use crate::rules::MOST_STATIONS;
+use crate::rules::{header_number, require, Ask, Head, Plan, Refusal, Request, Station};
 use crate::sheet::{write_plan, write_request, Sheet, PLAN_READ, REQUEST_READ};
 
 /// Why a text has no sheet.
@@ -28,8 +29,18 @@ impl fmt::Display for Fault {
 /// A call on a ring.
 #[derive(Clone, Copy, Debug, PartialEq, Eq)]
 pub enum Call {
-    Visit(u32),
+    Visit(Ask),
     HandIn(Message),
+}
+
+/// `FRAMES LENGTH`; frames of one tick are shown without their length.
+impl fmt::Display for Ask {
+    fn fmt(&self, f: &mut fmt::Formatter) -> fmt::Result {
+        match *self {
+            Ask { frames, length: 1 } => write!(f, "{frames}"),
+            Ask { frames, length } => write!(f, "{frames} {length}"),
+        }
+    }
 }
 
 impl fmt::Display for Call {
@@ -79,7 +90,7 @@ pub fn answer_line(answer: Result<Answer, Refusal>) -> String {
 /// The plan as the program prints it.
 pub fn show_plan(plan: &Plan) -> String {
     let Request { head, stations } = &plan.request;
-    let spare = plan.spare().expect("a plan keeps the token rule");
+    let spare = plan.spare();
     let (count, ttrt, walk_sum) = (stations.len(), head.ttrt, plan.request.walk_sum());
     let mut text = format!("plan {count} {ttrt} {walk_sum} {spare}\n");
     for (index, s) in plan.allocation.iter().enumerate() {
@@ -98,10 +109,12 @@ pub fn show_sheet(sheet: &Sheet) -> String {
 
 /// The text of a set, and with an allocation that of a plan; nothing is judged.
 pub fn show_stations(request: &Request, allocation: &[u32]) -> String {
-    let Head { ttrt, mode } = request.head;
+    let Head { ttrt, mode, frame } = request.head;
     let mut text = format!("ttrt {ttrt}\n");
-    if mode != Mode::Timely.number() {
-        text += &format!("mode {mode}\n");
+    for (name, number) in [("mode", mode), ("frame", frame)] {
+        if number != header_number(None) {
+            text += &format!("{name} {number}\n");
+        }
     }
     for (index, station) in request.stations.iter().enumerate() {
         let Station { walk, longest, deadline, gap } = station;
@@ -132,6 +145,7 @@ pub fn compose<R: Read>(text: R) -> io::Result<Result<Vec<u8>, Fault>> {
 struct Draft {
     ttrt: Option<u32>,
     mode: Option<u32>,
+    frame: Option<u32>,
     stations: Vec<Station>,
     allocation: Vec<u32>,
     misplaced: bool,
@@ -144,6 +158,7 @@ impl Draft {
             [] => Some(()),
             [b"ttrt", ttrt] => self.take_ttrt(number(ttrt)?),
             [b"mode", mode] => self.take_mode(number(mode)?),
+            [b"frame", frame] => self.take_frame(number(frame)?),
             [b"station", ref numbers @ ..] => self.take_station(numbers),
             _ => None,
         }
@@ -156,11 +171,22 @@ impl Draft {
         Some(())
     }
 
-    /// `mode` stands at most once, behind `ttrt` and before every station.
+    /// Behind `ttrt` and before every station.
+    fn in_head(&self) -> bool {
+        self.ttrt.is_some() && self.stations.is_empty()
+    }
+
+    /// `mode` stands at most once, in the head and before `frame`.
     fn take_mode(&mut self, mode: u32) -> Option<()> {
-        let behind_ttrt = self.ttrt.is_some() && self.stations.is_empty();
-        self.misplaced |= self.mode.is_some() || !behind_ttrt;
+        self.misplaced |= self.mode.is_some() || self.frame.is_some() || !self.in_head();
         self.mode = Some(mode);
+        Some(())
+    }
+
+    /// `frame` stands at most once, in the head.
+    fn take_frame(&mut self, frame: u32) -> Option<()> {
+        self.misplaced |= self.frame.is_some() || !self.in_head();
+        self.frame = Some(frame);
         Some(())
     }
 
@@ -180,12 +206,11 @@ impl Draft {
         Some(())
     }
 
-    /// The mode that the lines name. One that is timely-token without its line is out of range.
+    /// What the lines before the stations say.
     fn head(&self) -> Result<Head, Refusal> {
         let ttrt = self.ttrt.ok_or(Refusal::WrongField)?;
-        let absent = Mode::Timely.number();
-        let mode = self.mode.map_or(absent, |mode| if mode == absent { 0 } else { mode });
-        Ok(Head { ttrt, mode })
+        let [mode, frame] = [self.mode, self.frame].map(header_number);
+        Ok(Head { ttrt, mode, frame })
     }
 
     /// Lines of both kinds leave fewer allocations than stations: they are refused for their count.
@@ -211,12 +236,21 @@ pub fn read_call(line: &Line) -> Result<Option<Call>, Fault> {
 /// The call that the words make.
 pub fn call(words: &[&[u8]]) -> Option<Call> {
     match *words {
-        [b"visit", ask] => Some(Call::Visit(number(ask)?)),
+        [b"visit", ref asked @ ..] => Some(Call::Visit(ask(asked)?)),
         [b"message", station, length, arrival] => Some(Call::HandIn(Message {
             station: StationNumber(number(station)?),
             length: number(length)?,
             arrival: number(arrival)?,
         })),
+        _ => None,
+    }
+}
+
+/// `FRAMES` or `FRAMES LENGTH`.
+pub fn ask(words: &[&[u8]]) -> Option<Ask> {
+    match *words {
+        [frames] => Some(number::<u32>(frames)?.into()),
+        [frames, length] => Some(Ask { frames: number(frames)?, length: number(length)? }),
         _ => None,
     }
 }

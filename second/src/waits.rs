@@ -5,11 +5,10 @@ use std::collections::BTreeMap;
 use std::fmt;
 
 use crate::check::WatchedRing;
-use crate::gen::calls;
 use crate::gen::random::Random;
+use crate::gen::{calls, Sort};
 use crate::planted::Planted;
 use crate::ring::{Ring, Ticks, Visit};
-use crate::rules::Mode;
 use crate::text::{Answer, Call};
 
 /// The longest waits among the rings of one size. A wait ends with the visit that offers its
@@ -66,8 +65,8 @@ fn offered(visit: &Visit, index: usize) -> bool {
 pub fn longest(seed: u64, runs: u64) -> BTreeMap<usize, Longest> {
     let mut sizes = BTreeMap::<usize, Longest>::new();
     for place in 0..runs {
-        let (plan, calls) = calls::script(&mut Random::of_case(seed, place), Mode::Timely);
-        if plan.spare().is_some_and(|spare| spare > 0) {
+        let (plan, calls) = calls::script(&mut Random::of_case(seed, place), Sort::TIMELY);
+        if plan.spare() > 0 {
             let ring = Ring::open(&plan, Planted::Nothing).expect("the plan is sound");
             let longest = sizes.entry(ring.size()).or_default();
             longest.runs += 1;

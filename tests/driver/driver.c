@@ -8,7 +8,7 @@
 #include "words.h"
 #include <string.h>
 
-/* ---- sets and plans: `TTRT;W,C,D,P;..`, and for a plan `TTRT;W,C,D,P,S;..`; `TTRT,MODE` where it is not timely-token */
+/* ---- sets and plans: `TTRT;W,C,D,P;..`, and for a plan `TTRT;W,C,D,P,S;..`; `TTRT,MODE` or `TTRT,MODE,F` where they are not 1 */
 struct plan {
     set_t set;
     alloc_t alloc;
@@ -20,6 +20,7 @@ static void no_station(struct plan *plan)
     memset(plan, 0xff, sizeof *plan);
     plan->set.head.ttrt = number32();
     plan->set.head.mode = passed(",") ? number32() : OLIVASTRUM_TIMELY;
+    plan->set.head.frame = passed(",") ? number32() : 1;
     plan->set.n = 0;
 }
 
@@ -68,8 +69,10 @@ static void put_stations(const set_t *set, const alloc_t *alloc)
 {
     put_after(' ', set->n);
     put_after(' ', set->head.ttrt);
-    if (set->head.mode != OLIVASTRUM_TIMELY)
+    if (set->head.mode != OLIVASTRUM_TIMELY || set->head.frame != 1)
         put_after(',', set->head.mode);
+    if (set->head.frame != 1)
+        put_after(',', set->head.frame);
     for (uint32_t i = 0; i < set->n && i < MOST; i++) {
         put_after(';', set->w[i]);
         put_after(',', set->c[i]);
@@ -123,9 +126,18 @@ static void put_visit(const struct olivastrum_visit_record *record)
     put_signed_after(' ', record->margin);
 }
 
-static void visits(ring_t *ring, uint64_t count, uint32_t ask, int shown)
+/* `FRAMES`, of length 1, or `FRAMES LENGTH`. */
+static struct olivastrum_ask asked(void)
 {
-    struct olivastrum_visit_answer answer = visiting(ring, count, ask);
+    struct olivastrum_ask ask;
+    ask.frames = number32();
+    ask.length = passed(" ") ? number32() : 1;
+    return ask;
+}
+
+static void visits(ring_t *ring, uint64_t count, int shown)
+{
+    struct olivastrum_visit_answer answer = visiting(ring, count, asked());
     if (!shown)
         return;
     if (answer.number != 0)
@@ -157,14 +169,14 @@ static void call(ring_t *ring, int shown)
     if (passed("message ")) {
         message(ring, shown);
     } else if (passed("visit ")) {
-        visits(ring, 1, number32(), shown);
+        visits(ring, 1, shown);
     } else {
         pass("visits ");
         uint64_t count = number();
         pass(" ");
         if (count == 0)
             no_case();
-        visits(ring, count, number32(), shown);
+        visits(ring, count, shown);
     }
 }
 
@@ -216,13 +228,16 @@ static void write_case(int with_shares)
 
 /* ---- the cases of sets and rings */
 
-/* A*, seen at the first visit on a ring opened with the plan: its limit, from which FDDI takes no S. */
+/* A*, seen at the first visit on a ring opened with the plan: its limit, from which FDDI takes no S and no F - 1. */
 static uint64_t spare(const struct plan *plan, ring_t *ring)
 {
-    uint64_t left = visiting(ring, 1, 0).record.limit.ticks;
-    for (uint32_t i = 0; plan->set.head.mode == OLIVASTRUM_FDDI && i < plan->set.n; i++)
+    struct olivastrum_ask nothing = {0, 1};
+    uint64_t left = visiting(ring, 1, nothing).record.limit.ticks;
+    if (plan->set.head.mode != OLIVASTRUM_FDDI)
+        return left;
+    for (uint32_t i = 0; i < plan->set.n; i++)
         left -= plan->alloc.s[i];
-    return left;
+    return left - (plan->set.head.frame - 1);
 }
 
 /* `planning SET` */
@@ -316,7 +331,7 @@ static void stored(ring_t *ring, uint32_t i)
     }
 }
 
-/* Any ring: `CLOCK,TOKEN,VISITS,U;TTRT;PLACE;..` or `..;TTRT,MODE;PLACE;..`, up to the first call. */
+/* Any ring: `CLOCK,TOKEN,VISITS,U;HEAD;PLACE;..`, up to the first call; HEAD as for a set. */
 static void any_ring(ring_t *ring)
 {
     struct plan plan;

@@ -13,7 +13,7 @@ struct olivastrum_written __real_olivastrum_write_request_sheet(set_t set, uint8
 struct olivastrum_written __real_olivastrum_write_plan_sheet(set_t set, alloc_t alloc, uint8_t *out, size_t length);
 struct olivastrum_planned __real_olivastrum_plan_set(set_t set);
 struct olivastrum_opened __real_olivastrum_open_ring(set_t set, alloc_t alloc);
-struct olivastrum_visit_answer __real_olivastrum_visit(ring_t *ring, uint32_t ask);
+struct olivastrum_visit_answer __real_olivastrum_visit(ring_t *ring, struct olivastrum_ask ask);
 uint8_t __real_olivastrum_hand_in(ring_t *ring, struct olivastrum_message message);
 
 /* What is changed where the fault of that name is asked for and the condition holds. */
@@ -45,6 +45,7 @@ static void spoil_set(uint8_t number, set_t *set)
 {
     FAULT("set-refused", number != 0, set->head.ttrt);
     FAULT("mode-refused", number != 0, set->head.mode);
+    FAULT("frame-refused", number != 0, set->head.frame);
     FAULT("set-w", number == 0 && set->n < MOST, set->w[LAST]);
     FAULT("set-c", number == 0 && set->n < MOST, set->c[LAST]);
     FAULT("set-d", number == 0 && set->n < MOST, set->d[LAST]);
@@ -118,6 +119,7 @@ static void spoil_places(ring_t *ring)
     FAULT("ring-arrival", spare, ring->arrival[LAST]);
     FAULT("ring-had", spare, ring->had[LAST]);
     FAULT("ring-last", spare, ring->last[LAST]);
+    FAULT("ring-filler", 1, ring->filler);
     FAULT("ring-set", spare, ring->set.c[LAST]);
     FAULT("ring-alloc", spare, ring->alloc.s[LAST]);
 }
@@ -145,7 +147,7 @@ static void spoil_ring(uint8_t number, ring_t *ring)
         spoil_places(ring);
 }
 
-struct olivastrum_visit_answer __wrap_olivastrum_visit(ring_t *ring, uint32_t ask)
+struct olivastrum_visit_answer __wrap_olivastrum_visit(ring_t *ring, struct olivastrum_ask ask)
 {
     struct olivastrum_visit_answer answer = __real_olivastrum_visit(ring, ask);
     spoil_ring(answer.number, ring);

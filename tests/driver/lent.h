@@ -31,6 +31,6 @@ struct olivastrum_opened opening(const set_t *set, const alloc_t *alloc);
 
 /* The ring is lent from a copy between guard bytes, and handed back. Visits are made one after another, at most as many
  * as counted (1 or more), until one is refused; the last one's answer. */
-struct olivastrum_visit_answer visiting(ring_t *ring, uint64_t count, uint32_t ask);
+struct olivastrum_visit_answer visiting(ring_t *ring, uint64_t count, struct olivastrum_ask ask);
 uint8_t handing_in(ring_t *ring, struct olivastrum_message message);
 #endif

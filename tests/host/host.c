@@ -31,7 +31,8 @@ typedef struct olivastrum_ring ring_t;
 
 static int layouts(void)
 {
-    SAME(FIELDS_HEAD, sizeof(struct olivastrum_head), AT(olivastrum_head, ttrt), AT(olivastrum_head, mode));
+    SAME(FIELDS_HEAD, sizeof(struct olivastrum_head), AT(olivastrum_head, ttrt), AT(olivastrum_head, mode),
+         AT(olivastrum_head, frame));
     SAME(FIELDS_SET, sizeof(struct olivastrum_set), AT(olivastrum_set, head), AT(olivastrum_set, n), AT(olivastrum_set, w),
          AT(olivastrum_set, c), AT(olivastrum_set, d), AT(olivastrum_set, p));
     SAME(FIELDS_ALLOC, sizeof(struct olivastrum_alloc), AT(olivastrum_alloc, s));
@@ -41,8 +42,9 @@ static int layouts(void)
          AT(olivastrum_read_plan, number));
     SAME(FIELDS_WRITTEN, sizeof(struct olivastrum_written), AT(olivastrum_written, length), AT(olivastrum_written, number));
     SAME(FIELDS_RING, sizeof(ring_t), AT(olivastrum_ring, set), AT(olivastrum_ring, alloc), AT(olivastrum_ring, trt), AT(olivastrum_ring, late),
-         AT(olivastrum_ring, sent), AT(olivastrum_ring, rest), AT(olivastrum_ring, token), AT(olivastrum_ring, arrival), AT(olivastrum_ring, had),
-         AT(olivastrum_ring, last), AT(olivastrum_ring, clock), AT(olivastrum_ring, visits), AT(olivastrum_ring, unused));
+         AT(olivastrum_ring, sent), AT(olivastrum_ring, rest), AT(olivastrum_ring, token), AT(olivastrum_ring, filler), AT(olivastrum_ring, arrival),
+         AT(olivastrum_ring, had), AT(olivastrum_ring, last), AT(olivastrum_ring, clock), AT(olivastrum_ring, visits), AT(olivastrum_ring, unused));
+    SAME(FIELDS_ASK, sizeof(struct olivastrum_ask), AT(olivastrum_ask, frames), AT(olivastrum_ask, length));
     SAME(FIELDS_MESSAGE, sizeof(struct olivastrum_message), AT(olivastrum_message, station), AT(olivastrum_message, length),
          AT(olivastrum_message, arrival));
     SAME(FIELDS_VISIT_RECORD, sizeof(struct olivastrum_visit_record), AT(olivastrum_visit_record, station), AT(olivastrum_visit_record, start),
@@ -52,10 +54,11 @@ static int layouts(void)
     SAME(FIELDS_VISIT_ANSWER, sizeof(struct olivastrum_visit_answer), AT(olivastrum_visit_answer, record), AT(olivastrum_visit_answer, number));
     SAME(FIELDS_OPENED, sizeof(struct olivastrum_opened), AT(olivastrum_opened, ring), AT(olivastrum_opened, number));
 
-    CHECK(sizeof(struct olivastrum_set) == 3 * 4 + 4 * 128 * 4);
+    CHECK(sizeof(struct olivastrum_set) == 4 * 4 + 4 * 128 * 4);
     CHECK(sizeof(struct olivastrum_alloc) == 128 * 4);
+    CHECK(sizeof(struct olivastrum_ask) == 2 * 4);
     CHECK(sizeof(struct olivastrum_message) == 3 * 8);
-    CHECK(sizeof(ring_t) == sizeof(struct olivastrum_set) + sizeof(struct olivastrum_alloc) + 4 * 128 * 4 + 4 + 2 * 128 * 8 + 128 + 3 * 8);
+    CHECK(sizeof(ring_t) == sizeof(struct olivastrum_set) + sizeof(struct olivastrum_alloc) + 4 * 128 * 4 + 2 * 4 + 2 * 128 * 8 + 128 + 3 * 8);
     return 1;
 }
 
@@ -101,7 +104,7 @@ static uint8_t *put_set(uint8_t *at)
 
 static int is_the_set(const struct olivastrum_set *set)
 {
-    CHECK(set->head.ttrt == 100 && set->head.mode == OLIVASTRUM_TIMELY && set->n == STATIONS);
+    CHECK(set->head.ttrt == 100 && set->head.mode == OLIVASTRUM_TIMELY && set->head.frame == 1 && set->n == STATIONS);
     for (int i = 0; i < OLIVASTRUM_MOST_STATIONS; i++) {
         CHECK(set->w[i] == (i < STATIONS ? walk_times[i] : 0));
         CHECK(set->c[i] == (i < STATIONS ? 20u : 0));
@@ -125,7 +128,7 @@ static int places(void)
 
     struct olivastrum_read_plan read = olivastrum_read_plan_sheet(plan, sizeof plan);
     CHECK(read.number == 0);
-    CHECK(read.set.head.ttrt == first && read.set.head.mode == OLIVASTRUM_TIMELY && read.set.n == count);
+    CHECK(read.set.head.ttrt == first && read.set.head.mode == OLIVASTRUM_TIMELY && read.set.head.frame == 1 && read.set.n == count);
     for (uint32_t i = 0; i < count; i++) {
         CHECK(read.set.w[i] == 10 + i);
         CHECK(read.set.c[i] == 20 + i);
@@ -230,11 +233,18 @@ static int hand_in_refused(ring_t *ring, uint64_t station, uint64_t length, uint
     return 1;
 }
 
+/* frames of one tick, which may be cut anywhere */
+static struct olivastrum_ask ticks(uint32_t frames)
+{
+    struct olivastrum_ask ask = {frames, 1};
+    return ask;
+}
+
 /* a visit that must be refused with this number, and leave every byte of the ring */
 static int visit_refused(ring_t *ring, uint8_t number)
 {
     ring_t before = *ring;
-    struct olivastrum_visit_answer answer = olivastrum_visit(ring, 1000);
+    struct olivastrum_visit_answer answer = olivastrum_visit(ring, ticks(1000));
     CHECK(answer.number == number);
     CHECK(all_zero(&answer.record, offsetof(struct olivastrum_visit_record, completed) + 1));
     CHECK(memcmp(ring, &before, sizeof before) == 0);
@@ -254,7 +264,7 @@ static int opening(ring_t *ring, struct olivastrum_set set, struct olivastrum_al
     *ring = opened.ring;
     CHECK(memcmp(&ring->set, &set, sizeof set) == 0);
     CHECK(memcmp(&ring->alloc, &alloc, sizeof alloc) == 0);
-    CHECK(ring->clock == 0 && ring->visits == 0 && ring->token == 0 && ring->unused == 80);
+    CHECK(ring->clock == 0 && ring->visits == 0 && ring->token == 0 && ring->filler == 0 && ring->unused == 80);
     CHECK(ring->trt[0] == 2 && all_zero(ring->trt + 1, sizeof ring->trt - 4) && all_zero(ring->late, sizeof ring->late));
     CHECK(all_zero(ring->sent, sizeof ring->sent) && all_zero(ring->rest, sizeof ring->rest));
     CHECK(all_zero(ring->arrival, sizeof ring->arrival) && all_zero(ring->had, sizeof ring->had) && all_zero(ring->last, sizeof ring->last));
@@ -264,7 +274,7 @@ static int opening(ring_t *ring, struct olivastrum_set set, struct olivastrum_al
 /* A visit that asks for less than its limit, on a ring of its own. */
 static int asked_less(ring_t ring)
 {
-    struct olivastrum_visit_answer answer = olivastrum_visit(&ring, 5);
+    struct olivastrum_visit_answer answer = olivastrum_visit(&ring, ticks(5));
     struct olivastrum_visit_record *r = &answer.record;
     CHECK(answer.number == 0 && r->completed == 0 && r->finish.ticks == 0 && r->margin == 0);
     CHECK(r->station.number == 0 && r->start.ticks == 0 && r->trt.ticks == 2);
@@ -300,7 +310,7 @@ static int worked_run(ring_t *ring)
     CHECK(hand_in_refused(ring, UINT64_MAX, 20, 0, OLIVASTRUM_NO_SUCH_STATION));
     for (size_t k = 0; k < sizeof rows / sizeof rows[0]; k++) {
         const int64_t *row = rows[k];
-        struct olivastrum_visit_answer answer = olivastrum_visit(ring, 1000);
+        struct olivastrum_visit_answer answer = olivastrum_visit(ring, ticks(1000));
         struct olivastrum_visit_record *r = &answer.record;
         CHECK(answer.number == 0 && r->completed == 1);
         CHECK((int64_t)r->station.number == row[0] && (int64_t)r->start.ticks == row[1] && (int64_t)r->trt.ticks == row[2]);
@@ -371,14 +381,14 @@ static int any_bytes(const ring_t *sound)
     /* a timely-token ring leaves its late counts alone */
     ring = *sound, ring.late[0] = 7;
     ring_t same = *sound;
-    CHECK(olivastrum_visit(&ring, 5).number == 0 && olivastrum_visit(&same, 5).number == 0);
+    CHECK(olivastrum_visit(&ring, ticks(5)).number == 0 && olivastrum_visit(&same, ticks(5)).number == 0);
     same.late[0] = 7;
     CHECK(memcmp(&ring, &same, sizeof same) == 0);
 
     /* a byte that is neither 0 nor 1 in `had` is a yes, and places past N are never looked at */
     ring = *sound, ring.had[2] = 0x80, ring.trt[STATIONS] = 0xffffffffu, ring.set.w[127] = 0xffffffffu;
     ring_t other = *sound;
-    struct olivastrum_visit_answer a = olivastrum_visit(&ring, 5), b = olivastrum_visit(&other, 5);
+    struct olivastrum_visit_answer a = olivastrum_visit(&ring, ticks(5)), b = olivastrum_visit(&other, ticks(5));
     CHECK(a.number == 0 && b.number == 0);
     CHECK(memcmp(&a.record, &b.record, offsetof(struct olivastrum_visit_record, completed) + 1) == 0);
     CHECK(ring.had[2] == 0x80 && ring.trt[STATIONS] == 0xffffffffu && ring.set.w[127] == 0xffffffffu);
@@ -390,7 +400,7 @@ static int older_ring(void)
 {
     struct olivastrum_set set;
     memset(&set, 0, sizeof set);
-    set.head.ttrt = 100, set.head.mode = OLIVASTRUM_FDDI, set.n = 2;
+    set.head.ttrt = 100, set.head.mode = OLIVASTRUM_FDDI, set.head.frame = 1, set.n = 2;
     for (int i = 0; i < 2; i++)
         set.w[i] = 50, set.d[i] = set.p[i] = 300;
     uint8_t sheet[OLIVASTRUM_REQUEST_BYTES(2) + OLIVASTRUM_MODE_BYTES];
@@ -406,17 +416,17 @@ static int older_ring(void)
     CHECK(ring.trt[0] == 0 && ring.late[0] == 1 && ring.trt[1] == 50 && ring.late[1] == 0);
 
     /* late: nothing is offered, the count falls and the timer runs on */
-    struct olivastrum_visit_answer answer = olivastrum_visit(&ring, 1000);
+    struct olivastrum_visit_answer answer = olivastrum_visit(&ring, ticks(1000));
     CHECK(answer.number == 0 && answer.record.trt.ticks == 0 && answer.record.limit.ticks == 0 && answer.record.asynchronous.ticks == 0);
     CHECK(ring.clock == 50 && ring.trt[0] == 50 && ring.late[0] == 0 && ring.trt[1] == 0 && ring.late[1] == 1);
     /* the second station's timer has reached TTRT on the way: late too */
-    answer = olivastrum_visit(&ring, 1000);
+    answer = olivastrum_visit(&ring, ticks(1000));
     CHECK(answer.number == 0 && answer.record.limit.ticks == 0);
     CHECK(ring.clock == 100 && ring.trt[0] == 0 && ring.late[0] == 1 && ring.trt[1] == 50 && ring.late[1] == 0);
 
     /* not late: TTRT less the timer is offered, and the timer goes to 0 */
     ring.late[0] = 0, ring.trt[0] = 30;
-    answer = olivastrum_visit(&ring, 1000);
+    answer = olivastrum_visit(&ring, ticks(1000));
     CHECK(answer.number == 0 && answer.record.trt.ticks == 30 && answer.record.limit.ticks == 70 && answer.record.asynchronous.ticks == 70);
     CHECK(ring.clock == 220 && ring.trt[0] == 20 && ring.late[0] == 1 && ring.trt[1] == 70 && ring.late[1] == 1);
 
@@ -427,9 +437,54 @@ static int older_ring(void)
     other = ring, other.late[1] = 4;
     CHECK(unsound(&other));
     other = ring, other.late[1] = 3, other.unused = 12345;
-    CHECK(olivastrum_visit(&other, 0).number == 0 && other.unused == 12345);
+    CHECK(olivastrum_visit(&other, ticks(0)).number == 0 && other.unused == 12345);
     other = ring, other.set.head.mode = 3;
     CHECK(unsound(&other));
+    return 1;
+}
+
+/* ---- a ring whose frames are not cut: TTRT 100, F 5, w 2, S 10, so that 84 ticks are spare */
+static int uncut_ring(void)
+{
+    struct olivastrum_set set;
+    memset(&set, 0, sizeof set);
+    set.head.ttrt = 100, set.head.mode = OLIVASTRUM_TIMELY, set.head.frame = 5, set.n = 1;
+    set.w[0] = 2, set.c[0] = 20, set.d[0] = set.p[0] = 250;
+    uint8_t sheet[OLIVASTRUM_REQUEST_BYTES(1) + OLIVASTRUM_FRAME_BYTES];
+    struct olivastrum_written written = olivastrum_write_request_sheet(set, sheet, sizeof sheet);
+    CHECK(written.number == 0 && written.length == sizeof sheet && sheet[7] == 5 && sheet[13] == 5);
+    struct olivastrum_read_request read = olivastrum_read_request_sheet(sheet, sizeof sheet);
+    CHECK(read.number == 0 && memcmp(&read.set, &set, sizeof set) == 0);
+    struct olivastrum_planned planned = olivastrum_plan_set(set);
+    CHECK(planned.number == 0 && planned.alloc.s[0] == 10);
+    ring_t ring = olivastrum_open_ring(set, planned.alloc).ring;
+    ring.filler = 0x12345678;
+
+    /* a length of 0 or above F is 10, and the ring stays as it was */
+    for (uint32_t length = 0; length <= 6; length += 6) {
+        struct olivastrum_ask wrong = {1, length};
+        ring_t before = ring;
+        CHECK(olivastrum_visit(&ring, wrong).number == OLIVASTRUM_BAD_LENGTH);
+        CHECK(memcmp(&ring, &before, sizeof before) == 0);
+    }
+    /* 17 frames of 5 begin below 84: the last runs over, and the next limit is held at 0 */
+    struct olivastrum_ask greedy = {1000, 5}, two = {2, 4};
+    struct olivastrum_visit_answer answer = olivastrum_visit(&ring, greedy);
+    CHECK(answer.number == 0 && answer.record.limit.ticks == 84 && answer.record.asynchronous.ticks == 85 && ring.clock == 87);
+    answer = olivastrum_visit(&ring, greedy);
+    CHECK(answer.number == 0 && answer.record.trt.ticks == 87 && answer.record.limit.ticks == 0 && answer.record.asynchronous.ticks == 0);
+    answer = olivastrum_visit(&ring, two);
+    CHECK(answer.number == 0 && answer.record.limit.ticks == 84 && answer.record.asynchronous.ticks == 8 && ring.clock == 99);
+    CHECK(ring.filler == 0x12345678);
+
+    /* F out of its range, or one that leaves the token rule broken, is unsound in a ring */
+    ring_t other = ring;
+    other.set.head.frame = 90;
+    CHECK(unsound(&other));
+    other.set.head.frame = 0;
+    CHECK(unsound(&other));
+    set.head.frame = 90;
+    CHECK(olivastrum_plan_set(set).number == OLIVASTRUM_NO_ALLOCATION);
     return 1;
 }
 
@@ -440,7 +495,7 @@ int main(void)
     struct olivastrum_alloc alloc;
     if (!layouts() || !constants() || !places() || !planning(&set, &alloc) || !opening(&ring, set, alloc))
         return 1;
-    if (!asked_less(ring) || !worked_run(&ring) || !any_bytes(&ring) || !older_ring())
+    if (!asked_less(ring) || !worked_run(&ring) || !any_bytes(&ring) || !older_ring() || !uncut_ring())
         return 1;
     puts("ok");
     return 0;

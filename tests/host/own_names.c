@@ -28,15 +28,16 @@ OWN(judge)
 
 int main(void)
 {
-    struct olivastrum_set set = {{100, OLIVASTRUM_TIMELY}, 1, {1}, {20}, {100}, {100}};
+    struct olivastrum_set set = {{100, OLIVASTRUM_TIMELY, 1}, 1, {1}, {20}, {100}, {100}};
     struct olivastrum_planned planned = olivastrum_plan_set(set);
     struct olivastrum_opened opened = olivastrum_open_ring(set, planned.alloc);
     struct olivastrum_message message = {{0}, {20}, {0}};
+    struct olivastrum_ask nothing = {0, 1};
     uint8_t sheet[OLIVASTRUM_PLAN_BYTES(1)];
     int own = plan_set() + open_ring() + visit() + hand_in() + visit_lent() + hand_in_lent() + read_request_sheet() + read_plan_sheet() +
               write_request_sheet() + write_plan_sheet() + plan() + sound() + spare() + judge();
     int theirs = planned.number == 0 && planned.alloc.s[0] == 20 && opened.number == 0 && olivastrum_hand_in(&opened.ring, message) == 0 &&
-                 olivastrum_visit(&opened.ring, 0).record.finish.ticks == 20 &&
+                 olivastrum_visit(&opened.ring, nothing).record.finish.ticks == 20 &&
                  olivastrum_write_plan_sheet(set, planned.alloc, sheet, sizeof sheet).length == sizeof sheet &&
                  olivastrum_read_plan_sheet(sheet, sizeof sheet).number == 0 &&
                  olivastrum_write_request_sheet(set, sheet, sizeof sheet).length == OLIVASTRUM_REQUEST_BYTES(1) &&

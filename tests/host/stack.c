@@ -58,7 +58,8 @@ static struct olivastrum_opened open_it(void)
 
 static struct olivastrum_visit_answer visit(void)
 {
-    return olivastrum_visit(&ring, 1000);
+    struct olivastrum_ask ask = {1000, 1};
+    return olivastrum_visit(&ring, ask);
 }
 
 static uint8_t hand_in(void)
@@ -125,7 +126,7 @@ static void measure_all(void)
 /* ---- what the calls are made with */
 static struct olivastrum_set stations(uint32_t mode, uint32_t n)
 {
-    struct olivastrum_set made = {.head = {100000, mode}, .n = n};
+    struct olivastrum_set made = {.head = {100000, mode, 1}, .n = n};
     for (uint32_t i = 0; i < n && i < 128; i++) {
         made.w[i] = 1;
         made.c[i] = 300;

@@ -41,23 +41,44 @@ typed-says u word ns fresh e w inside few small =
       behind = run-line u (typed word ns) one ∙ rw read;
     }
 
--- ---- `visit ASK`
+-- ---- `visit FRAMES` and `visit FRAMES LENGTH`
 
-visitScan : Ask → Scan
-visitScan ask = withNumbers (wordScan visitWord) (ask ∷ [])
+visitScan : List ℕ → Scan
+visitScan ns = withNumbers (wordScan visitWord) ns
 
-visit-answered : (u : Run) (ask : Ask) → ask < 2 ^ 32
-    → (visitText (visited (u .ring) ask .answer) ≡ answerText (u .ring) (visitScan ask) (u .line)) × (visited (u .ring) ask .ring ≡ ringAfter (u .ring) (visitScan ask))
-unfolding visitScan withNumbers
-visit-answered u ask l = answered-visit (u .ring) (visitScan ask) (u .line) (visited (u .ring) ask) refl (rw (lt-ltb ask (2 ^ 32) l)) refl
+-- these numbers behind the word are the visit with this ask
+VisitWith : Run → Ask → List ℕ → Type 0
+VisitWith u ask ns =
+    (visitText (visited (u .ring) ask .answer) ≡ answerText (u .ring) (visitScan ns) (u .line)) × (visited (u .ring) ask .ring ≡ ringAfter (u .ring) (visitScan ns))
 
-pub visit-called : (u : Run) (ask : Ask) → u .scan ≡ freshScan → ask < 2 ^ 32
-    → Says u (line (visitWord ∷ decimalOf ask ∷ [])) (visitText (visited (u .ring) ask .answer)) (visited (u .ring) ask .ring)
-unfolding hasNoEnd visitScan
-visit-called u ask fresh l =
-    let answered = visit-answered u ask l in
-    rw (line-typed visitWord (ask ∷ []), answered .0, answered .1)
-    (typed-says u visitWord (ask ∷ []) fresh visit-word (omega arith) refl (omega arith) (small-and ask [] (omega arith) small-none))
+alone-answered : (u : Run) (ask : Ask) → ask .frames < 2 ^ 32 → ask .length ≡ 1 → VisitWith u ask (ask .frames ∷ [])
+unfolding VisitWith visitScan withNumbers
+alone-answered u ask l e =
+    answered-visit (u .ring) (visitScan (ask .frames ∷ [])) (u .line) (visited (u .ring) ask) refl (rw (lt-ltb (ask .frames) (2 ^ 32) l))
+    (ap (λ (n : ℕ). visited (u .ring) (record { frames = ask .frames; length = n })) e)
+
+named-answered : (u : Run) (ask : Ask) → ask .frames < 2 ^ 32 → ask .length < 2 ^ 32 → VisitWith u ask (ask .frames ∷ ask .length ∷ [])
+unfolding VisitWith visitScan withNumbers
+named-answered u ask l₁ l₂ =
+    answered-visit (u .ring) (visitScan (ask .frames ∷ ask .length ∷ [])) (u .line) (visited (u .ring) ask) refl
+    (rw (lt-ltb (ask .frames) (2 ^ 32) l₁, lt-ltb (ask .length) (2 ^ 32) l₂)) refl
+
+pub visit-called : (u : Run) (ask : Ask) → u .scan ≡ freshScan → ask .frames < 2 ^ 32 → ask .length ≡ 1
+    → Says u (line (visitWord ∷ decimalOf (ask .frames) ∷ [])) (visitText (visited (u .ring) ask .answer)) (visited (u .ring) ask .ring)
+unfolding hasNoEnd VisitWith visitScan
+visit-called u ask fresh l e =
+    let answered = alone-answered u ask l e in
+    rw (line-typed visitWord (ask .frames ∷ []), answered .0, answered .1)
+    (typed-says u visitWord (ask .frames ∷ []) fresh visit-word (omega arith) refl (omega arith) (small-and (ask .frames) [] (omega arith) small-none))
+
+pub visit-length-called : (u : Run) (ask : Ask) → u .scan ≡ freshScan → ask .frames < 2 ^ 32 → ask .length < 2 ^ 32
+    → Says u (line (visitWord ∷ decimalOf (ask .frames) ∷ decimalOf (ask .length) ∷ [])) (visitText (visited (u .ring) ask .answer)) (visited (u .ring) ask .ring)
+unfolding hasNoEnd VisitWith visitScan
+visit-length-called u ask fresh l₁ l₂ =
+    let answered = named-answered u ask l₁ l₂ in
+    rw (line-typed visitWord (ask .frames ∷ ask .length ∷ []), answered .0, answered .1)
+    (typed-says u visitWord (ask .frames ∷ ask .length ∷ []) fresh visit-word (omega arith) refl (omega arith)
+    (small-and (ask .frames) (ask .length ∷ []) (omega arith) (small-and (ask .length) [] (omega arith) small-none)))
 
 -- ---- `message STATION LENGTH ARRIVAL`
 

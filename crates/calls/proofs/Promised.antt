@@ -7,7 +7,7 @@ use Rattle.calls.specs.RunText.{runOn, saidAt, runAfter, saidOver}
 use Rattle.calls.specs.RunLaws.{line-ends, answered-visit, answered-message, answered-unread}
 use Rattle.calls.specs.Promised.{Promised}
 use Rattle.calls.specs.declared.Run.{Run}
-use Rattle.calls.proofs.CallLaws.{visit-called, message-called}
+use Rattle.calls.proofs.CallLaws.{visit-called, visit-length-called, message-called}
 
 -- ---- a run in pieces
 
@@ -39,5 +39,6 @@ promised =
           let both = answered-unread (u .ring) (u .scan) (u .line) e i j in
           (ends .1 ∙ sym (both .0), ap (λ (x : Run). x .ring) (ends .0) ∙ sym (both .1));
       visit-typed = visit-called;
+      visit-length-typed = visit-length-called;
       message-typed = message-called;
     }

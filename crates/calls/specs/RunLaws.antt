@@ -1,12 +1,12 @@
 -- The laws of what `run` prints, for the proofs of this layer. No rule stands here.
 use Prim.Native.Nat.{ℕ, zero, suc, _<_, _≤_, _^_, min}
 use mathlib.Core.Path.{_≡_, refl, sym, ap, _∙_}
-use mathlib.Core.Bool.{true, false, true≢false}
+use mathlib.Core.Bool.{Bool, true, false, true≢false, _&&_, _||_}
 use mathlib.Core.List.{List, [], _∷_, _++_, append-assoc, append-nil}
 use mathlib.Core.Logic.{_≢_, ⊎-elim}
 use native.Mathlib.Omega.{arith}
 use borrow.Author.Tests.{ltb-true, lt-ltb, le-ltb, eq-eqb, ne-eqb}
-use lib.Dec.{eqb}
+use lib.Dec.{ltb, eqb}
 use lib.IntN.{ℤ, pos, negsuc}
 use lib.Signed.{ltZ}
 use lib.ListN.{length, take}
@@ -25,7 +25,7 @@ use Rattle.rings.specs.declared.Visited.{Visited}
 use Rattle.rings.specs.declared.Taken.{Taken}
 use Rattle.text.specs.Text.{line, lineOn, space, newline, decimalOf, pageSize, unreadLine}
 use Rattle.text.specs.TextLaws.{line-first, line-next, printed, not-printed}
-use Rattle.calls.specs.RunText.{dash, isVisit, isMessage, messageIn, signOf, signedOf, completion, visitText, takenText, answerText, ringAfter, runOn, saidAt, runAfter, saidOver, runFrom, openedRun, pieceSize, pieceOf, RanPiece, RanOn}
+use Rattle.calls.specs.RunText.{dash, isVisit, askIn, isMessage, messageIn, signOf, signedOf, completion, visitText, takenText, answerText, ringAfter, runOn, saidAt, runAfter, saidOver, runFrom, openedRun, pieceSize, pieceOf, RanPiece, RanOn}
 use Rattle.lines.specs.ScanLaws.{steppedOver, hasNoEnd, first-and-rest}
 use Rattle.lines.specs.Scan.{isReadable, isEmptyLine, nextLine, freshScan, stepped}
 use Rattle.calls.specs.declared.Run.{Run}
@@ -64,7 +64,7 @@ module _ (ring : Ring) (s : Scan) (n : ℕ) where
   unfolding answerText ringAfter
   answered-empty e = (rw e, rw e)
 
-  pub answered-visit : (v : Visited) → isEmptyLine s ≡ false → isVisit s ≡ true → v ≡ visited ring (at (s .values) 0) → (visitText (v .answer) ≡ answerText ring s n) × (v .ring ≡ ringAfter ring s)
+  pub answered-visit : (v : Visited) → isEmptyLine s ≡ false → isVisit s ≡ true → v ≡ visited ring (askIn s) → (visitText (v .answer) ≡ answerText ring s n) × (v .ring ≡ ringAfter ring s)
   unfolding answerText ringAfter
   answered-visit v e i m =
       (rw (e, i) (ap (λ (x : Visited). visitText (x .answer)) m), rw (e, i) (ap (λ (x : Visited). x .ring) m))
@@ -78,12 +78,29 @@ module _ (ring : Ring) (s : Scan) (n : ℕ) where
   unfolding answerText ringAfter
   answered-unread e i j = (rw (e, i, j), rw (e, i, j))
 
--- an ask is a 32-bit number
+-- a visit's frames are a 32-bit number
+numbers-fit : (s : Scan) → isVisit s ≡ true
+    → (ltb (at (s .values) 0) (2 ^ 32) ≡ true) × ((eqb (s .count) 1 || (eqb (s .count) 2 && ltb (at (s .values) 1) (2 ^ 32))) ≡ true)
+numbers-fit s i = and-true (ltb (at (s .values) 0) (2 ^ 32)) _ (and-true (eqb (s .word) 508_575_312_244) _ (and-true (isReadable s) _ i .1) .1)
+
 pub ask-small : (s : Scan) → isVisit s ≡ true → at (s .values) 0 < 2 ^ 32
-ask-small s i =
-    let counted = and-true (isReadable s) _ i .1 in
-    let fits = and-true (eqb (s .count) 1) _ (and-true (eqb (s .word) 508_575_312_244) _ counted .1) .1 in
-    ltb-true _ _ fits
+ask-small s i = ltb-true _ _ (numbers-fit s i .0)
+
+-- and so is the length that is named
+or-named : (one named : Bool) → one ≡ false → (one || named) ≡ true → named ≡ true
+or-named one named e h = rw e at h
+
+pub length-small : (s : Scan) → isVisit s ≡ true → s .count ≢ 1 → at (s .values) 1 < 2 ^ 32
+length-small s i more =
+    let named = or-named (eqb (s .count) 1) _ (ne-eqb (s .count) 1 more) (numbers-fit s i .1) in
+    ltb-true _ _ (and-true (eqb (s .count) 2) _ named .1)
+
+-- the ask of each form
+pub ask-alone : (s : Scan) → s .count ≡ 1 → record { frames = at (s .values) 0; length = 1 } ≡ askIn s
+ask-alone s e = rw (eq-eqb (s .count) 1 e)
+
+pub ask-named : (s : Scan) → s .count ≢ 1 → record { frames = at (s .values) 0; length = at (s .values) 1 } ≡ askIn s
+ask-named s e = rw (ne-eqb (s .count) 1 e)
 
 -- ---- the run
 

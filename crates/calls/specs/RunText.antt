@@ -1,7 +1,7 @@
 -- What `run` prints: the calls are read line by line, and each is answered by the ring.
 use Prim.Native.Nat.{ℕ, zero, suc, _+_, _*_, _^_, _≤_}
 use mathlib.Core.Path.{_≡_}
-use mathlib.Core.Bool.{Bool, cond, _&&_}
+use mathlib.Core.Bool.{Bool, cond, _&&_, _||_}
 use mathlib.Core.List.{List, [], _∷_, _++_}
 use lib.Dec.{ltb, eqb}
 use lib.IntN.{ℤ, pos, negsuc}
@@ -10,7 +10,7 @@ use Rattle.units.specs.Places.{at}
 use Rattle.sheets.specs.Reading.{thenNumber}
 use Rattle.sheets.specs.declared.ReadPlan.{ReadPlan}
 use Rattle.rings.specs.Opening.{opening}
-use Rattle.rings.specs.Steps.{visited}
+use Rattle.rings.specs.Steps.{Ask, visited}
 use Rattle.rings.specs.HandingIn.{handedIn}
 use Rattle.rings.specs.declared.Ring.{Ring}
 use Rattle.rings.specs.declared.Message.{Message}
@@ -44,9 +44,16 @@ dash = 45
 
 -- ---- the calls
 
--- `visit ASK`, a 32-bit number
+-- `visit FRAMES` or `visit FRAMES LENGTH`, each a 32-bit number
 abbrev pub isVisit : Scan → Bool
-isVisit s = isReadable s && (eqb (s .word) (codeOf visitWord) && (eqb (s .count) 1 && ltb (at (s .values) 0) (2 ^ 32)))
+isVisit s =
+    isReadable s
+    && (eqb (s .word) (codeOf visitWord)
+    && (ltb (at (s .values) 0) (2 ^ 32) && (eqb (s .count) 1 || (eqb (s .count) 2 && ltb (at (s .values) 1) (2 ^ 32)))))
+
+-- what the visit asks for: frames of the length that is named, or else of length 1
+abbrev pub askIn : Scan → Ask
+askIn s = record { frames = at (s .values) 0; length = cond (eqb (s .count) 1) 1 (at (s .values) 1) }
 
 -- `message STATION LENGTH ARRIVAL`, the station a 32-bit number
 abbrev pub isMessage : Scan → Bool
@@ -111,13 +118,13 @@ takenText number = textOr number (line (takenWord ∷ []))
 unfoldable pub answerText : Ring → Scan → ℕ → List ℕ
 answerText ring s n =
     cond (isEmptyLine s) []
-    (cond (isVisit s) (visitText (visited ring (at (s .values) 0) .answer))
+    (cond (isVisit s) (visitText (visited ring (askIn s) .answer))
     (cond (isMessage s) (takenText (handedIn ring (messageIn s) .number)) (unreadLine n)))
 
 unfoldable pub ringAfter : Ring → Scan → Ring
 ringAfter ring s =
     cond (isEmptyLine s) ring
-    (cond (isVisit s) (visited ring (at (s .values) 0) .ring)
+    (cond (isVisit s) (visited ring (askIn s) .ring)
     (cond (isMessage s) (handedIn ring (messageIn s) .ring) ring))
 
 -- ---- the run: byte after byte, a newline ends a line

@@ -1,5 +1,6 @@
 // What `run` prints: the calls are read line by line, and each is answered by the ring.
 ghost use mathlib.Core.Path.{_≡_};
+ghost use mathlib.Core.Bool.{true};
 ghost use mathlib.Core.List.{_∷_};
 ghost use Prim.Native.Nat.{_+_, _≤_, min};
 ghost use lib.ListN.{length};
@@ -7,8 +8,9 @@ ghost use Rattle.sheets.specs.Reading.{readPlan};
 ghost use Rattle.rings.specs.Steps.{visited};
 ghost use Rattle.rings.specs.HandingIn.{handedIn};
 ghost use Rattle.text.specs.Text.{PutShort, space, lineOn};
-ghost use Rattle.calls.specs.RunText.{isVisit, isMessage, messageIn, withoutSign, signedOf, completion, arrivalWords, amountWords, visitLine, visitText, takenText, answerText, ringAfter, runFrom, openedRun, Answers, Piece, RanPiece, RanOn};
+ghost use Rattle.calls.specs.RunText.{isVisit, askIn, isMessage, messageIn, withoutSign, signedOf, completion, arrivalWords, amountWords, visitLine, visitText, takenText, answerText, ringAfter, runFrom, openedRun, Answers, Piece, RanPiece, RanOn};
 use lines::Scan;
+use rings::Ask;
 use rings::Message;
 use rings::Ring;
 use rings::VisitAnswer;
@@ -62,8 +64,26 @@ fn is_visit(s: Scan) -> bool
 {
     let readable = !(s.phase == lines::UNREADABLE);
     let values = s.values;
-    let fits = values[0] < 4_294_967_296;
-    readable & ((s.word == VISIT) & ((s.count == 1) & fits))
+    let frames_fit = values[0] < 4_294_967_296;
+    let length_fits = values[1] < 4_294_967_296;
+    let counted = (s.count == 1) | ((s.count == 2) & length_fits);
+    readable & ((s.word == VISIT) & (frames_fit & counted))
+}
+
+// What the visit asks for: frames of the length that is named, or else of length 1.
+fn ask_in(s: Scan) -> Ask
+    requires { ⌜ isVisit s ≡ true ⌝ }
+    ensures { λ r. ⌜ r ≡ askIn s ⌝ }
+{
+    let values = s.values;
+    let asked = values[0];
+    let frames = asked as u32;
+    if s.count == 1 {
+        return Ask { frames, length: 1 };
+    }
+    let named = values[1];
+    let length = named as u32;
+    Ask { frames, length }
 }
 
 fn is_message(s: Scan) -> bool
@@ -191,7 +211,7 @@ fn put_taken(page: &mut [u8], at: usize, number: u8) -> usize
 // ---- one line
 
 // The answer to a visit, and the ring behind it.
-fn answer_visit(page: &mut [u8], at: usize, ring: Ring, ask: u32) -> Answered
+fn answer_visit(page: &mut [u8], at: usize, ring: Ring, ask: Ask) -> Answered
     requires { ⌜ at + 240 ≤ length (now page) ⌝ }
     ensures { λ r. ⌜ Answers (visitText (visited ring ask .answer)) (visited ring ask .ring) (now (page .entry)) at (now (page .exit)) r ⌝ }
 {
@@ -222,9 +242,7 @@ fn answer_line(page: &mut [u8], at: usize, ring: Ring, s: Scan, line: u64) -> An
         return Answered { ring, next: at };
     }
     if is_visit(s) {
-        let values = s.values;
-        let asked = values[0];
-        return answer_visit(page, at, ring, asked as u32);
+        return answer_visit(page, at, ring, ask_in(s));
     }
     if is_message(s) {
         return answer_message(page, at, ring, message_in(s));

@@ -12,7 +12,7 @@ use Rattle.sets.specs.declared.Head.{Head}
 use Rattle.sets.specs.declared.Set.{Set}
 use Rattle.plans.specs.Planned.{blankAlloc}
 use Rattle.plans.specs.declared.Alloc.{Alloc}
-use Rattle.fields.specs.Fields.{headTag, modeTag}
+use Rattle.fields.specs.Fields.{headTag, modeTag, frameTag}
 use Rattle.fields.specs.Header.{absent, headerNumber}
 use Rattle.sheets.specs.Writing.{refusedWriting, writtenAnswer, writtenBuffer}
 use Rattle.sheets.specs.declared.Written.{Written}
@@ -32,6 +32,14 @@ ttrtWord = 116 ∷ 116 ∷ 114 ∷ 116 ∷ []
 abbrev pub modeWord : List ℕ
 modeWord = 109 ∷ 111 ∷ 100 ∷ 101 ∷ []
 
+-- "frame"
+abbrev pub frameWord : List ℕ
+frameWord = 102 ∷ 114 ∷ 97 ∷ 109 ∷ 101 ∷ []
+
+-- the word of a line of the header behind TTRT's, by its tag on a sheet
+unfoldable pub wordOf : ℕ → List ℕ
+wordOf tag = cond (eqb tag modeTag) modeWord frameWord
+
 -- "station"
 abbrev pub stationWord : List ℕ
 stationWord = 115 ∷ 116 ∷ 97 ∷ 116 ∷ 105 ∷ 111 ∷ 110 ∷ []
@@ -50,9 +58,9 @@ isLine s code count = isReadable s && (eqb (s .word) code && (eqb (s .count) cou
 abbrev pub isTtrt : Scan → Bool
 isTtrt s = isLine s (codeOf ttrtWord) 1
 
--- `mode M`
-abbrev pub isMode : Scan → Bool
-isMode s = isLine s (codeOf modeWord) 1
+-- the tag of a line of the header behind TTRT's, `mode M` or `frame F`; 0 for any other line
+unfoldable pub lineTag : Scan → ℕ
+lineTag s = cond (isLine s (codeOf modeWord) 1) modeTag (cond (isLine s (codeOf frameWord) 1) frameTag 0)
 
 -- `station W C D P`
 abbrev pub isStation : Scan → Bool
@@ -85,16 +93,20 @@ headedBy d tag h =
       wrong = d .wrong;
     }
 
--- TTRT stands on the first line, once; a mode that no line names is what its absence means on a sheet
+-- TTRT stands on the first line, once; a number that no line names is what its absence means on a sheet
 unfoldable pub withTtrt : Draft → ℕ → Draft
 withTtrt d ttrt =
-    cond (eqb (d .head) 0) (headedBy d headTag (record { ttrt = ttrt; mode = absent })) (misplaced d)
+    cond (eqb (d .head) 0) (headedBy d headTag (record { ttrt = ttrt; mode = absent; frame = absent })) (misplaced d)
 
--- the mode stands behind TTRT and before the first station, once; it gives the number that its field on a sheet would give
-unfoldable pub withMode : Draft → ℕ → Draft
-withMode d mode =
-    cond (leb headTag (d .head) && (ltb (d .head) modeTag && eqb (d .set .n) 0))
-    (headedBy d modeTag (record { ttrt = d .set .head .ttrt; mode = headerNumber true mode }))
+-- the header with another number for a tag
+unfoldable pub headWith : Head → ℕ → ℕ → Head
+headWith h tag number = cond (eqb tag modeTag) (record { ttrt = h .ttrt; mode = number; frame = h .frame }) (record { ttrt = h .ttrt; mode = h .mode; frame = number })
+
+-- a further line of the header stands behind TTRT's and before the first station, above those with lower tags, once; it gives the number that its field on a sheet would give
+unfoldable pub withFurther : Draft → ℕ → ℕ → Draft
+withFurther d tag number =
+    cond (leb headTag (d .head) && (ltb (d .head) tag && eqb (d .set .n) 0))
+    (headedBy d tag (headWith (d .set .head) tag (headerNumber true number)))
     (misplaced d)
 
 -- the next station of the set
@@ -154,7 +166,7 @@ unfoldable pub lineDrafted : Draft → Scan → Draft
 lineDrafted d s =
     cond (isEmptyLine s) d
     (cond (isTtrt s) (withTtrt d (at (s .values) 0))
-    (cond (isMode s) (withMode d (at (s .values) 0))
+    (cond (leb modeTag (lineTag s)) (withFurther d (lineTag s) (at (s .values) 0))
     (cond (isStation s) (withStation d s 1) (cond (isPlanStation s) (withStation d s 2) (withUnread d)))))
 
 -- the next line

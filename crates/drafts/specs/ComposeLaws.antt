@@ -1,24 +1,25 @@
 -- The laws of what `compose` makes of a text, for the proofs of this layer. No rule stands here.
 use Prim.Native.Nat.{ℕ, _≤_, _^_}
 use mathlib.Core.Path.{_≡_, refl, sym, ap, _∙_}
-use mathlib.Core.Bool.{true, false}
+use mathlib.Core.Bool.{true, false, false≢true}
 use mathlib.Core.List.{List, [], _∷_, _++_}
-use mathlib.Core.Logic.{_≢_}
+use mathlib.Core.Logic.{⊎-elim, _≢_}
 use native.Mathlib.Omega.{arith}
 use borrow.Author.Tests.{ltb-true, eq-eqb, ne-eqb}
-use lib.Dec.{ltb, eqb}
+use lib.Dec.{leb, ltb, eqb}
 use lib.ListN.{length}
 use lib.Seq.{length-take-le}
 use Rattle.units.specs.Places.{at}
-use Rattle.units.specs.JudgingLaws.{and-true}
+use Rattle.units.specs.JudgingLaws.{and-true, true-or-false}
 use Rattle.plans.specs.Planned.{blankAlloc}
+use Rattle.fields.specs.Fields.{modeTag}
 use Rattle.sheets.specs.Writing.{refusedWriting, Wrote}
 use Rattle.sheets.specs.declared.Written.{Written}
 use Rattle.text.specs.Text.{newline}
 use Rattle.lines.specs.ScanLaws.{steppedOver, hasNoEnd, first-and-rest}
-use Rattle.lines.specs.Scan.{freshScan, stepped, isReadable}
+use Rattle.lines.specs.Scan.{freshScan, stepped, codeOf, isReadable}
 use Rattle.sheets.specs.WriteLaws.{written-fits}
-use Rattle.drafts.specs.Compose.{allFit, isLine, NumbersFit, lineDrafted, onNextLine, composeOn, composeAfter, isWhole, composedAnswer, composedBuffer, WroteDraft}
+use Rattle.drafts.specs.Compose.{modeWord, frameWord, allFit, isLine, lineTag, NumbersFit, lineDrafted, onNextLine, composeOn, composeAfter, isWhole, composedAnswer, composedBuffer, WroteDraft}
 use Rattle.lines.specs.declared.Scan.{Scan}
 use Rattle.drafts.specs.declared.Draft.{Draft}
 use Rattle.drafts.specs.declared.Composing.{Composing}
@@ -44,6 +45,17 @@ line-fits s code count h =
     let worded = and-true (isReadable s) _ h .1 in
     let counted = and-true (eqb (s .word) code) _ worded .1 in
     fit-all s (and-true (eqb (s .count) count) _ counted .1)
+
+-- a further line of the header has such numbers
+pub tag-fits : (s : Scan) → leb modeTag (lineTag s) ≡ true → NumbersFit s
+unfolding lineTag
+tag-fits s h =
+    ⊎-elim (λ (e : isLine s (codeOf modeWord) 1 ≡ true). line-fits s (codeOf modeWord) 1 e)
+    (λ (e : isLine s (codeOf modeWord) 1 ≡ false).
+    ⊎-elim (λ (f : isLine s (codeOf frameWord) 1 ≡ true). line-fits s (codeOf frameWord) 1 f)
+    (λ (f : isLine s (codeOf frameWord) 1 ≡ false). absurd (false≢true (rw (e, f) at h)))
+    (true-or-false (isLine s (codeOf frameWord) 1)))
+    (true-or-false (isLine s (codeOf modeWord) 1))
 
 -- ---- the text
 

@@ -1,7 +1,7 @@
 // What `compose` makes of a text: a set, for a plan with its allocation, read line by line.
 ghost use mathlib.Core.Path.{_≡_};
 ghost use Prim.Native.Nat.{_<_, _^_};
-ghost use Rattle.drafts.specs.Compose.{allFit, isLine, misplaced, withTtrt, withMode, NumbersFit, setAnd, allocAnd, withStation, withUnread, lineDrafted, onNextLine, composeStart, composeAfter, WroteDraft};
+ghost use Rattle.drafts.specs.Compose.{allFit, isLine, lineTag, misplaced, withTtrt, headWith, withFurther, NumbersFit, setAnd, allocAnd, withStation, withUnread, lineDrafted, onNextLine, composeStart, composeAfter, WroteDraft};
 use lines::Scan;
 use plans::Alloc;
 use sets::Head;
@@ -9,10 +9,12 @@ use sets::Set;
 use sheets::Written;
 use units::numbers;
 
-// The letters of `ttrt`, of `mode` and of `station`, each as one number to base 256.
+// The letters of `ttrt`, of `mode`, of `frame` and of `station`, each as one number to base 256.
 const TTRT: u64 = 1_953_788_532;
 
 const MODE: u64 = 1_836_016_741;
+
+const FRAME: u64 = 440_005_651_813;
 
 const STATION: u64 = 32_497_584_235_442_030;
 
@@ -25,7 +27,7 @@ pub struct Draft {
     pub line: u64,
     // The first line that cannot be read; 0: none.
     pub unread: u64,
-    // The highest tag of the header's lines that were read, as on a sheet: 0 none, 1 TTRT, 4 the mode.
+    // The highest tag of the header's lines that were read, as on a sheet: 0 none, 1 TTRT, 4 the mode, 5 F.
     pub head: u8,
     // The stations are a request's, 1, or a plan's, 2; 0: none was read.
     pub kind: u8,
@@ -88,6 +90,7 @@ fn with_ttrt(d: Draft, ttrt: u32) -> Draft
     let head = Head {
         ttrt,
         mode: fields::ABSENT,
+        frame: fields::ABSENT,
     };
     set.head = head;
     let alloc = d.alloc;
@@ -102,21 +105,36 @@ fn with_ttrt(d: Draft, ttrt: u32) -> Draft
     }
 }
 
-// The mode stands behind TTRT and before the first station, once.
-fn with_mode(d: Draft, number: u32) -> Draft
-    ensures { λ r. ⌜ r ≡ withMode d number ⌝ }
+// The header with another number for a tag.
+fn head_with(h: Head, tag: u8, number: u32) -> Head
+    ensures { λ r. ⌜ r ≡ headWith h tag number ⌝ }
+{
+    if tag == fields::MODE_TAG {
+        return Head {
+            ttrt: h.ttrt,
+            mode: number,
+            frame: h.frame,
+        };
+    }
+    Head {
+        ttrt: h.ttrt,
+        mode: h.mode,
+        frame: number,
+    }
+}
+
+// A further line of the header stands behind TTRT's and before the first station, above those with lower tags, once.
+fn with_further(d: Draft, tag: u8, number: u32) -> Draft
+    ensures { λ r. ⌜ r ≡ withFurther d tag number ⌝ }
 {
     let told = d.set;
-    let placed = (fields::HEAD_TAG <= d.head) & ((d.head < fields::MODE_TAG) & (told.n == 0));
+    let placed = (fields::HEAD_TAG <= d.head) & ((d.head < tag) & (told.n == 0));
     if !placed {
         return misplaced_in(d);
     }
     let first = told.head;
-    let mode = fields::header_number(true, number);
-    let head = Head {
-        ttrt: first.ttrt,
-        mode,
-    };
+    let given = fields::header_number(true, number);
+    let head = head_with(first, tag, given);
     let mut set = d.set;
     set.head = head;
     let alloc = d.alloc;
@@ -125,7 +143,7 @@ fn with_mode(d: Draft, number: u32) -> Draft
         alloc,
         line: d.line,
         unread: d.unread,
-        head: fields::MODE_TAG,
+        head: tag,
         kind: d.kind,
         wrong: d.wrong,
     }
@@ -225,6 +243,19 @@ fn with_unread(d: Draft) -> Draft
     }
 }
 
+// The tag of a line of the header behind TTRT's; 0 for any other line.
+fn line_tag(s: Scan) -> u8
+    ensures { λ r. ⌜ r ≡ lineTag s ⌝ }
+{
+    if is_line(s, MODE, 1) {
+        return fields::MODE_TAG;
+    }
+    if is_line(s, FRAME, 1) {
+        return fields::FRAME_TAG;
+    }
+    0
+}
+
 // One line.
 fn line_drafted(d: Draft, s: Scan) -> Draft
     ensures { λ r. ⌜ r ≡ lineDrafted d s ⌝ }
@@ -237,10 +268,11 @@ fn line_drafted(d: Draft, s: Scan) -> Draft
         let ttrt = narrow(values[0]);
         return with_ttrt(d, ttrt);
     }
-    if is_line(s, MODE, 1) {
+    let tag = line_tag(s);
+    if fields::MODE_TAG <= tag {
         let values = s.values;
-        let mode = narrow(values[0]);
-        return with_mode(d, mode);
+        let number = narrow(values[0]);
+        return with_further(d, tag, number);
     }
     if is_line(s, STATION, 4) {
         return with_station(d, s, 1);

@@ -5,12 +5,12 @@ use mathlib.Core.Bool.{Bool, true, false, not, false≢true}
 use mathlib.Core.List.{List}
 use mathlib.Core.Logic.{⊎-elim, _≢_}
 use native.Mathlib.Omega.{arith}
-use lib.Dec.{ltb, eqb}
+use lib.Dec.{eqb}
 use lib.ListN.{length}
-use borrow.Author.Tests.{le-leb, lt-leb, leb-true, lt-ltb, ltb-true, eq-eqb, eqb-true}
-use Rattle.units.specs.JudgingLaws.{held, failed, passed, and-true, true-or-false}
-use Rattle.fields.specs.Fields.{headTag, headSize, stationTag, stationSize, allocationTag, allocationSize, modeTag, modeSize, endTag, endSize}
-use Rattle.fields.specs.Fields.{allocationsFor, due, headed, row, isFurther, inHeader, isAllowed, left, tagAt, sizeAt, behind, allowedAt, fieldNumber, handedOut, fieldAt, FieldWhole}
+use borrow.Author.Tests.{le-leb, lt-leb, leb-true, lt-ltb, ltb-true, eq-eqb, ne-eqb, eqb-true}
+use Rattle.units.specs.JudgingLaws.{held, failed, passed, and-true, true-and, true-or-false}
+use Rattle.fields.specs.Fields.{headTag, headSize, stationTag, stationSize, allocationTag, allocationSize, modeTag, frameTag, endTag, endSize}
+use Rattle.fields.specs.Fields.{allocationsFor, due, headed, row, furtherSize, isFurther, inHeader, isAllowed, left, tagAt, sizeAt, behind, allowedAt, fieldNumber, handedOut, fieldAt, FieldWhole}
 use Rattle.fields.specs.declared.Passed.{Passed}
 
 -- ---- the number of a field
@@ -90,13 +90,25 @@ pub allocations-few : (plan : Bool) (n : ℕ) → allocationsFor plan n ≤ n
 allocations-few true n = omega arith
 allocations-few false n = omega arith
 
--- the further fields of the header, one by one
-pub data Further (tag size : ℕ) : Type 0 where
-  a-mode : tag ≡ modeTag → size ≡ modeSize → Further tag size
+-- a field of the header behind TTRT
+pub record Further (tag size : ℕ) : Type 0 where
+  pub low : modeTag ≤ tag
+  pub high : tag ≤ frameTag
+  pub long : size ≡ furtherSize tag
 
--- their tags are above the stations' and the allocations' and below the end's; no length is above 255
-pub further-tag : (tag size : ℕ) → Further tag size → (3 < tag) × ((tag < 255) × (size < 256))
-further-tag tag size (a-mode t s) = (omega arith, (omega arith, omega arith))
+-- its length is 1 or 4
+pub further-one : furtherSize modeTag ≡ 1
+unfolding furtherSize
+further-one = refl
+
+pub further-four : (tag : ℕ) → tag ≢ modeTag → furtherSize tag ≡ 4
+unfolding furtherSize
+further-four tag other = rw (ne-eqb tag modeTag other) refl
+
+pub further-small : (tag : ℕ) → furtherSize tag ≤ 4
+unfolding furtherSize
+further-small tag =
+    ⊎-elim (λ (e : eqb tag modeTag ≡ true). rw e (omega arith)) (λ (e : eqb tag modeTag ≡ false). rw e (omega arith)) (true-or-false (eqb tag modeTag))
 
 -- the rows of the table, one by one
 pub data Kind (p : Passed) (tag size : ℕ) : Type 0 where
@@ -116,7 +128,13 @@ not-said true e = absurd (false≢true e)
 not-said false e = refl
 
 is-further : (tag size : ℕ) → isFurther tag size ≡ true → Further tag size
-is-further tag size h = let w = and-true _ _ h in a-mode (eqb-true _ _ (w .0)) (eqb-true _ _ (w .1))
+is-further tag size h =
+    let w = and-true _ _ h in
+    let v = and-true _ _ (w .0) in
+    record { low = leb-true _ _ (v .0); high = leb-true _ _ (v .1); long = eqb-true _ _ (w .1) }
+
+further-is : (tag size : ℕ) → Further tag size → isFurther tag size ≡ true
+further-is tag size f = true-and _ _ (true-and _ _ (le-leb _ _ (f .low)) (le-leb _ _ (f .high))) (eq-eqb _ _ (f .long))
 
 pub allowed-kind : (p : Passed) (tag size : ℕ) → isAllowed p tag size ≡ true → Kind p tag size
 unfolding isAllowed
@@ -151,6 +169,16 @@ kind-allowed p tag size (a-head t s h) = rw (t, s, h) refl
 kind-allowed p tag size (a-station t s h few none) = rw (t, s, h, lt-ltb _ _ few) (eq-eqb _ _ none)
 kind-allowed p tag size (an-allocation t s h few) = rw (t, s, h) (lt-ltb _ _ few)
 kind-allowed p tag size (an-end t s h some all) = rw (t, s, h, le-leb _ _ some) (eq-eqb _ _ all)
-kind-allowed p tag size (a-further (a-mode t s) h above none) =
-    let low : ltb (p .head) 4 ≡ true = lt-ltb (p .head) 4 (omega arith) in
-    rw (t, s, h, low) (eq-eqb _ _ none)
+kind-allowed p tag size (a-further f h above none) =
+    let low = f .low in
+    let high = f .high in
+    rw (
+      ne-eqb tag 1 (λ e. omega arith),
+      ne-eqb tag 2 (λ e. omega arith),
+      ne-eqb tag 3 (λ e. omega arith),
+      ne-eqb tag 255 (λ e. omega arith),
+      further-is tag size f,
+      h,
+      lt-ltb (p .head) tag above,
+    )
+    (eq-eqb _ _ none)

@@ -7,7 +7,7 @@ use lib.Dec.{leb, ltb, eqb}
 use lib.ListN.{length}
 use Rattle.units.specs.Numbers.{accepted, cutShort, wrongShape, mostStations}
 use Rattle.units.specs.Places.{at}
-use Rattle.units.specs.Judging.{orElse}
+use Rattle.units.specs.Judging.{orElse, between}
 use Rattle.fields.specs.Bytes.{shortAt}
 use Rattle.fields.specs.declared.Passed.{Passed}
 use Rattle.fields.specs.declared.Field.{Field}
@@ -42,6 +42,13 @@ modeTag = 4
 abbrev pub modeSize : ℕ
 modeSize = 1
 
+-- tag 5, length 4: F, the longest frame
+abbrev pub frameTag : ℕ
+frameTag = 5
+
+abbrev pub frameSize : ℕ
+frameSize = 4
+
 -- tag 255, length 0: the end
 abbrev pub endTag : ℕ
 endTag = 255
@@ -67,9 +74,13 @@ headed p = leb headTag (p .head)
 abbrev pub row : ℕ → ℕ → Bool → Bool → Bool
 row tag its holds rest = cond (eqb tag its) holds rest
 
--- a field of the header behind TTRT, with its one length: the mode
+-- the length of a field of the header behind TTRT: the mode's, and one for every other
+unfoldable pub furtherSize : ℕ → ℕ
+furtherSize tag = cond (eqb tag modeTag) modeSize frameSize
+
+-- a field of the header behind TTRT, with its one length: the mode, or F
 abbrev pub isFurther : ℕ → ℕ → Bool
-isFurther tag size = eqb tag modeTag && eqb size modeSize
+isFurther tag size = between modeTag frameTag tag && eqb size (furtherSize tag)
 
 -- such a field stands behind TTRT and before the first station, and its tag is above those of the header's fields that have passed
 abbrev pub inHeader : Passed → ℕ → Bool

@@ -3,7 +3,7 @@ pub mod bytes;
 
 ghost use mathlib.Core.Path.{_≡_};
 ghost use Rattle.fields.specs.Bounds.{LentBytes};
-ghost use Rattle.fields.specs.Fields.{left, isFurther, inHeader, isAllowed, allocationsFor, fieldAt};
+ghost use Rattle.fields.specs.Fields.{left, furtherSize, isFurther, inHeader, isAllowed, allocationsFor, fieldAt};
 ghost use Rattle.fields.specs.Header.{headerNumber};
 use units::numbers;
 
@@ -24,6 +24,10 @@ pub const ALLOCATION_SIZE: usize = 4;
 pub const MODE_TAG: u8 = 4;
 
 pub const MODE_SIZE: usize = 1;
+
+pub const FRAME_TAG: u8 = 5;
+
+pub const FRAME_SIZE: usize = 4;
 
 pub const END_TAG: u8 = 255;
 
@@ -53,11 +57,23 @@ pub fn allocations_for(plan: bool, n: usize) -> usize
     if plan { n } else { 0 }
 }
 
+// The length of a field of the header behind TTRT: the mode's, and one for every other.
+pub fn further_size(tag: u8) -> usize
+    ensures { λ r. ⌜ r ≡ furtherSize tag ⌝ }
+{
+    if tag == MODE_TAG {
+        MODE_SIZE
+    } else {
+        FRAME_SIZE
+    }
+}
+
 // A field of the header behind TTRT, with its one length.
 fn is_further(tag: u8, size: usize) -> bool
     ensures { λ r. ⌜ r ≡ isFurther tag size ⌝ }
 {
-    (tag == MODE_TAG) & (size == MODE_SIZE)
+    let its = further_size(tag);
+    (MODE_TAG <= tag) & (tag <= FRAME_TAG) & (size == its)
 }
 
 // Such a field may stand next: behind TTRT, before the first station, and above the header's fields that have passed.

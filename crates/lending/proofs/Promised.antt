@@ -23,6 +23,6 @@ message-refused (suc k) r m n = refl
 pub promised : Promised
 promised =
     record {
-      visit = λ r ask. record { ring = refl; answered = refl; refused = visit-refused (visitNumber r) r ask };
+      visit = λ r ask. record { ring = refl; answered = refl; refused = visit-refused (visitNumber r ask) r ask };
       hand-in = λ r m. record { ring = refl; answered = refl; refused = message-refused (handInNumber r m) r m };
     }

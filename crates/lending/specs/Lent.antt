@@ -8,7 +8,7 @@ use Rattle.rings.specs.declared.Ring.{Ring}
 use Rattle.rings.specs.declared.Message.{Message}
 use Rattle.rings.specs.declared.VisitAnswer.{VisitAnswer}
 
--- a visit at the lent ring, with this many asynchronous ticks asked for
+-- a visit at the lent ring, with these asynchronous frames asked for
 pub record VisitLent (entry : Ring) (ask : Steps.Ask) (exit : Ring) (answer : VisitAnswer) : Type 0 where
   -- the ring in the host's memory is the ring after the visit
   pub ring : exit ≡ Steps.visited entry ask .ring

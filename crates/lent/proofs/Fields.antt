@@ -14,6 +14,7 @@ use Rattle.sheets.proofs.ReadRequest.Laws as ReadRequest
 use Rattle.sheets.proofs.ReadPlan.Laws as ReadPlan
 use Rattle.sheets.proofs.Written.Laws as Written
 use Rattle.rings.proofs.Ring.Laws as Ring
+use Rattle.rings.proofs.Ask.Laws as Ask
 use Rattle.rings.proofs.Message.Laws as Message
 use Rattle.rings.proofs.VisitRecord.Laws as VisitRecord
 use Rattle.rings.proofs.VisitAnswer.Laws as VisitAnswer
@@ -32,10 +33,10 @@ places τ (suc n) = places τ n ++ (place (fieldOf τ n) ∷ [])
 abbrev layout : Ty → ℕ → List ℕ
 layout τ n = size τ ∷ places τ n
 
-head : layout Head.mir 2 ≡ 8 ∷ 0 ∷ 4 ∷ []
+head : layout Head.mir 3 ≡ 12 ∷ 0 ∷ 4 ∷ 8 ∷ []
 head = refl
 
-set : layout Set.mir 6 ≡ 2060 ∷ 0 ∷ 8 ∷ 12 ∷ 524 ∷ 1036 ∷ 1548 ∷ []
+set : layout Set.mir 6 ≡ 2064 ∷ 0 ∷ 12 ∷ 16 ∷ 528 ∷ 1040 ∷ 1552 ∷ []
 set = refl
 
 alloc : layout Alloc.mir 1 ≡ 512 ∷ 0 ∷ []
@@ -44,17 +45,20 @@ alloc = refl
 planned : layout Planned.mir 2 ≡ 516 ∷ 0 ∷ 512 ∷ []
 planned = refl
 
-read-request : layout ReadRequest.mir 2 ≡ 2064 ∷ 0 ∷ 2060 ∷ []
+read-request : layout ReadRequest.mir 2 ≡ 2068 ∷ 0 ∷ 2064 ∷ []
 read-request = refl
 
-read-plan : layout ReadPlan.mir 3 ≡ 2576 ∷ 0 ∷ 2060 ∷ 2572 ∷ []
+read-plan : layout ReadPlan.mir 3 ≡ 2580 ∷ 0 ∷ 2064 ∷ 2576 ∷ []
 read-plan = refl
 
 written : layout Written.mir 2 ≡ 16 ∷ 0 ∷ 8 ∷ []
 written = refl
 
-ring : layout Ring.mir 13 ≡ 6824 ∷ 0 ∷ 2060 ∷ 2572 ∷ 3084 ∷ 3596 ∷ 4108 ∷ 4620 ∷ 4624 ∷ 5648 ∷ 5776 ∷ 6800 ∷ 6808 ∷ 6816 ∷ []
+ring : layout Ring.mir 14 ≡ 6832 ∷ 0 ∷ 2064 ∷ 2576 ∷ 3088 ∷ 3600 ∷ 4112 ∷ 4624 ∷ 4628 ∷ 4632 ∷ 5656 ∷ 5784 ∷ 6808 ∷ 6816 ∷ 6824 ∷ []
 ring = refl
+
+ask : layout Ask.mir 2 ≡ 8 ∷ 0 ∷ 4 ∷ []
+ask = refl
 
 message : layout Message.mir 3 ≡ 24 ∷ 0 ∷ 8 ∷ 16 ∷ []
 message = refl
@@ -65,5 +69,5 @@ visit-record = refl
 visit-answer : layout VisitAnswer.mir 2 ≡ 80 ∷ 0 ∷ 72 ∷ []
 visit-answer = refl
 
-opened : layout Opened.mir 2 ≡ 6832 ∷ 0 ∷ 6824 ∷ []
+opened : layout Opened.mir 2 ≡ 6840 ∷ 0 ∷ 6832 ∷ []
 opened = refl

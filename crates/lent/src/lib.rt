@@ -9,6 +9,7 @@ ghost use Rattle.rings.specs.Opening.{opening};
 ghost use Rattle.lending.specs.Lent.{VisitLent, HandInLent};
 use plans::Alloc;
 use plans::Planned;
+use rings::Ask;
 use rings::Message;
 use rings::Opened;
 use rings::Ring;
@@ -66,9 +67,9 @@ pub extern "C" fn olivastrum_open_ring(set: Set, alloc: Alloc) -> Opened
     rings::open(set, alloc)
 }
 
-// A visit at the station that has the token of the lent ring, with this many asynchronous ticks asked for.
+// A visit at the station that has the token of the lent ring, with these asynchronous frames asked for.
 #[no_mangle]
-pub extern "C" fn olivastrum_visit(ring: &mut Ring, ask: u32) -> VisitAnswer
+pub extern "C" fn olivastrum_visit(ring: &mut Ring, ask: Ask) -> VisitAnswer
     ensures { λ answer. ⌜ VisitLent (now (ring .entry)) ask (now (ring .exit)) answer ⌝ }
 {
     let visited = Ring::visit(*ring, ask);

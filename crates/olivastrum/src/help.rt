@@ -87,7 +87,7 @@ pub(crate) fn print(to: i32) -> bool {
     let calls = more(
         second,
         to,
-        b"The calls are lines `visit ASK` and `message STATION LENGTH ARRIVAL`.\n",
+        b"The calls are lines `visit FRAMES`, `visit FRAMES LENGTH` and `message STATION LENGTH ARRIVAL`.\n",
     );
     more(
         calls,

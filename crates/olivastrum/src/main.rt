@@ -14,9 +14,9 @@ use usage::words;
 // Where the status goes, if the first word asks for it.
 const STATUS_FILENO: i32 = 3;
 
-// `plan`: the plan of the request sheet on standard input, or the refusal. The longest, of 128 stations with a mode, has 2,446 bytes; one more tells that a byte follows it.
+// `plan`: the plan of the request sheet on standard input, or the refusal. The longest, of 128 stations with a mode and F, has 2,453 bytes; one more tells that a byte follows it.
 fn plan() -> Ending {
-    let mut sheet: [u8; 2_447] = [0; 2_447];
+    let mut sheet: [u8; 2_454] = [0; 2_454];
     let filled = reading::fill(STDIN_FILENO, &mut sheet);
     if filled.failed {
         return ending::unread_input();
@@ -30,7 +30,7 @@ fn plan() -> Ending {
 
 // `plan-sheet`: the plan sheet of the request sheet on standard input; refused, no byte is written.
 fn plan_sheet() -> Ending {
-    let mut sheet: [u8; 2_447] = [0; 2_447];
+    let mut sheet: [u8; 2_454] = [0; 2_454];
     let filled = reading::fill(STDIN_FILENO, &mut sheet);
     if filled.failed {
         return ending::unread_input();
@@ -46,9 +46,9 @@ fn plan_sheet() -> Ending {
     ending::answer(&out[..length], false)
 }
 
-// `show`: the text of the sheet on standard input, or the refusal. The longest plan sheet has 3,342 bytes; one more tells that a byte follows it.
+// `show`: the text of the sheet on standard input, or the refusal. The longest plan sheet has 3,349 bytes; one more tells that a byte follows it.
 fn show() -> Ending {
-    let mut sheet: [u8; 3_343] = [0; 3_343];
+    let mut sheet: [u8; 3_350] = [0; 3_350];
     let filled = reading::fill(STDIN_FILENO, &mut sheet);
     if filled.failed {
         return ending::unread_input();
@@ -62,7 +62,7 @@ fn show() -> Ending {
 
 // `version`: the version, here and nowhere else in the sources.
 fn version() -> Ending {
-    ending::answer(b"0.5.0\n", false)
+    ending::answer(b"0.6.0\n", false)
 }
 
 // `help`.

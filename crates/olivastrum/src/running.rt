@@ -106,9 +106,9 @@ fn fail(path: &[u8]) -> Ending {
     ending::failed()
 }
 
-// Reads the plan sheet in an open file: the longest, of 128 stations with a mode, has 3,342 bytes; one more tells that a byte follows it.
+// Reads the plan sheet in an open file: the longest, of 128 stations with a mode and F, has 3,349 bytes; one more tells that a byte follows it.
 fn read_plan(file: i32, path: &[u8]) -> Ending {
-    let mut sheet: [u8; 3_343] = [0; 3_343];
+    let mut sheet: [u8; 3_350] = [0; 3_350];
     let filled = reading::fill(file, &mut sheet);
     if filled.failed {
         return fail(path);

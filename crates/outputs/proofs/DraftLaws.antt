@@ -1,30 +1,33 @@
--- The draft of the text that `show` prints: behind the header's lines and k stations' lines it holds TTRT, the mode, the first k stations, and for a plan their allocations.
-use Prim.Native.Nat.{ℕ, zero, suc, _^_, _≤_, _<_}
-use mathlib.Core.Path.{_≡_, refl, sym, ap, _∙_}
+-- The draft of the text that `show` prints: behind the header's lines and k stations' lines it holds the header, the first k stations, and for a plan their allocations.
+use Prim.Native.Nat.{ℕ, zero, suc, _+_, _^_, _≤_, _<_}
+use mathlib.Core.Path.{_≡_, refl, sym, ap, subst, _∙_}
 use mathlib.Core.Bool.{Bool, true, false, cond, _||_}
 use mathlib.Core.List.{List, [], _∷_, _++_}
 use mathlib.Core.Logic.{⊎-elim, _≢_}
 use native.Mathlib.Omega.{arith}
 use native.Mathlib.Numerals.{add-one}
-use borrow.Author.Tests.{lt-ltb, eqb-true, eqb-false, ne-eqb}
+use borrow.Author.Tests.{le-leb, lt-ltb, eq-eqb, ne-eqb}
 use lib.Dec.{leb, eqb}
 use lib.ListN.{length}
 use Rattle.units.specs.Places.{at, fill}
 use Rattle.units.specs.JudgingLaws.{true-or-false}
+use Rattle.units.specs.SmallLaws.{below-or-not}
 use Rattle.sets.specs.Judged.{zeros}
 use Rattle.sets.specs.declared.Head.{Head}
 use Rattle.sets.specs.declared.Set.{Set}
 use Rattle.plans.specs.Planned.{blankAlloc}
 use Rattle.plans.specs.declared.Alloc.{Alloc}
 use Rattle.fields.specs.Rows.{rows}
-use Rattle.fields.specs.Header.{absent}
-use Rattle.fields.proofs.HeaderLaws.{header-there}
+use Rattle.fields.specs.Fields.{modeTag, frameTag}
+use Rattle.fields.specs.Header.{furtherCount, absent}
+use Rattle.fields.proofs.HeaderLaws.{same-or-not, header-there}
+use Rattle.sheets.specs.Layout.{headNumber}
 use Rattle.text.specs.Text.{newline}
 use Rattle.lines.specs.Scan.{freshScan, letterRead, characterRead, stepped, codeOf, nextLine}
 use Rattle.lines.specs.ScanLaws.{steppedOver, withNumbers, wordScan, typed, AllSmall, small-none, small-and, typed-read, line-typed, hasNoEnd, no-end-typed}
-use Rattle.drafts.specs.Compose.{ttrtWord, modeWord, stationWord, blankDraft, withTtrt, withMode, withStation, lineDrafted, onNextLine, composeStart, composeAfter}
-use Rattle.outputs.specs.ShowText.{ttrtLine, modeLine, shareWords, stationLine, sheetText}
-use Rattle.outputs.proofs.ShowLaws.{mode-line-none, mode-line-some}
+use Rattle.drafts.specs.Compose.{ttrtWord, wordOf, stationWord, lineTag, blankDraft, withTtrt, headWith, withFurther, withStation, lineDrafted, onNextLine, composeStart, composeAfter}
+use Rattle.outputs.specs.ShowText.{ttrtLine, furtherLine, headLines, shareWords, stationLine, sheetText}
+use Rattle.outputs.proofs.ShowLaws.{line-none, line-some}
 use Rattle.drafts.specs.ComposeLaws.{compose-append, compose-line, atRest}
 use Rattle.lines.specs.declared.Scan.{Scan}
 use Rattle.drafts.specs.declared.Draft.{Draft}
@@ -36,13 +39,22 @@ ttrt-word : steppedOver freshScan ttrtWord ≡ wordScan ttrtWord
 unfolding steppedOver stepped characterRead letterRead
 ttrt-word = refl
 
-mode-word : steppedOver freshScan modeWord ≡ wordScan modeWord
-unfolding steppedOver stepped characterRead letterRead
-mode-word = refl
-
 station-word : steppedOver freshScan stationWord ≡ wordScan stationWord
 unfolding steppedOver stepped characterRead letterRead
 station-word = refl
+
+-- the word of a further line of the header can be read
+record Readable (word : List ℕ) : Type 0 where
+  stepped-over : steppedOver freshScan word ≡ wordScan word
+  some : codeOf word ≢ 0
+  inside : hasNoEnd word ≡ true
+
+further-word : (tag : ℕ) → Readable (wordOf tag)
+unfolding wordOf steppedOver stepped characterRead letterRead hasNoEnd
+further-word tag =
+    ⊎-elim (λ (e : eqb tag modeTag ≡ true). rw e (record { stepped-over = refl; some = omega arith; inside = refl }))
+    (λ (e : eqb tag modeTag ≡ false). rw e (record { stepped-over = refl; some = omega arith; inside = refl }))
+    (true-or-false (eqb tag modeTag))
 
 -- ---- one line
 
@@ -58,11 +70,6 @@ ttrt-drafted : (d : Draft) (ttrt : ℕ) → ttrt < 2 ^ 32 → lineDrafted d (wit
 unfolding lineDrafted withNumbers
 ttrt-drafted d ttrt l = rw (lt-ltb ttrt (2 ^ 32) l)
 
--- where the mode is what its absence means, its line is empty
-no-mode : (c : Composing) (mode : ℕ) → mode ≡ absent → composeAfter c (modeLine mode) ≡ c
-unfolding composeAfter
-no-mode c mode e = ap (composeAfter c) (mode-line-none mode e)
-
 ttrt-composed : (d : Draft) (ttrt : ℕ) → ttrt < 2 ^ 32 → composeAfter (atRest d) (ttrtLine ttrt) ≡ atRest (onNextLine (withTtrt d ttrt))
 unfolding hasNoEnd
 ttrt-composed d ttrt l =
@@ -70,19 +77,36 @@ ttrt-composed d ttrt l =
     (typed-composed d ttrtWord (ttrt ∷ []) ttrt-word (omega arith) refl (omega arith) (small-and ttrt [] (omega arith) small-none)
     ∙ ap (λ (x : Draft). atRest (onNextLine x)) (ttrt-drafted d ttrt l))
 
-mode-drafted : (d : Draft) (mode : ℕ) → mode < 2 ^ 32 → lineDrafted d (withNumbers (wordScan modeWord) (mode ∷ [])) ≡ withMode d mode
-unfolding lineDrafted withNumbers
-mode-drafted d mode l = rw (lt-ltb mode (2 ^ 32) l)
+-- a further line of the header gives its tag its number
+module _ (d : Draft) (number : ℕ) (l : number < 2 ^ 32) where
+  Drafts : ℕ → Type 0
+  Drafts tag = lineDrafted d (withNumbers (wordScan (wordOf tag)) (number ∷ [])) ≡ withFurther d tag number
 
-mode-typed : (mode : ℕ) → mode ≢ absent → modeLine mode ≡ typed modeWord (mode ∷ []) ++ (newline ∷ [])
-mode-typed mode other = mode-line-some mode other ∙ line-typed modeWord (mode ∷ [])
+  mode-drafted : Drafts modeTag
+  unfolding Drafts lineDrafted withNumbers lineTag wordOf
+  mode-drafted = rw (lt-ltb number (2 ^ 32) l)
 
-mode-composed : (d : Draft) (mode : ℕ) → mode < 2 ^ 32 → mode ≢ absent → composeAfter (atRest d) (modeLine mode) ≡ atRest (onNextLine (withMode d mode))
-unfolding hasNoEnd
-mode-composed d mode l other =
-    rw (mode-typed mode other)
-    (typed-composed d modeWord (mode ∷ []) mode-word (omega arith) refl (omega arith) (small-and mode [] (omega arith) small-none)
-    ∙ ap (λ (x : Draft). atRest (onNextLine x)) (mode-drafted d mode l))
+  frame-drafted : Drafts frameTag
+  unfolding Drafts lineDrafted withNumbers lineTag wordOf
+  frame-drafted = rw (lt-ltb number (2 ^ 32) l)
+
+  further-drafted : (tag : ℕ) → modeTag ≤ tag → tag ≤ frameTag → Drafts tag
+  further-drafted tag low high =
+      ⊎-elim (λ (e : tag ≡ modeTag). subst Drafts (sym e) mode-drafted)
+      (λ (other : tag ≢ modeTag).
+      let e : tag ≡ frameTag = ⊎-elim (λ (b : tag < 5). absurd (other (omega arith))) (λ (b : 5 ≤ tag). omega arith) (below-or-not tag 5) in
+      subst Drafts (sym e) frame-drafted)
+      (same-or-not tag modeTag)
+
+further-composed : (d : Draft) (tag number : ℕ) → modeTag ≤ tag → tag ≤ frameTag → number < 2 ^ 32 → number ≢ absent
+    → composeAfter (atRest d) (furtherLine tag number) ≡ atRest (onNextLine (withFurther d tag number))
+unfolding Drafts
+further-composed d tag number low high l other =
+    let w = further-word tag in
+    let few : length (number ∷ []) ≤ 5 = omega arith in
+    ap (composeAfter (atRest d)) (line-some tag number other ∙ line-typed (wordOf tag) (number ∷ []))
+    ∙ typed-composed d (wordOf tag) (number ∷ []) (w .stepped-over) (w .some) (w .inside) few (small-and number [] (omega arith) small-none)
+    ∙ ap (λ (x : Draft). atRest (onNextLine x)) (further-drafted d number l tag low high)
 
 -- ---- a station's line
 
@@ -128,7 +152,7 @@ module _ (t : Set) (a : Alloc) (i : ℕ) where
   shares-small false h = small-none
 
   station-drafted : (plan : Bool) (d : Draft) → SmallAt plan t a i → lineDrafted d (stationScan plan t a i) ≡ withStation d (stationScan plan t a i) (kindOf plan)
-  unfolding lineDrafted withNumbers stationScan shares
+  unfolding lineDrafted lineTag withNumbers stationScan shares
   station-drafted true d h =
       rw (
         lt-ltb (at (t .w) i) (2 ^ 32) (h .walk),
@@ -166,19 +190,53 @@ unfoldable pub kindBehind : Bool → ℕ → ℕ
 kindBehind plan zero = 0
 kindBehind plan (suc k) = kindOf plan
 
--- the header's last line, by its tag: TTRT's, or the mode's
-unfoldable pub headBehind : ℕ → ℕ
-headBehind mode = cond (eqb mode absent) 1 4
-
--- there is one
-pub head-some : (mode : ℕ) → leb 1 (headBehind mode) ≡ true
-unfolding headBehind
-head-some mode = ⊎-elim (λ (e : eqb mode absent ≡ true). rw e refl) (λ (e : eqb mode absent ≡ false). rw e refl) (true-or-false (eqb mode absent))
+-- the tag of the last of the lines of TTRT and the first k fields behind it
+unfoldable pub tagBehind : Head → ℕ → ℕ
+tagBehind h zero = 1
+tagBehind h (suc k) = cond (eqb (headNumber h (modeTag + k)) absent) (tagBehind h k) (modeTag + k)
 
 -- the number of the next line
-unfoldable pub lineBehind : ℕ → ℕ → ℕ
-lineBehind mode zero = cond (eqb mode absent) (nextLine 1) (nextLine (nextLine 1))
-lineBehind mode (suc k) = nextLine (lineBehind mode k)
+unfoldable pub headLine : Head → ℕ → ℕ
+headLine h zero = nextLine 1
+headLine h (suc k) = cond (eqb (headNumber h (modeTag + k)) absent) (headLine h k) (nextLine (headLine h k))
+
+-- the header so far; a number that no line names is what its absence means
+unfoldable headSoFar : Head → ℕ → Head
+headSoFar h zero = record { ttrt = h .ttrt; mode = absent; frame = absent }
+headSoFar h (suc k) = headWith (headSoFar h k) (modeTag + k) (headNumber h (modeTag + k))
+
+-- a number that is absent changes nothing of it
+so-far-absent : (h : Head) (k : ℕ) → k < furtherCount → headNumber h (modeTag + k) ≡ absent → headSoFar h (suc k) ≡ headSoFar h k
+unfolding headSoFar headWith headNumber
+so-far-absent h zero l e = rw e refl
+so-far-absent h (suc zero) l e = rw e refl
+so-far-absent h (suc (suc k)) l e = absurd (omega arith)
+
+-- and behind all fields it is the header
+so-far-all : (h : Head) → headSoFar h furtherCount ≡ h
+unfolding headSoFar headWith headNumber
+so-far-all h = refl
+
+-- the last tag is TTRT's or that of one of these fields
+tag-some : (h : Head) (k : ℕ) → 1 ≤ tagBehind h k
+unfolding tagBehind
+tag-some h zero = omega arith
+tag-some h (suc k) =
+    ⊎-elim (λ (e : eqb (headNumber h (modeTag + k)) absent ≡ true). rw e (tag-some h k)) (λ (e : eqb (headNumber h (modeTag + k)) absent ≡ false). rw e (omega arith)) (true-or-false (eqb (headNumber h (modeTag + k)) absent))
+
+tag-below : (h : Head) (k : ℕ) → tagBehind h k < modeTag + k
+unfolding tagBehind
+tag-below h zero = omega arith
+tag-below h (suc k) =
+    ⊎-elim (λ (e : eqb (headNumber h (modeTag + k)) absent ≡ true). rw e (omega (arith, tag-below h k))) (λ (e : eqb (headNumber h (modeTag + k)) absent ≡ false). rw e (omega arith)) (true-or-false (eqb (headNumber h (modeTag + k)) absent))
+
+pub head-some : (h : Head) → leb 1 (tagBehind h furtherCount) ≡ true
+head-some h = le-leb 1 (tagBehind h furtherCount) (tag-some h furtherCount)
+
+-- the number of the line behind k stations
+unfoldable pub lineBehind : Head → ℕ → ℕ
+lineBehind h zero = headLine h furtherCount
+lineBehind h (suc k) = nextLine (lineBehind h k)
 
 -- the first k stations of the set, 0 past them
 abbrev pub firstStations : Set → ℕ → Set
@@ -197,9 +255,9 @@ draftBehind plan t a k =
     record {
       set = firstStations t k;
       alloc = record { s = fill k (shareOf plan a) zeros };
-      line = lineBehind (t .head .mode) k;
+      line = lineBehind (t .head) k;
       unread = 0;
-      head = headBehind (t .head .mode);
+      head = tagBehind (t .head) furtherCount;
       kind = kindBehind plan k;
       wrong = 0;
     }
@@ -211,56 +269,66 @@ kind-fits plan zero = refl
 kind-fits true (suc k) = refl
 kind-fits false (suc k) = refl
 
--- the draft behind the header's lines
-unfoldable headDraft : Head → Draft
-headDraft h =
+-- the draft behind the lines of TTRT and the first k fields behind it
+unfoldable headDraft : Head → ℕ → Draft
+headDraft h k =
     record {
-      set = record { head = h; n = 0; w = zeros; c = zeros; d = zeros; p = zeros };
+      set = record { head = headSoFar h k; n = 0; w = zeros; c = zeros; d = zeros; p = zeros };
       alloc = blankAlloc;
-      line = lineBehind (h .mode) 0;
+      line = headLine h k;
       unread = 0;
-      head = headBehind (h .mode);
+      head = tagBehind h k;
       kind = 0;
       wrong = 0;
     }
 
 -- TTRT's line alone
-timely-behind : (ttrt : ℕ) → onNextLine (withTtrt blankDraft ttrt) ≡ headDraft (record { ttrt = ttrt; mode = absent })
-unfolding withTtrt headDraft headBehind lineBehind
-timely-behind ttrt = refl
+ttrt-behind : (h : Head) → onNextLine (withTtrt blankDraft (h .ttrt)) ≡ headDraft h 0
+unfolding withTtrt headDraft headSoFar tagBehind headLine
+ttrt-behind h = refl
 
--- and then the mode's
-other-behind : (ttrt mode : ℕ) → mode ≢ absent → onNextLine (withMode (onNextLine (withTtrt blankDraft ttrt)) mode) ≡ headDraft (record { ttrt = ttrt; mode = mode })
-unfolding withTtrt withMode headDraft headBehind lineBehind
-other-behind ttrt mode other = rw (ne-eqb mode absent other, header-there mode other) refl
+module _ (h : Head) (k : ℕ) where
+  -- one field more that has no line
+  absent-behind : k < furtherCount → headNumber h (modeTag + k) ≡ absent → headDraft h (suc k) ≡ headDraft h k
+  unfolding headDraft tagBehind headLine
+  absent-behind l e = rw (so-far-absent h k l e, eq-eqb (headNumber h (modeTag + k)) absent e) refl
 
-header-composed : (h : Head) → h .ttrt < 2 ^ 32 → h .mode < 2 ^ 32 → composeAfter composeStart (ttrtLine (h .ttrt) ++ modeLine (h .mode)) ≡ atRest (headDraft h)
-header-composed h small low =
-    compose-append composeStart (ttrtLine (h .ttrt)) (modeLine (h .mode))
-    ∙ ap (λ (c : Composing). composeAfter c (modeLine (h .mode))) (ttrt-composed blankDraft (h .ttrt) small)
-    ∙ ⊎-elim (λ (e : eqb (h .mode) absent ≡ true). timely (eqb-true (h .mode) absent e)) (λ (e : eqb (h .mode) absent ≡ false). other (eqb-false (h .mode) absent e))
-    (true-or-false (eqb (h .mode) absent))
-  where
-    first : Draft
-    first = onNextLine (withTtrt blankDraft (h .ttrt))
+  -- and one that has
+  other-behind : headNumber h (modeTag + k) ≢ absent → onNextLine (withFurther (headDraft h k) (modeTag + k) (headNumber h (modeTag + k))) ≡ headDraft h (suc k)
+  unfolding headDraft withFurther headSoFar tagBehind headLine
+  other-behind other =
+      rw (
+        le-leb 1 (tagBehind h k) (tag-some h k),
+        lt-ltb (tagBehind h k) (modeTag + k) (tag-below h k),
+        header-there (headNumber h (modeTag + k)) other,
+        ne-eqb (headNumber h (modeTag + k)) absent other,
+      )
+      refl
 
-    timely : h .mode ≡ absent → composeAfter (atRest first) (modeLine (h .mode)) ≡ atRest (headDraft h)
-    timely e =
-        no-mode (atRest first) (h .mode) e ∙ ap atRest (timely-behind (h .ttrt))
-        ∙ ap (λ (m : ℕ). atRest (headDraft (record { ttrt = h .ttrt; mode = m }))) (sym e)
-
-    other : h .mode ≢ absent → composeAfter (atRest first) (modeLine (h .mode)) ≡ atRest (headDraft h)
-    other some = mode-composed first (h .mode) low some ∙ ap atRest (other-behind (h .ttrt) (h .mode) some)
+module _ (h : Head) (small : h .ttrt < 2 ^ 32) (low : (tag : ℕ) → headNumber h tag < 2 ^ 32) where
+  header-composed : (k : ℕ) → k ≤ furtherCount → composeAfter composeStart (headLines h k) ≡ atRest (headDraft h k)
+  unfolding headLines composeAfter
+  header-composed zero l = ttrt-composed blankDraft (h .ttrt) small ∙ ap atRest (ttrt-behind h)
+  header-composed (suc k) l =
+      let tag = modeTag + k in
+      let number = headNumber h tag in
+      compose-append composeStart (headLines h k) (furtherLine tag number)
+      ∙ ap (λ (c : Composing). composeAfter c (furtherLine tag number)) (header-composed k (omega arith))
+      ∙ ⊎-elim (λ (e : headNumber h (modeTag + k) ≡ absent).
+      ap (composeAfter (atRest (headDraft h k))) (line-none tag number e) ∙ ap atRest (sym (absent-behind h k l e)))
+      (λ (other : headNumber h (modeTag + k) ≢ absent).
+      further-composed (headDraft h k) tag number (omega arith) (omega arith) (low tag) other ∙ ap atRest (other-behind h k other))
+      (same-or-not number absent)
 
 module _ (t : Set) (a : Alloc) where
-  head-behind : (plan : Bool) → headDraft (t .head) ≡ draftBehind plan t a 0
-  unfolding headDraft draftBehind fill kindBehind
-  head-behind plan = refl
+  head-behind : (plan : Bool) → headDraft (t .head) furtherCount ≡ draftBehind plan t a 0
+  unfolding headDraft draftBehind fill kindBehind lineBehind
+  head-behind plan = rw (so-far-all (t .head)) refl
 
   station-behind : (plan : Bool) (k : ℕ) → k < 128 → onNextLine (withStation (draftBehind plan t a k) (stationScan plan t a k) (kindOf plan)) ≡ draftBehind plan t a (suc k)
   unfolding withStation withNumbers draftBehind stationScan shares shareOf fill kindBehind lineBehind
-  station-behind true k l = rw (head-some (t .head .mode), lt-ltb k 128 l, kind-fits true k, add-one k)
-  station-behind false k l = rw (head-some (t .head .mode), lt-ltb k 128 l, kind-fits false k, add-one k)
+  station-behind true k l = rw (head-some (t .head), lt-ltb k 128 l, kind-fits true k, add-one k)
+  station-behind false k l = rw (head-some (t .head), lt-ltb k 128 l, kind-fits false k, add-one k)
 
   -- ---- the whole text
 
@@ -274,10 +342,10 @@ module _ (t : Set) (a : Alloc) where
       ∙ station-composed t a k plan (draftBehind plan t a k) (small k (omega arith))
       ∙ ap atRest (station-behind plan k (omega arith))
 
-  pub text-drafted : (plan : Bool) → t .head .ttrt < 2 ^ 32 → t .head .mode < 2 ^ 32 → t .n ≤ 128 → ((i : ℕ) → i < t .n → SmallAt plan t a i)
+  pub text-drafted : (plan : Bool) → t .head .ttrt < 2 ^ 32 → ((tag : ℕ) → headNumber (t .head) tag < 2 ^ 32) → t .n ≤ 128 → ((i : ℕ) → i < t .n → SmallAt plan t a i)
       → composeAfter composeStart (sheetText plan t a) ≡ atRest (draftBehind plan t a (t .n))
   unfolding sheetText
   text-drafted plan l low few small =
-      compose-append composeStart (ttrtLine (t .head .ttrt) ++ modeLine (t .head .mode)) (rows (t .n) (stationLine plan t a))
-      ∙ ap (λ (c : Composing). composeAfter c (rows (t .n) (stationLine plan t a))) (header-composed (t .head) l low ∙ ap atRest (head-behind plan))
+      compose-append composeStart (headLines (t .head) furtherCount) (rows (t .n) (stationLine plan t a))
+      ∙ ap (λ (c : Composing). composeAfter c (rows (t .n) (stationLine plan t a))) (header-composed (t .head) l low furtherCount (omega arith) ∙ ap atRest (head-behind plan))
       ∙ rows-behind plan (t .n) few small

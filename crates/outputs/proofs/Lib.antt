@@ -2,11 +2,11 @@
 --     PlanTextLaws, PlanSheetLaws, ShowLaws   what is put out where reading or planning refuses, and where they accept
 --     DraftLaws      the draft of the text that `show` prints
 --     ShownLaws      `show`, then `compose`, is the identity on accepted sheets
---     ModeLaws       the mode's line of a text
+--     HeaderLineLaws   a further line of the header in a text
 pub mod PlanTextLaws
 pub mod PlanSheetLaws
 pub mod ShowLaws
 pub mod DraftLaws
 pub mod ShownLaws
-pub mod ModeLaws
+pub mod HeaderLineLaws
 pub mod Promised

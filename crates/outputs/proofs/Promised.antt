@@ -13,10 +13,11 @@ use Rattle.sets.specs.declared.Set.{Set}
 use Rattle.plans.specs.Rules.{timeAt}
 use Rattle.plans.specs.Planned.{planned, smallestWith, answered, leastAlloc, blankAlloc}
 use Rattle.fields.specs.Rows.{rows}
-use Rattle.fields.specs.Bytes.{shortAt, numberAt}
-use Rattle.fields.specs.Header.{headerNumber}
-use Rattle.fields.proofs.HeaderLaws.{header-neither}
-use Rattle.fields.specs.Fields.{isAllowed, fieldNumber, handedOut}
+use Rattle.fields.specs.Bytes.{shortAt, numberAt, bodyAt}
+use Rattle.fields.specs.Header.{headerNumber, behindTag, furtherPlace}
+use Rattle.fields.proofs.HeaderLaws.{header-out}
+use Rattle.fields.specs.Fields.{furtherSize, isAllowed, fieldNumber, handedOut}
+use Rattle.sheets.specs.Layout.{headNumber, mostOf}
 use Rattle.scan.specs.Cursor.{cursorAfter}
 use Rattle.scan.specs.Scanned.{withField, stopsAt, stopNumber, scanFrom, scanned}
 use Rattle.sheets.specs.Reading.{readRequest, thenNumber, judgedSheet, readAnswer, readSheet}
@@ -25,14 +26,15 @@ use Rattle.sheets.specs.Writing.{writeAnswer, bufferAfter}
 use Rattle.sheets.specs.declared.ReadRequest.{ReadRequest}
 use Rattle.sheets.specs.declared.Written.{Written}
 use Rattle.text.specs.Text.{decimalWithin, lineOn, line, textOr, refusedLine}
+use Rattle.drafts.specs.Compose.{wordOf}
 use Rattle.outputs.specs.PlanText.{planLines, plannedText, requestText, planPrinted}
 use Rattle.text.specs.TextLaws.{text-accepted, text-refused}
 use Rattle.outputs.specs.PlanSheet.{planningNumber, answerOr, bufferOr}
-use Rattle.outputs.specs.Promised.{Promised, workedSheet, workedText, olderSheet, olderText}
-use Rattle.outputs.specs.ShowText.{modeLine, shareWords, stationLine, sheetText, showPrinted}
+use Rattle.outputs.specs.Promised.{Promised, workedSheet, workedText, olderSheet, olderText, framedSheet, framedText}
+use Rattle.outputs.specs.ShowText.{furtherLine, headLines, shareWords, stationLine, sheetText, showPrinted}
 use Rattle.outputs.proofs.ShowLaws.{shown-request}
 use Rattle.outputs.proofs.ShownLaws.{shown-composed}
-use Rattle.outputs.proofs.ModeLaws.{mode-given, other-four, second-broken, late-broken}
+use Rattle.outputs.proofs.HeaderLineLaws.{line-given, other-four, second-broken, late-broken}
 
 -- ---- the same plan
 
@@ -74,15 +76,16 @@ empty-read = refl
 empty-said : planPrinted [] ≡ refusedLine 1
 empty-said = text-refused _ _ (λ e. absurd (omega (arith, e, empty-read))) ∙ ap refusedLine empty-read
 
-olderSet : Set
-olderSet = record { head = record { ttrt = 100; mode = 2 }; n = 1; w = fill 1 (λ i. 2) zeros; c = fill 1 (λ i. 20) zeros; d = fill 1 (λ i. 200) zeros; p = fill 1 (λ i. 200) zeros }
+olderSet : ℕ → Set
+olderSet frame = record { head = record { ttrt = 100; mode = 2; frame = frame }; n = 1; w = fill 1 (λ i. 2) zeros; c = fill 1 (λ i. 20) zeros; d = fill 1 (λ i. 200) zeros; p = fill 1 (λ i. 200) zeros }
 
 workedSet : Set
-workedSet = record { head = record { ttrt = 100; mode = 1 }; n = 4; w = fill 1 (λ i. 2) zeros; c = fill 4 (λ i. 20) zeros; d = fill 4 (λ i. 100) zeros; p = fill 4 (λ i. 100) zeros }
+workedSet =
+    record { head = record { ttrt = 100; mode = 1; frame = 1 }; n = 4; w = fill 1 (λ i. 2) zeros; c = fill 4 (λ i. 20) zeros; d = fill 4 (λ i. 100) zeros; p = fill 4 (λ i. 100) zeros }
 
 worked-read : readRequest workedSheet ≡ record { set = workedSet; number = 0 }
 unfolding workedSet readSheet readAnswer thenNumber scanned scanFrom stopsAt stopNumber withField cursorAfter fieldNumber handedOut isAllowed
-    orElse allBelow shortAt numberAt fill judgedSheet judgedThen allHold sumBelow headInRange stationInRange headerNumber
+    orElse allBelow shortAt numberAt bodyAt furtherSize furtherPlace behindTag fill judgedSheet judgedThen allHold sumBelow headInRange stationInRange headerNumber
 worked-read = refl
 
 worked-planned : planned workedSet ≡ record { alloc = record { s = fill 4 (λ i. 20) zeros }; number = 0 }
@@ -97,22 +100,30 @@ worked-said : planPrinted workedSheet ≡ workedText
 unfolding textOr
 worked-said = ap requestText worked-read ∙ ap (plannedText workedSet) worked-planned ∙ worked-lines
 
--- an older set, shown
-older-read : readRequest olderSheet ≡ record { set = olderSet; number = 0 }
+-- an older set, shown; and the same with frames
+older-read : readRequest olderSheet ≡ record { set = olderSet 1; number = 0 }
 unfolding olderSet readSheet readAnswer thenNumber scanned scanFrom stopsAt stopNumber withField cursorAfter fieldNumber handedOut isAllowed
-    orElse allBelow shortAt numberAt fill judgedSheet judgedThen allHold sumBelow headInRange stationInRange headerNumber
+    orElse allBelow shortAt numberAt bodyAt furtherSize furtherPlace behindTag fill judgedSheet judgedThen allHold sumBelow headInRange stationInRange headerNumber
 older-read = refl
 
-older-lines : sheetText false olderSet blankAlloc ≡ olderText
-unfolding olderSet sheetText modeLine stationLine shareWords rows line lineOn decimalWithin fill
+framed-read : readRequest framedSheet ≡ record { set = olderSet 40; number = 0 }
+unfolding olderSet readSheet readAnswer thenNumber scanned scanFrom stopsAt stopNumber withField cursorAfter fieldNumber handedOut isAllowed
+    orElse allBelow shortAt numberAt bodyAt furtherSize furtherPlace behindTag fill judgedSheet judgedThen allHold sumBelow headInRange stationInRange headerNumber
+framed-read = refl
+
+older-lines : sheetText false (olderSet 1) blankAlloc ≡ olderText
+unfolding olderSet sheetText headLines headNumber furtherLine wordOf stationLine shareWords rows line lineOn decimalWithin fill
 older-lines = refl
 
-older-shown : showPrinted olderSheet ≡ olderText
-older-shown =
-    let none : readRequest olderSheet .number ≡ 0 = ap (λ (r : ReadRequest). r .number) older-read in
-    sym (shown-request (readRequest olderSheet) olderSheet refl (λ e. absurd (omega (arith, e, none))) none)
-    ∙ ap (λ (r : ReadRequest). sheetText false (r .set) blankAlloc) older-read
-    ∙ older-lines
+framed-lines : sheetText false (olderSet 40) blankAlloc ≡ framedText
+unfolding olderSet sheetText headLines headNumber furtherLine wordOf stationLine shareWords rows line lineOn decimalWithin fill
+framed-lines = refl
+
+shown-set : (sheet : List ℕ) (t : Set) → readRequest sheet ≡ record { set = t; number = 0 } → showPrinted sheet ≡ sheetText false t blankAlloc
+shown-set sheet t e =
+    let none : readRequest sheet .number ≡ 0 = ap (λ (r : ReadRequest). r .number) e in
+    sym (shown-request (readRequest sheet) sheet refl (λ two. absurd (omega (arith, two, none))) none)
+    ∙ ap (λ (r : ReadRequest). sheetText false (r .set) blankAlloc) e
 
 pub promised : Promised
 unfolding bufferOr bufferAfter answerOr
@@ -128,10 +139,11 @@ promised =
           );
       same-refusal = λ sheet out k. (refused-text sheet k, (or-refused (planningNumber (readRequest sheet)) _ k, or-kept (planningNumber (readRequest sheet)) _ out k));
       show-compose = shown-composed;
-      older = older-shown;
-      mode-line = mode-given;
-      mode-other = λ d mode out e other whole count.
-          other-four d out whole count (subst (λ (m : ℕ). ¬ ((1 ≤ m) × (m ≤ 2))) (sym e) (header-neither mode other));
-      mode-twice = second-broken;
-      mode-late = late-broken;
+      older = shown-set olderSheet (olderSet 1) older-read ∙ older-lines;
+      framed = shown-set framedSheet (olderSet 40) framed-read ∙ framed-lines;
+      header-line = line-given;
+      header-other = λ d tag number out e outside whole count.
+          other-four d tag out whole count (subst (λ (n : ℕ). ¬ ((1 ≤ n) × (n ≤ mostOf tag))) (sym e) (header-out (mostOf tag) number outside));
+      header-twice = second-broken;
+      header-late = late-broken;
     }

@@ -2,28 +2,45 @@
 use Prim.Native.Nat.{ℕ, _≤_}
 use mathlib.Core.Path.{_≡_, refl, sym, ap, _∙_}
 use mathlib.Core.Bool.{true, false}
-use mathlib.Core.List.{List, [], _∷_}
+use mathlib.Core.List.{List, [], _∷_, _++_}
 use mathlib.Core.Logic.{_≢_}
 use borrow.Author.Tests.{eq-eqb, ne-eqb}
 use Rattle.plans.specs.Planned.{blankAlloc}
 use Rattle.sheets.specs.Reading.{readRequest, readPlan}
 use Rattle.sheets.specs.ReadLaws.{read-few}
+use Rattle.sets.specs.declared.Head.{Head}
 use Rattle.sheets.specs.declared.ReadRequest.{ReadRequest}
 use Rattle.sheets.specs.declared.ReadPlan.{ReadPlan}
-use Rattle.fields.specs.Header.{absent}
+use Rattle.fields.specs.Fields.{modeTag}
+use Rattle.fields.specs.Header.{furtherCount, absent}
+use Rattle.sheets.specs.Layout.{headNumber}
 use Rattle.text.specs.Text.{decimalOf, line, refusedLine}
-use Rattle.drafts.specs.Compose.{modeWord}
+use Rattle.drafts.specs.Compose.{modeWord, frameWord, wordOf}
 use Rattle.text.specs.TextLaws.{text-accepted, text-refused}
-use Rattle.outputs.specs.ShowText.{modeLine, sheetText, planReadText, requestReadText, planShown, showPrinted}
+use Rattle.outputs.specs.ShowText.{ttrtLine, furtherLine, headLines, sheetText, planReadText, requestReadText, planShown, showPrinted}
 
--- the mode's line: none where the mode is what its absence means
-pub mode-line-none : (mode : ℕ) → mode ≡ absent → modeLine mode ≡ []
-unfolding modeLine
-mode-line-none mode e = rw e refl
+-- a further line of the header: none where the number is what its absence means
+pub line-none : (tag number : ℕ) → number ≡ absent → furtherLine tag number ≡ []
+unfolding furtherLine
+line-none tag number e = rw e refl
 
-pub mode-line-some : (mode : ℕ) → mode ≢ absent → modeLine mode ≡ line (modeWord ∷ decimalOf mode ∷ [])
-unfolding modeLine
-mode-line-some mode other = rw (ne-eqb mode absent other) refl
+pub line-some : (tag number : ℕ) → number ≢ absent → furtherLine tag number ≡ line (wordOf tag ∷ decimalOf number ∷ [])
+unfolding furtherLine
+line-some tag number other = rw (ne-eqb number absent other) refl
+
+-- with the word of its tag
+pub mode-line : (tag number : ℕ) → tag ≡ modeTag → number ≢ absent → line (modeWord ∷ decimalOf number ∷ []) ≡ furtherLine tag number
+unfolding wordOf
+mode-line tag number e other = sym (line-some tag number other ∙ rw e refl)
+
+pub frame-line : (tag number : ℕ) → tag ≢ modeTag → number ≢ absent → line (frameWord ∷ decimalOf number ∷ []) ≡ furtherLine tag number
+unfolding wordOf
+frame-line tag number e other = sym (line-some tag number other ∙ rw (ne-eqb tag modeTag e) refl)
+
+-- the header's lines, one by one
+pub head-lines : (h : Head) → headLines h furtherCount ≡ ttrtLine (h .ttrt) ++ furtherLine 4 (h .mode) ++ furtherLine 5 (h .frame)
+unfolding headLines headNumber
+head-lines h = refl
 
 pub request-few : (r : ReadRequest) (bs : List ℕ) → r ≡ readRequest bs → r .set .n ≤ 128
 request-few r bs e = rw e (read-few false bs)

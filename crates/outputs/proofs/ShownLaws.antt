@@ -1,14 +1,20 @@
 -- `show`, then `compose`, is the identity on accepted sheets: what is drafted of the text is the set that was read, and writing that gives its bytes again.
-use Prim.Native.Nat.{ℕ, zero, suc, _≤_, _<_}
+use Prim.Native.Nat.{ℕ, zero, suc, _^_, _≤_, _<_}
 use mathlib.Core.Path.{_≡_, refl, sym, ap, _∙_}
 use mathlib.Core.Bool.{Bool, true, false, false≢true}
 use mathlib.Core.List.{List, [], _∷_, _++_}
 use native.Mathlib.Omega.{arith}
 use lib.ListN.{length, drop}
+use mathlib.Core.Logic.{⊎-elim}
+use lib.Dec.{eqb}
+use Rattle.units.specs.JudgingLaws.{true-or-false}
 use Rattle.sets.specs.declared.Set.{Set}
 use Rattle.plans.specs.Planned.{blankAlloc}
 use Rattle.plans.specs.declared.Alloc.{Alloc}
 use Rattle.fields.specs.Bytes.{AllBytes}
+use Rattle.fields.specs.Fields.{modeTag}
+use Rattle.sheets.specs.Layout.{headNumber, mostOf}
+use Rattle.sheets.proofs.ReadingLaws.{head-ranges}
 use Rattle.sheets.specs.Reading.{setIn, allocIn, readSheet, readRequest, readPlan}
 use Rattle.sheets.specs.Writing.{writtenAnswer, writtenBuffer}
 use Rattle.sheet_rules.specs.Promised.{firstPlaces, firstAllocations}
@@ -39,6 +45,10 @@ read-kept plan sheet h =
     let both = then-none _ _ (sym (read-number _ _ _) ∙ h) in
     rw (sheet-accepted plan sheet (both .0) (both .1)) (judged-kept plan (setIn plan sheet) (allocIn plan sheet) (both .1))
 
+most-small : (tag : ℕ) → mostOf tag < 2 ^ 32
+unfolding mostOf
+most-small tag = ⊎-elim (λ (e : eqb tag modeTag ≡ true). rw e (omega arith)) (λ (e : eqb tag modeTag ≡ false). rw e (omega arith)) (true-or-false (eqb tag modeTag))
+
 module _ (plan : Bool) (t : Set) (a : Alloc) (k : Kept plan t a) where
   small-at : (i : ℕ) → i < t .n → SmallAt plan t a i
   small-at i l =
@@ -51,10 +61,13 @@ module _ (plan : Bool) (t : Set) (a : Alloc) (k : Kept plan t a) where
         share = λ e. omega (arith, k .allocations e i l);
       }
 
+  head-number-small : (tag : ℕ) → headNumber (t .head) tag < 2 ^ 32
+  head-number-small tag = omega (arith, head-ranges (t .head) (k .numbers .header) tag, most-small tag)
+
   -- the draft of its text
   shown-draft : (text : List ℕ) → text ≡ sheetText plan t a → draftOf text ≡ onNextLine (draftBehind plan t a (t .n))
   shown-draft text e =
-      let drafted = text-drafted t a plan (omega (arith, k .numbers .header .ttrt)) (omega (arith, k .numbers .header .mode)) (omega (arith, k .count)) small-at in
+      let drafted = text-drafted t a plan (omega (arith, k .numbers .header .ttrt)) head-number-small (omega (arith, k .count)) small-at in
       ap (λ (c : Composing). c .draft)
       (ap (λ (x : List ℕ). composeAfter composeStart (x ++ (newline ∷ []))) e
       ∙ compose-append composeStart (sheetText plan t a) (newline ∷ [])
@@ -73,14 +86,14 @@ module _ (t : Set) (a : Alloc) (some : 1 ≤ t .n) (out : List ℕ) where
       × (composedBuffer (onNextLine (draftBehind false t a (t .n))) out ≡ writtenBuffer false (firstPlaces t) blankAlloc out)
   unfolding composedAnswer composedBuffer draftBehind
   request-written =
-      let head = head-some (t .head .mode) in
+      let head = head-some (t .head) in
       (rw (head, kind-some false (t .n) some), rw (head, kind-some false (t .n) some))
 
   plan-written : (composedAnswer (onNextLine (draftBehind true t a (t .n))) out ≡ writtenAnswer true (firstPlaces t) (firstAllocations (t .n) a) out)
       × (composedBuffer (onNextLine (draftBehind true t a (t .n))) out ≡ writtenBuffer true (firstPlaces t) (firstAllocations (t .n) a) out)
   unfolding composedAnswer composedBuffer draftBehind shareOf
   plan-written =
-      let head = head-some (t .head .mode) in
+      let head = head-some (t .head) in
       (rw (head, kind-some true (t .n) some), rw (head, kind-some true (t .n) some))
 
 -- ---- the same bytes again

@@ -1,19 +1,18 @@
 -- What is promised of what `plan`, `plan-sheet` and `show` put out; `proofs/Promised.antt` proves it.
-use Prim.Native.Nat.{ℕ, _+_, _-_}
+use Prim.Native.Nat.{ℕ, _+_, _-_, _≤_, _<_}
 use mathlib.Core.Path.{_≡_}
 use mathlib.Core.Bool.{Bool, true, false}
 use mathlib.Core.List.{List, [], _∷_, _++_}
 use mathlib.Core.Logic.{_≢_}
 use lib.ListN.{length, drop}
-use Rattle.units.specs.Numbers.{fddi}
 use Rattle.sets.specs.Rules.{CountAllowed}
 use Rattle.plans.specs.Planned.{planned}
 use Rattle.fields.specs.Bytes.{AllBytes}
 use Rattle.fields.specs.Header.{headerNumber}
-use Rattle.sheets.specs.Layout.{planSheet}
+use Rattle.sheets.specs.Layout.{headNumber, mostOf, planSheet}
 use Rattle.sheets.specs.Reading.{readSheet, readRequest}
 use Rattle.text.specs.Text.{refusedLine}
-use Rattle.drafts.specs.Compose.{withMode, isWhole, composedAnswer, Composes}
+use Rattle.drafts.specs.Compose.{withFurther, isWhole, composedAnswer, Composes}
 use Rattle.drafts.specs.declared.Draft.{Draft}
 use Rattle.outputs.specs.PlanText.{planLines, planPrinted}
 use Rattle.outputs.specs.PlanSheet.{planningNumber, planSheetAnswer, planSheetBuffer}
@@ -42,6 +41,17 @@ olderText =
     116 ∷ 116 ∷ 114 ∷ 116 ∷ 32 ∷ 49 ∷ 48 ∷ 48 ∷ 10 ∷ 109 ∷ 111 ∷ 100 ∷ 101 ∷ 32 ∷ 50 ∷ 10 ∷
     115 ∷ 116 ∷ 97 ∷ 116 ∷ 105 ∷ 111 ∷ 110 ∷ 32 ∷ 50 ∷ 32 ∷ 50 ∷ 48 ∷ 32 ∷ 50 ∷ 48 ∷ 48 ∷ 32 ∷ 50 ∷ 48 ∷ 48 ∷ 10 ∷ []
 
+-- the same set with frames of up to 40 ticks
+abbrev pub framedSheet : List ℕ
+framedSheet =
+    1 ∷ 0 ∷ 4 ∷ 0 ∷ 0 ∷ 0 ∷ 100 ∷ 4 ∷ 0 ∷ 1 ∷ 2 ∷ 5 ∷ 0 ∷ 4 ∷ 0 ∷ 0 ∷ 0 ∷ 40 ∷
+    2 ∷ 0 ∷ 16 ∷ 0 ∷ 0 ∷ 0 ∷ 2 ∷ 0 ∷ 0 ∷ 0 ∷ 20 ∷ 0 ∷ 0 ∷ 0 ∷ 200 ∷ 0 ∷ 0 ∷ 0 ∷ 200 ∷ 255 ∷ 0 ∷ 0 ∷ []
+
+abbrev pub framedText : List ℕ
+framedText =
+    116 ∷ 116 ∷ 114 ∷ 116 ∷ 32 ∷ 49 ∷ 48 ∷ 48 ∷ 10 ∷ 109 ∷ 111 ∷ 100 ∷ 101 ∷ 32 ∷ 50 ∷ 10 ∷ 102 ∷ 114 ∷ 97 ∷ 109 ∷ 101 ∷ 32 ∷ 52 ∷ 48 ∷ 10 ∷
+    115 ∷ 116 ∷ 97 ∷ 116 ∷ 105 ∷ 111 ∷ 110 ∷ 32 ∷ 50 ∷ 32 ∷ 50 ∷ 48 ∷ 32 ∷ 50 ∷ 48 ∷ 48 ∷ 32 ∷ 50 ∷ 48 ∷ 48 ∷ 10 ∷ []
+
 pub record Promised : Type 0 where
   -- an empty input prints `refused 1`
   pub empty : planPrinted [] ≡ refusedLine 1
@@ -61,11 +71,13 @@ pub record Promised : Type 0 where
   pub show-compose : (plan : Bool) (sheet : List ℕ) → AllBytes sheet → readSheet plan sheet .number ≡ 0 → Composes (showPrinted sheet) sheet
   -- `show` prints `mode 2` behind `ttrt` for an older set, to the byte
   pub older : showPrinted olderSheet ≡ olderText
-  -- the mode's line of a text, behind TTRT's and before the first station, gives the number that its field on a sheet gives
-  pub mode-line : (d : Draft) (mode : ℕ) → d .head ≡ 1 → d .set .n ≡ 0 → withMode d mode .set .head .mode ≡ headerNumber true mode
-  -- so a text whose mode's line says anything but 2, 1 among it, is refused with 4, if its lines make a sheet of 1 to 128 stations
-  pub mode-other : (d : Draft) (mode : ℕ) (out : List ℕ) → d .set .head .mode ≡ headerNumber true mode → mode ≢ fddi
-      → isWhole d ≡ true → CountAllowed (d .set) → composedAnswer d out .number ≡ 4
-  -- a second one, and one behind a station, stands out of place, and then no sheet is made
-  pub mode-twice : (d : Draft) (mode : ℕ) → d .head ≡ 4 → isWhole (withMode d mode) ≡ false
-  pub mode-late : (d : Draft) (mode : ℕ) → d .set .n ≢ 0 → isWhole (withMode d mode) ≡ false
+  -- and `frame 40` behind that
+  pub framed : showPrinted framedSheet ≡ framedText
+  -- a further line of the header in a text, `mode M` by tag 4 and `frame F` by tag 5: behind TTRT's, before the first station and above those with lower tags it gives the number that its field on a sheet gives
+  pub header-line : (d : Draft) (tag number : ℕ) → 1 ≤ d .head → d .head < tag → d .set .n ≡ 0 → headNumber (withFurther d tag number .set .head) tag ≡ headerNumber true number
+  -- so a text with a number there that is not 2 to the highest, 1 among them, is refused with 4, if its lines make a sheet of 1 to 128 stations
+  pub header-other : (d : Draft) (tag number : ℕ) (out : List ℕ) → headNumber (d .set .head) tag ≡ headerNumber true number
+      → ¬ ((2 ≤ number) × (number ≤ mostOf tag)) → isWhole d ≡ true → CountAllowed (d .set) → composedAnswer d out .number ≡ 4
+  -- a second one, one behind a line with a higher tag, and one behind a station stand out of place, and then no sheet is made
+  pub header-twice : (d : Draft) (tag number : ℕ) → tag ≤ d .head → isWhole (withFurther d tag number) ≡ false
+  pub header-late : (d : Draft) (tag number : ℕ) → d .set .n ≢ 0 → isWhole (withFurther d tag number) ≡ false

@@ -1,28 +1,36 @@
 -- What `show` prints: a request or plan sheet as text, which `compose` takes.
-use Prim.Native.Nat.{ℕ}
+use Prim.Native.Nat.{ℕ, zero, suc, _+_}
 use mathlib.Core.Bool.{Bool, true, false, cond}
 use mathlib.Core.List.{List, [], _∷_, _++_}
 use lib.Dec.{eqb}
 use Rattle.units.specs.Numbers.{wrongShape}
 use Rattle.units.specs.Places.{at}
+use Rattle.sets.specs.declared.Head.{Head}
 use Rattle.sets.specs.declared.Set.{Set}
 use Rattle.plans.specs.Planned.{blankAlloc}
 use Rattle.plans.specs.declared.Alloc.{Alloc}
 use Rattle.fields.specs.Rows.{rows}
-use Rattle.fields.specs.Header.{absent}
+use Rattle.fields.specs.Fields.{modeTag}
+use Rattle.fields.specs.Header.{furtherCount, absent}
+use Rattle.sheets.specs.Layout.{headNumber}
 use Rattle.sheets.specs.Reading.{readRequest, readPlan}
 use Rattle.sheets.specs.declared.ReadRequest.{ReadRequest}
 use Rattle.sheets.specs.declared.ReadPlan.{ReadPlan}
 use Rattle.text.specs.Text.{decimalOf, line, textOr}
-use Rattle.drafts.specs.Compose.{ttrtWord, modeWord, stationWord}
+use Rattle.drafts.specs.Compose.{ttrtWord, wordOf, stationWord}
 
 -- `ttrt N`
 abbrev pub ttrtLine : ℕ → List ℕ
 ttrtLine ttrt = line (ttrtWord ∷ decimalOf ttrt ∷ [])
 
--- `mode M`; no line where the mode is what its absence means
-unfoldable pub modeLine : ℕ → List ℕ
-modeLine mode = cond (eqb mode absent) [] (line (modeWord ∷ decimalOf mode ∷ []))
+-- `mode M` or `frame F`, by the tag; no line where the number is what its absence means
+unfoldable pub furtherLine : ℕ → ℕ → List ℕ
+furtherLine tag number = cond (eqb number absent) [] (line (wordOf tag ∷ decimalOf number ∷ []))
+
+-- the lines of TTRT and of the first k fields of the header behind it
+unfoldable pub headLines : Head → ℕ → List ℕ
+headLines h zero = ttrtLine (h .ttrt)
+headLines h (suc k) = headLines h k ++ furtherLine (modeTag + k) (headNumber h (modeTag + k))
 
 -- S, in a plan
 unfoldable pub shareWords : Bool → ℕ → List (List ℕ)
@@ -38,7 +46,7 @@ stationLine plan t a i =
 
 -- the header's lines, then a line for each station in ring order
 unfoldable pub sheetText : Bool → Set → Alloc → List ℕ
-sheetText plan t a = ttrtLine (t .head .ttrt) ++ modeLine (t .head .mode) ++ rows (t .n) (stationLine plan t a)
+sheetText plan t a = headLines (t .head) furtherCount ++ rows (t .n) (stationLine plan t a)
 
 -- the plan that was read, or the refusal
 abbrev pub planReadText : ReadPlan → List ℕ

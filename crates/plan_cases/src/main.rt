@@ -34,6 +34,7 @@ fn equal_stations(ttrt: u32, n: u32, tau: u32, d: u32, c: u32) -> Set {
         head: Head {
             ttrt,
             mode: numbers::TIMELY,
+            frame: 1,
         },
         n,
         w,

@@ -10,7 +10,6 @@ use Rattle.units.specs.PlaceLaws.{sum-mono, sum-part, all-same, fill-length, fi
 use Rattle.units.specs.Judging.{orElse}
 use Rattle.units.specs.JudgingLaws.{true-or-false, true-and, Decides, held, failed}
 use Rattle.units.specs.SmallLaws.{below-or-not}
-use Rattle.sets.specs.Rules.{tau}
 use Rattle.sets.specs.Judged.{judged, zeros}
 use Rattle.sets.specs.SetLaws.{decides-count, decides-numbers, decides-walk, allowed, judged-rest, judged-keeps}
 use Rattle.sets.specs.declared.Set.{Set}
@@ -18,7 +17,7 @@ use Rattle.fddi.specs.Rules.{stations, MeetsFddi, rulesKept}
 use Rattle.fddi.specs.Climb.{none, leastPlan}
 use Rattle.fddi.specs.Answer as fddi-answer
 use Rattle.fddi.proofs.Promised as fddi-plans
-use Rattle.plans.specs.Rules.{isFddi, loadOf, MeetsRules, IsSmallest, AllocInRange, deadlineFitsAt, deadlinesFit, tokenFits, rulesFit, timelyFitsAt}
+use Rattle.plans.specs.Rules.{isFddi, loadOf, lost, MeetsRules, IsSmallest, AllocInRange, deadlineFitsAt, deadlinesFit, tokenFits, rulesFit, timelyFitsAt}
 use Rattle.plans.specs.Planned.{smallestAt, smallestAlloc, leastAlloc, leastFits, judgedPlan, blankAlloc, planned}
 use Rattle.plans.specs.Answer.{IsPlan}
 use Rattle.plans.specs.PlanLaws.{smallest-is, time-timely, time-fddi, decides-alloc, decides-token, decides-rules, given-0, answered-refused, answered-plan}
@@ -42,7 +41,7 @@ smallest-below t h few v m i l =
     (smallest-is (t .head .ttrt) (at (t .c) i) (at (t .d) i) .least (v i) (rw (time-timely t v i h) at (m .deadlines i l)))
 
 -- the smallest allocation keeps the deadline rule, so the token rule decides
-pub smallest-token : (t : Set) → isFddi t ≡ false → t .n ≤ 128 → sumBelow (t .n) (at (smallestAlloc t .s)) + tau t ≤ t .head .ttrt → MeetsRules t (at (smallestAlloc t .s))
+pub smallest-token : (t : Set) → isFddi t ≡ false → t .n ≤ 128 → sumBelow (t .n) (at (smallestAlloc t .s)) + lost t ≤ t .head .ttrt → MeetsRules t (at (smallestAlloc t .s))
 smallest-token t h few fits =
     record {
       deadlines = λ i l.

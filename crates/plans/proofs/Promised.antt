@@ -1,5 +1,5 @@
 -- Planning keeps its promises because what it tries is at most every vector that meets the rules, and meets them itself where any does.
-use Prim.Native.Nat.{ℕ, _+_, _-_, _≤_, _<_, min}
+use Prim.Native.Nat.{ℕ, _-_, _≤_, _<_, min}
 use mathlib.Core.Path.{_≡_, refl, sym, ap, _∙_}
 use mathlib.Core.Bool.{true, false, true≢false}
 use mathlib.Core.List.{List}
@@ -11,7 +11,7 @@ use Rattle.units.specs.Numbers.{timely, fddi}
 use Rattle.units.specs.Places.{at}
 use Rattle.units.specs.SmallLaws.{below-or-not}
 use Rattle.units.specs.JudgingLaws.{true-or-false, decides-not, given, given-later}
-use Rattle.sets.specs.Rules.{tau, countAllowed, numbersAllowed, walkTimeAllowed}
+use Rattle.sets.specs.Rules.{countAllowed, numbersAllowed, walkTimeAllowed}
 use Rattle.sets.specs.Judged.{judged}
 use Rattle.sets.specs.SetLaws.{decides-count, decides-numbers, decides-walk, allowed, judged-two, judged-four, judged-five, judged-later}
 use Rattle.sets.specs.declared.Set.{Set}
@@ -33,8 +33,7 @@ time-timely t s i m = laws.time-timely t s i (rw m refl)
 time-fddi : (t : Set) (s : ℕ → ℕ) (i : ℕ) → t .n ≤ 128 → t .head .mode ≡ fddi → timeAt t s i ≡ fddiTime t s i
 time-fddi t s i few m =
     let all : min (t .n) 128 ≡ t .n = omega arith in
-    let lost : tau t + (1 - 1) ≡ tau t = omega arith in
-    laws.time-fddi t s i (rw m refl) ∙ rw (all, lost)
+    laws.time-fddi t s i (rw m refl) ∙ rw all
 
 -- ---- the smallest S
 
@@ -160,6 +159,7 @@ promised =
     record {
       time-timely = time-timely;
       time-fddi = time-fddi;
+      no-frames = λ t f. rw f (omega arith);
       rules-fddi = λ t s few m. (to-load t (rw m refl) few s, from-load t (rw m refl) few s);
       smallest = smallest-is;
       no-second = smallest-one;

@@ -18,7 +18,7 @@ use Rattle.sets.specs.declared.Set.{Set}
 use Rattle.fddi.specs.Rules as fddi-rules
 use Rattle.fddi.specs.declared.Found.{Found}
 use Rattle.fddi.proofs.Promised as fddi-plans
-use Rattle.plans.specs.Rules.{isFddi, loadOf, timeAt, inRangeS, deadlineFitsAt, deadlinesFit, tokenFits, rulesFit, allocInRange}
+use Rattle.plans.specs.Rules.{isFddi, loadOf, lost, timeAt, inRangeS, deadlineFitsAt, deadlinesFit, tokenFits, rulesFit, allocInRange}
 use Rattle.plans.specs.Planned.{smallestAt, smallestAlloc, leastAlloc, leastFits, judgedPlan, planned}
 use Rattle.plans.specs.PlanLaws.{time-timely, time-fddi}
 use Rattle.plans.specs.declared.Alloc.{Alloc}
@@ -31,12 +31,15 @@ module _ (a b : Set) (same : SameSet a b) where
   ttrt-same : a .head .ttrt ≡ b .head .ttrt
   ttrt-same = ap (λ (h : Head). h .ttrt) (same .header)
 
+  lost-same : lost a ≡ lost b
+  lost-same = rw (tau-same a b same, same .header)
+
   load-same : fddi-rules.SameLoad (loadOf a) (loadOf b)
   load-same =
       record {
         count = same .count;
         ttrt = ttrt-same;
-        frame = refl;
+        frame = ap (λ (h : Head). h .frame) (same .header);
         grid = refl;
         tau = tau-same a b same;
         longest = λ i l. same .longest i (omega arith);
@@ -55,7 +58,7 @@ module _ (a b : Set) (same : SameSet a b) where
     time-same i l =
         ⊎-elim (λ h.
         time-fddi a s i h ∙
-        rw (others-same i l, ttrt-same, tau-same a b same, same .deadline i l, each i l) (sym (time-fddi b v i (sym mode-same ∙ h))))
+        rw (others-same i l, ttrt-same, lost-same, same .deadline i l, each i l) (sym (time-fddi b v i (sym mode-same ∙ h))))
         (λ h.
         time-timely a s i h ∙ rw (ttrt-same, same .deadline i l, each i l) (sym (time-timely b v i (sym mode-same ∙ h))))
         (true-or-false (isFddi a))
@@ -63,7 +66,7 @@ module _ (a b : Set) (same : SameSet a b) where
     token-same : tokenFits a s ≡ tokenFits b v
     token-same =
         let sums : sumBelow (a .n) s ≡ sumBelow (b .n) v = sum-same (a .n) s v each ∙ ap (λ (n : ℕ). sumBelow n v) (same .count) in
-        rw (sums, tau-same a b same, same .header)
+        rw (sums, lost-same, ttrt-same)
 
     deadlines-same : deadlinesFit a s ≡ deadlinesFit b v
     deadlines-same =

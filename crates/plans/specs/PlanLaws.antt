@@ -11,12 +11,12 @@ use Rattle.units.specs.Small.{roundedUp}
 use Rattle.units.specs.Places.{at, sumBelow}
 use Rattle.units.specs.PlaceLaws.{decides-all}
 use Rattle.units.specs.JudgingLaws.{Decides, decides-le, decides-both, held, failed, given, given-later, not-given, iff-then, iff-under}
-use Rattle.sets.specs.Rules.{tau, CountAllowed, WalkTimeAllowed, countAllowed, numbersAllowed, walkTimeAllowed}
+use Rattle.sets.specs.Rules.{CountAllowed, WalkTimeAllowed, countAllowed, numbersAllowed, walkTimeAllowed}
 use Rattle.sets.specs.SetLaws.{decides-count, decides-numbers, decides-walk}
 use Rattle.sets.specs.declared.Set.{Set}
 use Rattle.units.specs.SmallLaws.{below-or-not, one-more, shares-enough, shares-least}
 use Rattle.fddi.specs.Rules as fddi-rules
-use Rattle.plans.specs.Rules.{wholeRotations, alpha, timeWith, leastTime, isFddi, loadOf, timeAt, MeetsDeadlines, MeetsRules, AllocInRange, IsSmallest, InRange, KeepsRules, inRangeS, deadlineFitsAt, deadlinesFit, tokenFits, rulesFit, allocInRange}
+use Rattle.plans.specs.Rules.{lost, wholeRotations, alpha, timeWith, leastTime, isFddi, loadOf, timeAt, MeetsDeadlines, MeetsRules, AllocInRange, IsSmallest, InRange, KeepsRules, inRangeS, deadlineFitsAt, deadlinesFit, tokenFits, rulesFit, allocInRange}
 use Rattle.plans.specs.Planned.{smallestWith, smallestFor, judgedPlan, blankAlloc, answered}
 use Rattle.plans.specs.declared.Alloc.{Alloc}
 
@@ -128,8 +128,8 @@ pub decides-deadlines : (t : Set) (s : ℕ → ℕ) → Decides (deadlinesFit t 
 decides-deadlines t s =
     decides-all (t .n) (deadlineFitsAt t s) (λ i. at (t .c) i ≤ timeAt t s i) (λ i. decides-le (at (t .c) i) (timeAt t s i))
 
-pub decides-token : (t : Set) (s : ℕ → ℕ) → Decides (tokenFits t s) (sumBelow (t .n) s + tau t ≤ t .head .ttrt)
-decides-token t s = decides-le (sumBelow (t .n) s + tau t) (t .head .ttrt)
+pub decides-token : (t : Set) (s : ℕ → ℕ) → Decides (tokenFits t s) (sumBelow (t .n) s + lost t ≤ t .head .ttrt)
+decides-token t s = decides-le (sumBelow (t .n) s + lost t) (t .head .ttrt)
 
 pub decides-rules : (t : Set) (s : ℕ → ℕ) → Decides (rulesFit t s) (MeetsRules t s)
 decides-rules t s =

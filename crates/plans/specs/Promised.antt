@@ -9,7 +9,7 @@ use Rattle.sets.specs.Rules.{tau, CountAllowed, WalkTimeAllowed, SameSet}
 use Rattle.sets.specs.Judged.{judged}
 use Rattle.sets.specs.declared.Set.{Set}
 use Rattle.fddi.specs.Rules.{timeWith, rest, others, MeetsFddi}
-use Rattle.plans.specs.Rules.{wholeRotations, leastTime, loadOf, timeAt, MeetsRules, IsSmallest, InRange, KeepsRules}
+use Rattle.plans.specs.Rules.{lost, wholeRotations, leastTime, timeAt, MeetsRules, IsSmallest, InRange, KeepsRules, loadOf}
 use Rattle.plans.specs.Planned.{smallestFor, judgedPlan, planned, blankAlloc}
 use Rattle.plans.specs.Answer.{Fitting, IsPlan}
 use Rattle.plans.specs.declared.Alloc.{Alloc}
@@ -18,7 +18,7 @@ use Rattle.plans.specs.declared.Planned.{Planned}
 -- FDDI's X at station i, written out
 abbrev pub fddiTime : Set → (ℕ → ℕ) → ℕ → ℕ
 fddiTime t s i =
-    timeWith (wholeRotations (t .head .ttrt) (at (t .d) i)) (rest (t .head .ttrt) (at (t .d) i) - (tau t + others (t .n) s i)) (s i)
+    timeWith (wholeRotations (t .head .ttrt) (at (t .d) i)) (rest (t .head .ttrt) (at (t .d) i) - (lost t + others (t .n) s i)) (s i)
 
 -- what a plan that planning answered keeps
 pub record KeptBy (t : Set) (a : Planned) : Type 0 where
@@ -32,8 +32,10 @@ pub record KeptBy (t : Set) (a : Planned) : Type 0 where
 pub record Promised : Type 0 where
   -- timely-token: X at a station is 01's, by the station's own S
   pub time-timely : (t : Set) (s : ℕ → ℕ) (i : ℕ) → t .head .mode ≡ timely → timeAt t s i ≡ leastTime (t .head .ttrt) (at (t .d) i) (s i)
-  -- FDDI: X at a station is 02's, with q = D / TTRT, r the rest, and the other stations' S: 0 for q = 0, else (q − 1)·S + (r − τ − the others' S), held between 0 and S
+  -- FDDI: X at a station is 02's, with q = D / TTRT, r the rest, and the other stations' S: 0 for q = 0, else (q − 1)·S + (r − τ − (F − 1) − the others' S), held between 0 and S
   pub time-fddi : (t : Set) (s : ℕ → ℕ) (i : ℕ) → t .n ≤ mostStations → t .head .mode ≡ fddi → timeAt t s i ≡ fddiTime t s i
+  -- with F 1 no station loses more than τ, so both rules and A* are those of before
+  pub no-frames : (t : Set) → t .head .frame ≡ 1 → lost t ≡ tau t
   -- FDDI: the rules are those of `fddi`, of the set's load
   pub rules-fddi : (t : Set) (s : ℕ → ℕ) → t .n ≤ mostStations → t .head .mode ≡ fddi → MeetsRules t s ↔ MeetsFddi (loadOf t) s
   -- `smallest` meets the deadline rule, and every number that meets it is at least as large: for all numbers, TTRT 0 among them

@@ -10,6 +10,10 @@ use Rattle.fddi.specs.Rules as fddi-rules
 use Rattle.fddi.specs.declared.Load.{Load}
 use Rattle.plans.specs.declared.Alloc.{Alloc}
 
+-- what no station may plan with: τ, and F − 1 ticks by which a frame may run on past the limit
+abbrev pub lost : Set → ℕ
+lost t = tau t + (t .head .frame - 1)
+
 -- m = D / TTRT rounded down
 abbrev pub wholeRotations : ℕ → ℕ → ℕ
 wholeRotations ttrt d = d / ttrt
@@ -39,9 +43,9 @@ pub record IsSmallest (ttrt c d s : ℕ) : Type 0 where
 abbrev pub isFddi : Set → Bool
 isFddi t = eqb (t .head .mode) fddi
 
--- what FDDI's rules look at; a frame is one tick long, and every whole number is on the grid
+-- what FDDI's rules look at; every whole number is on the grid
 abbrev pub loadOf : Set → Load
-loadOf t = record { n = t .n; ttrt = t .head .ttrt; frame = 1; grid = 1; tau = tau t; c = t .c; d = t .d }
+loadOf t = record { n = t .n; ttrt = t .head .ttrt; frame = t .head .frame; grid = 1; tau = tau t; c = t .c; d = t .d }
 
 -- X at station i of a whole vector, by the mode: FDDI's looks at the other stations' S too (003, Theorem 2)
 unfoldable pub timeAt : Set → (ℕ → ℕ) → ℕ → ℕ
@@ -54,17 +58,17 @@ MeetsDeadlines t s = (i : ℕ) → i < t .n → at (t .c) i ≤ timeAt t s i
 -- both rules, of any vector of numbers whatever
 pub record MeetsRules (t : Set) (s : ℕ → ℕ) : Type 0 where
   pub deadlines : MeetsDeadlines t s
-  -- the token rule: the sum of all S at most TTRT − τ, written without a difference
-  pub token : sumBelow (t .n) s + tau t ≤ t .head .ttrt
+  -- the token rule: the sum of all S at most TTRT − τ − (F − 1), written without a difference
+  pub token : sumBelow (t .n) s + lost t ≤ t .head .ttrt
 
 -- s is the least vector: it meets the rules, and is at most every vector that does, at every station
 pub record IsLeast (t : Set) (s : ℕ → ℕ) : Type 0 where
   pub meets : MeetsRules t s
   pub least : (other : ℕ → ℕ) → MeetsRules t other → (i : ℕ) → i < t .n → s i ≤ other i
 
--- A*, the spare time: TTRT − τ − the sum of S
+-- A*, the spare time: TTRT − τ − (F − 1) − the sum of S
 abbrev pub spareTime : Set → (ℕ → ℕ) → ℕ
-spareTime t s = t .head .ttrt - tau t - sumBelow (t .n) s
+spareTime t s = t .head .ttrt - lost t - sumBelow (t .n) s
 
 -- every S of a plan is 0 to 1,000,000
 abbrev pub AllocInRange : Set → (ℕ → ℕ) → Type 0
@@ -87,7 +91,7 @@ abbrev pub deadlinesFit : Set → (ℕ → ℕ) → Bool
 deadlinesFit t s = allBelow (t .n) (deadlineFitsAt t s)
 
 abbrev pub tokenFits : Set → (ℕ → ℕ) → Bool
-tokenFits t s = leb (sumBelow (t .n) s + tau t) (t .head .ttrt)
+tokenFits t s = leb (sumBelow (t .n) s + lost t) (t .head .ttrt)
 
 -- both rules
 abbrev pub rulesFit : Set → (ℕ → ℕ) → Bool

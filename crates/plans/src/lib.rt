@@ -6,6 +6,7 @@ ghost use Prim.Native.Nat.{_+_, _≤_};
 ghost use Rattle.units.specs.Places.{at, allBelow};
 ghost use Rattle.sets.specs.Rules.{CountAllowed, NumbersAllowed};
 ghost use Rattle.units.specs.Small.{UpTo};
+ghost use Rattle.plans.specs.Bounds.{Lost};
 ghost use Rattle.plans.specs.Rules.{leastTime, loadOf, spareTime, inRangeS, timelyFitsAt, tokenFits, rulesFit};
 ghost use Rattle.plans.specs.Planned.{blankAlloc, smallestFor, smallestAlloc, leastAlloc, leastFits, judgedPlan, planned};
 use fddi::Load;
@@ -93,14 +94,20 @@ fn deadlines_fit(t: Set, a: Alloc) -> bool
     all
 }
 
+// What no station may plan with: τ, and the F − 1 ticks by which a frame may run on.
+fn lost(t: Set) -> u64
+    ensures { λ r. ⌜ Lost t r ⌝ }
+{
+    sets::walk_time(t) + units::room(units::wide(t.head.frame), 1)
+}
+
 // The token rule holds.
 fn token_fits(t: Set, a: Alloc) -> bool
     ensures { λ r. ⌜ r ≡ tokenFits t (at (a .s)) ⌝ }
 {
     let s = a.s;
     let sum = units::sum_first(s, t.n);
-    let tau = sets::walk_time(t);
-    sum + tau <= units::wide(t.head.ttrt)
+    sum + lost(t) <= units::wide(t.head.ttrt)
 }
 
 // What FDDI's rules look at.
@@ -112,7 +119,7 @@ fn load_of(t: Set) -> Load
     Load {
         n: t.n,
         ttrt: t.head.ttrt,
-        frame: 1,
+        frame: t.head.frame,
         grid: 1,
         tau: sets::walk_time(t),
         c,
@@ -138,8 +145,7 @@ pub fn spare(t: Set, a: Alloc) -> u64
 {
     let s = a.s;
     let sum = units::sum_first(s, t.n);
-    let tau = sets::walk_time(t);
-    units::room(units::room(units::wide(t.head.ttrt), tau), sum)
+    units::room(units::room(units::wide(t.head.ttrt), lost(t)), sum)
 }
 
 // The judgement of a given set and allocation: 0, or the lowest of 2, 4, 5 and 7 that applies.

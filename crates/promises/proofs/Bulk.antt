@@ -1,32 +1,32 @@
 -- What `Waits` says of lists of visits is said of the visits among further calls: these are the latest of the run, the first of them starts at the clock from which the calls go on, and the asks are those of the accepted visits.
-use Prim.Native.Nat.{ℕ, zero, suc, _+_, _*_, _≤_, _<_, min}
+use Prim.Native.Nat.{ℕ, zero, suc, _+_, _*_, _≤_, _<_}
 use mathlib.Core.Path.{_≡_, refl, ap, _∙_}
 use mathlib.Core.List.{List, [], _∷_, _++_, append-nil, append-assoc}
-use mathlib.Core.Logic.{_⊎_, inl, inr, ⊎-elim}
+use mathlib.Core.Logic.{_⊎_, inl, inr, _≢_, ⊎-elim}
 use native.Mathlib.Nat.{mul-comm}
 use native.Mathlib.Omega.{arith}
 use lib.ListN.{length}
-use Rattle.units.specs.Numbers.{mostClock}
 use Rattle.units.specs.Places.{at}
 use Rattle.units.specs.SmallLaws.{below-or-not, one-more}
 use Rattle.sets.specs.declared.Set.{Set}
 use Rattle.plans.specs.Rules.{spareTime}
 use Rattle.plans.specs.Planned.{judgedPlan}
 use Rattle.plans.specs.declared.Alloc.{Alloc}
-use Rattle.rings.specs.Steps.{Ask, visited, recordOf}
+use Rattle.rings.specs.Steps.{Ask, blankRecord, visitNumber, visited}
 use Rattle.rings.specs.HandingIn.{handInNumber, handedIn}
 use Rattle.rings.specs.declared.Ring.{Ring}
 use Rattle.rings.specs.declared.Message.{Message}
 use Rattle.rings.specs.declared.VisitRecord.{VisitRecord}
 use Rattle.promises.specs.Run.{Call, visit, message, Run, noted, after, run, runOf}
-use Rattle.promises.specs.History.{Each, Somewhere}
+use Rattle.promises.specs.History.{overrunOf, Each, Somewhere}
 use Rattle.promises.specs.Facts.{Timing, timing}
 use Rattle.promises.specs.Valid.{Timely as Mode, InTurn}
-use Rattle.promises.specs.Bulk.{visitsAmong, Asks, AlwaysAsks, Offered, longestWait, BulkServed}
-use Rattle.promises.proofs.Course.{Plan}
+use Rattle.promises.specs.Bulk.{visitsAmong, ticksAsked, Asks, AlwaysAsks, Offered, longestWait, BulkServed}
+use Rattle.promises.proofs.Course.{Plan, same-or-not}
 use Rattle.promises.proofs.Timing.{latest-within}
+use Rattle.promises.proofs.Steps.{visit-enough}
 use Rattle.promises.proofs.Opening.{plan-of}
-use Rattle.promises.proofs.Runs.{made, heldRun, visit-goes, visit-stops, course-facts, message-facts, after-message, steady-after, steady-run}
+use Rattle.promises.proofs.Runs.{made, heldRun, visit-goes, visit-stops, not-noted, course-facts, message-facts, after-message, steady-after, steady-run}
 use Rattle.promises.proofs.Timely.{TimelyVisit, Timely, steady, timely}
 use Rattle.promises.proofs.Lists.{somewhere-of, each-append, each-both}
 use Rattle.promises.proofs.Rotations.{InOrder, soon}
@@ -61,9 +61,13 @@ visits-more s (message m) later = splits later (handedIn (s .ring) m .ring) [] [
 
 -- ---- what one call adds
 
+-- all that is offered is sent, and at most F − 1 beyond it
+abbrev AllSent : Set → VisitRecord → Type 0
+AllSent t v = (v .limit .0 ≤ v .asynchronous .0) × (v .asynchronous .0 ≤ v .limit .0 + overrunOf t)
+
 -- if it is station i's, it sends all that it is offered
-abbrev SendsAll : ℕ → VisitRecord → Type 0
-SendsAll i v = v .station .0 ≡ i → v .asynchronous .0 ≡ v .limit .0
+abbrev SendsAll : Set → ℕ → VisitRecord → Type 0
+SendsAll t i v = v .station .0 ≡ i → AllSent t v
 
 module _ (t : Set) (a : Alloc) (P : Plan t a) (s : Run) (K : Timely t a s) where
   -- no visit, and the clock stays
@@ -74,7 +78,7 @@ module _ (t : Set) (a : Alloc) (P : Plan t a) (s : Run) (K : Timely t a s) where
   -- an accepted visit
   record AddsVisit (c : Call) : Type 0 where
     ask : Ask
-    early : s .ring .clock ≤ mostClock
+    goes : visitNumber (s .ring) ask ≡ 0
     call : c ≡ visit ask
     one : visitsAmong s (c ∷ []) ≡ made s ask ∷ []
 
@@ -88,31 +92,25 @@ module _ (t : Set) (a : Alloc) (P : Plan t a) (s : Run) (K : Timely t a s) where
   adds : (c : Call) → AddsNone c ⊎ AddsVisit c
   unfolding run after noted
   adds (visit ask) =
-      ⊎-elim (λ (late : mostClock < s .ring .clock).
-      inl (record { none = rw (visit-stops (s .ring) ask (K .common .sound) late); clock = rw (visit-stops (s .ring) ask (K .common .sound) late) }))
-      (λ (early : s .ring .clock ≤ mostClock).
-      inr (record { ask = ask; early = early; call = refl; one = rw (visit-goes (s .ring) ask (K .common .sound) early) }))
-      (below-or-not mostClock (s .ring .clock))
+      ⊎-elim (λ (go : visitNumber (s .ring) ask ≡ 0). inr (record { ask = ask; goes = go; call = refl; one = rw (visit-goes (s .ring) ask go) }))
+      (λ (not : visitNumber (s .ring) ask ≢ 0).
+      inl (record { none = rw (visit-stops (s .ring) ask not) (not-noted (visitNumber (s .ring) ask) blankRecord [] not); clock = rw (visit-stops (s .ring) ask not) }))
+      (same-or-not (visitNumber (s .ring) ask) 0)
   adds (message m) = inl (record { none = refl; clock = clock-stays m })
 
-  -- an accepted visit sends the smaller of its limit and what it asks for
-  sent-is : (ask : Ask) → made s ask .asynchronous .0 ≡ min (made s ask .limit .0) ask
-  unfolding recordOf
-  sent-is ask = refl
-
   -- a visit that asks for at least A* sends all of its limit, which is at most A*
-  all-sent : (ask : Ask) → s .ring .clock ≤ mostClock → spareTime t (at (a .s)) ≤ ask → made s ask .asynchronous .0 ≡ made s ask .limit .0
-  all-sent ask early enough =
-      let L = steady t a P .moves s K ask early .each .0 .limit in
-      omega (arith, sent-is ask, L .exact)
+  all-sent : (ask : Ask) → visitNumber (s .ring) ask ≡ 0 → spareTime t (at (a .s)) ≤ ticksAsked ask → AllSent t (made s ask)
+  all-sent ask go enough =
+      let L = steady t a P .moves s K ask go .each .0 .limit in
+      (visit-enough (s .ring) (K .common .places) ask go (omega (arith, L .exact)), L .within)
 
   -- so does the visit that this call adds
-  call-sends : (i : ℕ) (c : Call) → Asks i (spareTime t (at (a .s))) s c → Each (λ v before. SendsAll i v) (visitsAmong s (c ∷ []))
+  call-sends : (i : ℕ) (c : Call) → Asks i (spareTime t (at (a .s))) s c → Each (λ v before. SendsAll t i v) (visitsAmong s (c ∷ []))
   call-sends i c asks =
       ⊎-elim (λ (n : AddsNone c). rw (n .none) tt)
       (λ (w : AddsVisit c).
-      let enough = rw (visit-goes (s .ring) (w .ask) (K .common .sound) (w .early)) at (rw (w .call) at asks) in
-      rw (w .one) (λ e. all-sent (w .ask) (w .early) (omega (arith, enough (omega arith) (omega (arith, e)))), tt))
+      let enough = rw (visit-goes (s .ring) (w .ask) (w .goes)) at (rw (w .call) at asks) in
+      rw (w .one) (λ e. all-sent (w .ask) (w .goes) (omega (arith, enough (omega arith) (omega (arith, e)))), tt))
       (adds c)
 
 -- ---- along further calls
@@ -149,16 +147,16 @@ module _ (t : Set) (a : Alloc) (P : Plan t a) where
         newer = visitsAmong (after s c) later;
         first = made s (w .ask);
         visits = visits-more s c later ∙ ap (λ (l : List VisitRecord). visitsAmong (after s c) later ++ l) (w .one);
-        start = course-facts t a P s (K .common) (w .ask) .start;
+        start = course-facts t a P s (K .common) (w .ask) (w .goes) .start;
       }))
       (adds t a P s K c)
 
-  sends : (i : ℕ) (later : List Call) (s : Run) → Timely t a s → AlwaysAsks i (spareTime t (at (a .s))) s later → Each (λ v before. SendsAll i v) (visitsAmong s later)
+  sends : (i : ℕ) (later : List Call) (s : Run) → Timely t a s → AlwaysAsks i (spareTime t (at (a .s))) s later → Each (λ v before. SendsAll t i v) (visitsAmong s later)
   unfolding run
   sends i [] s K asks = tt
   sends i (c ∷ later) s K asks =
       rw (visits-more s c later)
-      (each-append (SendsAll i) (visitsAmong (after s c) later) (visitsAmong s (c ∷ [])) (sends i later (after s c) (next s K c) (asks .1)) (call-sends t a P s K i c (asks .0)))
+      (each-append (SendsAll t i) (visitsAmong (after s c) later) (visitsAmong s (c ∷ [])) (sends i later (after s c) (next s K c) (asks .1)) (call-sends t a P s K i c (asks .0)))
 
   -- ---- the promise
 

@@ -11,13 +11,14 @@ use Rattle.rings.specs.Opening.{openedRing, openedWith}
 use Rattle.rings.specs.Sound.{isSound}
 use Rattle.rings.specs.State.{following}
 use Rattle.rings.specs.Timers.{limit, timersAfter, timelyAfter, silentTimers, silentTimely, timersSound, timelySound}
+use Rattle.rings.specs.Frames.{framesFrom}
 use Rattle.rings.specs.Steps.{syncSent, moved, recordOf, visitedWith}
 use Rattle.rings.specs.HandingIn.{arrivalAllowed, holding, takenWith}
 use Rattle.promises.specs.Run.{noted, after, run}
 use Rattle.promises.specs.BulkWitness.{BulkWaits}
 
 pub bulk-waits : BulkWaits
-unfolding smallestWith judgedThen orElse answered leastAlloc sumBelow allBelow fill raise headInRange stationInRange allHold timeAt judgedPlan openedRing openedWith isSound syncSent following limit timersAfter timelyAfter silentTimers silentTimely timersSound timelySound moved recordOf visitedWith arrivalAllowed holding takenWith noted after run
+unfolding smallestWith judgedThen orElse answered leastAlloc sumBelow allBelow fill raise headInRange stationInRange allHold timeAt judgedPlan openedRing openedWith isSound framesFrom syncSent following limit timersAfter timelyAfter silentTimers silentTimely timersSound timelySound moved recordOf visitedWith arrivalAllowed holding takenWith noted after run
 bulk-waits =
     record {
       plan = refl;

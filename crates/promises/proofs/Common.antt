@@ -2,13 +2,12 @@
 use Prim.Native.Nat.{ℕ, _≤_, _<_}
 use mathlib.Core.Path.{_≡_, sym, ap, _∙_}
 use mathlib.Core.List.{List}
-use mathlib.Core.Logic.{_⊎_, inl, inr, _≢_, _↔_, ⊎-elim}
+use mathlib.Core.Logic.{_≢_, _↔_, ⊎-elim}
 use mathlib.Core.Option.{none, some}
 use native.Mathlib.Omega.{arith}
 use Rattle.units.specs.Numbers.{mostClock}
 use Rattle.units.specs.Places.{at}
 use Rattle.units.specs.JudgingLaws.{held, not-given}
-use Rattle.units.specs.SmallLaws.{below-or-not}
 use Rattle.sets.specs.declared.Set.{Set}
 use Rattle.plans.specs.declared.Alloc.{Alloc}
 use Rattle.rings.specs.Sound.{isSound}
@@ -17,37 +16,29 @@ use Rattle.rings.specs.HandingIn.{messageNumber, handedIn}
 use Rattle.rings.specs.RingLaws.{sound-sentences}
 use Rattle.rings.specs.declared.Message.{Message}
 use Rattle.rings.specs.declared.VisitRecord.{VisitRecord}
+use Rattle.ring_rules.proofs.Promised.{promised as rules}
 use Rattle.promises.specs.Run.{Call, Run, runOf, ringOf}
 use Rattle.promises.specs.History.{syncStartOf, latestOf, latestFor}
 use Rattle.promises.specs.Facts.{timing}
-use Rattle.promises.specs.Valid.{Common}
+use Rattle.promises.specs.Valid.{FramesNamed, Common}
 use Rattle.promises.proofs.Course.{Plan, Unvisited, Since}
 use Rattle.promises.proofs.Stores.{Latest, Never}
-use Rattle.promises.proofs.Runs.{Kept, Steady, visit-goes, visit-stops, message-number}
+use Rattle.promises.proofs.Runs.{Kept, Steady, message-number}
 use Rattle.promises.proofs.Followed.{Follows, followed-from}
 
 module _ (t : Set) (a : Alloc) (s : Run) (K : Kept t a s) where
   -- ---- visits
 
-  -- the number of a visit: 0 or 13
-  visit-answers : (ask : Ask) → ((s .ring .clock ≤ mostClock) × (visited (s .ring) ask .answer .number ≡ 0)) ⊎ ((mostClock < s .ring .clock) × (visited (s .ring) ask .answer .number ≡ 13))
-  visit-answers ask =
-      ⊎-elim (λ (late : mostClock < s .ring .clock). inr (late, rw (visit-stops (s .ring) ask (K .sound) late)))
-      (λ (early : s .ring .clock ≤ mostClock). inl (early, rw (visit-goes (s .ring) ask (K .sound) early)))
-      (below-or-not mostClock (s .ring .clock))
-
   never-8 : (ask : Ask) → visited (s .ring) ask .answer .number ≢ 8
-  never-8 ask =
-      ⊎-elim (λ (g : (s .ring .clock ≤ mostClock) × (visited (s .ring) ask .answer .number ≡ 0)). omega arith)
-      (λ (g : (mostClock < s .ring .clock) × (visited (s .ring) ask .answer .number ≡ 13)). omega arith)
-      (visit-answers ask)
+  never-8 ask e = rules .visit-eight (s .ring) ask .0 e (sound-sentences (s .ring) (K .sound))
 
-  goes-exactly : (ask : Ask) → (visited (s .ring) ask .answer .number ≡ 0) ↔ (s .ring .clock ≤ mostClock)
+  goes-exactly : (ask : Ask) → (visited (s .ring) ask .answer .number ≡ 0) ↔ (FramesNamed t ask × (s .ring .clock ≤ mostClock))
   goes-exactly ask =
-      ⊎-elim (λ (g : (s .ring .clock ≤ mostClock) × (visited (s .ring) ask .answer .number ≡ 0)). ((λ _. g .0), (λ _. g .1)))
-      (λ (g : (mostClock < s .ring .clock) × (visited (s .ring) ask .answer .number ≡ 13)).
-      ((λ e. absurd (omega arith)), (λ l. absurd (omega arith))))
-      (visit-answers ask)
+      let F = ap (λ (x : Set). x .head .frame) (K .course .set) in
+      let exactly = rules .visit-none (s .ring) ask in (
+        λ e. let g = exactly .0 e .1 in ((g .0 .0, omega (arith, g .0 .1, F)), g .1),
+        λ g. exactly .1 (sound-sentences (s .ring) (K .sound), ((g .0 .0, omega (arith, g .0 .1, F)), g .1)),
+      )
 
   -- ---- messages
 
@@ -93,7 +84,7 @@ module _ (t : Set) (a : Alloc) (s : Run) (K : Kept t a s) where
 
 module _ (t : Set) (a : Alloc) (P : Plan t a) (K : Run → Type 0) (S : Steady t a K) (every : (calls : List Call) → K (runOf t a calls)) where
   to-the-end : (m : Message) → Follows t m K (λ r. Unit {0}) (λ v. Unit {0})
-  to-the-end m = record { waits = λ s k h e. tt; ends = λ s k ask b e c. tt }
+  to-the-end m = record { waits = λ s k h e. tt; ends = λ s k ask go b e c. tt }
 
   kept : (calls : List Call) → Kept t a (runOf t a calls)
   kept calls = S .common (runOf t a calls) (every calls)
@@ -108,9 +99,7 @@ module _ (t : Set) (a : Alloc) (P : Plan t a) (K : Run → Type 0) (S : Steady t
         sound = λ calls. sound-sentences (ringOf t a calls) (kept calls .sound);
         no-visit-8 = λ calls. never-8 t a (runOf t a calls) (kept calls);
         no-message-8 = λ calls. message-never-8 t a (runOf t a calls) (kept calls);
-        goes = λ calls ask.
-            let exactly = goes-exactly t a (runOf t a calls) (kept calls) ask in
-            (λ e. omega (arith, exactly .0 e), λ l. exactly .1 (omega arith));
+        goes = λ calls. goes-exactly t a (runOf t a calls) (kept calls);
         counted = λ calls. kept calls .course .counted;
         bounded = λ calls. omega (arith, kept calls .course .counted, kept calls .course .bounded);
         last-start = λ calls. last-is t a (runOf t a calls) (kept calls);

@@ -3,63 +3,66 @@ use Prim.Native.Nat.{ℕ, _+_, _≤_}
 use mathlib.Core.Path.{_≡_, sym, ap, _∙_}
 use mathlib.Core.List.{List}
 use native.Mathlib.Omega.{arith}
-use Rattle.units.specs.Numbers.{mostClock}
 use Rattle.sets.specs.Rules.{tau}
 use Rattle.sets.specs.declared.Set.{Set}
 use Rattle.plans.specs.declared.Alloc.{Alloc}
-use Rattle.rings.specs.Steps.{Ask}
+use Rattle.rings.specs.Steps.{Ask, visitNumber}
 use Rattle.rings.specs.Timers.{Fddi, silentTrt}
 use Rattle.rings.specs.HandingIn.{handInNumber}
 use Rattle.rings.specs.declared.Message.{Message}
 use Rattle.promises.specs.Run.{Call, Run, opened, runOf, ringOf, recordsOf}
-use Rattle.promises.specs.History.{latestOf, Each}
+use Rattle.promises.specs.History.{overrunOf, latestOf, Each}
 use Rattle.promises.specs.Facts.{timing, VisitLaps}
 use Rattle.promises.specs.Valid.{Apart, FirstWithin, NeverLate, FddiKept, allShares}
 use Rattle.promises.proofs.Lists.{each-of}
 use Rattle.promises.proofs.Course.{Plan}
-use Rattle.promises.proofs.Laps.{Lapped, latest-within, first-within, late-small, rise-small, lapped-kept}
-use Rattle.promises.proofs.Steps.{visit-laps}
+use Rattle.promises.proofs.Laps.{Lapped, latest-within, late-small, rise-small, lapped-kept, first-within}
+use Rattle.promises.proofs.Steps.{visit-early, visit-laps}
 use Rattle.promises.proofs.Opening.{opened-places, opened-lapped, opened-stored, opened-told}
 use Rattle.promises.proofs.Soundness.{is-sound, lapped-sound}
-use Rattle.promises.proofs.Runs.{Kept, made, movedRun, heldRun, sound-ring, course-facts, next-stored, kept-moved, message-facts, kept-held, Steady, steady-run}
+use Rattle.promises.proofs.Runs.{Kept, made, movedRun, heldRun, course-facts, next-stored, kept-moved, message-facts, kept-held, Steady, steady-run}
+
+-- TTRT + the sum of S + (F − 1)
+abbrev most : Set → Alloc → ℕ
+most t a = t .head .ttrt + allShares t a + overrunOf t
 
 pub record Older (t : Set) (a : Alloc) (s : Run) : Type 0 where
   pub common : Kept t a s
   pub lapped : Lapped t a (timing (s .ring)) (s .records)
-  pub apart : Each (Apart (t .head .ttrt + allShares t a)) (s .records)
-  pub first : Each (FirstWithin t (t .head .ttrt + allShares t a)) (s .records)
+  pub apart : Each (Apart (most t a)) (s .records)
+  pub first : Each (FirstWithin t (most t a)) (s .records)
 
 module _ (t : Set) (a : Alloc) (P : Plan t a) (s : Run) (K : Older t a s) where
-  lap-facts : (ask : Ask) → VisitLaps t a (timing (s .ring)) (timing (movedRun s ask .ring)) (made s ask)
-  lap-facts ask = visit-laps (s .ring) (K .common .places) (sound-ring t a P s (K .common)) ask t a (K .common .course .set) (K .common .course .alloc) (K .lapped .mode)
+  lap-facts : (ask : Ask) → visitNumber (s .ring) ask ≡ 0 → VisitLaps t a (timing (s .ring)) (timing (movedRun s ask .ring)) (made s ask)
+  lap-facts ask go = visit-laps (s .ring) (K .common .places) ask go t a (K .common .course .set) (K .common .course .alloc) (K .lapped .mode)
 
   -- the token's station was visited at most so long ago
-  made-apart : (ask : Ask) → Apart (t .head .ttrt + allShares t a) (made s ask) (s .records)
-  made-apart ask u e =
-      let C = course-facts t a P s (K .common) ask in
+  made-apart : (ask : Ask) → visitNumber (s .ring) ask ≡ 0 → Apart (most t a) (made s ask) (s .records)
+  made-apart ask go u e =
+      let C = course-facts t a P s (K .common) ask go in
       let own = ap (λ (i : ℕ). latestOf i (s .records)) (sym (C .station)) ∙ e in
       omega (arith, C .start, latest-within t a (timing (s .ring)) (s .records) P (K .lapped) (s .ring .token) (K .common .course .token) u own)
 
   -- or, at its first visit, passed by the silent rotation at most so long ago
-  made-first : (ask : Ask) → FirstWithin t (t .head .ttrt + allShares t a) (made s ask) (s .records)
-  made-first ask e =
-      let C = course-facts t a P s (K .common) ask in
+  made-first : (ask : Ask) → visitNumber (s .ring) ask ≡ 0 → FirstWithin t (most t a) (made s ask) (s .records)
+  made-first ask go e =
+      let C = course-facts t a P s (K .common) ask go in
       let own = ap (λ (i : ℕ). latestOf i (s .records)) (sym (C .station)) ∙ e in
       omega (arith, C .start, ap (silentTrt t) (C .station), first-within t a (timing (s .ring)) (s .records) P (K .lapped) (s .ring .token) (K .common .course .token) own)
 
-  older-moved : (ask : Ask) → s .ring .clock ≤ mostClock → Older t a (movedRun s ask)
-  older-moved ask early =
+  older-moved : (ask : Ask) → visitNumber (s .ring) ask ≡ 0 → Older t a (movedRun s ask)
+  older-moved ask go =
       let r = timing (s .ring) in
       let q = timing (movedRun s ask .ring) in
-      let C = course-facts t a P s (K .common) ask in
-      let lapped = lapped-kept t a r q (made s ask) (s .records) P (K .lapped) C (lap-facts ask) early in
+      let C = course-facts t a P s (K .common) ask go in
+      let lapped = lapped-kept t a r q (made s ask) (s .records) P (K .lapped) C (lap-facts ask go) (visit-early (s .ring) (K .common .places) ask go) in
       let timers = lapped-sound t a (movedRun s ask .ring) (movedRun s ask .records) P lapped in
-      let sound = is-sound t a (movedRun s ask .ring) (movedRun s ask .records) P (lapped .course) timers (next-stored t a P s (K .common) ask) in
+      let sound = is-sound t a (movedRun s ask .ring) (movedRun s ask .records) P (lapped .course) timers (next-stored t a P s (K .common) ask go) in
       record {
-        common = kept-moved t a P s (K .common) ask (rise-small t a r q (made s ask) (s .records) P (K .lapped) C (lap-facts ask)) early sound;
+        common = kept-moved t a P s (K .common) ask go (rise-small t a r q (made s ask) (s .records) P (K .lapped) C (lap-facts ask go)) sound;
         lapped = lapped;
-        apart = (made-apart ask, K .apart);
-        first = (made-first ask, K .first);
+        apart = (made-apart ask go, K .apart);
+        first = (made-first ask go, K .first);
       }
 
   older-held : (m : Message) → handInNumber (s .ring) m ≡ 0 → Older t a (heldRun s m)
@@ -109,12 +112,12 @@ wider t a x y l N =
 
 pub fddi-kept : (t : Set) (a : Alloc) → Plan t a → Fddi t → FddiKept t a
 fddi-kept t a P e =
-    let sooner : NeverLate t a (t .head .ttrt + allShares t a) = record {
+    let sooner : NeverLate t a (most t a) = record {
       apart = λ calls. older t a P e calls .apart;
       since = λ calls i l u g. latest-within t a (timing (ringOf t a calls)) (recordsOf t a calls) P (older t a P e calls .lapped) i l u g;
     } in
     record {
-      never-late = wider t a (t .head .ttrt + allShares t a) (t .head .ttrt + allShares t a + tau t) (omega arith) sooner;
+      never-late = wider t a (most t a) (t .head .ttrt + allShares t a + tau t + overrunOf t) (omega arith) sooner;
       sooner = sooner;
       first = λ calls. older t a P e calls .first;
       first-since = λ calls. first-within t a (timing (ringOf t a calls)) (recordsOf t a calls) P (older t a P e calls .lapped);

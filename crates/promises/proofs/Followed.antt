@@ -1,16 +1,15 @@
 -- A message that was handed in is followed call by call: a visit of its own station takes what it sent off the remainder, or completes it; no other call touches it. What is to hold while it waits, and of the record that completes it, is a parameter: it has to follow from what the runs keep.
-use Prim.Native.Nat.{ℕ, _+_, _≤_, _<_}
+use Prim.Native.Nat.{ℕ, _+_, _<_}
 use mathlib.Core.Path.{_≡_, refl, sym, ap, _∙_}
 use mathlib.Core.List.{List, [], _∷_}
 use mathlib.Core.Logic.{_⊎_, inl, inr, _≢_, ⊎-elim}
 use native.Mathlib.Omega.{arith}
 use borrow.Author.Tests.{eq-eqb, ne-eqb}
 use lib.IntN.{subℕ}
-use Rattle.units.specs.Numbers.{mostClock}
 use Rattle.units.specs.Places.{at}
 use Rattle.sets.specs.declared.Set.{Set}
 use Rattle.plans.specs.declared.Alloc.{Alloc}
-use Rattle.rings.specs.Steps.{Ask}
+use Rattle.rings.specs.Steps.{Ask, visitNumber}
 use Rattle.rings.specs.HandingIn.{handInNumber}
 use Rattle.rings.specs.declared.Ring.{Ring}
 use Rattle.rings.specs.declared.Message.{Message}
@@ -39,7 +38,7 @@ sent-none i = refl
 -- what has to follow from what the runs keep: of a ring that holds the message, and of a record that completes it
 pub record Follows (t : Set) (m : Message) (K : Run → Type 0) (Waiting : Ring → Type 0) (Finished : VisitRecord → Type 0) : Type 0 where
   pub waits : (s : Run) → K s → 0 < at (s .ring .rest) (m .station .0) → at (s .ring .arrival) (m .station .0) ≡ m .arrival .0 → Waiting (s .ring)
-  pub ends : (s : Run) → K s → (ask : Ask) → m .station .0 ≡ s .ring .token → at (s .ring .arrival) (m .station .0) ≡ m .arrival .0 → Completing t (s .ring) (movedRun s ask .ring) (syncStartOf t (made s ask)) (made s ask) → Finished (made s ask)
+  pub ends : (s : Run) → K s → (ask : Ask) → visitNumber (s .ring) ask ≡ 0 → m .station .0 ≡ s .ring .token → at (s .ring .arrival) (m .station .0) ≡ m .arrival .0 → Completing t (s .ring) (movedRun s ask .ring) (syncStartOf t (made s ask)) (made s ask) → Finished (made s ask)
 
 module _ (t : Set) (a : Alloc) (P : Plan t a) (K : Run → Type 0) (S : Steady t a K) (m : Message) (known : m .station .0 < t .n) (Waiting : Ring → Type 0) (Finished : VisitRecord → Type 0) (L : Follows t m K Waiting Finished) where
   -- the message completed, and as it is to be then
@@ -55,7 +54,7 @@ module _ (t : Set) (a : Alloc) (P : Plan t a) (K : Run → Type 0) (S : Steady t
   module _ (s : Run) (k : K s) (since : List VisitRecord) (H : StillHeld m (s .ring) since) where
     -- ---- a visit more
 
-    module _ (ask : Ask) where
+    module _ (ask : Ask) (go : visitNumber (s .ring) ask ≡ 0) where
       abbrev v : VisitRecord
       v = made s ask
 
@@ -65,8 +64,8 @@ module _ (t : Set) (a : Alloc) (P : Plan t a) (K : Run → Type 0) (S : Steady t
       -- of another station
       other-visit : m .station .0 ≢ s .ring .token → StillHeld m q (v ∷ since)
       other-visit b =
-          let F = course-facts t a P s (S .common s k) ask in
-          let G = message-parts t a P s (S .common s k) ask in
+          let F = course-facts t a P s (S .common s k) ask go in
+          let G = message-parts t a P s (S .common s k) ask go in
           record {
             held = rw (G .rest-there (m .station .0) b) (H .held);
             arrival = rw (G .arrival) (H .arrival);
@@ -76,8 +75,8 @@ module _ (t : Set) (a : Alloc) (P : Plan t a) (K : Run → Type 0) (S : Steady t
       -- of its own station: completed
       own-completed : m .station .0 ≡ s .ring .token → Completing t (s .ring) q (syncStartOf t v) v → Done v since
       own-completed b c =
-          let F = course-facts t a P s (S .common s k) ask in
-          let G = message-parts t a P s (S .common s k) ask in
+          let F = course-facts t a P s (S .common s k) ask go in
+          let G = message-parts t a P s (S .common s k) ask go in
           let rest : at (s .ring .rest) (m .station .0) ≡ at (s .ring .rest) (s .ring .token) = ap (at (s .ring .rest)) b in
           let deadline : at (s .ring .arrival) (s .ring .token) + at (t .d) (s .ring .token) ≡ dueBy t m = omega (arith, H .arrival, ap (at (s .ring .arrival)) b, ap (at (t .d)) b) in (
             record {
@@ -87,14 +86,14 @@ module _ (t : Set) (a : Alloc) (P : Plan t a) (K : Run → Type 0) (S : Steady t
               finish = c .finish;
               margin = c .margin ∙ ap (λ (x : ℕ). subℕ x (v .finish .0)) deadline;
             },
-            L .ends s k ask b (H .arrival) c,
+            L .ends s k ask go b (H .arrival) c,
           )
 
       -- of its own station: something remains
       own-left : m .station .0 ≡ s .ring .token → 0 < at (q .rest) (s .ring .token) → StillHeld m q (v ∷ since)
       own-left b left =
-          let F = course-facts t a P s (S .common s k) ask in
-          let G = message-parts t a P s (S .common s k) ask in
+          let F = course-facts t a P s (S .common s k) ask go in
+          let G = message-parts t a P s (S .common s k) ask go in
           let before : at (s .ring .rest) (m .station .0) ≡ at (s .ring .rest) (s .ring .token) = ap (at (s .ring .rest)) b in
           let now : at (q .rest) (m .station .0) ≡ at (q .rest) (s .ring .token) = ap (at (q .rest)) b in
           record {
@@ -110,7 +109,7 @@ module _ (t : Set) (a : Alloc) (P : Plan t a) (K : Run → Type 0) (S : Steady t
           ⊎-elim (λ (z : at (s .ring .rest) (s .ring .token) ≡ 0). absurd (omega (arith, H .held, ap (at (s .ring .rest)) b)))
           (λ (z : 0 < at (q .rest) (s .ring .token)). inl (own-left b z))
           (c .left))
-          (message-parts t a P s (S .common s k) ask .completing)
+          (message-parts t a P s (S .common s k) ask go .completing)
 
       visit-more : StillHeld m q (v ∷ since) ⊎ Done v since
       visit-more =
@@ -133,8 +132,8 @@ module _ (t : Set) (a : Alloc) (P : Plan t a) (K : Run → Type 0) (S : Steady t
   abbrev Follow : Run → Run → Type 0
   Follow then now = Followed t m Waiting Finished then now
 
-  follow-visit : (then s : Run) (k : K s) (ask : Ask) → K (movedRun s ask) → Follow then s → Follow then (movedRun s ask)
-  follow-visit then s k ask n W =
+  follow-visit : (then s : Run) (k : K s) (ask : Ask) → visitNumber (s .ring) ask ≡ 0 → K (movedRun s ask) → Follow then s → Follow then (movedRun s ask)
+  follow-visit then s k ask go n W =
       record {
         since = made s ask ∷ W .since;
         visits = ap (λ (l : List VisitRecord). made s ask ∷ l) (W .visits);
@@ -142,7 +141,7 @@ module _ (t : Set) (a : Alloc) (P : Plan t a) (K : Run → Type 0) (S : Steady t
             ⊎-elim (λ (H : Held (s .ring) (W .since)).
             ⊎-elim (λ (x : StillHeld m (movedRun s ask .ring) (made s ask ∷ W .since)). inl (still-held (movedRun s ask) n (made s ask ∷ W .since) x))
             (λ (x : Done (made s ask) (W .since)). inr (inl x))
-            (visit-more s k (W .since) (H .0) ask))
+            (visit-more s k (W .since) (H .0) ask go))
             (λ (x : Somewhere Done (W .since)). inr (inr x))
             (W .either);
       }
@@ -160,8 +159,8 @@ module _ (t : Set) (a : Alloc) (P : Plan t a) (K : Run → Type 0) (S : Steady t
 
   follow-after : (then s : Run) → K s → (c : Call) → Follow then s → Follow then (after s c)
   follow-after then s k (visit ask) W =
-      ⊎-elim (λ (h : (s .ring .clock ≤ mostClock) × (after s (visit ask) ≡ movedRun s ask)).
-      rw (h .1) (follow-visit then s k ask (S .moves s k ask (h .0)) W))
+      ⊎-elim (λ (h : (visitNumber (s .ring) ask ≡ 0) × (after s (visit ask) ≡ movedRun s ask)).
+      rw (h .1) (follow-visit then s k ask (h .0) (S .moves s k ask (h .0)) W))
       (λ (e : after s (visit ask) ≡ s). rw e W)
       (after-visit t a P s (S .common s k) ask)
   follow-after then s k (message o) W =

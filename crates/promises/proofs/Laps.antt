@@ -15,8 +15,8 @@ use Rattle.timers.proofs.Promised.{promised as timers-promised}
 use Rattle.rings.specs.State.{following}
 use Rattle.rings.specs.Timers.{Fddi, timerOf, hasRun, silentTrt}
 use Rattle.rings.specs.declared.VisitRecord.{VisitRecord}
-use Rattle.promises.specs.History.{syncStartOf, latestOf}
-use Rattle.promises.specs.Facts.{Timing, timersIn, VisitCourse, VisitLaps, timerPlan, rises}
+use Rattle.promises.specs.History.{overrunOf, syncStartOf, latestOf}
+use Rattle.promises.specs.Facts.{Timing, VisitCourse, VisitLaps, timerPlan, rises, timersIn}
 use Rattle.promises.specs.Valid.{allShares}
 use Rattle.promises.proofs.Course.{Plan, Course, Unvisited, Since, following-is, same-or-not, latest-own, latest-other, course-kept}
 
@@ -38,15 +38,15 @@ token-rule : (t : Set) (a : Alloc) → Plan t a → TokenRule (timerPlan t a)
 token-rule t a P = omega (arith, P .token)
 
 module _ (t : Set) (a : Alloc) (r : Timing) (h : List VisitRecord) (P : Plan t a) (T : Lapped t a r h) where
-  -- no timer has run longer than TTRT + the sum of S
-  pub run-small : (i : ℕ) → i < t .n → hasRun t (timersIn r) i ≤ t .head .ttrt + allShares t a
+  -- no timer has run longer than TTRT + the sum of S + (F − 1)
+  pub run-small : (i : ℕ) → i < t .n → hasRun t (timersIn r) i ≤ t .head .ttrt + allShares t a + overrunOf t
   run-small i l =
       let first = timers-promised .first (timerPlan t a) (hasRun t (timersIn r)) (r .token) (T .kept) (T .course .token) i l in
       let most = timers-promised .arrival (timerPlan t a) (hasRun t (timersIn r)) (r .token) (T .kept) (T .course .token) in
       omega arith
 
   -- so a station's latest visit started at most so long ago
-  pub latest-within : (i : ℕ) → i < t .n → (u : VisitRecord) → latestOf i h ≡ some u → r .clock ≤ u .start .0 + (t .head .ttrt + allShares t a)
+  pub latest-within : (i : ℕ) → i < t .n → (u : VisitRecord) → latestOf i h ≡ some u → r .clock ≤ u .start .0 + (t .head .ttrt + allShares t a + overrunOf t)
   latest-within i l u e =
       ⊎-elim (λ (x : Unvisited r h i). let z : _≡_ {A = ℕ} 0 1 = cc (e, x .latest) in absurd (omega arith))
       (λ (x : (w : VisitRecord) × Since t r h i w).
@@ -55,7 +55,7 @@ module _ (t : Set) (a : Alloc) (r : Timing) (h : List VisitRecord) (P : Plan t a
       (T .course .arrived i l)
 
   -- and before its first visit the silent rotation passed it at most so long ago
-  pub first-within : (i : ℕ) → i < t .n → latestOf i h ≡ none → silentTrt t i + r .clock ≤ t .head .ttrt + allShares t a
+  pub first-within : (i : ℕ) → i < t .n → latestOf i h ≡ none → silentTrt t i + r .clock ≤ t .head .ttrt + allShares t a + overrunOf t
   first-within i l e = omega (arith, T .silent i l e, run-small i l)
 
   -- no late count is above 1

@@ -23,6 +23,7 @@
 --     Witness      the run in which the promises are called upon
 --     FddiWitness  the run in which the token is as late as it can be
 --     BulkWitness  the run in which bulk data waits long
+--     FrameWitness the runs in which a frame runs on past the limit
 --     Promised     the promises
 pub mod Sums
 pub mod Lists
@@ -48,4 +49,5 @@ pub mod Bulk
 pub mod Witness
 pub mod FddiWitness
 pub mod BulkWitness
+pub mod FrameWitness
 pub mod Promised

@@ -49,7 +49,7 @@ plan-of t a h =
       mode = mode-of (t .head .mode) (g .1 .0 .0 .header .mode .0) (g .1 .0 .0 .header .mode .1);
       rotation = g .1 .0 .0 .header .ttrt;
       walk = g .1 .1 .0 .0;
-      token = g .1 .1 .1 .token;
+      token = omega (arith, g .1 .1 .1 .token);
       deadlines = λ m i l. omega (arith, g .1 .1 .1 .deadlines i l, timely-time t a m i);
       gaps = λ i l. g .1 .0 .0 .stations i l .gap .0;
     }

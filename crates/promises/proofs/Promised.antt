@@ -20,7 +20,7 @@ use Rattle.sheets.specs.Reading.{setIn, allocIn, judgedSheet, readNumber, readS
 use Rattle.sheets.specs.ReadLaws.{then-none, read-accepted, read-number}
 use Rattle.rings.specs.Opening.{openedRing, opening}
 use Rattle.rings.specs.Timers.{Fddi}
-use Rattle.rings.specs.Steps.{Ask, visited}
+use Rattle.rings.specs.Steps.{Ask, visitNumber, visited}
 use Rattle.rings.specs.HandingIn.{stationKnown, lengthAllowed, nothingHeld, arrivalAllowed, messageNumber, handedIn}
 use Rattle.rings.specs.RingLaws.{opened-number, opened-accepted, decides-arrival}
 use Rattle.rings.specs.declared.Opened.{Opened}
@@ -32,13 +32,13 @@ use Rattle.promises.specs.Facts.{timing, Completing, Leaving}
 use Rattle.promises.specs.Valid.{AheadOf, Regular, FinishesInTime, dueBy, NeverLate, ExactLimits, DeadlinesKept, TimelyKept, Valid, Timely as Mode}
 use Rattle.promises.specs.Promised.{Promised}
 use Rattle.promises.proofs.Lists.{each-of}
-use Rattle.promises.proofs.Course.{Plan, Unvisited, Since}
+use Rattle.promises.proofs.Course.{Plan, Unvisited, Since, same-or-not}
 use Rattle.promises.proofs.Stores.{Latest, Never}
 use Rattle.promises.proofs.Timing.{latest-within}
 use Rattle.promises.proofs.Messages.{Waiting, deadlineAt, clock-ahead, held-in-time, completed-in-time}
 use Rattle.promises.proofs.Opening.{plan-of}
 use Rattle.promises.proofs.Runs.{made, movedRun, visit-goes, visit-stops, course-facts, message-parts, message-facts, message-number}
-use Rattle.promises.proofs.Timely.{TimelyVisit, Timely, timer-facts, margin-made, steady, timely}
+use Rattle.promises.proofs.Timely.{TimelyVisit, Timely, timer-facts, margin-made, window-kept, tick-limit, steady, timely}
 use Rattle.promises.proofs.Fddi.{Older, older-steady, older, fddi-kept}
 use Rattle.promises.proofs.Followed.{Follows, followed-from}
 use Rattle.promises.proofs.Common.{common, answer-of}
@@ -46,37 +46,38 @@ use Rattle.promises.proofs.Bulk.{bulk}
 use Rattle.promises.proofs.Witness.{happens}
 use Rattle.promises.proofs.FddiWitness.{fddi-happens}
 use Rattle.promises.proofs.BulkWitness.{bulk-waits}
+use Rattle.promises.proofs.FrameWitness.{frames-happen}
 
 module _ (t : Set) (a : Alloc) (P : Plan t a) (s : Run) (K : Timely t a s) where
   -- ---- visits
 
   -- a message that a visit completes is finished by its deadline
-  finished : (ask : Ask) → Completing t (s .ring) (movedRun s ask .ring) (syncStartOf t (made s ask)) (made s ask) → made s ask .finish .0 ≤ deadlineAt t (s .ring) (s .ring .token)
-  finished ask c =
-      completed-in-time t a (s .ring) (movedRun s ask .ring) (made s ask) (s .records) P (K .timed) (course-facts t a P s (K .common) ask) (timer-facts t a P s K ask) (message-parts t a P s (K .common) ask) (K .messaged (s .ring .token) (K .common .course .token)) c
+  finished : (ask : Ask) → visitNumber (s .ring) ask ≡ 0
+      → Completing t (s .ring) (movedRun s ask .ring) (syncStartOf t (made s ask)) (made s ask) → made s ask .finish .0 ≤ deadlineAt t (s .ring) (s .ring .token)
+  finished ask go c =
+      completed-in-time t a (s .ring) (movedRun s ask .ring) (made s ask) (s .records) P (K .timed) (course-facts t a P s (K .common) ask go) (timer-facts t a P s K ask go) (message-parts t a P s (K .common) ask go) (K .messaged (s .ring .token) (K .common .course .token)) c
 
-  made-in-time : (ask : Ask) → made s ask .completed ≡ 1 → FinishesInTime t (s .ring) (made s ask)
-  made-in-time ask flag =
+  made-in-time : (ask : Ask) → visitNumber (s .ring) ask ≡ 0 → made s ask .completed ≡ 1 → FinishesInTime t (s .ring) (made s ask)
+  made-in-time ask go flag =
       let r = s .ring in
       let q = movedRun s ask .ring in
       let v = made s ask in
-      let G = message-parts t a P s (K .common) ask in
+      let G = message-parts t a P s (K .common) ask go in
       ⊎-elim (λ (c : Completing t r q (syncStartOf t v) v).
       record {
-        start = course-facts t a P s (K .common) ask .start;
+        start = course-facts t a P s (K .common) ask go .start;
         finish = c .finish;
-        in-time = finished ask c;
-        margin = margin-made t a r q v (s .records) P (K .timed) (course-facts t a P s (K .common) ask) (timer-facts t a P s K ask) G (K .messaged (s .ring .token) (K .common .course .token)) c;
+        in-time = finished ask go c;
+        margin = margin-made t a r q v (s .records) P (K .timed) (course-facts t a P s (K .common) ask go) (timer-facts t a P s K ask go) G (K .messaged (s .ring .token) (K .common .course .token)) c;
       })
       (λ (c : Leaving r q v). absurd (omega (arith, c .flag)))
       (G .completing)
 
   finishes-in-time : (ask : Ask) → visited (s .ring) ask .answer .«record» .completed ≡ 1 → FinishesInTime t (s .ring) (visited (s .ring) ask .answer .«record»)
   finishes-in-time ask =
-      ⊎-elim (λ (late : mostClock < s .ring .clock).
-      rw (visit-stops (s .ring) ask (K .common .sound) late) (λ e. absurd (omega arith)))
-      (λ (early : s .ring .clock ≤ mostClock). rw (visit-goes (s .ring) ask (K .common .sound) early) (made-in-time ask))
-      (below-or-not mostClock (s .ring .clock))
+      ⊎-elim (λ (go : visitNumber (s .ring) ask ≡ 0). rw (visit-goes (s .ring) ask go) (made-in-time ask go))
+      (λ (not : visitNumber (s .ring) ask ≢ 0). rw (visit-stops (s .ring) ask not) (λ e. absurd (omega arith)))
+      (same-or-not (visitNumber (s .ring) ask) 0)
 
   -- ---- messages
 
@@ -133,7 +134,7 @@ in-time : (t : Set) (a : Alloc) → Plan t a → (m : Message) → m .station .0
 in-time t a P m l =
     record {
       waits = λ s K h e. omega (arith, e, still-ahead t a P s K (m .station .0) l h);
-      ends = λ s K ask b e c. omega (arith, e, ap (at (s .ring .arrival)) b, ap (at (t .d)) b, finished t a P s K ask c);
+      ends = λ s K ask go b e c. omega (arith, e, ap (at (s .ring .arrival)) b, ap (at (t .d)) b, finished t a P s K ask go c);
     }
 
 -- ---- the record of all of it
@@ -150,7 +151,12 @@ module _ (t : Set) (a : Alloc) (plan : Plan t a) (mode : Mode t) where
       record { apart = λ calls. each (λ v before k. k .apart) calls; since = λ calls i l u e. omega (arith, latest-within t a (timing (ringOf t a calls)) (recordsOf t a calls) (every calls .timed) i l u e) }
 
   limits-kept : ExactLimits t a
-  limits-kept = record { limits = λ calls. each (λ v before k. k .limit) calls; spare = omega (arith, plan .token) }
+  limits-kept =
+      record {
+        limits = λ calls. each (λ v before k. k .limit) calls;
+        spare = omega (arith, plan .token);
+        ticks = λ one calls. each (λ v before k. tick-limit t a one v before k) calls;
+      }
 
   deadlines-kept : DeadlinesKept t a
   deadlines-kept =
@@ -172,6 +178,7 @@ module _ (t : Set) (a : Alloc) (plan : Plan t a) (mode : Mode t) where
         never-late = never-late-kept;
         timers = λ calls. each (λ v before k. k .timer) calls;
         limits = limits-kept;
+        windows = λ calls. each (λ v before k. window-kept t a v before k) calls;
         deadlines = deadlines-kept;
       }
 
@@ -224,4 +231,5 @@ promised =
       happens = happens;
       fddi-happens = fddi-happens;
       bulk-waits = bulk-waits;
+      frames-happen = frames-happen;
     }

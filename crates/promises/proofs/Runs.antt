@@ -5,16 +5,14 @@ use mathlib.Core.Bool.{true}
 use mathlib.Core.List.{List, [], _∷_}
 use mathlib.Core.Logic.{_⊎_, inl, inr, _≢_, ⊎-elim}
 use native.Mathlib.Omega.{arith}
-use Rattle.units.specs.Numbers.{mostClock}
 use Rattle.units.specs.Places.{at}
-use Rattle.units.specs.SmallLaws.{below-or-not}
 use Rattle.sets.specs.declared.Set.{Set}
 use Rattle.plans.specs.declared.Alloc.{Alloc}
 use Rattle.rings.specs.State.{Shaped}
-use Rattle.rings.specs.Sound.{Sound, isSound}
-use Rattle.rings.specs.Steps.{Ask, syncSent, asyncSent, moved, recordOf, visitNumber, refusedVisit, acceptedVisit, visited}
+use Rattle.rings.specs.Sound.{isSound}
+use Rattle.rings.specs.Steps.{Ask, syncSent, asyncSent, moved, recordOf, blankRecord, visitNumber, refusedVisit, acceptedVisit, visited}
 use Rattle.rings.specs.HandingIn.{holding, handInNumber, handedIn}
-use Rattle.rings.specs.RingLaws.{sound-sentences, visit-0, visit-13, visit-accepted, visit-refused, taken-number, taken-accepted, taken-refused}
+use Rattle.rings.specs.RingLaws.{visit-accepted, visit-refused, taken-number, taken-accepted, taken-refused}
 use Rattle.rings.specs.declared.Ring.{Ring}
 use Rattle.rings.specs.declared.Message.{Message}
 use Rattle.rings.specs.declared.VisitRecord.{VisitRecord}
@@ -24,19 +22,25 @@ use Rattle.promises.specs.Facts.{timing, VisitCourse, VisitMessages, Acc
 use Rattle.promises.specs.Valid.{InTurn, ShareKept}
 use Rattle.promises.proofs.Course.{Plan, Course, course-kept, same-or-not}
 use Rattle.promises.proofs.Stores.{Stored, Told, stored-kept, told-kept, stored-taken, told-taken}
-use Rattle.promises.proofs.Steps.{visit-places, visit-course, visit-messages, holding-places, holding-sound, message-accepts}
+use Rattle.promises.proofs.Steps.{visit-early, visit-places, visit-course, visit-messages, holding-places, holding-sound, message-accepts}
 
 -- ---- the answers
 
-module _ (r : Ring) (ask : Ask) (sound : isSound r ≡ true) where
-  pub visit-goes : r .clock ≤ mostClock → visited r ask ≡ acceptedVisit r ask
-  visit-goes early = visit-accepted (visitNumber r) r ask (visit-0 r sound early)
+module _ (r : Ring) (ask : Ask) where
+  pub visit-goes : visitNumber r ask ≡ 0 → visited r ask ≡ acceptedVisit r ask
+  visit-goes go = visit-accepted (visitNumber r ask) r ask go
 
-  pub visit-stops : mostClock < r .clock → visited r ask ≡ refusedVisit r 13
-  visit-stops late = rw (visit-13 r sound late) (visit-refused 13 r ask (omega arith))
+  pub visit-stops : visitNumber r ask ≢ 0 → visited r ask ≡ refusedVisit r (visitNumber r ask)
+  visit-stops not = visit-refused (visitNumber r ask) r ask not
 
 pub message-number : (r : Ring) (m : Message) → handedIn r m .number ≡ handInNumber r m
 message-number r m = taken-number (handInNumber r m) r m
+
+-- what a refused call tells is not kept
+pub not-noted : {A : Type 0} (k : ℕ) (x : A) (before : List A) → k ≢ 0 → noted k x before ≡ before
+unfolding noted
+not-noted zero x before n = absurd (n refl)
+not-noted (suc k) x before n = refl
 
 -- ---- the run after an accepted call
 
@@ -67,30 +71,27 @@ pub record Kept (t : Set) (a : Alloc) (s : Run) : Type 0 where
   pub sound : isSound (s .ring) ≡ true
 
 module _ (t : Set) (a : Alloc) (P : Plan t a) (s : Run) (K : Kept t a s) where
-  pub sound-ring : Sound (s .ring)
-  sound-ring = sound-sentences (s .ring) (K .sound)
+  pub course-facts : (ask : Ask) → visitNumber (s .ring) ask ≡ 0 → VisitCourse t a (timing (s .ring)) (timing (movedRun s ask .ring)) (made s ask)
+  course-facts ask go = visit-course (s .ring) (K .places) ask go t a (K .course .set) (K .course .alloc)
 
-  pub course-facts : (ask : Ask) → VisitCourse t a (timing (s .ring)) (timing (movedRun s ask .ring)) (made s ask)
-  course-facts ask = visit-course (s .ring) (K .places) sound-ring ask t a (K .course .set) (K .course .alloc)
+  pub message-parts : (ask : Ask) → visitNumber (s .ring) ask ≡ 0 → VisitMessages t a (s .ring) (movedRun s ask .ring) (made s ask)
+  message-parts ask go = visit-messages (s .ring) (K .places) ask go t a (K .course .set) (K .course .alloc)
 
-  pub message-parts : (ask : Ask) → VisitMessages t a (s .ring) (movedRun s ask .ring) (made s ask)
-  message-parts ask = visit-messages (s .ring) (K .places) sound-ring ask t a (K .course .set) (K .course .alloc)
+  pub next-places : (ask : Ask) → visitNumber (s .ring) ask ≡ 0 → Shaped (movedRun s ask .ring)
+  next-places ask go = visit-places (s .ring) (K .places) ask go
 
-  pub next-places : (ask : Ask) → Shaped (movedRun s ask .ring)
-  next-places ask = visit-places (s .ring) (K .places) sound-ring ask
-
-  pub next-stored : (ask : Ask) (i : ℕ) → i < t .n → Stored t (movedRun s ask .ring) i
-  next-stored ask = stored-kept t a (s .ring) (movedRun s ask .ring) (made s ask) (message-parts ask) (K .stored)
+  pub next-stored : (ask : Ask) → visitNumber (s .ring) ask ≡ 0 → (i : ℕ) → i < t .n → Stored t (movedRun s ask .ring) i
+  next-stored ask go = stored-kept t a (s .ring) (movedRun s ask .ring) (made s ask) (message-parts ask go) (K .stored)
 
   -- an accepted visit keeps it, if it takes at most two TTRT and leaves the ring sound
-  pub kept-moved : (ask : Ask) → rises t (made s ask) ≤ 2 * t .head .ttrt → s .ring .clock ≤ mostClock → isSound (movedRun s ask .ring) ≡ true → Kept t a (movedRun s ask)
-  kept-moved ask short early sound =
-      let F = course-facts ask in
+  pub kept-moved : (ask : Ask) → visitNumber (s .ring) ask ≡ 0 → rises t (made s ask) ≤ 2 * t .head .ttrt → isSound (movedRun s ask .ring) ≡ true → Kept t a (movedRun s ask)
+  kept-moved ask go short sound =
+      let F = course-facts ask go in
       record {
-        places = next-places ask;
-        course = course-kept t a (timing (s .ring)) (timing (movedRun s ask .ring)) (made s ask) (s .records) P (K .course) F short early;
-        stored = next-stored ask;
-        told = λ i. told-kept t a (s .ring) (movedRun s ask .ring) (made s ask) (message-parts ask) (s .messages) i (K .told i);
+        places = next-places ask go;
+        course = course-kept t a (timing (s .ring)) (timing (movedRun s ask .ring)) (made s ask) (s .records) P (K .course) F short (visit-early (s .ring) (K .places) ask go);
+        stored = next-stored ask go;
+        told = λ i. told-kept t a (s .ring) (movedRun s ask .ring) (made s ask) (message-parts ask go) (s .messages) i (K .told i);
         turns = (record { station = rw (F .station) (K .course .token); turn = F .station ∙ K .course .turn }, K .turns);
         shares = (omega (arith, F .within, ap (at (a .s)) (F .station)), K .shares);
         sound = sound;
@@ -116,21 +117,19 @@ module _ (t : Set) (a : Alloc) (P : Plan t a) (s : Run) (K : Kept t a s) where
   -- ---- what one call more makes of the run
 
   -- a visit: moved, or as it was
-  pub after-visit : (ask : Ask) → ((s .ring .clock ≤ mostClock) × (after s (visit ask) ≡ movedRun s ask)) ⊎ (after s (visit ask) ≡ s)
+  pub after-visit : (ask : Ask) → ((visitNumber (s .ring) ask ≡ 0) × (after s (visit ask) ≡ movedRun s ask)) ⊎ (after s (visit ask) ≡ s)
   unfolding after noted
   after-visit ask =
-      ⊎-elim (λ (late : mostClock < s .ring .clock). inr (rw (visit-stops (s .ring) ask (K .sound) late)))
-      (λ (early : s .ring .clock ≤ mostClock). inl (early, rw (visit-goes (s .ring) ask (K .sound) early)))
-      (below-or-not mostClock (s .ring .clock))
+      ⊎-elim (λ (go : visitNumber (s .ring) ask ≡ 0). inl (go, rw (visit-goes (s .ring) ask go)))
+      (λ (not : visitNumber (s .ring) ask ≢ 0).
+      inr
+      (rw (visit-stops (s .ring) ask not)
+      (ap (λ (l : List VisitRecord). record { ring = s .ring; records = l; messages = s .messages }) (not-noted (visitNumber (s .ring) ask) blankRecord (s .records) not))))
+      (same-or-not (visitNumber (s .ring) ask) 0)
 
   pub after-held : (m : Message) → handInNumber (s .ring) m ≡ 0 → after s (message m) ≡ heldRun s m
   unfolding after noted
   after-held m h = rw (taken-accepted (handInNumber (s .ring) m) (s .ring) m h)
-
-  not-noted : (k : ℕ) (m : Message) → k ≢ 0 → noted k m (s .messages) ≡ s .messages
-  unfolding noted
-  not-noted zero m n = absurd (n refl)
-  not-noted (suc k) m n = refl
 
   -- a handing in: held, or as it was
   pub after-message : (m : Message) → ((handInNumber (s .ring) m ≡ 0) × (after s (message m) ≡ heldRun s m)) ⊎ (after s (message m) ≡ s)
@@ -140,7 +139,7 @@ module _ (t : Set) (a : Alloc) (P : Plan t a) (s : Run) (K : Kept t a s) where
       (λ (n : handInNumber (s .ring) m ≢ 0).
       inr
       (rw (taken-refused (handInNumber (s .ring) m) (s .ring) m n)
-      (ap (λ (l : List Message). record { ring = s .ring; records = s .records; messages = l }) (not-noted (handInNumber (s .ring) m) m n))))
+      (ap (λ (l : List Message). record { ring = s .ring; records = s .records; messages = l }) (not-noted (handInNumber (s .ring) m) m (s .messages) n))))
       (same-or-not (handInNumber (s .ring) m) 0)
 
 -- ---- what one kind of ring keeps
@@ -148,13 +147,13 @@ module _ (t : Set) (a : Alloc) (P : Plan t a) (s : Run) (K : Kept t a s) where
 -- K holds what every run keeps, and accepted calls keep K
 pub record Steady (t : Set) (a : Alloc) (K : Run → Type 0) : Type 0 where
   pub common : (s : Run) → K s → Kept t a s
-  pub moves : (s : Run) → K s → (ask : Ask) → s .ring .clock ≤ mostClock → K (movedRun s ask)
+  pub moves : (s : Run) → K s → (ask : Ask) → visitNumber (s .ring) ask ≡ 0 → K (movedRun s ask)
   pub takes : (s : Run) → K s → (m : Message) → handInNumber (s .ring) m ≡ 0 → K (heldRun s m)
 
 module _ (t : Set) (a : Alloc) (P : Plan t a) (K : Run → Type 0) (S : Steady t a K) where
   pub steady-after : (s : Run) → K s → (c : Call) → K (after s c)
   steady-after s k (visit ask) =
-      ⊎-elim (λ (h : (s .ring .clock ≤ mostClock) × (after s (visit ask) ≡ movedRun s ask)). rw (h .1) (S .moves s k ask (h .0)))
+      ⊎-elim (λ (h : (visitNumber (s .ring) ask ≡ 0) × (after s (visit ask) ≡ movedRun s ask)). rw (h .1) (S .moves s k ask (h .0)))
       (λ (e : after s (visit ask) ≡ s). rw e k)
       (after-visit t a P s (S .common s k) ask)
   steady-after s k (message m) =

@@ -1,21 +1,25 @@
 -- What the promises need of the rings' own steps: `ring_rules` promises what an accepted visit (`Done`) and an accepted handing in (`Held`) do.
 -- Here that is put as the facts that add up. What FDDI's timers do, station by station, is a law of `rings`. Nothing else of `promises` looks into a step.
-use Prim.Native.Nat.{_+_, _≤_, _<_}
+use Prim.Native.Nat.{_+_, _*_, _≤_, _<_}
 use mathlib.Core.Path.{_≡_, refl, sym, subst, subst₂, _∙_}
 use mathlib.Core.Bool.{true}
 use mathlib.Core.Logic.{_⊎_, inl, inr, ⊎-elim}
+use native.Mathlib.Nat.{mul-comm}
 use native.Mathlib.Omega.{arith}
+use Rattle.units.specs.Numbers.{mostClock}
+use Rattle.units.specs.Small.{roundedUp}
 use Rattle.units.specs.Places.{at}
-use Rattle.units.specs.SmallLaws.{below-or-not}
+use Rattle.units.specs.SmallLaws.{below-or-not, shares-enough}
 use Rattle.sets.specs.declared.Set.{Set}
 use Rattle.plans.specs.declared.Alloc.{Alloc}
 use Rattle.timers.proofs.Promised.{promised as timers-promised}
-use Rattle.rings.specs.State.{count, ttrt, following, Shaped}
+use Rattle.rings.specs.State.{count, ttrt, overrun, following, Shaped}
 use Rattle.rings.specs.Timers.{Fddi, timersOf, hasRun}
 use Rattle.rings.specs.Sound.{Sound, isSound}
-use Rattle.rings.specs.Steps.{Ask, syncSent, asyncSent, moved, recordOf}
+use Rattle.rings.specs.Frames.{framesSent}
+use Rattle.rings.specs.Steps.{Ask, syncSent, asyncSent, moved, recordOf, visitNumber}
 use Rattle.rings.specs.HandingIn.{holding, handInNumber}
-use Rattle.rings.specs.RingLaws.{sound-tests, sync-within, taken-passed}
+use Rattle.rings.specs.RingLaws.{sound-tests, sync-within, visit-passed, taken-passed}
 use Rattle.rings.specs.declared.Ring.{Ring}
 use Rattle.rings.specs.declared.Message.{Message}
 use Rattle.rings.specs.declared.VisitRecord.{VisitRecord}
@@ -28,7 +32,13 @@ use Rattle.promises.proofs.Course.{following-is}
 
 -- ---- a visit, of the ring's own plan
 
-module _ (r : Ring) (L : Shaped r) (s : Sound r) (ask : Ask) where
+module _ (r : Ring) (L : Shaped r) (ask : Ask) (go : visitNumber r ask ≡ 0) where
+  s : Sound r
+  s = visit-passed r ask go .0
+
+  pub visit-early : r .clock ≤ mostClock
+  visit-early = visit-passed r ask go .1 .1
+
   abbrev next : Ring
   next = moved r (syncSent r (asyncSent r ask)) (asyncSent r ask)
 
@@ -36,7 +46,7 @@ module _ (r : Ring) (L : Shaped r) (s : Sound r) (ask : Ask) where
   made = recordOf r (syncSent r (asyncSent r ask)) (asyncSent r ask)
 
   does : Done r ask next made
-  does = done r ask L s
+  does = done r ask L s (visit-passed r ask go .1 .0)
 
   token-next : next .token ≡ following (count r) (r .token)
   token-next =
@@ -63,20 +73,28 @@ module _ (r : Ring) (L : Shaped r) (s : Sound r) (ask : Ask) where
         visits = M .visits;
       }
 
+  -- where something is sent, it is within what TTRT leaves beside u and TRT
+  room : ¬ Fddi (r .set) → r .unused + at (r .trt) (r .token) ≤ ttrt r → made .asynchronous .0 + r .unused + at (r .trt) (r .token) ≤ ttrt r
+  room n fits =
+      let A = does .amounts in
+      ⊎-elim (λ (some : 0 < made .limit .0). omega (arith, A .limit n, A .within))
+      (λ (none : made .limit .0 ≤ 0). omega (arith, A .shut (omega arith)))
+      (below-or-not 0 (made .limit .0))
+
   own-timers : ¬ Fddi (r .set) → VisitTimers (r .set) (timing r) (timing next) made
   unfolding recordOf
   own-timers n =
       let M = does .moved .timely n in
       record {
         timer = does .trt;
-        room = λ fits. omega (arith, does .amounts .limit n, does .amounts .offered);
+        room = room n;
         unused = M .unused;
         trt-here = M .trt-here;
         trt-there = M .trt-there;
       }
 
   own-offer : ¬ Fddi (r .set) → VisitOffer (r .set) (timing r) made
-  own-offer n = record { limit = does .amounts .limit n; kept = omega (arith, does .amounts .offered) }
+  own-offer n = record { limit = does .amounts .limit n; within = does .amounts .within; shut = does .amounts .shut }
 
   -- FDDI: the ticks that pass raise every number, the token takes TTRT off its station's, and what that leaves of TTRT is offered
   own-laps : Fddi (r .set) → VisitLaps (r .set) (r .alloc) (timing r) (timing next) made
@@ -89,7 +107,7 @@ module _ (r : Ring) (L : Shaped r) (s : Sound r) (ask : Ask) where
               sync = syncSent r (asyncSent r ask);
               async = asyncSent r ask;
               within = sync-within r (asyncSent r ask) .0;
-              early = timers-promised .early (ttrt r) 0 (hasRun (r .set) (timersOf r) (r .token)) (asyncSent r ask) (omega arith) (λ none. omega arith);
+              early = timers-promised .early (ttrt r) (overrun r) (hasRun (r .set) (timersOf r) (r .token)) (asyncSent r ask) (omega (arith, offered, does .amounts .within)) (λ none. does .amounts .shut (offered ∙ none));
               length = refl;
               here = ran-here r L s e (syncSent r (asyncSent r ask)) (asyncSent r ask);
               there = ran-there r L s e (syncSent r (asyncSent r ask)) (asyncSent r ask);
@@ -132,6 +150,20 @@ module _ (r : Ring) (L : Shaped r) (s : Sound r) (ask : Ask) where
         sending = sending;
         completing = completing;
       }
+
+  -- where the frames asked for take as long as the limit, all of it is sent
+  pub visit-enough : made .limit .0 ≤ ask .frames * ask .length → made .limit .0 ≤ made .asynchronous .0
+  visit-enough enough =
+      let A = does .amounts in
+      let shares = roundedUp (made .limit .0) (ask .length) in
+      let sent = A .frames in
+      ⊎-elim (λ (few : ask .frames < shares).
+      let all : framesSent (made .limit .0) ask ≡ ask .frames = omega (arith, A .counted) in
+      rw (sent, all) enough)
+      (λ (many : shares ≤ ask .frames).
+      let all : framesSent (made .limit .0) ask ≡ shares = omega (arith, A .counted) in
+      rw (sent, all) (omega (arith, shares-enough (made .limit .0) (ask .length) (visit-passed r ask go .1 .0 .0), mul-comm (ask .length) shares)))
+      (below-or-not (ask .frames) shares)
 
   pub visit-places : Shaped next
   visit-places = does .moved .shaped

@@ -7,26 +7,39 @@ use mathlib.Core.Option.{none, some}
 use native.Mathlib.Omega.{arith}
 use borrow.Author.Tests.{le-ltb}
 use lib.IntN.{pos}
-use Rattle.units.specs.Numbers.{mostClock}
+use Rattle.units.specs.Places.{at, sumBelow}
+use Rattle.units.specs.SmallLaws.{below-or-not}
+use Rattle.sets.specs.Rules.{tau}
 use Rattle.sets.specs.declared.Set.{Set}
+use Rattle.plans.specs.Rules.{spareTime}
 use Rattle.plans.specs.declared.Alloc.{Alloc}
 use Rattle.rings.specs.Timers.{silentTrt}
-use Rattle.rings.specs.Steps.{Ask}
+use Rattle.rings.specs.Steps.{Ask, visitNumber}
 use Rattle.rings.specs.HandingIn.{holding, handInNumber}
 use Rattle.rings.specs.declared.Ring.{Ring}
 use Rattle.rings.specs.declared.Message.{Message}
 use Rattle.rings.specs.declared.VisitRecord.{VisitRecord}
 use Rattle.promises.specs.Run.{Call, Run, opened, runOf}
-use Rattle.promises.specs.History.{syncStartOf, latestOf, Each}
+use Rattle.promises.specs.History.{asyncOf, overrunOf, syncStartOf, latestOf, Each}
 use Rattle.promises.specs.Facts.{timing, VisitCourse, VisitTimers, VisitOffer, VisitMessages, Completing, Leaving}
-use Rattle.promises.specs.Valid.{Timely as Mode, Apart, TimerIsGap, ExactLimit, NoneLate}
+use Rattle.promises.specs.Valid.{Timely as Mode, Apart, TimerIsGap, ExactLimit, WindowKept, AnyTick, TickLimit, NoneLate}
+use Rattle.promises.proofs.Windows.{async-moves}
 use Rattle.promises.proofs.Course.{Plan}
-use Rattle.promises.proofs.Timing.{Timed, token-timer, never-late, latest-within, rise-small, timed-kept}
+use Rattle.promises.proofs.Timing.{Timed, token-timer, never-late, latest-within, rise-small, timed-kept, room}
 use Rattle.promises.proofs.Messages.{Messaged, deadlineAt, messaged-kept, messaged-taken, completed-in-time}
-use Rattle.promises.proofs.Steps.{visit-timers, visit-offer}
+use Rattle.promises.proofs.Steps.{visit-early, visit-timers, visit-offer}
 use Rattle.promises.proofs.Opening.{opened-places, opened-timed, opened-stored, opened-told, opened-messaged}
 use Rattle.promises.proofs.Soundness.{not-fddi, timed-sound, is-sound}
-use Rattle.promises.proofs.Runs.{Kept, made, movedRun, heldRun, course-facts, message-parts, sound-ring, next-stored, kept-moved, message-facts, kept-held, Steady, steady-run}
+use Rattle.promises.proofs.Runs.{Kept, made, movedRun, heldRun, course-facts, message-parts, next-stored, kept-moved, message-facts, kept-held, Steady, steady-run}
+
+-- what is left of TTRT does not depend on the order in which the rest is taken off
+taken-off : (a b c d : ℕ) → a - b - c - d ≡ a - (b + c + d)
+taken-off a b c d = omega arith
+
+left-over : (ttrt f u trt walk shares window : ℕ) → u + trt ≡ window + shares + walk → ttrt - f - u - trt ≡ ttrt - (walk + f) - shares - window
+left-over ttrt f u trt walk shares window e =
+    let same : f + u + trt ≡ walk + f + shares + window = omega arith in
+    taken-off ttrt f u trt ∙ ap (λ (x : ℕ). ttrt - x) same ∙ sym (taken-off ttrt (walk + f) shares window)
 
 -- ---- what a new record keeps
 
@@ -36,6 +49,8 @@ pub record TimelyVisit (t : Set) (a : Alloc) (v : VisitRecord) (before : List Vi
   pub since : (i : ℕ) → i < t .n → (u : VisitRecord) → latestOf i before ≡ some u → v .start .0 ≤ u .start .0 + t .head .ttrt
   pub timer : TimerIsGap t v before
   pub limit : ExactLimit t a v before
+  -- this visit and the N before send at most A* + (F − 1)
+  pub room : v .asynchronous .0 + asyncOf (t .n) before ≤ spareTime t (at (a .s)) + overrunOf t
   pub none-late : NoneLate v before
 
 module _ (t : Set) (a : Alloc) (r q : Ring) (v : VisitRecord) (h : List VisitRecord) (P : Plan t a) (T : Timed t a (timing r) h) (C : VisitCourse t a (timing r) (timing q) v) (F : VisitTimers t (timing r) (timing q) v) where
@@ -55,14 +70,18 @@ module _ (t : Set) (a : Alloc) (r q : Ring) (v : VisitRecord) (h : List VisitRec
   timer-made : TimerIsGap t v h
   timer-made = record { gap = gap-since; first = λ e. omega (arith, first-since e); within = omega (arith, timer-within) }
 
-  -- what the timers leave is what the window leaves of A*, so it is nowhere held at 0
+  -- what the timers leave is what the window leaves of A*
   limit-made : VisitOffer t (timing r) v → ExactLimit t a v h
   limit-made O =
       record {
-        exact = omega (arith, O .limit, token-timer t a (timing r) h T, T .window);
-        window = omega (arith, T .window);
-        kept = omega (arith, O .kept);
+        exact = O .limit ∙ left-over (t .head .ttrt) (overrunOf t) (r .unused) (at (r .trt) (r .token)) (tau t) (sumBelow (t .n) (at (a .s))) (asyncOf (t .n) h) (token-timer t a (timing r) h T);
+        within = O .within;
+        shut = O .shut;
       }
+
+  -- and what was sent left room
+  room-made : v .asynchronous .0 + asyncOf (t .n) h ≤ spareTime t (at (a .s)) + overrunOf t
+  room-made = omega (arith, room t a (timing r) (timing q) v h P T C F, P .token)
 
   module _ (G : VisitMessages t a r q v) (M : Messaged t a r (r .token)) where
     -- what is left to the deadline
@@ -82,8 +101,22 @@ module _ (t : Set) (a : Alloc) (r q : Ring) (v : VisitRecord) (h : List VisitRec
           since = λ i l u e. omega (arith, C .start, latest-within t a (timing r) h T i l u e);
           timer = timer-made;
           limit = limit-made O;
+          room = room-made;
           none-late = none-late-made;
         }
+
+-- so of any N visits
+pub window-kept : (t : Set) (a : Alloc) (v : VisitRecord) (before : List VisitRecord) → TimelyVisit t a v before → WindowKept t a v before
+window-kept t a v before k = omega (arith, k .room, async-moves (t .n) v before)
+
+-- with F 1 the limit is nowhere held at 0
+pub tick-limit : (t : Set) (a : Alloc) → AnyTick t → (v : VisitRecord) (before : List VisitRecord) → TimelyVisit t a v before → TickLimit t a v before
+tick-limit t a one v before k =
+    let none : overrunOf t ≡ 0 = omega arith in
+    let L = k .limit in
+    ⊎-elim (λ (some : 0 < v .limit .0). record { exact = omega (arith, L .exact); kept = omega (arith, L .within) })
+    (λ (shut : v .limit .0 ≤ 0). let sent = L .shut (omega arith) in record { exact = omega (arith, L .exact, k .room); kept = omega arith })
+    (below-or-not 0 (v .limit .0))
 
 -- ---- what a run keeps
 
@@ -94,23 +127,23 @@ pub record Timely (t : Set) (a : Alloc) (s : Run) : Type 0 where
   pub each : Each (TimelyVisit t a) (s .records)
 
 module _ (t : Set) (a : Alloc) (P : Plan t a) (s : Run) (K : Timely t a s) where
-  pub timer-facts : (ask : Ask) → VisitTimers t (timing (s .ring)) (timing (movedRun s ask .ring)) (made s ask)
-  timer-facts ask = visit-timers (s .ring) (K .common .places) (sound-ring t a P s (K .common)) ask t a (K .common .course .set) (K .common .course .alloc) (not-fddi t (K .timed .mode))
+  pub timer-facts : (ask : Ask) → visitNumber (s .ring) ask ≡ 0 → VisitTimers t (timing (s .ring)) (timing (movedRun s ask .ring)) (made s ask)
+  timer-facts ask go = visit-timers (s .ring) (K .common .places) ask go t a (K .common .course .set) (K .common .course .alloc) (not-fddi t (K .timed .mode))
 
-  timely-moved : (ask : Ask) → s .ring .clock ≤ mostClock → Timely t a (movedRun s ask)
-  timely-moved ask early =
+  timely-moved : (ask : Ask) → visitNumber (s .ring) ask ≡ 0 → Timely t a (movedRun s ask)
+  timely-moved ask go =
       let r = s .ring in
       let q = movedRun s ask .ring in
       let v = made s ask in
-      let C = course-facts t a P s (K .common) ask in
-      let F = timer-facts ask in
-      let G = message-parts t a P s (K .common) ask in
-      let O = visit-offer r (K .common .places) (sound-ring t a P s (K .common)) ask t a (K .common .course .set) (K .common .course .alloc) (not-fddi t (K .timed .mode)) in
+      let C = course-facts t a P s (K .common) ask go in
+      let F = timer-facts ask go in
+      let G = message-parts t a P s (K .common) ask go in
+      let O = visit-offer r (K .common .places) ask go t a (K .common .course .set) (K .common .course .alloc) (not-fddi t (K .timed .mode)) in
       let token = K .common .course .token in
-      let timed = timed-kept t a (timing r) (timing q) v (s .records) P (K .timed) C F early in
-      let sound = is-sound t a q (movedRun s ask .records) P (timed .course) (timed-sound t a q (movedRun s ask .records) P timed) (next-stored t a P s (K .common) ask) in
+      let timed = timed-kept t a (timing r) (timing q) v (s .records) P (K .timed) C F (visit-early r (K .common .places) ask go) in
+      let sound = is-sound t a q (movedRun s ask .records) P (timed .course) (timed-sound t a q (movedRun s ask .records) P timed) (next-stored t a P s (K .common) ask go) in
       record {
-        common = kept-moved t a P s (K .common) ask (omega (arith, rise-small t a (timing r) (timing q) v (s .records) P (K .timed) C F)) early sound;
+        common = kept-moved t a P s (K .common) ask go (omega (arith, rise-small t a (timing r) (timing q) v (s .records) P (K .timed) C F)) sound;
         timed = timed;
         messaged = messaged-kept t a r q v (s .records) P (K .timed) C F G (K .common .stored (r .token) token) (K .messaged);
         each = (visit-made t a r q v (s .records) P (K .timed) C F G (K .messaged (r .token) token) O, K .each);

@@ -81,7 +81,7 @@ module _ (t : Set) (a : Alloc) (r q : Timing) (v : VisitRecord) (h : List VisitR
   walk = at-token t a r q v h P (T .course) C
 
   -- the asynchronous part leaves room in the window
-  room : v .asynchronous .0 + asyncOf (t .n) h + sumBelow (t .n) (at (a .s)) + tau t ≤ t .head .ttrt
+  pub room : v .asynchronous .0 + asyncOf (t .n) h + sumBelow (t .n) (at (a .s)) + tau t ≤ t .head .ttrt
   room = omega (arith, token-timer t a r h T, T .window, F .room (omega (arith, token-timer t a r h T, T .window)))
 
   -- a visit takes at most TTRT

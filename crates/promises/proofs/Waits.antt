@@ -1,9 +1,11 @@
--- Why no station waits long for a limit above 0. Any N + 1 successive visits send at most A* asynchronously, for each limit is what the N visits before leave of A*. A station that is offered 0 had all of A* sent in the rotation before its visit. Offered 0 at N + 1 visits of its own, it had (N + 1)·A* sent in the N·(N + 1) visits before the last of them; but these are N times N + 1 visits, and sent at most N·A*.
+-- Why no station waits long for a limit above 0. The windows before two successive visits differ by one visit that leaves and one that enters.
+-- A station that is offered 0 at two visits of its own sent nothing at either. So the visit after the second has the same window as that one: it is offered 0 and sends nothing.
+-- A rotation later the same is true of the visit after it, and so on. Offered 0 at N + 1 visits of its own, a station has N visits before the last of them that sent nothing; but then all of A* is offered.
 use Prim.Native.Nat.{ℕ, zero, suc, _+_, _*_, _≤_, _<_}
-use mathlib.Core.Path.{_≡_, ap}
+use mathlib.Core.Path.{_≡_, refl, sym, ap, _∙_}
 use mathlib.Core.List.{List, [], _∷_, _++_, append-assoc}
 use mathlib.Core.Logic.{_⊎_, inl, inr, ⊎-elim}
-use native.Mathlib.Nat.{zero-add, add-zero, zero-mul, suc-mul, mul-comm}
+use native.Mathlib.Nat.{zero-add, zero-mul, one-mul, suc-mul, mul-comm}
 use native.Mathlib.Omega.{arith}
 use lib.ListN.{length, length-append}
 use Rattle.units.specs.Places.{at}
@@ -26,67 +28,95 @@ module _ (t : Set) (a : Alloc) where
   abbrev AllInOrder : List VisitRecord → Type 0
   AllInOrder h = Each (InOrder t a) h
 
-  -- ---- at most
+  -- in the N visits before the latest x all of A* was sent
+  abbrev Full : ℕ → List VisitRecord → Type 0
+  Full x h = spare + asyncOf x h ≤ asyncOf (t .n + x) h
 
-  -- N + 1 successive visits send at most A*
-  window-most : (h : List VisitRecord) → AllInOrder h → asyncOf (t .n + 1) h ≤ spare
+  -- with one visit more they are before the latest x + 1
+  one-more-full : (x y : ℕ) (v : VisitRecord) (h : List VisitRecord) → y ≡ suc x → Full x h → Full y (v ∷ h)
   unfolding asyncOf
-  window-most [] E = omega arith
-  window-most (v ∷ h) E =
+  one-more-full x y v h e f = rw e (omega (arith, async-past (t .n) x v h))
+
+  -- the visit after them sends nothing
+  nothing-sent : (x : ℕ) (h : List VisitRecord) → AllInOrder h → Full (suc x) h → asyncOf (suc x) h ≡ asyncOf x h
+  unfolding asyncOf
+  nothing-sent x [] E full = refl
+  nothing-sent zero (v ∷ h) E full =
       let L = E .0 .1 .limit in
-      omega (arith, async-step (t .n) v h)
-
-  -- k·(N + 1) visits at most k·A*, also those that come before the latest e visits
-  past-most : (k : ℕ) → ((h : List VisitRecord) → AllInOrder h → asyncOf (k * (t .n + 1)) h ≤ k * spare) → (e : ℕ) (h : List VisitRecord) → AllInOrder h → asyncOf (k * (t .n + 1) + e) h ≤ asyncOf e h + k * spare
-  unfolding asyncOf
-  past-most k most zero h E = rw add-zero (omega (arith, most h E))
-  past-most k most (suc e) [] E = omega arith
-  past-most k most (suc e) (v ∷ h) E = omega (arith, async-past (k * (t .n + 1)) e v h, past-most k most e h (E .1))
-
-  visits-most : (k : ℕ) (h : List VisitRecord) → AllInOrder h → asyncOf (k * (t .n + 1)) h ≤ k * spare
-  visits-most zero h E = rw zero-mul (omega (arith, async-none h))
-  visits-most (suc k) h E =
-      omega
-      (arith, past-most k (visits-most k) (t .n + 1) h E, window-most h E, suc-mul k spare, ap (λ (z : ℕ). asyncOf z h) (suc-mul k (t .n + 1)))
-
-  -- ---- at least
+      omega (arith, async-none h, L .shut (omega (arith, L .exact, async-none h, async-step (t .n) v h)))
+  nothing-sent (suc x) (v ∷ h) E full =
+      omega (arith, nothing-sent x h (E .1) (omega (arith, async-past (t .n) (suc x) v h)))
 
   module _ (i : ℕ) (known : i < t .n) (old : List VisitRecord) where
-    -- station i had its turn e visits ago: one of its latest k visits was offered a limit above 0, or in each of the k rotations before them all of A* was sent
-    full : (k e : ℕ) (since : List VisitRecord) → 1 ≤ e → e ≤ t .n → Ago (t .n) i e (since ++ old) → k * t .n + e ≤ length since + t .n → AllInOrder (since ++ old) → Somewhere (λ v before. Offered i v) since ⊎ (k * spare + asyncOf e (since ++ old) ≤ asyncOf (k * t .n + e) (since ++ old))
+    -- station i had its turn e visits ago: among its visits the j-th before that one was offered a limit above 0, or all of A* was sent in the rotation before it
+    full : (j e : ℕ) (since : List VisitRecord) → 1 ≤ e → e ≤ t .n → Ago (t .n) i e (since ++ old) → j * t .n + e ≤ length since → AllInOrder (since ++ old)
+        → Somewhere (λ v before. Offered i v) since ⊎ Full (j * t .n + e) (since ++ old)
     unfolding asyncOf
-    full zero e since low high ago long E = inr (rw (zero-mul, zero-mul, zero-add, zero-add) (omega arith))
-    full (suc k) e [] low high ago long E = absurd (omega (arith, suc-mul k (t .n)))
-    full (suc k) zero (v ∷ since) low high ago long E = absurd (omega arith)
-    full (suc k) (suc zero) (v ∷ since) low high ago long E =
+    full j e [] low high ago long E = absurd (omega arith)
+    full j zero (v ∷ since) low high ago long E = absurd (omega arith)
+    full zero (suc zero) (v ∷ since) low high ago long E =
         let rest = since ++ old in
         let own = own-now t i known v rest (E .0 .0) (one-less-ago t i known v rest (E .0 .0) 0 ago) in
         let L = E .0 .1 .limit in
         ⊎-elim (λ (b : 0 < v .limit .0). inl (inl (record { station = omega (arith, own); limit = omega arith })))
-        (λ (b : v .limit .0 ≤ 0).
-        ⊎-elim (λ (f : Somewhere (λ v before. Offered i v) since). inl (inr f))
-        (λ (f : k * spare + asyncOf (t .n) rest ≤ asyncOf (k * t .n + t .n) rest).
-        inr (omega (arith, suc-mul k spare, async-none rest, async-step (suc k * t .n) v rest, ap (λ (z : ℕ). asyncOf z rest) (suc-mul k (t .n)))))
-        (full k (t .n) since high (omega arith) (own-rotation t i known v rest (E .0 .0) own) (omega (arith, suc-mul k (t .n))) (E .1)))
+        (λ (b : v .limit .0 ≤ 0). inr (rw (zero-mul, zero-add) (omega (arith, L .exact, async-none rest, async-step (t .n) v rest))))
         (below-or-not 0 (v .limit .0))
-    full (suc k) (suc (suc e)) (v ∷ since) low high ago long E =
+    full (suc j) (suc zero) (v ∷ since) low high ago long E =
+        let rest = since ++ old in
+        let own = own-now t i known v rest (E .0 .0) (one-less-ago t i known v rest (E .0 .0) 0 ago) in
+        ⊎-elim (λ (f : Somewhere (λ v before. Offered i v) since). inl (inr f))
+        (λ (f : Full (j * t .n + t .n) rest). inr (one-more-full (j * t .n + t .n) (suc j * t .n + 1) v rest (omega (arith, suc-mul j (t .n))) f))
+        (full j (t .n) since (omega arith) (omega arith) (own-rotation t i known v rest (E .0 .0) own) (omega (arith, suc-mul j (t .n))) (E .1))
+    full j (suc (suc e)) (v ∷ since) low high ago long E =
         let rest = since ++ old in
         ⊎-elim (λ (f : Somewhere (λ v before. Offered i v) since). inl (inr f))
-        (λ (f : suc k * spare + asyncOf (suc e) rest ≤ asyncOf (suc k * t .n + suc e) rest). inr (omega (arith, async-past (suc k * t .n) (suc e) v rest)))
-        (full (suc k) (suc e) since (omega arith) (omega arith) (one-less-ago t i known v rest (E .0 .0) (suc e) ago) (omega arith) (E .1))
+        (λ (f : Full (j * t .n + suc e) rest). inr (one-more-full (j * t .n + suc e) (j * t .n + suc (suc e)) v rest (omega arith) f))
+        (full j (suc e) since (omega arith) (omega arith) (one-less-ago t i known v rest (E .0 .0) (suc e) ago) (omega arith) (E .1))
 
-    -- N·(N + 1) visits are enough: offered 0 at N + 1 visits of its own, a station would have had more sent than can be
-    pub offered : (since : List VisitRecord) → 1 ≤ spare → t .n * (t .n + 1) ≤ length since → AllInOrder (since ++ old) → Somewhere (λ v before. Offered i v) since
-    offered since left long E =
-        let n = t .n in
-        let h = since ++ old in
-        let ago = some-time-ago t i known h (each-of (λ v before k. k .0) h E) in
-        let e = ago .0 in
-        let same : (n + 1) * n ≡ n * (n + 1) = mul-comm (n + 1) n in
-        ⊎-elim (λ (f : Somewhere (λ v before. Offered i v) since). f)
-        (λ (f : (n + 1) * spare + asyncOf e h ≤ asyncOf ((n + 1) * n + e) h).
-        absurd (omega (arith, one-more n spare, ap (λ (z : ℕ). asyncOf (z + e) h) same, past-most n (visits-most n) e h E)))
-        (full (n + 1) e since (ago .1) (ago .2) (ago .3) (omega (arith, ago .2)) E)
+    -- at all of its visits up to the k-th before that one
+    all-full : (k e : ℕ) (since : List VisitRecord) → 1 ≤ e → e ≤ t .n → Ago (t .n) i e (since ++ old) → k * t .n + e ≤ length since → AllInOrder (since ++ old)
+        → Somewhere (λ v before. Offered i v) since ⊎ ((j : ℕ) → j ≤ k → Full (j * t .n + e) (since ++ old))
+    all-full zero e since low high ago long E =
+        ⊎-elim (λ (f : Somewhere (λ v before. Offered i v) since). inl f)
+        (λ f. inr (λ j l. let z : j ≡ 0 = omega arith in rw z f))
+        (full 0 e since low high ago long E)
+    all-full (suc k) e since low high ago long E =
+        ⊎-elim (λ (f : Somewhere (λ v before. Offered i v) since). inl f)
+        (λ f.
+        ⊎-elim (λ (g : Somewhere (λ v before. Offered i v) since). inl g)
+        (λ g. inr (λ j l. ⊎-elim (λ (b : j < suc k). g j (omega arith)) (λ (b : suc k ≤ j). let z : j ≡ suc k = omega arith in rw z f) (below-or-not j (suc k))))
+        (all-full k e since low high ago (omega (arith, suc-mul k (t .n))) E))
+        (full (suc k) e since low high ago long E)
+
+  -- then the m visits from the j-th of them on sent nothing, as long as j and m together are at most N + 1
+  module _ (h : List VisitRecord) (E : AllInOrder h) (e : ℕ) (full : (j : ℕ) → j ≤ t .n → Full (j * t .n + e) h) where
+    flat : (m j z : ℕ) → 1 ≤ j → j + m ≤ t .n + 1 → z + m ≡ j * t .n + e → asyncOf z h ≡ asyncOf (j * t .n + e) h
+    flat zero j z low few same = ap (λ (x : ℕ). asyncOf x h) (omega arith)
+    flat (suc m) j z low few same =
+        let here : asyncOf (suc z) h ≡ asyncOf (j * t .n + e) h = flat m j (suc z) low (omega arith) (omega arith) in
+        let next : suc j * t .n ≡ j * t .n + t .n = suc-mul j (t .n) in
+        let there : asyncOf (t .n + suc z) h ≡ asyncOf (suc j * t .n + e) h = flat m (suc j) (t .n + suc z) (omega arith) (omega arith) (omega arith) in
+        let sum : suc j * t .n + e ≡ t .n + (j * t .n + e) = omega arith in
+        let all = rw (← sum) at (full j (omega arith)) in
+        sym (nothing-sent z h E (omega arith)) ∙ here
+
+    -- so nothing was sent in the N visits before the latest of them, and A* is 0
+    nothing-spare : 1 ≤ t .n → spare ≡ 0
+    nothing-spare some =
+        let last = flat (t .n) 1 e (omega arith) (omega arith) (omega arith) in
+        let most = full 0 (omega arith) in
+        omega (arith, rw one-mul at last, rw (zero-mul, zero-add) at most)
+
+  -- N·(N + 1) visits are enough
+  pub offered : (i : ℕ) → i < t .n → (old since : List VisitRecord) → 1 ≤ spare → t .n * (t .n + 1) ≤ length since → AllInOrder (since ++ old) → Somewhere (λ v before. Offered i v) since
+  offered i known old since left long E =
+      let n = t .n in
+      let h = since ++ old in
+      let ago = some-time-ago t i known h (each-of (λ v before k. k .0) h E) in
+      let e = ago .0 in
+      ⊎-elim (λ (f : Somewhere (λ v before. Offered i v) since). f)
+      (λ f. absurd (omega (arith, nothing-spare h E e f (omega arith))))
+      (all-full i known old n e since (ago .1) (ago .2) (ago .3) (omega (arith, ago .2, mul-comm n (n + 1), one-more n n)) E)
 
 -- ---- in ticks: N·(N + 1) visits make N + 1 rotations, and the one that is offered a limit above 0 starts within them
 

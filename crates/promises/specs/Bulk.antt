@@ -1,4 +1,4 @@
--- Request No. 3: how long bulk data can wait. It is said of timely-token rings whose frames may stop at any tick. That the mode is 1 is a premise of `Promised.bulk`, beside A* at least 1; where a plan names F, that it is 1 becomes another.
+-- Request No. 3: how long bulk data can wait. It is said of timely-token rings: that the mode is 1 is a premise of `Promised.bulk`, beside A* at least 1. Where request No. 4 asks for it with F 1, it holds for every F.
 use Prim.Native.Nat.{ℕ, _+_, _*_, _≤_, _<_}
 use mathlib.Core.Path.{_≡_}
 use mathlib.Core.List.{List, [], _∷_}
@@ -7,10 +7,10 @@ use Rattle.units.specs.Places.{at}
 use Rattle.sets.specs.declared.Set.{Set}
 use Rattle.plans.specs.Rules.{spareTime}
 use Rattle.plans.specs.declared.Alloc.{Alloc}
-use Rattle.rings.specs.Steps.{visited}
+use Rattle.rings.specs.Steps.{Ask, visited}
 use Rattle.rings.specs.declared.VisitRecord.{VisitRecord}
 use Rattle.promises.specs.Run.{Call, visit, message, Run, after, run, runOf}
-use Rattle.promises.specs.History.{Each, Somewhere}
+use Rattle.promises.specs.History.{overrunOf, Each, Somewhere}
 
 -- the ring of this run, with no visit and no message told yet
 abbrev pub anew : Run → Run
@@ -20,9 +20,13 @@ anew s = record { ring = s .ring; records = []; messages = [] }
 abbrev pub visitsAmong : Run → List Call → List VisitRecord
 visitsAmong s later = run (anew s) later .records
 
+-- how long the frames asked for would take
+abbrev pub ticksAsked : Ask → ℕ
+ticksAsked ask = ask .frames * ask .length
+
 -- if this call is an accepted visit of station i, it asks for at least so much
 abbrev pub Asks : ℕ → ℕ → Run → Call → Type 0
-Asks i least s (visit ask) = visited (s .ring) ask .answer .number ≡ 0 → visited (s .ring) ask .answer .«record» .station .0 ≡ i → least ≤ ask
+Asks i least s (visit ask) = visited (s .ring) ask .answer .number ≡ 0 → visited (s .ring) ask .answer .«record» .station .0 ≡ i → least ≤ ticksAsked ask
 Asks i least s (message m) = Unit {0}
 
 -- each accepted visit of station i among these further calls asks for at least so much
@@ -57,7 +61,7 @@ pub record BulkServed (t : Set) (a : Alloc) : Type 0 where
       → i < t .n
       → runOf t a calls .ring .clock + longestWait t < run (runOf t a calls) later .ring .clock
       → Somewhere (λ v before. Offered i v × (v .start .0 ≤ runOf t a calls .ring .clock + longestWait t)) (visitsAmong (runOf t a calls) later)
-  -- and if it asks for at least A*, it sends all that it is offered
+  -- and if it asks for at least A*, it sends all that it is offered, and at most F − 1 beyond it: with F 1 just that
   pub sends : (calls later : List Call) (i : ℕ)
       → AlwaysAsks i (spareTime t (at (a .s))) (runOf t a calls) later
-      → Each (λ v before. v .station .0 ≡ i → v .asynchronous .0 ≡ v .limit .0) (visitsAmong (runOf t a calls) later)
+      → Each (λ v before. v .station .0 ≡ i → (v .limit .0 ≤ v .asynchronous .0) × (v .asynchronous .0 ≤ v .limit .0 + overrunOf t)) (visitsAmong (runOf t a calls) later)

@@ -15,7 +15,7 @@ use Rattle.rings.specs.declared.Ring.{Ring}
 use Rattle.rings.specs.declared.Message.{Message}
 use Rattle.rings.specs.declared.Timers.{Timers}
 use Rattle.rings.specs.declared.VisitRecord.{VisitRecord}
-use Rattle.promises.specs.History.{syncStartOf}
+use Rattle.promises.specs.History.{overrunOf, syncStartOf}
 
 -- ---- the timing of a ring: all that it has beside its messages
 pub record Timing : Type 0 where
@@ -87,15 +87,17 @@ pub record VisitTimers (t : Set) (r q : Timing) (v : VisitRecord) : Type 0 where
 
 -- ---- the offer: the limit of a visit, and what was sent of it. The timing needs no more of it than `room` above
 pub record VisitOffer (t : Set) (r : Timing) (v : VisitRecord) : Type 0 where
-  -- the larger of TTRT − u − TRT and 0
-  pub limit : v .limit .0 ≡ t .head .ttrt - r .unused - at (r .trt) (r .token)
-  pub kept : v .asynchronous .0 ≤ v .limit .0
+  -- the larger of TTRT − (F − 1) − u − TRT and 0
+  pub limit : v .limit .0 ≡ t .head .ttrt - overrunOf t - r .unused - at (r .trt) (r .token)
+  -- the last frame runs on past it by at most F − 1; where nothing is offered, nothing is sent
+  pub within : v .asynchronous .0 ≤ v .limit .0 + overrunOf t
+  pub shut : v .limit .0 ≡ 0 → v .asynchronous .0 ≡ 0
 
 -- ---- the timers of an FDDI visit: each station has one number, `hasRun`: how long its timer has run, with TTRT for each time that it is late
 
--- the plan as `timers` has it; a frame may stop at any tick, so F − 1 is 0
+-- the plan as `timers` has it
 abbrev pub timerPlan : Set → Alloc → Plan
-timerPlan t a = record { n = t .n; ttrt = t .head .ttrt; f = 0; s = at (a .s); w = at (t .w) }
+timerPlan t a = record { n = t .n; ttrt = t .head .ttrt; f = overrunOf t; s = at (a .s); w = at (t .w) }
 
 pub record VisitLaps (t : Set) (a : Alloc) (r q : Timing) (v : VisitRecord) : Type 0 where
   -- the visit moves every station's number as `timers` says

@@ -13,7 +13,7 @@ use Rattle.rings.specs.Sound.{isSound}
 use Rattle.rings.specs.Steps.{visited}
 use Rattle.rings.specs.declared.Ring.{Ring}
 use Rattle.promises.specs.Run.{Call, message, ringOf, recordsOf}
-use Rattle.promises.specs.Witness.{two, pairOf, shares, thirty, greedy, completed, row}
+use Rattle.promises.specs.Witness.{two, pairOf, shares, thirty, thousand, greedy, completed, row}
 
 -- the set of `Witness` as an FDDI ring: TTRT 100, w 1 each; planning gives the same S, 15 and 0
 abbrev pub older : Set
@@ -34,6 +34,7 @@ belated clock =
       sent = zeros;
       rest = two 15 0;
       token = 0;
+      filler = 0;
       arrival = zeros;
       had = two 1 0;
       last = zeros;
@@ -52,6 +53,6 @@ pub record FddiHappens : Type 0 where
   pub late-there : at (ringOf older shares first .late) 1 ≡ 1
   -- margins are exact: 1 tick before the deadline, on it, and behind it
   pub sound : isSound (belated 300) ≡ true
-  pub early : visited (belated 234) 1000 .answer .«record» ≡ row 0 234 50 0 15 0 249 (pos 1) 1
-  pub just : visited (belated 235) 1000 .answer .«record» ≡ row 0 235 50 0 15 0 250 (pos 0) 1
-  pub tardy : visited (belated 300) 1000 .answer .«record» ≡ row 0 300 50 0 15 0 315 (negsuc 64) 1
+  pub early : visited (belated 234) thousand .answer .«record» ≡ row 0 234 50 0 15 0 249 (pos 1) 1
+  pub just : visited (belated 235) thousand .answer .«record» ≡ row 0 235 50 0 15 0 250 (pos 0) 1
+  pub tardy : visited (belated 300) thousand .answer .«record» ≡ row 0 300 50 0 15 0 315 (negsuc 64) 1

@@ -1,5 +1,5 @@
 -- What is read off a run: its records and its accepted messages, the latest first.
-use Prim.Native.Nat.{ℕ, zero, suc, _+_}
+use Prim.Native.Nat.{ℕ, zero, suc, _+_, _-_}
 use mathlib.Core.Bool.{Bool, cond}
 use mathlib.Core.List.{List, [], _∷_}
 use mathlib.Core.Logic.{_⊎_}
@@ -15,6 +15,10 @@ unfoldable pub asyncOf : ℕ → List VisitRecord → ℕ
 asyncOf n [] = 0
 asyncOf zero (v ∷ before) = 0
 asyncOf (suc n) (v ∷ before) = v .asynchronous .0 + asyncOf n before
+
+-- F − 1: the ticks by which the last frame of a visit may run on past the limit
+abbrev pub overrunOf : Set → ℕ
+overrunOf t = t .head .frame - 1
 
 -- when the synchronous part of a visit starts: at the visit's start
 abbrev pub syncStartOf : Set → VisitRecord → ℕ

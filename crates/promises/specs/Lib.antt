@@ -7,6 +7,7 @@
 --     Witness     a run in which all that the promises speak of happens
 --     FddiWitness a run of an FDDI ring in which the token is as late as it can be
 --     BulkWitness a run in which bulk data waits long
+--     FrameWitness runs in which a frame runs on past the limit
 -- and, for the proofs:
 --     Facts       what a visit and a handing in do, as records of facts that add up
 pub mod Run
@@ -18,3 +19,4 @@ pub mod Promised
 pub mod Witness
 pub mod FddiWitness
 pub mod BulkWitness
+pub mod FrameWitness

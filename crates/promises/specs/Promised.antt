@@ -1,4 +1,4 @@
--- Demand 3, as it reads for the plan's mode (request No. 1), and request No. 3: what is promised of every run, for every set and allocation that meet the rules, whatever calls are made, accepted and refused ones, and whatever is asked for; `proofs/Promised.antt` proves it.
+-- Demand 3, as it reads for the plan's mode (request No. 1) and its longest frame (No. 4), and request No. 3: what is promised of every run, for every set and allocation that meet the rules, whatever calls are made, accepted and refused ones, and whatever is asked for; `proofs/Promised.antt` proves it.
 use Prim.Native.Nat.{ℕ, _≤_}
 use mathlib.Core.Path.{_≡_}
 use mathlib.Core.List.{List, []}
@@ -16,6 +16,7 @@ use Rattle.promises.specs.Bulk.{BulkServed}
 use Rattle.promises.specs.Witness.{Happens}
 use Rattle.promises.specs.FddiWitness.{FddiHappens}
 use Rattle.promises.specs.BulkWitness.{BulkWaits}
+use Rattle.promises.specs.FrameWitness.{FramesHappen}
 
 pub record Promised : Type 0 where
   -- whatever set and allocation meet the rules, they are valid
@@ -34,7 +35,7 @@ pub record Promised : Type 0 where
   pub request-valid : (bytes : List ℕ)
       → readRequest bytes .number ≡ 0 → planned (readRequest bytes .set) .number ≡ 0
       → Valid (readRequest bytes .set) (planned (readRequest bytes .set) .alloc)
-  -- request No. 3: on a timely-token ring, where A* is at least 1, no station waits long for asynchronous time
+  -- request No. 3: on a timely-token ring, where A* is at least 1, no station waits long for asynchronous time; no premise on F
   pub bulk : (t : Set) (a : Alloc) → judgedPlan t a ≡ 0 → Timely t → 1 ≤ spareTime t (at (a .s)) → BulkServed t a
   -- none of it is kept by never being called upon: there is a run in which all that is promised happens
   pub happens : Happens
@@ -42,3 +43,5 @@ pub record Promised : Type 0 where
   pub fddi-happens : FddiHappens
   -- nor is the promise of bulk data larger than need be: there is a run in which a station waits all but the last of those visits
   pub bulk-waits : BulkWaits
+  -- and there are runs of both kinds of ring in which a frame runs on past the limit by all of F − 1
+  pub frames-happen : FramesHappen

@@ -20,7 +20,7 @@ use Rattle.rings.specs.declared.Ring.{Ring}
 use Rattle.rings.specs.declared.Message.{Message}
 use Rattle.rings.specs.declared.VisitRecord.{VisitRecord}
 use Rattle.promises.specs.Run.{Call, message, Run, after, run, runOf, ringOf, recordsOf, messagesOf}
-use Rattle.promises.specs.History.{asyncOf, syncStartOf, latestOf, latestFor, sentBy, due, Each, Somewhere}
+use Rattle.promises.specs.History.{asyncOf, overrunOf, syncStartOf, latestOf, latestFor, sentBy, due, Each, Somewhere}
 
 -- ---- what each visit keeps: v is its record, `before` are the records of the visits before it, the latest first
 
@@ -50,10 +50,24 @@ pub record TimerIsGap (t : Set) (v : VisitRecord) (before : List VisitRecord) : 
   -- and it is at most TTRT, at the first visit too
   pub within : v .trt .0 ≤ t .head .ttrt
 
--- the limit is exactly A* less the asynchronous time of the N visits before, and what is sent is at most the limit
+-- the limit is exactly A* less the asynchronous time of the N visits before, or 0 where that is larger
 pub record ExactLimit (t : Set) (a : Alloc) (v : VisitRecord) (before : List VisitRecord) : Type 0 where
   pub exact : v .limit .0 ≡ spareTime t (at (a .s)) - asyncOf (t .n) before
-  pub window : asyncOf (t .n) before ≤ spareTime t (at (a .s))
+  -- what is sent is at most the limit and F − 1, and nothing where the limit is 0
+  pub within : v .asynchronous .0 ≤ v .limit .0 + overrunOf t
+  pub shut : v .limit .0 ≡ 0 → v .asynchronous .0 ≡ 0
+
+-- the asynchronous time of N successive visits, this one the latest of them, is at most A* + (F − 1)
+abbrev pub WindowKept : Set → Alloc → VisitRecord → List VisitRecord → Type 0
+WindowKept t a v before = asyncOf (t .n) (v ∷ before) ≤ spareTime t (at (a .s)) + overrunOf t
+
+-- F is 1: asynchronous traffic may stop at any tick
+abbrev pub AnyTick : Set → Type 0
+AnyTick t = t .head .frame ≡ 1
+
+-- then limit and window together are A*, so that the limit is nowhere held at 0, and no more than the limit is sent
+pub record TickLimit (t : Set) (a : Alloc) (v : VisitRecord) (before : List VisitRecord) : Type 0 where
+  pub exact : v .limit .0 + asyncOf (t .n) before ≡ spareTime t (at (a .s))
   pub kept : v .asynchronous .0 ≤ v .limit .0
 
 -- no message is completed late: where the flag says that one was completed, the margin is not negative
@@ -120,6 +134,10 @@ pub record Regular (t : Set) (s : Run) (m : Message) : Type 0 where
 
 -- ---- the parts
 
+-- the frames asked for have a length from 1 to F
+abbrev pub FramesNamed : Set → Ask → Type 0
+FramesNamed t ask = (1 ≤ ask .length) × (ask .length ≤ t .head .frame)
+
 -- what every ring keeps
 pub record Common (t : Set) (a : Alloc) : Type 0 where
   -- the stations come in turn, from station 0 on
@@ -135,8 +153,9 @@ pub record Common (t : Set) (a : Alloc) : Type 0 where
   -- so 8 is never given
   pub no-visit-8 : (calls : List Call) (ask : Ask) → visited (ringOf t a calls) ask .answer .number ≢ 8
   pub no-message-8 : (calls : List Call) (m : Message) → handedIn (ringOf t a calls) m .number ≢ 8
-  -- a visit is accepted exactly if the clock is not above 1,000,000,000,000
-  pub goes : (calls : List Call) (ask : Ask) → (visited (ringOf t a calls) ask .answer .number ≡ 0) ↔ (ringOf t a calls .clock ≤ mostClock)
+  -- a visit is accepted exactly if the length of its frames is 1 to F and the clock is not above 1,000,000,000,000
+  pub goes : (calls : List Call) (ask : Ask)
+      → (visited (ringOf t a calls) ask .answer .number ≡ 0) ↔ (FramesNamed t ask × (ringOf t a calls .clock ≤ mostClock))
   -- the visit count is the number of accepted visits, and the clock ends them long before 2^62: each rotation takes a tick at least
   pub counted : (calls : List Call) → ringOf t a calls .visits ≡ length (recordsOf t a calls)
   pub bounded : (calls : List Call) → length (recordsOf t a calls) ≤ mostStations * (mostClock + 1)
@@ -160,11 +179,13 @@ pub record NeverLate (t : Set) (a : Alloc) (bound : ℕ) : Type 0 where
       → i < t .n → (u : VisitRecord) → latestOf i (recordsOf t a calls) ≡ some u
       → ringOf t a calls .clock ≤ u .start .0 + bound
 
--- the limit is exactly A* less the asynchronous time of the N visits before, the silent rotation counting as nothing
+-- the limit is exactly A* less the asynchronous time of the N visits before, held at 0, the silent rotation counting as nothing
 pub record ExactLimits (t : Set) (a : Alloc) : Type 0 where
   pub limits : (calls : List Call) → Each (ExactLimit t a) (recordsOf t a calls)
-  -- A* is a true difference: with τ and the sum of S it makes up TTRT
-  pub spare : spareTime t (at (a .s)) + tau t + sumBelow (t .n) (at (a .s)) ≡ t .head .ttrt
+  -- A* is a true difference: with τ, F − 1 and the sum of S it makes up TTRT
+  pub spare : spareTime t (at (a .s)) + tau t + overrunOf t + sumBelow (t .n) (at (a .s)) ≡ t .head .ttrt
+  -- with F 1 the limit is a true difference too
+  pub ticks : AnyTick t → (calls : List Call) → Each (TickLimit t a) (recordsOf t a calls)
 
 -- deadlines are kept
 pub record DeadlinesKept (t : Set) (a : Alloc) : Type 0 where
@@ -205,21 +226,23 @@ pub record TimelyKept (t : Set) (a : Alloc) : Type 0 where
   pub timers : (calls : List Call) → Each (TimerIsGap t) (recordsOf t a calls)
   -- the limit is exact
   pub limits : ExactLimits t a
+  -- any N successive visits send at most A* + (F − 1) asynchronously
+  pub windows : (calls : List Call) → Each (WindowKept t a) (recordsOf t a calls)
   -- deadlines are kept
   pub deadlines : DeadlinesKept t a
 
--- what an FDDI ring keeps: the token may come later than TTRT, by the sum of S at most; no limit and no deadline is promised
+-- what an FDDI ring keeps: the token may come later than TTRT, by the sum of S and F − 1 at most; no limit and no deadline is promised
 pub record FddiKept (t : Set) (a : Alloc) : Type 0 where
-  -- the token is back within TTRT + the sum of S + τ
-  pub never-late : NeverLate t a (t .head .ttrt + allShares t a + tau t)
-  -- and even within TTRT + the sum of S
-  pub sooner : NeverLate t a (t .head .ttrt + allShares t a)
+  -- the token is back within TTRT + the sum of S + τ + (F − 1)
+  pub never-late : NeverLate t a (t .head .ttrt + allShares t a + tau t + overrunOf t)
+  -- and even within TTRT + the sum of S + (F − 1)
+  pub sooner : NeverLate t a (t .head .ttrt + allShares t a + overrunOf t)
   -- at a station's first visit too, since the silent rotation passed it
-  pub first : (calls : List Call) → Each (FirstWithin t (t .head .ttrt + allShares t a)) (recordsOf t a calls)
+  pub first : (calls : List Call) → Each (FirstWithin t (t .head .ttrt + allShares t a + overrunOf t)) (recordsOf t a calls)
   -- and as long as a station has had no visit
   pub first-since : (calls : List Call) (i : ℕ)
       → i < t .n → latestOf i (recordsOf t a calls) ≡ none
-      → silentTrt t i + ringOf t a calls .clock ≤ t .head .ttrt + allShares t a
+      → silentTrt t i + ringOf t a calls .clock ≤ t .head .ttrt + allShares t a + overrunOf t
   -- no late count is above 1, where 3 would be sound
   pub lates : (calls : List Call) (i : ℕ) → i < t .n → at (ringOf t a calls .late) i ≤ 1
 

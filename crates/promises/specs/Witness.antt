@@ -10,6 +10,7 @@ use Rattle.sets.specs.declared.Set.{Set}
 use Rattle.plans.specs.Rules.{spareTime}
 use Rattle.plans.specs.Planned.{judgedPlan, planned}
 use Rattle.plans.specs.declared.Alloc.{Alloc}
+use Rattle.rings.specs.Steps.{Ask}
 use Rattle.rings.specs.HandingIn.{handedIn}
 use Rattle.rings.specs.declared.Message.{Message}
 use Rattle.rings.specs.declared.VisitRecord.{VisitRecord}
@@ -22,7 +23,7 @@ two a b = (a ∷ b ∷ []) ++ replicate 126 0
 
 -- TTRT 100, w 1 each; station 0 has C 30, D 250, P 250, station 1 has no synchronous stream
 abbrev pub pairOf : ℕ → Set
-pairOf mode = record { head = record { ttrt = 100; mode = mode }; n = 2; w = two 1 1; c = two 30 0; d = two 250 100; p = two 250 100 }
+pairOf mode = record { head = record { ttrt = 100; mode = mode; frame = 1 }; n = 2; w = two 1 1; c = two 30 0; d = two 250 100; p = two 250 100 }
 
 -- as a timely-token ring
 abbrev pub pair : Set
@@ -36,9 +37,13 @@ shares = record { s = two 15 0 }
 abbrev pub thirty : ℕ → Message
 thirty arrival = record { station = record { 0 = 0 }; length = record { 0 = 30 }; arrival = record { 0 = arrival } }
 
--- 1,000 asynchronous ticks are asked for at each visit
+-- 1,000 asynchronous ticks
+abbrev pub thousand : Ask
+thousand = record { frames = 1000; length = 1 }
+
+-- they are asked for at each visit
 abbrev pub greedy : Call
-greedy = visit 1000
+greedy = visit thousand
 
 -- a message that takes two visits is handed in, another at once is refused, and both stations are visited
 abbrev pub begun : List Call

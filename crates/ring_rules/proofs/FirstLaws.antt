@@ -64,8 +64,8 @@ module _ (a b : Ring) (e : SameRing a b) where
       all-same (count a) (arrivalSoundAt a) (arrivalSoundAt b) (λ i l. rw (e .arrival i l)) ∙ ap (λ (k : ℕ). allBelow k (arrivalSoundAt b)) n in
       rw (plan, mode-same, trts, timers, lates, sents, sum, rests, arrivals, e .token, e .unused, e .clock, e .visits, n)
 
-  pub visit-number-same : visitNumber a ≡ visitNumber b
-  visit-number-same = rw (sound-same, e .clock)
+  pub visit-number-same : (ask : Ask) → visitNumber a ask ≡ visitNumber b ask
+  visit-number-same ask = rw (sound-same, e .set .header, e .clock)
 
   -- ---- a visit
 
@@ -76,7 +76,7 @@ module _ (a b : Ring) (e : SameRing a b) where
 
     limit-same : limit a ≡ limit b
     unfolding limit offered
-    limit-same = rw (mode-same, here (a .trt) (b .trt) (e .trt), here (a .late) (b .late) (e .late), ttrt-same, e .unused)
+    limit-same = rw (mode-same, ap (λ (h : Head). h .frame) (e .set .header), here (a .trt) (b .trt) (e .trt), here (a .late) (b .late) (e .late), ttrt-same, e .unused)
 
     pub sync-same : (async : ℕ) → syncSent a async ≡ syncSent b async
     unfolding syncSent
@@ -164,6 +164,7 @@ module _ (a b : Ring) (e : SameRing a b) where
           token = ⊎-elim (λ (q : a .token + 1 < count a). ma .on q ∙ rw p (sym (mb .on (rw (← p, ← e .set .count) q))))
               (λ (q : count a ≤ a .token + 1). let last : a .token + 1 ≡ count a = omega arith in ma .round last ∙ sym (mb .round (rw (← p, ← e .set .count) last)))
               (below-or-not (a .token + 1) (count a));
+          filler = ma .filler ∙ e .filler ∙ sym (mb .filler);
           unused = unused-same na nb v ma mb;
         }
 
@@ -205,6 +206,7 @@ module _ (a b : Ring) (e : SameRing a b) where
           clock = ha .clock ∙ e .clock ∙ sym (hb .clock);
           visits = ha .visits ∙ e .visits ∙ sym (hb .visits);
           token = ha .token ∙ e .token ∙ sym (hb .token);
+          filler = ha .filler ∙ e .filler ∙ sym (hb .filler);
           unused = ha .unused ∙ e .unused ∙ sym (hb .unused);
         }
 
@@ -241,5 +243,6 @@ fresh-same t u a b r q same alloc fr fq =
       clock = fr .clock ∙ sym (fq .clock);
       visits = fr .visits ∙ sym (fq .visits);
       token = fr .token ∙ sym (fq .token);
+      filler = fr .filler ∙ sym (fq .filler);
       unused = fr .unused ∙ (sum-same (t .n) (at (a .s)) (at (b .s)) alloc ∙ rw (same .count) (sym (fq .unused)));
     }

@@ -10,7 +10,7 @@ use Rattle.rings.specs.TimerLaws.{fddi-true, fddi-false}
 use Rattle.rings.specs.Sound.{isSound}
 use Rattle.rings.specs.Steps.{Ask, syncSent, moved, recordOf, visitNumber, visitedWith}
 use Rattle.rings.specs.HandingIn.{arrivalAllowed, holding, handInNumber, takenWith}
-use Rattle.ring_rules.specs.Promised.{withLate, withUnused, LeftAlone}
+use Rattle.ring_rules.specs.Promised.{withLate, withUnused, withFiller, LeftAlone}
 use Rattle.rings.specs.declared.Ring.{Ring}
 use Rattle.rings.specs.declared.Message.{Message}
 
@@ -66,16 +66,37 @@ module _ (r : Ring) (unused : ℕ) (e : Fddi (r .set)) where
   unused-message zero m = refl
   unused-message (suc k) m = refl
 
+-- ---- any ring's filler
+
+module _ (r : Ring) (filler : ℕ) where
+  filler-number : (m : Message) → handInNumber (withFiller filler r) m ≡ handInNumber r m
+  unfolding isSound timersSound timelySound fddiSound arrivalAllowed
+  filler-number m = refl
+
+  filler-visit : (k : ℕ) (ask : Ask) → visitedWith k (withFiller filler r) ask ≡ record { ring = withFiller filler (visitedWith k r ask .ring); answer = visitedWith k r ask .answer }
+  unfolding visitedWith moved recordOf limit syncSent timersAfter timelyAfter timePassed tokenCame
+  filler-visit zero ask = refl
+  filler-visit (suc k) ask = refl
+
+  filler-message : (k : ℕ) (m : Message) → takenWith k (withFiller filler r) m ≡ record { ring = withFiller filler (takenWith k r m .ring); number = takenWith k r m .number }
+  unfolding takenWith holding
+  filler-message zero m = refl
+  filler-message (suc k) m = refl
+
+  filler-sound : isSound (withFiller filler r) ≡ isSound r
+  unfolding isSound timersSound timelySound fddiSound
+  filler-sound = refl
+
 -- a change that the calls pass on, whatever the number, and that the numbers do not see, is left alone
-left-alone : (change : Ring → Ring) (r : Ring) → isSound (change r) ≡ isSound r → visitNumber (change r) ≡ visitNumber r
+left-alone : (change : Ring → Ring) (r : Ring) → isSound (change r) ≡ isSound r → ((ask : Ask) → visitNumber (change r) ask ≡ visitNumber r ask)
     → ((m : Message) → handInNumber (change r) m ≡ handInNumber r m)
     → ((k : ℕ) (ask : Ask) → visitedWith k (change r) ask ≡ record { ring = change (visitedWith k r ask .ring); answer = visitedWith k r ask .answer })
     → ((k : ℕ) (m : Message) → takenWith k (change r) m ≡ record { ring = change (takenWith k r m .ring); number = takenWith k r m .number }) → LeftAlone change r
 left-alone change r sound number numbers visits messages =
     record {
       sound = sound;
-      visit = λ ask. rw (number, visits (visitNumber r) ask) refl;
-      visit-ring = λ ask. rw (number, visits (visitNumber r) ask) refl;
+      visit = λ ask. rw (number ask, visits (visitNumber r ask) ask) refl;
+      visit-ring = λ ask. rw (number ask, visits (visitNumber r ask) ask) refl;
       message = λ m. rw (numbers m, messages (handInNumber r m) m) refl;
       message-ring = λ m. rw (numbers m, messages (handInNumber r m) m) refl;
     }
@@ -83,9 +104,14 @@ left-alone change r sound number numbers visits messages =
 pub late-alone : (r : Ring) (late : List ℕ) → ¬ Fddi (r .set) → LeftAlone (withLate late) r
 late-alone r late n =
     let same = late-sound r late n in
-    left-alone (withLate late) r same (rw same refl) (late-number r late n) (late-visit r late n) (late-message r late n)
+    left-alone (withLate late) r same (λ ask. rw same refl) (late-number r late n) (late-visit r late n) (late-message r late n)
 
 pub unused-alone : (r : Ring) (unused : ℕ) → Fddi (r .set) → LeftAlone (withUnused unused) r
 unused-alone r unused e =
     let same = unused-sound r unused e in
-    left-alone (withUnused unused) r same (rw same refl) (unused-number r unused e) (unused-visit r unused e) (unused-message r unused e)
+    left-alone (withUnused unused) r same (λ ask. rw same refl) (unused-number r unused e) (unused-visit r unused e) (unused-message r unused e)
+
+pub filler-alone : (r : Ring) (filler : ℕ) → LeftAlone (withFiller filler) r
+filler-alone r filler =
+    let same = filler-sound r filler in
+    left-alone (withFiller filler) r same (λ ask. rw same refl) (filler-number r filler) (filler-visit r filler) (filler-message r filler)

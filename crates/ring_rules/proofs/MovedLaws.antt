@@ -15,10 +15,11 @@ use Rattle.units.specs.JudgingLaws.{true-or-false, true-and, and-true}
 use Rattle.rings.specs.State.{count, ttrt, following, share, unusedAt, holds, Shaped}
 use Rattle.timers.specs.Timers.{Timer, visited}
 use Rattle.timers.proofs.Timers.{later-ticks}
-use Rattle.rings.specs.Timers.{Fddi, rise, timerOf, timersOf, tokenCame, timePassed, timelyAfter}
+use Rattle.rings.specs.Timers.{limit, Fddi, rise, timerOf, timersOf, tokenCame, timePassed, timelyAfter}
 use Rattle.rings.specs.Sound.{Sound}
-use Rattle.rings.specs.Steps.{Ask, serves, syncSent, asyncSent, nextToken, moved, completes, recordOf}
+use Rattle.rings.specs.Steps.{Ask, LengthNamed, serves, syncSent, asyncSent, nextToken, moved, completes, recordOf}
 use Rattle.ring_rules.specs.Promised.{Amounts, TimelyMoved, FddiMoved, Moved, Completed, NoneCompleted, Done}
+use Rattle.rings.specs.FrameLaws.{frames-sent, frames-within, frames-none, ticks-sent}
 use Rattle.rings.specs.TimerLaws.{fddi-or-not, limit-fddi, limit-timely, after-fddi, after-timely, came-late, came-early, offered-late, offered-early}
 use Rattle.rings.proofs.StationLaws.{timer-here, timer-there, moved-long}
 use Rattle.rings.specs.RingLaws.{sound-plan, served, not-served, sync-within}
@@ -40,7 +41,7 @@ unused-stays : (r : Ring) → Fddi (r .set) → (sync async : ℕ) → moved r s
 unfolding moved timePassed tokenCame
 unused-stays r e sync async = rw (after-fddi r e sync async)
 
-module _ (r : Ring) (ask : Ask) (L : Shaped r) (s : Sound r) where
+module _ (r : Ring) (ask : Ask) (L : Shaped r) (s : Sound r) (named : LengthNamed r ask) where
   -- the token's station is one of the places
   inside : r .token < 128
   inside = omega (arith, s .token, sound-plan r s .0 .1)
@@ -57,7 +58,11 @@ module _ (r : Ring) (ask : Ask) (L : Shaped r) (s : Sound r) where
             (λ (e : serves r (asyncSent r ask) ≡ false). not-served r (asyncSent r ask) e)
             (true-or-false (serves r (asyncSent r ask)));
         none = λ e. omega (arith, sync-within r (asyncSent r ask) .1);
-        offered = refl;
+        frames = refl;
+        counted = frames-sent (limit r) ask (named .0);
+        within = omega (arith, frames-within (limit r) ask (named .0), named .1);
+        shut = λ e. rw e (frames-none ask);
+        ticks = λ e. ticks-sent (limit r) ask e;
       }
 
   trt-here : (x : ℕ) → at (raise (count r) x (set (r .trt) (r .token) 0)) (r .token) ≡ x
@@ -141,6 +146,7 @@ module _ (r : Ring) (ask : Ask) (L : Shaped r) (s : Sound r) where
         alloc = refl;
         arrival = refl;
         had = refl;
+        filler = refl;
         sents = λ j n. getD-set-other (r .sent) (r .token) j (syncSent r (asyncSent r ask)) 0 (omega arith);
         rests = λ j n. getD-set-other (r .rest) (r .token) j _ 0 (omega arith);
         lasts = λ j n. getD-set-other (r .last) (r .token) j (r .clock) 0 (omega arith);

@@ -12,7 +12,7 @@ use Rattle.units.specs.Judging.{orElse}
 use Rattle.units.specs.JudgingLaws.{Decides, decides-le, decides-between, given, given-later, not-given, iff-then, iff-under}
 use Rattle.rings.specs.State.{count}
 use Rattle.rings.specs.Sound.{Sound, isSound}
-use Rattle.rings.specs.Steps.{Ask, visitNumber, visitedWith}
+use Rattle.rings.specs.Steps.{Ask, LengthNamed, lengthNamed, visitNumber, visitedWith}
 use Rattle.rings.specs.HandingIn.{ArrivalAllowed, Takes, stationKnown, lengthAllowed, nothingHeld, arrivalAllowed, handInNumber}
 use Rattle.rings.specs.RingLaws.{decides-sound, decides-arrival}
 use Rattle.rings.specs.declared.Ring.{Ring}
@@ -27,28 +27,45 @@ visited-number (suc k) r ask = refl
 
 -- ---- the numbers of a visit
 
-pub visit-eight : (r : Ring) → (visitNumber r ≡ 8) ↔ ¬ Sound r
-visit-eight r = given (isSound r) (Sound r) 8 _ (decides-sound r) (not-given _ 13 0 8 (omega arith) (omega arith))
+module _ (r : Ring) (ask : Ask) where
+  decides-named : Decides (lengthNamed r ask) (LengthNamed r ask)
+  decides-named = decides-between 1 _ (ask .length)
 
-pub visit-thirteen : (r : Ring) → (visitNumber r ≡ 13) ↔ (Sound r × ¬ (r .clock ≤ mostClock))
-visit-thirteen r =
-    iff-then (given-later (isSound r) (Sound r) 8 _ 13 (decides-sound r) (omega arith))
-    (iff-under (given (leb (r .clock) mostClock) _ 13 0 (decides-le (r .clock) mostClock) (omega arith)))
+  decides-clock : Decides (leb (r .clock) mostClock) (r .clock ≤ mostClock)
+  decides-clock = decides-le (r .clock) mostClock
 
-pub visit-none : (r : Ring) → (visitNumber r ≡ 0) ↔ (Sound r × (r .clock ≤ mostClock))
-visit-none r =
-    iff-then (given-later (isSound r) (Sound r) 8 _ 0 (decides-sound r) (omega arith))
-    (iff-under
-    (iff-then (given-later (leb (r .clock) mostClock) _ 13 0 0 (decides-le (r .clock) mostClock) (omega arith)) ((λ h. h .0), λ h. (h, refl))))
+  pub visit-eight : (visitNumber r ask ≡ 8) ↔ ¬ Sound r
+  visit-eight = given (isSound r) (Sound r) 8 _ (decides-sound r) (not-given _ 10 _ 8 (omega arith) (not-given _ 13 0 8 (omega arith) (omega arith)))
 
-pub visit-only : (r : Ring) → (visitNumber r ≡ 0) ⊎ (visitNumber r ≡ 8) ⊎ (visitNumber r ≡ 13)
-unfolding orElse
-visit-only r = go (isSound r) (leb (r .clock) mostClock)
-  where
-    go : (a b : Bool) → (orElse a 8 (orElse b 13 0) ≡ 0) ⊎ (orElse a 8 (orElse b 13 0) ≡ 8) ⊎ (orElse a 8 (orElse b 13 0) ≡ 13)
-    go false b = inr (inl refl)
-    go true false = inr (inr refl)
-    go true true = inl refl
+  pub visit-ten : (visitNumber r ask ≡ 10) ↔ (Sound r × ¬ LengthNamed r ask)
+  visit-ten =
+      iff-then (given-later (isSound r) (Sound r) 8 _ 10 (decides-sound r) (omega arith))
+      (iff-under (given (lengthNamed r ask) _ 10 _ decides-named (not-given _ 13 0 10 (omega arith) (omega arith))))
+
+  pub visit-thirteen : (visitNumber r ask ≡ 13) ↔ (Sound r × (LengthNamed r ask × ¬ (r .clock ≤ mostClock)))
+  visit-thirteen =
+      iff-then (given-later (isSound r) (Sound r) 8 _ 13 (decides-sound r) (omega arith))
+      (iff-under
+      (iff-then (given-later (lengthNamed r ask) _ 10 _ 13 decides-named (omega arith))
+      (iff-under (given (leb (r .clock) mostClock) _ 13 0 decides-clock (omega arith)))))
+
+  pub visit-none : (visitNumber r ask ≡ 0) ↔ (Sound r × (LengthNamed r ask × (r .clock ≤ mostClock)))
+  visit-none =
+      iff-then (given-later (isSound r) (Sound r) 8 _ 0 (decides-sound r) (omega arith))
+      (iff-under
+      (iff-then (given-later (lengthNamed r ask) _ 10 _ 0 decides-named (omega arith))
+      (iff-under
+      (iff-then (given-later (leb (r .clock) mostClock) _ 13 0 0 decides-clock (omega arith)) ((λ h. h .0), λ h. (h, refl))))))
+
+  pub visit-only : (visitNumber r ask ≡ 0) ⊎ (visitNumber r ask ≡ 8) ⊎ (visitNumber r ask ≡ 10) ⊎ (visitNumber r ask ≡ 13)
+  unfolding orElse
+  visit-only = go (isSound r) (lengthNamed r ask) (leb (r .clock) mostClock)
+    where
+      go : (a b c : Bool) → let k = orElse a 8 (orElse b 10 (orElse c 13 0)) in (k ≡ 0) ⊎ (k ≡ 8) ⊎ (k ≡ 10) ⊎ (k ≡ 13)
+      go false b c = inr (inl refl)
+      go true false c = inr (inr (inl refl))
+      go true true false = inr (inr (inr refl))
+      go true true true = inl refl
 
 -- ---- the numbers of a handing in
 

@@ -9,20 +9,19 @@ use Rattle.sets.specs.declared.Set.{Set}
 use Rattle.plans.specs.Planned.{judgedPlan}
 use Rattle.plans.proofs.SameLaws.{judged-plan-same}
 use Rattle.plans.specs.declared.Alloc.{Alloc}
-use Rattle.rings.specs.State.{Shaped}
+use Rattle.rings.specs.State.{overrun, Shaped}
 use Rattle.rings.specs.Opening.{blankRing, openedRing, opening}
 use Rattle.rings.specs.Sound.{Sound}
-use Rattle.rings.specs.Steps.{Ask, syncSent, asyncSent, moved, recordOf, visitNumber, acceptedVisit, refusedVisit, visited}
+use Rattle.rings.specs.Steps.{Ask, LengthNamed, syncSent, asyncSent, moved, recordOf, visitNumber, acceptedVisit, refusedVisit, visited}
 use Rattle.rings.specs.HandingIn.{handInNumber, holding, handedIn}
-use Rattle.ring_rules.specs.Promised.{Fresh, Done, Held, SameFirst, SameRing, Promised}
+use Rattle.ring_rules.specs.Promised.{Fresh, Done, UncutVisit, Held, SameFirst, SameRing, Promised}
 use Rattle.rings.specs.RingLaws.{decides-sound, opened-number, taken-number, opened-refused, opened-accepted, visit-refused, visit-accepted, visit-passed, taken-refused, taken-accepted, taken-passed}
-use Rattle.ring_rules.proofs.NumberLaws.{visited-number, visit-eight, visit-thirteen, visit-none, visit-only, message-eight, message-nine, message-ten, message-eleven}
-use Rattle.ring_rules.proofs.NumberLaws.{message-twelve, message-none, message-only}
+use Rattle.ring_rules.proofs.NumberLaws.{visited-number, visit-eight, visit-ten, visit-thirteen, visit-none, visit-only, message-eight, message-nine, message-ten, message-eleven, message-twelve, message-none, message-only}
 use Rattle.ring_rules.proofs.OpenedLaws.{fresh, opened-sound}
 use Rattle.ring_rules.proofs.MovedLaws.{margin-kept, margin-late, done}
 use Rattle.ring_rules.proofs.HeldLaws.{held, held-sound}
 use Rattle.ring_rules.proofs.FirstLaws.{sound-same, visit-number-same, sync-same, async-same, record-same, moved-same, message-number-same, held-same, fresh-same}
-use Rattle.ring_rules.proofs.ModeLaws.{sound-timely, sound-fddi, late-alone, unused-alone}
+use Rattle.ring_rules.proofs.ModeLaws.{sound-timely, sound-fddi, late-alone, unused-alone, filler-alone}
 use Rattle.rings.specs.declared.Ring.{Ring}
 use Rattle.rings.specs.declared.Message.{Message}
 
@@ -57,31 +56,44 @@ first-places-opening t u a b same alloc =
 -- ---- a visit
 
 module _ (r : Ring) (ask : Ask) where
-  number-visited : visited r ask .answer .number ≡ visitNumber r
-  number-visited = visited-number (visitNumber r) r ask
+  number-visited : visited r ask .answer .number ≡ visitNumber r ask
+  number-visited = visited-number (visitNumber r ask) r ask
 
   accepted : visited r ask .answer .number ≡ 0 → visited r ask ≡ acceptedVisit r ask
-  accepted e = visit-accepted (visitNumber r) r ask (sym number-visited ∙ e)
+  accepted e = visit-accepted (visitNumber r ask) r ask (sym number-visited ∙ e)
 
-  refused : visited r ask .answer .number ≢ 0 → visited r ask ≡ refusedVisit r (visitNumber r)
-  refused n = visit-refused (visitNumber r) r ask (λ e. n (number-visited ∙ e))
+  refused : visited r ask .answer .number ≢ 0 → visited r ask ≡ refusedVisit r (visitNumber r ask)
+  refused n = visit-refused (visitNumber r ask) r ask (λ e. n (number-visited ∙ e))
 
   passed : visited r ask .answer .number ≡ 0 → Sound r
-  passed e = visit-passed r (sym number-visited ∙ e) .0
+  passed e = visit-passed r ask (sym number-visited ∙ e) .0
+
+  named : visited r ask .answer .number ≡ 0 → LengthNamed r ask
+  named e = visit-passed r ask (sym number-visited ∙ e) .1 .0
 
   visit-done : Shaped r → visited r ask .answer .number ≡ 0 → Done r ask (visited r ask .ring) (visited r ask .answer .«record»)
-  visit-done L e = rw (accepted e) (done r ask L (passed e))
+  visit-done L e = rw (accepted e) (done r ask L (passed e) (named e))
+
+-- with F 1 no frame runs on
+uncut-visit : (r : Ring) (ask : Ask) → Shaped r → r .set .head .frame ≡ 1 → ask .length ≡ 1 → UncutVisit r ask
+uncut-visit r ask L one tick =
+    let none : overrun r ≡ 0 = omega (arith, one) in
+    record {
+      not-ten = λ e. visit-ten r ask .0 (sym (number-visited r ask) ∙ e) .1 (omega (arith, tick), omega (arith, one, tick));
+      limit = λ e timely. omega (arith, none, visit-done r ask L e .amounts .limit timely);
+      sent = λ e. visit-done r ask L e .amounts .ticks tick;
+    }
 
 first-places-visit : (a b : Ring) (ask : Ask) → Shaped a → Shaped b → SameRing a b → (visited a ask .answer ≡ visited b ask .answer) × SameRing (visited a ask .ring) (visited b ask .ring)
 first-places-visit a b ask La Lb same =
-    let numbers : visitNumber a ≡ visitNumber b = visit-number-same a b same in
+    let numbers : visitNumber a ask ≡ visitNumber b ask = visit-number-same a b same ask in
     ⊎-elim (λ (e : visited a ask .answer .number ≡ 0).
     let f : visited b ask .answer .number ≡ 0 = number-visited b ask ∙ (sym numbers ∙ (sym (number-visited a ask) ∙ e)) in
     let l = passed a ask e .token in
     let records : recordOf a (syncSent a (asyncSent a ask)) (asyncSent a ask) ≡ recordOf b (syncSent b (asyncSent b ask)) (asyncSent b ask) =
     record-same a b same ask l (syncSent a (asyncSent a ask)) (asyncSent a ask) ∙ rw (sync-same a b same ask l (asyncSent a ask), async-same a b same ask l) in
-    let before = done a ask La (passed a ask e) .moved in
-    let after = done b ask Lb (passed b ask f) .moved in
+    let before = done a ask La (passed a ask e) (named a ask e) .moved in
+    let after = done b ask Lb (passed b ask f) (named b ask f) .moved in
     rw (accepted a ask e, accepted b ask f)
     (rw records, moved-same a b same ask l _ _ _ (rw records at before) after))
     (λ (n : visited a ask .answer .number ≢ 0).
@@ -131,13 +143,15 @@ promised =
       sound = decides-sound;
       sound-timely = sound-timely;
       sound-fddi = sound-fddi;
-      visit-eight = λ r ask. rw (number-visited r ask) (visit-eight r);
-      visit-thirteen = λ r ask. rw (number-visited r ask) (visit-thirteen r);
-      visit-none = λ r ask. rw (number-visited r ask) (visit-none r);
-      visit-only = λ r ask. rw (number-visited r ask) (visit-only r);
+      visit-eight = λ r ask. rw (number-visited r ask) (visit-eight r ask);
+      visit-ten = λ r ask. rw (number-visited r ask) (visit-ten r ask);
+      visit-thirteen = λ r ask. rw (number-visited r ask) (visit-thirteen r ask);
+      visit-none = λ r ask. rw (number-visited r ask) (visit-none r ask);
+      visit-only = λ r ask. rw (number-visited r ask) (visit-only r ask);
       visit-unchanged = λ r ask n. rw (refused r ask n);
       visit-blank = λ r ask n. rw (refused r ask n);
       visit-done = visit-done;
+      uncut-visit = uncut-visit;
       margin-kept = margin-kept;
       margin-late = margin-late;
       message-eight = λ r m. rw (number-taken r m) (message-eight r m);
@@ -156,4 +170,5 @@ promised =
       first-places-message = first-places-message;
       late-alone = late-alone;
       unused-alone = unused-alone;
+      filler-alone = filler-alone;
     }

@@ -1,5 +1,5 @@
 -- What is promised of opening, visits and handing in beside the contracts; `proofs/Promised.antt` proves it. What every run of calls keeps is promised in `promises`.
-use Prim.Native.Nat.{ℕ, suc, _+_, _-_, _≤_, _<_, min}
+use Prim.Native.Nat.{ℕ, suc, _+_, _-_, _*_, _≤_, _<_, min}
 use mathlib.Core.Path.{_≡_}
 use mathlib.Core.Bool.{true}
 use mathlib.Core.List.{List}
@@ -7,17 +7,19 @@ use mathlib.Core.Logic.{_↔_, _⊎_, _≢_}
 use lib.IntN.{pos, negsuc, subℕ}
 use lib.ListN.{length}
 use Rattle.units.specs.Numbers.{mostClock}
+use Rattle.units.specs.Small.{roundedUp}
 use Rattle.units.specs.Places.{at, sumBelow, sumFrom}
 use Rattle.sets.specs.Rules.{SameSet}
 use Rattle.sets.specs.declared.Set.{Set}
 use Rattle.plans.specs.Planned.{judgedPlan}
 use Rattle.plans.specs.declared.Alloc.{Alloc}
 use Rattle.timers.specs.Timers.{ticks, startedAt, visited as tokenAt}
-use Rattle.rings.specs.State.{count, ttrt, share, unusedAt, Shaped}
+use Rattle.rings.specs.State.{count, ttrt, overrun, share, unusedAt, Shaped}
 use Rattle.rings.specs.Timers.{Fddi, timerOf, timersOf, TimersSound}
+use Rattle.rings.specs.Frames.{framesSent}
 use Rattle.rings.specs.Opening.{blankRing, opening}
 use Rattle.rings.specs.Sound.{Sound, isSound}
-use Rattle.rings.specs.Steps.{Ask, blankRecord, visited}
+use Rattle.rings.specs.Steps.{Ask, LengthNamed, blankRecord, visited}
 use Rattle.rings.specs.HandingIn.{Known, LengthAllowed, Free, ArrivalAllowed, Takes, handedIn}
 use Rattle.rings.specs.declared.Ring.{Ring}
 use Rattle.rings.specs.declared.Message.{Message}
@@ -35,6 +37,7 @@ pub record Fresh (t : Set) (a : Alloc) (r : Ring) : Type 0 where
   pub alloc : r .alloc ≡ a
   pub clock : r .clock ≡ 0
   pub token : r .token ≡ 0
+  pub filler : r .filler ≡ 0
   -- timely-token, TRT: the sum of w from the station to station N − 1
   pub trts : ¬ Fddi t → (i : ℕ) → i < t .n → at (r .trt) i ≡ sumFrom i (t .n) (at (t .w))
   pub lates : ¬ Fddi t → (i : ℕ) → at (r .late) i ≡ 0
@@ -56,8 +59,8 @@ pub record Fresh (t : Set) (a : Alloc) (r : Ring) : Type 0 where
 
 -- the two amounts, as the steps have them
 pub record Amounts (r : Ring) (ask : Ask) (v : VisitRecord) : Type 0 where
-  -- step 1, timely-token: the larger of TTRT − u − TRT and 0
-  pub limit : ¬ Fddi (r .set) → v .limit .0 ≡ ttrt r - r .unused - at (r .trt) (r .token)
+  -- step 1, timely-token: the larger of TTRT − (F − 1) − u − TRT and 0
+  pub limit : ¬ Fddi (r .set) → v .limit .0 ≡ ttrt r - overrun r - r .unused - at (r .trt) (r .token)
   -- FDDI: no asynchronous time where the late count is above 0, else TTRT less the timer
   pub limit-late : Fddi (r .set) → 0 < at (r .late) (r .token) → v .limit .0 ≡ 0
   pub limit-early : Fddi (r .set) → at (r .late) (r .token) ≡ 0 → v .limit .0 ≡ ttrt r - at (r .trt) (r .token)
@@ -67,8 +70,15 @@ pub record Amounts (r : Ring) (ask : Ask) (v : VisitRecord) : Type 0 where
   pub early : r .clock < at (r .arrival) (r .token) → v .synchronous .0 ≡ 0
   -- no message, nothing sent
   pub none : at (r .rest) (r .token) ≡ 0 → v .synchronous .0 ≡ 0
-  -- step 4: the smaller of the limit and the ticks asked for
-  pub offered : v .asynchronous .0 ≡ min (v .limit .0) ask
+  -- step 4: frame after frame while the time used is below the limit, each to its end
+  pub frames : v .asynchronous .0 ≡ framesSent (v .limit .0) ask * ask .length
+  -- so many are sent: the smaller of those asked for and limit / length rounded up
+  pub counted : framesSent (v .limit .0) ask ≡ min (ask .frames) (roundedUp (v .limit .0) (ask .length))
+  -- the last one runs on past the limit by at most F − 1; where nothing is offered, nothing is sent
+  pub within : v .asynchronous .0 ≤ v .limit .0 + overrun r
+  pub shut : v .limit .0 ≡ 0 → v .asynchronous .0 ≡ 0
+  -- frames of one tick: the smaller of the limit and the ticks asked for
+  pub ticks : ask .length ≡ 1 → v .asynchronous .0 ≡ min (v .limit .0) (ask .frames)
 
 -- what the clock and every timer rise by: sent synchronous + sent asynchronous + w
 abbrev pub passes : Ring → VisitRecord → ℕ
@@ -111,6 +121,7 @@ pub record Moved (r next : Ring) (v : VisitRecord) : Type 0 where
   pub alloc : next .alloc ≡ r .alloc
   pub arrival : next .arrival ≡ r .arrival
   pub had : next .had ≡ r .had
+  pub filler : next .filler ≡ r .filler
   pub sents : SameBut (r .token) (next .sent) (r .sent)
   pub rests : SameBut (r .token) (next .rest) (r .rest)
   pub lasts : SameBut (r .token) (next .last) (r .last)
@@ -140,6 +151,15 @@ pub record Done (r : Ring) (ask : Ask) (next : Ring) (v : VisitRecord) : Type 0 
   -- else none is
   pub left : (at (r .rest) (r .token) ≡ 0) ⊎ (0 < at (next .rest) (r .token)) → NoneCompleted v
 
+-- with F 1 and frames of one tick the visit is the one of before frames
+pub record UncutVisit (r : Ring) (ask : Ask) : Type 0 where
+  -- it is never refused for its length
+  pub not-ten : visited r ask .answer .number ≢ 10
+  -- timely-token: the limit is the larger of TTRT − u − TRT and 0
+  pub limit : visited r ask .answer .number ≡ 0 → ¬ Fddi (r .set) → visited r ask .answer .«record» .limit .0 ≡ ttrt r - r .unused - at (r .trt) (r .token)
+  -- and the smaller of the limit and the ticks asked for is sent
+  pub sent : visited r ask .answer .number ≡ 0 → visited r ask .answer .«record» .asynchronous .0 ≡ min (visited r ask .answer .«record» .limit .0) (ask .frames)
+
 -- ---- handing in
 
 -- the message is held with its whole length remaining and with its arrival, which is then that station's last accepted one; nothing else in the ring changes
@@ -159,6 +179,7 @@ pub record Held (r : Ring) (m : Message) (next : Ring) : Type 0 where
   pub clock : next .clock ≡ r .clock
   pub visits : next .visits ≡ r .visits
   pub token : next .token ≡ r .token
+  pub filler : next .filler ≡ r .filler
   pub unused : next .unused ≡ r .unused
   pub shaped : Shaped next
 
@@ -182,6 +203,7 @@ pub record SameRing (a b : Ring) : Type 0 where
   pub clock : a .clock ≡ b .clock
   pub visits : a .visits ≡ b .visits
   pub token : a .token ≡ b .token
+  pub filler : a .filler ≡ b .filler
   pub unused : a .unused ≡ b .unused
 
 -- ---- what a mode leaves alone
@@ -197,6 +219,7 @@ withLate late r =
       sent = r .sent;
       rest = r .rest;
       token = r .token;
+      filler = r .filler;
       arrival = r .arrival;
       had = r .had;
       last = r .last;
@@ -216,12 +239,33 @@ withUnused unused r =
       sent = r .sent;
       rest = r .rest;
       token = r .token;
+      filler = r .filler;
       arrival = r .arrival;
       had = r .had;
       last = r .last;
       clock = r .clock;
       visits = r .visits;
       unused = unused;
+    }
+
+-- the ring with another filler
+abbrev pub withFiller : ℕ → Ring → Ring
+withFiller filler r =
+    record {
+      set = r .set;
+      alloc = r .alloc;
+      trt = r .trt;
+      late = r .late;
+      sent = r .sent;
+      rest = r .rest;
+      token = r .token;
+      filler = filler;
+      arrival = r .arrival;
+      had = r .had;
+      last = r .last;
+      clock = r .clock;
+      visits = r .visits;
+      unused = r .unused;
     }
 
 -- what is so changed at a ring changes no answer, and is there after each call as it was before
@@ -253,18 +297,22 @@ pub record Promised : Type 0 where
       → TimersSound r ↔ (((i : ℕ) → i < count r → at (r .trt) i < ttrt r) × ((i : ℕ) → i < count r → at (r .late) i ≤ 3))
   -- a visit: 8 exactly if the ring is unsound
   pub visit-eight : (r : Ring) (ask : Ask) → (visited r ask .answer .number ≡ 8) ↔ ¬ Sound r
-  -- 13 exactly if it is sound and the clock is above 1,000,000,000,000
-  pub visit-thirteen : (r : Ring) (ask : Ask) → (visited r ask .answer .number ≡ 13) ↔ (Sound r × ¬ (r .clock ≤ mostClock))
-  -- 0 exactly if neither
-  pub visit-none : (r : Ring) (ask : Ask) → (visited r ask .answer .number ≡ 0) ↔ (Sound r × (r .clock ≤ mostClock))
+  -- 10 exactly if it is sound and the length of the frames asked for is not 1 to F
+  pub visit-ten : (r : Ring) (ask : Ask) → (visited r ask .answer .number ≡ 10) ↔ (Sound r × ¬ LengthNamed r ask)
+  -- 13 exactly if that passes and the clock is above 1,000,000,000,000
+  pub visit-thirteen : (r : Ring) (ask : Ask) → (visited r ask .answer .number ≡ 13) ↔ (Sound r × (LengthNamed r ask × ¬ (r .clock ≤ mostClock)))
+  -- 0 exactly if all that passes
+  pub visit-none : (r : Ring) (ask : Ask) → (visited r ask .answer .number ≡ 0) ↔ (Sound r × (LengthNamed r ask × (r .clock ≤ mostClock)))
   -- no other number is ever given: for a bad set or allocation inside a ring 8, never 2, 4, 5 or 7
-  pub visit-only : (r : Ring) (ask : Ask) → (visited r ask .answer .number ≡ 0) ⊎ (visited r ask .answer .number ≡ 8) ⊎ (visited r ask .answer .number ≡ 13)
+  pub visit-only : (r : Ring) (ask : Ask) → (visited r ask .answer .number ≡ 0) ⊎ (visited r ask .answer .number ≡ 8) ⊎ (visited r ask .answer .number ≡ 10) ⊎ (visited r ask .answer .number ≡ 13)
   -- a refused visit gives back the very ring
   pub visit-unchanged : (r : Ring) (ask : Ask) → visited r ask .answer .number ≢ 0 → visited r ask .ring ≡ r
   -- and a blank record
   pub visit-blank : (r : Ring) (ask : Ask) → visited r ask .answer .number ≢ 0 → visited r ask .answer .«record» ≡ blankRecord
   -- an accepted visit does the five steps, and the record says so
   pub visit-done : (r : Ring) (ask : Ask) → Shaped r → visited r ask .answer .number ≡ 0 → Done r ask (visited r ask .ring) (visited r ask .answer .«record»)
+  -- a set without F and an ask of length 1 go as the rule of before
+  pub uncut-visit : (r : Ring) (ask : Ask) → Shaped r → r .set .head .frame ≡ 1 → ask .length ≡ 1 → UncutVisit r ask
   -- the margin is exact: above 0, at 0, and below 0 where the finish is late
   pub margin-kept : (deadline finish k : ℕ) → deadline ≡ finish + k → subℕ deadline finish ≡ pos k
   pub margin-late : (deadline finish k : ℕ) → finish ≡ deadline + suc k → subℕ deadline finish ≡ negsuc k
@@ -303,3 +351,5 @@ pub record Promised : Type 0 where
   pub late-alone : (r : Ring) (late : List ℕ) → ¬ Fddi (r .set) → LeftAlone (withLate late) r
   -- and an FDDI ring's u is neither looked at nor changed
   pub unused-alone : (r : Ring) (unused : ℕ) → Fddi (r .set) → LeftAlone (withUnused unused) r
+  -- no ring's filler is looked at or changed
+  pub filler-alone : (r : Ring) (filler : ℕ) → LeftAlone (withFiller filler) r

@@ -1,12 +1,14 @@
 -- What the inner functions ask for and hand back: the definitions' numbers, and how large they can be.
-use Prim.Native.Nat.{ℕ, _+_, _≤_, _<_, _^_}
+use Prim.Native.Nat.{ℕ, _+_, _-_, _≤_, _<_, _^_}
 use mathlib.Core.Path.{_≡_}
 use Rattle.units.specs.Numbers.{mostTtrt, mostD, mostClock}
 use Rattle.units.specs.Places.{at}
-use Rattle.rings.specs.State.{count, ttrt, share, unusedAt}
+use Rattle.rings.specs.State.{count, ttrt, overrun, share, unusedAt}
 use Rattle.rings.specs.Sound.{visitsEnd}
 use Rattle.rings.specs.Timers.{Fddi, FddiSound, limit, rise}
 use Rattle.rings.specs.Steps.{syncSent}
+use Rattle.rings.specs.Frames.{framesTime}
+use Rattle.rings.specs.declared.Ask.{Ask}
 use Rattle.rings.specs.declared.Ring.{Ring}
 use Rattle.rings.specs.declared.Message.{Message}
 
@@ -15,7 +17,7 @@ pub record Safe (r : Ring) : Type 0 where
   pub few : count r ≤ 128
   pub token : r .token < count r
   pub rotation : ttrt r ≤ mostTtrt
-  pub allotted : share r (r .token) + at (r .set .w) (r .token) ≤ ttrt r
+  pub allotted : share r (r .token) + at (r .set .w) (r .token) + overrun r ≤ ttrt r
   pub sent : at (r .sent) (r .token) ≤ share r (r .token)
   pub deadline : at (r .set .d) (r .token) ≤ mostD
   pub arrival : at (r .arrival) (r .token) ≤ mostClock
@@ -43,6 +45,16 @@ pub record Sendable (r : Ring) (sync async : ℕ) : Type 0 where
 pub record Limit (r : Ring) (x : ℕ) : Type 0 where
   pub is : x ≡ limit r
   pub small : x ≤ ttrt r
+
+-- a limit and an ask from which the frames can be counted
+pub record Offer (limit : ℕ) (ask : Ask) : Type 0 where
+  pub small : limit < 2 ^ 32
+  pub length : 1 ≤ ask .length
+
+-- x is what the frames take that are sent
+pub record FramesSent (limit : ℕ) (ask : Ask) (x : ℕ) : Type 0 where
+  pub is : x ≡ framesTime limit ask
+  pub within : x ≤ limit + (ask .length - 1)
 
 -- x is what is sent of the held message
 pub record Sent (r : Ring) (async x : ℕ) : Type 0 where

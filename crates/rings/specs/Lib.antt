@@ -13,8 +13,10 @@ pub mod State
 pub mod Timers
 pub mod Opening
 pub mod Sound
+pub mod Frames
 pub mod Steps
 pub mod HandingIn
 pub mod Bounds
 pub mod TimerLaws
+pub mod FrameLaws
 pub mod RingLaws

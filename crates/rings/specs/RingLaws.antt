@@ -5,7 +5,7 @@ use mathlib.Core.Bool.{Bool, true, false, _||_, false≢true}
 use mathlib.Core.List.{_∷_}
 use mathlib.Core.Logic.{_≢_, ⊎-elim}
 use native.Mathlib.Omega.{arith}
-use borrow.Author.Tests.{leb-true, ltb-true, eqb-true, eqb-false, le-leb, lt-leb, lt-ltb, le-ltb, eq-eqb}
+use borrow.Author.Tests.{leb-true, ltb-true, eqb-true, eqb-false, le-leb, lt-ltb, le-ltb, eq-eqb}
 use lib.IntN.{pos, subℕ, _-ℤ_}
 use mir.Syntax.{w64}
 use mir.Val.{SFits}
@@ -14,19 +14,17 @@ use lib.Dec.{leb, ltb}
 use Rattle.units.specs.Numbers.{mostClock}
 use Rattle.units.specs.Places.{at, sumBelow}
 use Rattle.units.specs.PlaceLaws.{all-at, all-of, decides-all, sum-part, sum-mono}
-use Rattle.units.specs.Judging.{orElse}
 use Rattle.units.specs.JudgingLaws.{Decides, true-or-false, decides-le, decides-both, decides-between, pick, all-hold, none-hold, held, failed, passed}
 use Rattle.sets.specs.Rules.{tau, CountAllowed, NumbersAllowed, WalkTimeAllowed}
 use Rattle.plans.specs.Rules.{MeetsRules, AllocInRange}
 use Rattle.plans.specs.PlanLaws.{given-none}
-use Rattle.rings.specs.State.{count, ttrt, share, unusedAt, beforeFirstVisit, beforeFirstMessage}
+use Rattle.rings.specs.State.{count, ttrt, overrun, share, unusedAt, beforeFirstVisit, beforeFirstMessage}
 use Rattle.rings.specs.Opening.{openedWith, blankRing}
 use Rattle.rings.specs.Timers.{Fddi, mostLate, TimelySound, FddiSound, TimersSound, trtSoundAt, unusedSound, timerSoundAt, lateSoundAt, timelySound, fddiSound, timersSound}
 use Rattle.rings.specs.TimerLaws.{fddi-or-not, fddi-true, fddi-false}
 use Rattle.rings.specs.Sound.{Sound, sentSoundAt, restSoundAt, arrivalSoundAt, planSound, numberTests, isSound}
-use Rattle.rings.specs.Steps.{Ask, serves, syncSent, visitNumber, refusedVisit, acceptedVisit, visitedWith}
-use Rattle.rings.specs.HandingIn.{ArrivalAllowed, Takes, stationKnown, lengthAllowed, nothingHeld, arrivalInRange, laterThanLastStart, gapKept, arrivalAllowed, handInNumber}
-use Rattle.rings.specs.HandingIn.{holding, messageNumber, takenWith}
+use Rattle.rings.specs.Steps.{Ask, LengthNamed, lengthNamed, serves, syncSent, visitNumber, refusedVisit, acceptedVisit, visitedWith}
+use Rattle.rings.specs.HandingIn.{ArrivalAllowed, Takes, stationKnown, lengthAllowed, nothingHeld, arrivalInRange, laterThanLastStart, gapKept, arrivalAllowed, handInNumber, holding, messageNumber, takenWith}
 use Rattle.rings.specs.Bounds.{Safe, SafeTimely, SafeTimers, Holdable}
 use Rattle.rings.specs.declared.Ring.{Ring}
 use Rattle.rings.specs.declared.Message.{Message}
@@ -95,15 +93,15 @@ sound-plan r s = given-none (r .set) (r .alloc) .0 (s .plan)
 
 -- ---- a sound ring's numbers are small
 
--- u of a timely-token ring is at most the sum of S, so u + τ at most TTRT
-pub unused-small : (r : Ring) → Sound r → ¬ Fddi (r .set) → r .unused + tau (r .set) ≤ ttrt r
+-- u of a timely-token ring is at most the sum of S, so u + τ + (F − 1) at most TTRT
+pub unused-small : (r : Ring) → Sound r → ¬ Fddi (r .set) → r .unused + tau (r .set) + overrun r ≤ ttrt r
 unused-small r s n =
     let kept = sound-plan r s in
     let less : sumBelow (count r) (unusedAt r) ≤ sumBelow (count r) (at (r .alloc .s)) = sum-mono (count r) (unusedAt r) (at (r .alloc .s)) (λ i l. omega arith) in
     omega (arith, s .timers .timely n .unused, kept .1 .1 .1 .token)
 
--- S at one station and τ are at most TTRT
-pub share-small : (r : Ring) → Sound r → (i : ℕ) → i < count r → share r i + tau (r .set) ≤ ttrt r
+-- S at one station, τ and F − 1 are at most TTRT
+pub share-small : (r : Ring) → Sound r → (i : ℕ) → i < count r → share r i + tau (r .set) + overrun r ≤ ttrt r
 share-small r s i l = omega (arith, sum-part (count r) (at (r .alloc .s)) i l, sound-plan r s .1 .1 .1 .token)
 
 -- w is at most τ
@@ -117,7 +115,7 @@ safe r s c =
     let head = kept .1 .0 .0 .header in
     let station = kept .1 .0 .0 .stations p (s .token) in
     let walk : at (r .set .w) p ≤ tau (r .set) = walk-small r p (s .token) in
-    let most : share r p + tau (r .set) ≤ ttrt r = share-small r s p (s .token) in
+    let most : share r p + tau (r .set) + overrun r ≤ ttrt r = share-small r s p (s .token) in
     record {
       few = kept .0 .1;
       token = s .token;
@@ -197,24 +195,17 @@ sync-within r async =
 
 -- ---- the numbers of a visit
 
-pub visit-8 : (r : Ring) → isSound r ≡ false → visitNumber r ≡ 8
-visit-8 r h = failed _ _ _ h
+module _ (r : Ring) (ask : Ask) where
+  -- an accepted visit's ring is sound, the length that is asked for is 1 to F, and its clock is one at which a visit may start
+  pub visit-passed : visitNumber r ask ≡ 0 → Sound r × (LengthNamed r ask × (r .clock ≤ mostClock))
+  visit-passed h =
+      let p₈ = passed (isSound r) 8 _ (omega arith) h in
+      let p₁₀ = passed (lengthNamed r ask) 10 _ (omega arith) (p₈ .1) in
+      let p₁₃ = passed (leb (r .clock) mostClock) 13 0 (omega arith) (p₁₀ .1) in
+      (sound-sentences r (p₈ .0), (decides-between 1 _ _ .0 (p₁₀ .0), leb-true _ _ (p₁₃ .0)))
 
-pub visit-13 : (r : Ring) → isSound r ≡ true → mostClock < r .clock → visitNumber r ≡ 13
-visit-13 r h l = held _ _ _ h ∙ failed _ _ _ (lt-leb _ _ l)
-
-pub visit-0 : (r : Ring) → isSound r ≡ true → r .clock ≤ mostClock → visitNumber r ≡ 0
-visit-0 r h l = held _ _ _ h ∙ held _ _ _ (le-leb _ _ l)
-
--- an accepted visit's ring is sound, and its clock is one at which a visit may start
-pub visit-passed : (r : Ring) → visitNumber r ≡ 0 → Sound r × (r .clock ≤ mostClock)
-visit-passed r h =
-    let first = passed (isSound r) 8 (orElse (leb (r .clock) mostClock) 13 0) (omega arith) h in
-    let second = passed (leb (r .clock) mostClock) 13 0 (omega arith) (first .1) in
-    (sound-sentences r (first .0), leb-true _ _ (second .0))
-
-pub visit-safe : (r : Ring) → visitNumber r ≡ 0 → Safe r × SafeTimers r
-visit-safe r h = (safe r (visit-passed r h .0) (visit-passed r h .1), safe-timers r (visit-passed r h .0))
+  pub visit-safe : visitNumber r ask ≡ 0 → Safe r × SafeTimers r
+  visit-safe h = (safe r (visit-passed h .0) (visit-passed h .1 .1), safe-timers r (visit-passed h .0))
 
 -- ---- the numbers of a handing in
 

@@ -15,6 +15,10 @@ count r = r .set .n
 abbrev pub ttrt : Ring → ℕ
 ttrt r = r .set .head .ttrt
 
+-- F − 1, the ticks by which the last frame may run on past the limit
+abbrev pub overrun : Ring → ℕ
+overrun r = r .set .head .frame - 1
+
 -- of n stations the one after i, after n − 1 station 0
 unfoldable pub following : ℕ → ℕ → ℕ
 following n i = cond (ltb (i + 1) n) (i + 1) 0

@@ -1,28 +1,37 @@
 -- A visit, at the station that has the token: the five steps of 01, one definition for each number, the moved ring, the record, and the answer.
-use Prim.Native.Nat.{ℕ, zero, suc, _+_, _-_, min}
+use Prim.Native.Nat.{ℕ, zero, suc, _+_, _-_, _≤_, min}
 use mathlib.Core.Bool.{Bool, cond, _&&_}
 use lib.Dec.{leb, eqb}
 use lib.IntN.{ℤ, pos, subℕ}
 use lib.ListN.{set}
-use Rattle.units.specs.Numbers.{accepted, unsound, clockTooHigh, mostClock}
+use Rattle.units.specs.Numbers.{accepted, unsound, badLength, clockTooHigh, mostClock}
 use Rattle.units.specs.Places.{at}
-use Rattle.units.specs.Judging.{orElse}
+use Rattle.units.specs.Judging.{orElse, between}
 use Rattle.rings.specs.State.{count, following, share, holds}
 use Rattle.rings.specs.Timers.{limit, rise, timersAfter}
 use Rattle.rings.specs.Sound.{isSound}
+use Rattle.rings.specs.Frames.{framesTime}
+use Rattle.rings.specs.declared.Ask as declared
 use Rattle.rings.specs.declared.Ring.{Ring}
 use Rattle.rings.specs.declared.VisitRecord.{VisitRecord}
 use Rattle.rings.specs.declared.Visited.{Visited}
 
--- what is asked for at a visit: asynchronous ticks
+-- what is asked for at a visit: so many frames of one length
 abbrev pub Ask : Type 0
-Ask = ℕ
+Ask = declared.Ask
+
+-- the length is 1 to F
+abbrev pub LengthNamed : Ring → Ask → Type 0
+LengthNamed r ask = (1 ≤ ask .length) × (ask .length ≤ r .set .head .frame)
+
+abbrev pub lengthNamed : Ring → Ask → Bool
+lengthNamed r ask = between 1 (r .set .head .frame) (ask .length)
 
 -- ---- the numbers of the five steps; the limit and what becomes of the timers stand in `Timers`
 
--- 4: it sends the smaller of A and the ticks asked for
+-- 4: it sends frames while the time used is below A, each to its end
 abbrev pub asyncSent : Ring → Ask → ℕ
-asyncSent r ask = min (limit r) ask
+asyncSent r ask = framesTime (limit r) ask
 
 -- when the synchronous part starts: at the visit's start, since it comes first
 abbrev pub syncStart : Ring → ℕ → ℕ
@@ -51,6 +60,7 @@ moved r sync async =
       sent = set (r .sent) (r .token) sync;
       rest = set (r .rest) (r .token) (at (r .rest) (r .token) - sync);
       token = nextToken r;
+      filler = r .filler;
       arrival = r .arrival;
       had = r .had;
       last = set (r .last) (r .token) (syncStart r async);
@@ -109,9 +119,12 @@ blankRecord =
 
 -- ---- the answer
 
--- 8 for an unsound ring, then 13 for a clock above 1,000,000,000,000
-abbrev pub visitNumber : Ring → ℕ
-visitNumber r = orElse (isSound r) unsound (orElse (leb (r .clock) mostClock) clockTooHigh accepted)
+-- 8 for an unsound ring, 10 for a length that is not 1 to F, 13 for a clock above 1,000,000,000,000
+abbrev pub firstRefusal : Bool → Bool → ℕ → ℕ
+firstRefusal sound named clock = orElse sound unsound (orElse named badLength (orElse (leb clock mostClock) clockTooHigh accepted))
+
+abbrev pub visitNumber : Ring → Ask → ℕ
+visitNumber r ask = firstRefusal (isSound r) (lengthNamed r ask) (r .clock)
 
 -- a refused visit gives the ring back unchanged, and the record blank
 abbrev pub refusedVisit : Ring → ℕ → Visited
@@ -132,4 +145,4 @@ visitedWith (suc k) r ask = refusedVisit r (suc k)
 
 -- a visit's answer, with what is asked for
 abbrev pub visited : Ring → Ask → Visited
-visited r ask = visitedWith (visitNumber r) r ask
+visited r ask = visitedWith (visitNumber r ask) r ask

@@ -14,7 +14,7 @@ use Rattle.sets.specs.declared.Set.{Set}
 use Rattle.plans.specs.Rules.{isFddi}
 use Rattle.plans.specs.declared.Alloc.{Alloc}
 use Rattle.timers.specs.Timers.{Timer, ran, later, startedAt, visited, offered}
-use Rattle.rings.specs.State.{count, ttrt, share, unusedAt}
+use Rattle.rings.specs.State.{count, ttrt, overrun, share, unusedAt}
 use Rattle.rings.specs.declared.Ring.{Ring}
 use Rattle.rings.specs.declared.Timers.{Timers}
 
@@ -24,9 +24,9 @@ Fddi t = t .head .mode ≡ fddi
 
 -- ---- the limit
 
--- 1, timely-token: the limit A is the larger of TTRT − u − TRT and 0
+-- 1, timely-token: the limit A is the larger of TTRT − (F − 1) − u − TRT and 0
 abbrev pub timelyLimit : Ring → ℕ
-timelyLimit r = ttrt r - r .unused - at (r .trt) (r .token)
+timelyLimit r = ttrt r - overrun r - r .unused - at (r .trt) (r .token)
 
 -- the timer and the late count of station i
 abbrev pub timerOf : Timers → ℕ → Timer

@@ -1,4 +1,5 @@
 // The ring by value: opening, the test of soundness, visits and handing in.
+mod frames;
 mod messages;
 mod opening;
 mod soundness;
@@ -31,6 +32,8 @@ pub struct Ring {
     pub rest: [u32; 128],
     // The station that has the token.
     pub token: u32,
+    // A word that nothing looks at and nothing changes: with it the 64-bit numbers begin where the machine wants them.
+    pub filler: u32,
     // The held message's arrival, and after it the last accepted one.
     pub arrival: [u64; 128],
     // A message was ever accepted there: 0 is no, anything else yes.
@@ -48,6 +51,13 @@ pub struct Timers {
     pub trt: [u32; 128],
     pub late: [u32; 128],
     pub unused: u64,
+}
+
+// What a visit asks for: so many frames of one length.
+#[repr(C)]
+pub struct Ask {
+    pub frames: u32,
+    pub length: u32,
 }
 
 // A message to hand in.
@@ -119,39 +129,36 @@ pub fn sound(ring: Ring) -> bool
 pub fn open(set: Set, alloc: Alloc) -> Opened
     ensures { λ r. ⌜ r ≡ opening set alloc ⌝ }
 {
-    let number = plans::judge_plan(set, alloc);
-    if number != numbers::ACCEPTED {
+    let judged = plans::judge_plan(set, alloc);
+    if judged != numbers::ACCEPTED {
         return Opened {
             ring: opening::blank_ring(),
-            number,
+            number: judged,
         };
     }
     Opened {
         ring: opening::opened_ring(set, alloc),
-        number,
+        number: judged,
     }
 }
 
 // By value: each method takes the ring and hands out the next one inside its answer.
 impl Ring {
-    // A visit at the station that has the token, with this many asynchronous ticks asked for: the moved ring and the record, or 8 or 13 with the ring as it was.
-    pub fn visit(mut self, ask: u32) -> Visited
+    // A visit at the station that has the token, with these asynchronous frames asked for: the moved ring and the record, or the lowest of 8, 10 and 13 that applies with the ring as it was.
+    pub fn visit(mut self, ask: Ask) -> Visited
         ensures { λ r. ⌜ r ≡ visited self ask ⌝ }
     {
-        if !sound(self) {
-            return steps::refused(self, numbers::UNSOUND);
-        }
-        if numbers::MOST_CLOCK < self.clock {
-            return steps::refused(self, numbers::CLOCK_TOO_HIGH);
+        let steady = sound(self);
+        let named = frames::length_fits(ask.length, self.set.head.frame);
+        let number = steps::first_refusal(steady, named, self.clock);
+        if number != numbers::ACCEPTED {
+            return steps::refused(self, number);
         }
         let limit = timing::limit_of(self);
-        let asynchronous = units::least(limit, units::wide(ask));
+        let asynchronous = frames::time_sent(limit, ask);
         let sync = steps::sync_sent(self, asynchronous);
         let record = steps::record_of(self, sync, asynchronous);
-        let answer = VisitAnswer {
-            record,
-            number: numbers::ACCEPTED,
-        };
+        let answer = VisitAnswer { record, number };
         let ring = steps::moved_on(self, sync, asynchronous);
         Visited { ring, answer }
     }

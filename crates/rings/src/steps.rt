@@ -6,11 +6,28 @@ use super::Visited;
 use super::timing;
 use units::Station;
 use units::Ticks;
+use units::numbers;
 ghost use mathlib.Core.Path.{_≡_};
 ghost use Prim.Native.Nat.{_<_, _^_};
 ghost use lib.IntN.{subℕ};
-ghost use Rattle.rings.specs.Steps.{syncStart, nextToken, moved, completes, deadline, recordOf, blankRecord, refusedVisit};
+ghost use Rattle.rings.specs.Steps.{syncStart, nextToken, moved, completes, deadline, recordOf, blankRecord, refusedVisit, firstRefusal};
 ghost use Rattle.rings.specs.Bounds.{Safe, SafeTimers, Sendable, Sent};
+
+// The number of a visit, by its three tests in their order.
+pub(crate) fn first_refusal(sound: bool, named: bool, clock: u64) -> u8
+    ensures { λ r. ⌜ r ≡ firstRefusal sound named clock ⌝ }
+{
+    if !sound {
+        return numbers::UNSOUND;
+    }
+    if !named {
+        return numbers::BAD_LENGTH;
+    }
+    if numbers::MOST_CLOCK < clock {
+        return numbers::CLOCK_TOO_HIGH;
+    }
+    numbers::ACCEPTED
+}
 
 // When the synchronous part starts: at the visit's start.
 fn sync_start(r: Ring, asynchronous: u64) -> u64

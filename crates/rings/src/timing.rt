@@ -19,14 +19,17 @@ const MOST_LATE: u32 = 3;
 
 // ---- the limit
 
-// Timely-token, step 1: the larger of TTRT − u − TRT and 0.
+// Timely-token, step 1: the larger of TTRT − (F − 1) − u − TRT and 0.
 fn timely_limit(r: Ring) -> u64
     requires { ⌜ r .token < 128 ⌝ }
     ensures { λ x. ⌜ UpTo (ttrt r) (timelyLimit r) x ⌝ }
 {
     let p = r.token as usize;
     let times = r.trt;
-    let whole = units::wide(r.set.head.ttrt);
+    let whole = units::room(
+        units::wide(r.set.head.ttrt),
+        units::room(units::wide(r.set.head.frame), 1),
+    );
     let left = units::room(whole, r.unused);
     units::room(left, units::wide(times[p]))
 }

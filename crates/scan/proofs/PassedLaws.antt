@@ -1,5 +1,5 @@
 -- What the fields that have passed say of the bytes: where each station and each allocation stands. And how fields that stand one behind the other pass.
-use Prim.Native.Nat.{ℕ, _+_, _*_, _≤_, _<_}
+use Prim.Native.Nat.{ℕ, zero, suc, _+_, _-_, _*_, _≤_, _<_}
 use mathlib.Core.Path.{_≡_, refl, sym, ap, subst, _∙_}
 use mathlib.Core.Bool.{Bool, true, false, true≢false}
 use mathlib.Core.List.{List}
@@ -10,8 +10,11 @@ use lib.ListN.{length}
 use borrow.Author.Count.{below-more}
 use borrow.Author.Tests.{le-leb, ne-eqb}
 use Rattle.units.specs.JudgingLaws.{true-or-false}
-use Rattle.fields.specs.Fields.{allocationsFor, due, headed, tagAt, sizeAt, behind, allowedAt, FieldWhole}
-use Rattle.fields.proofs.FieldLaws.{Whole, allocations-few, Further, a-mode, further-tag, Kind, a-head, a-station, an-allocation, an-end, a-further, allowed-kind, kind-allowed}
+use Rattle.units.specs.SmallLaws.{below-or-not}
+use Rattle.fields.specs.Fields.{modeTag, frameTag, furtherSize, allocationsFor, due, headed, tagAt, sizeAt, behind, allowedAt, FieldWhole}
+use Rattle.fields.specs.Header.{furtherCount, behindTag, furtherPlace}
+use Rattle.fields.proofs.HeaderLaws.{same-or-not, behind-there, behind-not, place-first, place-next, place-same}
+use Rattle.fields.proofs.FieldLaws.{Whole, allocations-few, Further, Kind, a-head, a-station, an-allocation, an-end, a-further, allowed-kind, kind-allowed}
 use Rattle.fields.specs.declared.Passed.{Passed}
 use Rattle.scan.specs.Scanned.{nothingPassed, withField, scanned}
 use Rattle.scan.specs.FirstFault.{WellFormed, start, more, not-allowed, FirstFault, WholeSheet}
@@ -49,7 +52,7 @@ pub data Headed (bs : List ℕ) : ℕ → ℕ → Type 0 where
 
 headed-some : (bs : List ℕ) (head a : ℕ) → Headed bs head a → 1 ≤ head
 headed-some bs _ _ (ttrt-first w) = omega arith
-headed-some bs _ _ (and-further tag size before f above w) = omega (arith, further-tag tag size f)
+headed-some bs _ _ (and-further tag size before f above w) = omega (arith, f .low)
 
 -- the header: none yet, or some of its fields
 pub data Header (bs : List ℕ) (p : Passed) : Type 0 where
@@ -128,7 +131,7 @@ module _ (plan : Bool) (bs : List ℕ) (p : Passed) (a : ℕ) (t : Through plan 
       let m : p .allocations ≡ 0 = omega (arith, t .most, allocations-few plan (p .stations)) in
       let there : a ≡ p .from = omega (arith, t .place) in
       let before = subst (Headed bs (p .head)) (sym there) (header-of bs p (t .header) begun) in
-      subst (λ (q : Passed). Through plan bs q (behind bs a)) (sym (further-more p _ _ (further-tag _ _ f .0)))
+      subst (λ (q : Passed). Through plan bs q (behind bs a)) (sym (further-more p _ _ (f .low)))
       (record {
         kind = t .kind;
         header = a-header (and-further _ _ before f above (here _ _ refl refl));
@@ -162,27 +165,72 @@ through plan bs _ _ (more {p} {a} before w other) =
 
 -- ---- a whole sheet
 
--- a field of the header that may be absent: at the place a stands another tag, or the field, and the next one behind it
-pub data Optional (bs : List ℕ) (a tag size next : ℕ) : Type 0 where
-  not-there : tagAt bs a ≢ tag → next ≡ a → Optional bs a tag size next
-  there : Whole bs a tag size → next ≡ a + 3 + size → Optional bs a tag size next
+-- the first k fields of the header behind TTRT, of which each may be absent, stand before the place a
+record UpTo (bs : List ℕ) (k a : ℕ) : Type 0 where
+  behind : furtherPlace bs k ≡ a
+  whole : (i : ℕ) → i < k → tagAt bs (furtherPlace bs i) ≡ modeTag + i → Whole bs (furtherPlace bs i) (modeTag + i) (furtherSize (modeTag + i))
 
--- TTRT stands at the start; then the mode, or a station at once
+module _ (bs : List ℕ) where
+  -- where another tag stands, more of them are absent
+  up-to-more : (j a : ℕ) → UpTo bs j a → (k : ℕ) → j ≤ k → ((i : ℕ) → j ≤ i → i < k → tagAt bs a ≢ modeTag + i) → UpTo bs k a
+  up-to-more j a u k l none =
+      record {
+        behind = place-same bs a j (u .behind) k l none;
+        whole = λ i m e.
+            ⊎-elim (λ (b : i < j). u .whole i b e)
+            (λ (b : j ≤ i).
+            let here = place-same bs a j (u .behind) i b (λ n o p. none n o (omega arith)) in
+            absurd (none i b m (sym (ap (tagAt bs) here) ∙ e)))
+            (below-or-not i j);
+      }
+
+  -- and one that stands there is the next
+  up-to-next : (k a : ℕ) → UpTo bs k a → Whole bs a (modeTag + k) (furtherSize (modeTag + k)) → UpTo bs (suc k) (a + 3 + furtherSize (modeTag + k))
+  up-to-next k a u w =
+      record {
+        behind = place-next bs k ∙ ap (behindTag bs (modeTag + k)) (u .behind) ∙ behind-there bs (modeTag + k) a (w .has-tag);
+        whole = λ i l e.
+            ⊎-elim (λ (b : i < k). u .whole i b e)
+            (λ (b : k ≤ i).
+            let last : k ≡ i = omega arith in
+            let here : a ≡ furtherPlace bs i = sym (u .behind) ∙ ap (furtherPlace bs) last in
+            subst (λ (n : ℕ). Whole bs (furtherPlace bs i) (modeTag + n) (furtherSize (modeTag + n))) last
+            (subst (λ (b : ℕ). Whole bs b (modeTag + k) (furtherSize (modeTag + k))) here w))
+            (below-or-not i k);
+      }
+
+  -- a header whose last field has this tag
+  headed-up-to : (head a : ℕ) → Headed bs head a → UpTo bs (head + 1 - modeTag) a
+  headed-up-to _ _ (ttrt-first w) = record { behind = place-first bs; whole = λ i l e. absurd (omega arith) }
+  headed-up-to _ _ (and-further {head} {a} tag size before f above w) =
+      let k = tag - modeTag in
+      let low = f .low in
+      let is : tag ≡ modeTag + (tag - modeTag) = omega arith in
+      let long : size ≡ furtherSize (modeTag + (tag - modeTag)) = f .long ∙ ap furtherSize is in
+      let here : Whole bs a (modeTag + k) (furtherSize (modeTag + k)) = subst (λ (n : ℕ). Whole bs a (modeTag + k) n) long (subst (λ (n : ℕ). Whole bs a n size) is w) in
+      let skipped = up-to-more _ a (headed-up-to head a before) k (omega arith) (λ i l m e. absurd (omega (arith, w .has-tag, e))) in
+      let all : suc (tag - modeTag) ≡ tag + 1 - modeTag = omega arith in
+      subst (λ (n : ℕ). UpTo bs n (a + 3 + size)) all (subst (λ (n : ℕ). UpTo bs (suc k) (a + 3 + n)) (sym long) (up-to-next k a skipped here))
+
+-- TTRT stands at the start; then those of the further fields that are there, one behind the other, and behind them the stations begin
 pub record HeaderStands (bs : List ℕ) (from : ℕ) : Type 0 where
   pub ttrt : Whole bs 0 1 4
-  pub mode : Optional bs 7 4 1 from
+  pub further : (k : ℕ) → k < furtherCount → tagAt bs (furtherPlace bs k) ≡ modeTag + k → Whole bs (furtherPlace bs k) (modeTag + k) (furtherSize (modeTag + k))
+  pub behind : from ≡ furtherPlace bs furtherCount
 
-pub header-behind : (bs : List ℕ) (from : ℕ) → HeaderStands bs from → 7 ≤ from
-header-behind bs from h = go (h .mode)
-  where
-    go : Optional bs 7 4 1 from → 7 ≤ from
-    go (not-there other e) = omega arith
-    go (there w e) = omega arith
+headed-first : (bs : List ℕ) (head a : ℕ) → Headed bs head a → Whole bs 0 1 4
+headed-first bs _ _ (ttrt-first w) = w
+headed-first bs _ _ (and-further {head} {a} tag size before f above w) = headed-first bs head a before
+
+headed-low : (bs : List ℕ) (head a : ℕ) → Headed bs head a → head ≤ frameTag
+headed-low bs _ _ (ttrt-first w) = omega arith
+headed-low bs _ _ (and-further tag size before f above w) = f .high
 
 header-stands : (bs : List ℕ) (head from : ℕ) → Headed bs head from → tagAt bs from ≡ 2 → HeaderStands bs from
-header-stands bs _ _ (ttrt-first w) station = record { ttrt = w; mode = not-there (λ e. omega arith) refl }
-header-stands bs _ _ (and-further tag size (ttrt-first w) (a-mode t s) above x) station = record { ttrt = w; mode = there (rw (t, s) at x) (rw s) }
-header-stands bs _ _ (and-further tag size (and-further tag₁ size₁ before (a-mode t₁ s₁) above₁ x₁) (a-mode t s) above x) station = absurd (omega arith)
+header-stands bs head from h station =
+    let low = headed-low bs head from h in
+    let all = up-to-more bs _ from (headed-up-to bs head from h) furtherCount (omega arith) (λ i l m e. absurd (omega (arith, station, e))) in
+    record { ttrt = headed-first bs head from h; further = all .whole; behind = sym (all .behind) }
 
 -- behind the header, at least one station and all allocations that belong to them the end field stands, and nothing follows it
 pub record Ended (plan : Bool) (bs : List ℕ) (p : Passed) : Type 0 where
@@ -209,7 +257,7 @@ whole-ended plan bs s = go (allowed-kind (s .passed) (tagAt bs (s .place)) (size
     go (a-head e z not-begun) = absurd (omega (arith, s .end-tag))
     go (a-station e z begun few none) = absurd (omega (arith, s .end-tag))
     go (an-allocation e z begun room) = absurd (omega (arith, s .end-tag))
-    go (a-further f begun above none) = absurd (omega (arith, s .end-tag, further-tag _ _ f))
+    go (a-further f begun above none) = absurd (omega (arith, s .end-tag, f .high))
     go (an-end e z begun some all) =
         let first : p .from + 19 * 0 ≡ p .from = omega arith in
         record {
@@ -252,19 +300,41 @@ module _ (plan : Bool) (bs : List ℕ) where
       let next = more before (standing p a tag size w k) (λ e. other (sym (w .has-tag) ∙ e)) in
       rw (w .has-tag, b) at next
 
-  -- the header: TTRT, then the mode if it is there
-  pub header-passes : (from : ℕ) → HeaderStands bs from → (head : ℕ) × ((1 ≤ head) × WellFormed plan bs (passedAll plan head from 0 0) from)
-  unfolding withField
-  header-passes from h = go (h .mode)
-    where
-      first : WellFormed plan bs (passedAll plan 1 7 0 0) 7
-      first = passing (nothingPassed plan) 0 1 4 start (h .ttrt) (a-head refl refl refl) (λ e. omega arith)
+  -- the header: TTRT, then the further fields that are there
+  module _ (from : ℕ) (h : HeaderStands bs from) where
+    -- the first k of them; `head` is the tag of the last that is there
+    upTo : ℕ → Type 0
+    upTo k = (head : ℕ) × ((1 ≤ head) × ((head < modeTag + k) × WellFormed plan bs (passedAll plan head (furtherPlace bs k) 0 0) (furtherPlace bs k)))
 
-      go : Optional bs 7 4 1 from → (head : ℕ) × ((1 ≤ head) × WellFormed plan bs (passedAll plan head from 0 0) from)
-      go (not-there other e) = (1, (omega arith, rw e first))
-      go (there w e) =
-          let mode = passing (passedAll plan 1 7 0 0) 7 4 1 first w (a-further (a-mode refl refl) refl (omega arith) refl) (λ e. omega arith) in
-          (4, (omega arith, rw e mode))
+    first-passes : WellFormed plan bs (passedAll plan 1 (furtherPlace bs 0) 0 0) (furtherPlace bs 0)
+    unfolding withField furtherPlace
+    first-passes = passing (nothingPassed plan) 0 1 4 start (h .ttrt) (a-head refl refl refl) (λ e. omega arith)
+
+    next-passes : (k : ℕ) → k < furtherCount → upTo k → upTo (suc k)
+    unfolding upTo
+    next-passes k l (head, (some, (low, before))) =
+        let a = furtherPlace bs k in
+        let tag = modeTag + k in
+        ⊎-elim (λ (e : tagAt bs (furtherPlace bs k) ≡ modeTag + k).
+        let next = place-next bs k ∙ behind-there bs tag a e in
+        let f : Further (modeTag + k) (furtherSize (modeTag + k)) = record { low = omega arith; high = omega arith; long = refl } in
+        let passed = passing (passedAll plan head a 0 0) a tag (furtherSize tag) before (h .further k l e) (a-further f (le-leb 1 head some) low refl) (λ e. omega arith) in
+        (tag, (omega arith, (omega arith, rw next (rw (further-more (passedAll plan head a 0 0) tag _ (omega arith)) at passed)))))
+        (λ (other : tagAt bs (furtherPlace bs k) ≢ modeTag + k).
+        let next = place-next bs k ∙ behind-not bs tag a other in
+        (head, (some, (omega arith, rw next before))))
+        (same-or-not (tagAt bs a) tag)
+
+    up-to-passes : (k : ℕ) → k ≤ furtherCount → upTo k
+    unfolding upTo
+    up-to-passes zero l = (1, (omega arith, (omega arith, first-passes)))
+    up-to-passes (suc k) l = next-passes k (omega arith) (up-to-passes k (omega arith))
+
+    pub header-passes : (head : ℕ) × ((1 ≤ head) × WellFormed plan bs (passedAll plan head from 0 0) from)
+    unfolding upTo
+    header-passes =
+        let all = up-to-passes furtherCount (omega arith) in
+        (all .0, (all .1 .0, subst (λ (a : ℕ). WellFormed plan bs (passedAll plan (all .0) a 0 0) a) (sym (h .behind)) (all .1 .1 .1)))
 
   module _ (head from : ℕ) (begun : 1 ≤ head) where
     pub station-passes : (n a : ℕ) → WellFormed plan bs (passedAll plan head from n 0) a → n < 128
@@ -310,7 +380,7 @@ module _ (bs : List ℕ) where
       let next = more before (record { inside = w .inside; allowed = kind-allowed (asRequest p) _ _ (a-station e s begun few none-yet) }) other in
       inl (rw (station-more p _ _ e) none, rw (station-more p _ _ e) (rw (station-more (asRequest p) _ _ e) at next))
   request-more p a w other none before (a-further f begun above none-yet) =
-      let more-tag = further-tag _ _ f .0 in
+      let more-tag = f .low in
       let next = more before (record { inside = w .inside; allowed = kind-allowed (asRequest p) _ _ (a-further f begun above none-yet) }) other in
       inl (rw (further-more p _ _ more-tag) none, rw (further-more p _ _ more-tag) (rw (further-more (asRequest p) _ _ more-tag) at next))
   request-more p a w other none before (an-allocation e s begun room) = inr (record { passed = asRequest p; place = a; before = before; fault = not-allowed (omega (arith, w .inside)) wrong })
@@ -320,7 +390,7 @@ module _ (bs : List ℕ) where
       in-none (a-station d s begun few none-yet) = absurd (omega (arith, e, d))
       in-none (an-allocation d s begun room) = absurd (omega (arith, room))
       in-none (an-end d s begun some all) = absurd (omega (arith, e, d))
-      in-none (a-further f begun above none-yet) = absurd (omega (arith, e, further-tag _ _ f))
+      in-none (a-further f begun above none-yet) = absurd (omega (arith, e, f .low))
 
       wrong : allowedAt bs a (asRequest p) ≡ false
       wrong =

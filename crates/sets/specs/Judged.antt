@@ -22,4 +22,4 @@ zeros = replicate 128 0
 
 -- what a refused call hands back for a set: N = 0 and every place 0
 abbrev pub blankSet : Set
-blankSet = record { head = record { ttrt = 0; mode = 0 }; n = 0; w = zeros; c = zeros; d = zeros; p = zeros }
+blankSet = record { head = record { ttrt = 0; mode = 0; frame = 0 }; n = 0; w = zeros; c = zeros; d = zeros; p = zeros }

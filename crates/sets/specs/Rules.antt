@@ -3,7 +3,7 @@ use Prim.Native.Nat.{ℕ, _≤_, _<_}
 use mathlib.Core.Path.{_≡_}
 use mathlib.Core.Bool.{Bool, _&&_}
 use lib.Dec.{leb}
-use Rattle.units.specs.Numbers.{timely, lastMode, mostStations, mostTtrt, mostWalk, mostC, mostD, mostP}
+use Rattle.units.specs.Numbers.{timely, lastMode, mostFrame, mostStations, mostTtrt, mostWalk, mostC, mostD, mostP}
 use Rattle.units.specs.Places.{at, sumBelow, allBelow}
 use Rattle.units.specs.Judging.{between}
 use Rattle.sets.specs.declared.Head.{Head}
@@ -25,6 +25,8 @@ pub record HeadInRange (h : Head) : Type 0 where
   pub ttrt : (1 ≤ h .ttrt) × (h .ttrt ≤ mostTtrt)
   -- the mode has a name: 1 is timely-token, 2 is plain FDDI
   pub mode : (timely ≤ h .mode) × (h .mode ≤ lastMode)
+  -- F, the longest frame: 1 to 65,535
+  pub frame : (1 ≤ h .frame) × (h .frame ≤ mostFrame)
 
 -- the four numbers of one station
 pub record StationInRange (w c d p : ℕ) : Type 0 where
@@ -63,7 +65,7 @@ abbrev pub countAllowed : Set → Bool
 countAllowed t = between 1 mostStations (t .n)
 
 unfoldable pub headInRange : Head → Bool
-headInRange h = between 1 mostTtrt (h .ttrt) && between timely lastMode (h .mode)
+headInRange h = between 1 mostTtrt (h .ttrt) && between timely lastMode (h .mode) && between 1 mostFrame (h .frame)
 
 unfoldable pub stationInRange : ℕ → ℕ → ℕ → ℕ → Bool
 stationInRange w c d p = leb w mostWalk && leb c mostC && between 1 mostD d && between d mostP p

@@ -5,7 +5,7 @@ use mathlib.Core.Bool.{Bool, true, false}
 use mathlib.Core.Logic.{_↔_, _≢_, ⊎-elim}
 use native.Mathlib.Omega.{arith}
 use lib.Dec.{leb}
-use Rattle.units.specs.Numbers.{timely, lastMode, mostStations, mostTtrt, mostWalk, mostC, mostD, mostP}
+use Rattle.units.specs.Numbers.{timely, lastMode, mostFrame, mostStations, mostTtrt, mostWalk, mostC, mostD, mostP}
 use Rattle.units.specs.Places.{at, sumBelow, allBelow}
 use Rattle.units.specs.Judging.{orElse}
 use Rattle.units.specs.JudgingLaws.{true-or-false, held, failed, given, given-later, not-given, iff-then, iff-under, Decides, decides-le, decides-both, decides-between}
@@ -23,9 +23,10 @@ decides-count t = decides-between 1 mostStations (t .n)
 pub decides-head : (h : Head) → Decides (headInRange h) (HeadInRange h)
 unfolding headInRange
 decides-head h =
-    let both = decides-both _ _ _ _ (decides-between 1 mostTtrt (h .ttrt)) (decides-between timely lastMode (h .mode)) in (
-      λ b. let f = both .0 b in record { ttrt = f .0; mode = f .1 },
-      λ f. both .1 (f .ttrt, f .mode),
+    let two = decides-both _ _ _ _ (decides-between 1 mostTtrt (h .ttrt)) (decides-between timely lastMode (h .mode)) in
+    let all = decides-both _ _ _ _ two (decides-between 1 mostFrame (h .frame)) in (
+      λ b. let f = all .0 b in record { ttrt = f .0 .0; mode = f .0 .1; frame = f .1 },
+      λ f. all .1 ((f .ttrt, f .mode), f .frame),
     )
 
 pub decides-station : (w c d p : ℕ) → Decides (stationInRange w c d p) (StationInRange w c d p)

@@ -12,6 +12,8 @@ pub struct Head {
     pub ttrt: u32,
     // 1: timely-token. 2: plain FDDI.
     pub mode: u32,
+    // F, the longest frame; 1 where asynchronous traffic may stop at any tick.
+    pub frame: u32,
 }
 
 // N stations in ring order. Only the first N places of each array are ever looked at.
@@ -30,7 +32,11 @@ pub fn blank_set() -> Set
     ensures { λ r. ⌜ r ≡ blankSet ⌝ }
 {
     Set {
-        head: Head { ttrt: 0, mode: 0 },
+        head: Head {
+            ttrt: 0,
+            mode: 0,
+            frame: 0,
+        },
         n: 0,
         w: [0; 128],
         c: [0; 128],
@@ -54,7 +60,8 @@ fn head_in_range(h: Head) -> bool
     let low = 1 <= h.ttrt;
     let high = h.ttrt <= numbers::MOST_TTRT;
     let named = (numbers::TIMELY <= h.mode) & (h.mode <= numbers::LAST_MODE);
-    low & high & named
+    let frame = (1 <= h.frame) & (h.frame <= numbers::MOST_FRAME);
+    low & high & named & frame
 }
 
 // The four numbers of one station are in range.

@@ -14,9 +14,10 @@ use Rattle.fields.proofs.FieldLaws.{allocations-few}
 use Rattle.fields.specs.declared.Passed.{Passed}
 use Rattle.scan.specs.Scanned.{scanned}
 use Rattle.scan.proofs.PassedLaws.{Ended, scanned-ended}
-use Rattle.sheets.specs.Layout.{mark, stationBytes, allocationBytes, sheetOf}
-use Rattle.sheets.specs.Reading.{modeIn, setOf, allocOf, setIn, allocIn, judgedSheet, readSheet}
+use Rattle.sheets.specs.Layout.{mark, headNumber, stationBytes, allocationBytes, sheetOf}
+use Rattle.sheets.specs.Reading.{headIn, setOf, allocOf, setIn, allocIn, judgedSheet, readSheet}
 use Rattle.sheets.specs.ReadLaws.{then-none, read-number, judged-kept}
+use Rattle.sheets.proofs.ReadingLaws.{head-ranges}
 use Rattle.sheet_rules.proofs.HeaderLaws.{read-header, read-from}
 use Rattle.sheet_rules.proofs.StandLaws.{mark-stands, StationNumbers, stations-stand, allocations-stand}
 use Rattle.sheet_rules.proofs.BackLaws.{behindHead, behindStations, behindAll, SheetParts, parts-sheet}
@@ -38,19 +39,19 @@ module _ (plan : Bool) (bs : List ℕ) (bytes : AllBytes bs) (p : Passed) (ended
       let few : p .allocations ≤ 128 = omega (arith, ended .few, ended .all, allocations-few plan (p .stations)) in
       sym (fill-inside (p .allocations) (λ k. numberAt bs (p .from + 19 * p .stations + 3 + 7 * k)) zeros i l few)
 
-  -- the parts of what was read stand in the bytes, if the mode is one that a set can have
-  read-parts : 1 ≤ modeIn bs → SheetParts plan bs (setOf bs p) (allocOf bs p)
-  read-parts named =
+  -- the parts of what was read stand in the bytes, if no number of the header is 0
+  read-parts : ((tag : ℕ) → 1 ≤ headNumber (headIn bs) tag) → SheetParts plan bs (setOf bs p) (allocOf bs p)
+  read-parts some =
       let n = p .stations in
       let m = p .allocations in
       let long = ended .last in
       let all : p .allocations ≡ allocationsFor plan (p .stations) = ended .all in
-      let from : p .from ≡ behindHead (setOf bs p) = read-from bs bytes (p .from) (ended .header) named in
+      let from : p .from ≡ behindHead (setOf bs p) = read-from bs bytes (p .from) (ended .header) some in
       let behind : p .from + 19 * p .stations ≡ behindStations (setOf bs p) = omega arith in
       let last : p .from + 19 * p .stations + 7 * p .allocations ≡ behindAll plan (setOf bs p) = omega arith in
       let share = allocationBytes (allocOf bs p) in
       record {
-        header = read-header bs bytes (p .from) (ended .header) named;
+        header = read-header bs bytes (p .from) (ended .header) some;
         stations = subst (λ (b : ℕ). Stands bs b (rows n (stationBytes (setOf bs p)))) from
             (stations-stand bs (p .from) (setOf bs p) n bytes (omega arith) (ended .stations) read-numbers);
         allocations = subst (λ (b : ℕ). Stands bs b (rows (allocationsFor plan n) share)) behind
@@ -60,10 +61,10 @@ module _ (plan : Bool) (bs : List ℕ) (bytes : AllBytes bs) (p : Passed) (ended
         long = omega arith;
       }
 
--- bytes without a fault, whose mode is one that a set can have, are the sheet of what they hold
-holds-sheet : (plan : Bool) (bs : List ℕ) → AllBytes bs → scanned plan bs .number ≡ 0 → 1 ≤ modeIn bs → bs ≡ sheetOf plan (setIn plan bs) (allocIn plan bs)
-holds-sheet plan bs bytes z named =
-    parts-sheet plan (setIn plan bs) (allocIn plan bs) bs (read-parts plan bs bytes (scanned plan bs .passed) (scanned-ended plan bs z) named)
+-- bytes without a fault, whose header has no number 0, are the sheet of what they hold
+holds-sheet : (plan : Bool) (bs : List ℕ) → AllBytes bs → scanned plan bs .number ≡ 0 → ((tag : ℕ) → 1 ≤ headNumber (headIn bs) tag) → bs ≡ sheetOf plan (setIn plan bs) (allocIn plan bs)
+holds-sheet plan bs bytes z some =
+    parts-sheet plan (setIn plan bs) (allocIn plan bs) bs (read-parts plan bs bytes (scanned plan bs .passed) (scanned-ended plan bs z) some)
 
 -- what is accepted is the sheet of what was read, and that is judged 0
 pub read-again : (plan : Bool) (bs : List ℕ) → AllBytes bs → readSheet plan bs .number ≡ 0
@@ -71,5 +72,5 @@ pub read-again : (plan : Bool) (bs : List ℕ) → AllBytes bs → readSheet pla
 unfolding readSheet
 read-again plan bs bytes h =
     let both = then-none _ _ (sym (read-number _ _ _) ∙ h) in
-    let named = judged-kept plan (setIn plan bs) (allocIn plan bs) (both .1) .numbers .header .mode .0 in
-    (both .1, (holds-sheet plan bs bytes (both .0) named, both .0))
+    let header = judged-kept plan (setIn plan bs) (allocIn plan bs) (both .1) .numbers .header in
+    (both .1, (holds-sheet plan bs bytes (both .0) (λ tag. head-ranges (headIn bs) header tag .0), both .0))

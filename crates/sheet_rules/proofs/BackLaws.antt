@@ -15,25 +15,25 @@ use Rattle.sets.specs.declared.Set.{Set}
 use Rattle.plans.proofs.SameLaws.{judged-plan-same}
 use Rattle.plans.specs.declared.Alloc.{Alloc}
 use Rattle.fields.specs.Rows.{rows, Stands}
-use Rattle.fields.specs.Fields.{allocationsFor, tagAt}
+use Rattle.fields.specs.Fields.{furtherSize, allocationsFor, tagAt}
 use Rattle.fields.proofs.SegmentLaws.{stands-itself, stands-whole, stands-left, stands-right, stands-join}
 use Rattle.scan.specs.Scanned.{scanned}
 use Rattle.scan.specs.FirstFault.{WellFormed}
 use Rattle.scan.specs.declared.Scanned.{Scanned}
 use Rattle.scan.proofs.PassedLaws.{passedAll, header-passes, station-passes, allocation-passes, end-passes}
-use Rattle.sheets.specs.Layout.{headBytes, furtherLength, stationBytes, allocationBytes, endBytes, sheetOf}
+use Rattle.sheets.specs.Layout.{headNumber, headBytes, headLength, stationBytes, allocationBytes, endBytes, sheetOf}
 use Rattle.sheets.specs.Reading.{setOf, allocOf, setIn, allocIn, judgedSheet, readSheet}
 use Rattle.sheets.specs.ReadLaws.{then-rest, read-number, sheet-accepted, Kept, judged-kept}
 use Rattle.sheet_rules.specs.Promised.{firstPlaces, firstAllocations, Numbers32}
-use Rattle.sheets.proofs.WritingLaws.{head-length, stations-length, allocations-length, sheet-long}
-use Rattle.sheet_rules.proofs.HeaderLaws.{laid-ttrt, laid-mode, laid-header}
+use Rattle.sheets.proofs.WritingLaws.{head-long, stations-length, allocations-length, sheet-long}
+use Rattle.sheet_rules.proofs.HeaderLaws.{laid-ttrt, laid-head, laid-header}
 use Rattle.sheet_rules.proofs.StandLaws.{whole-stands, stations-whole, stations-read, allocations-whole, allocations-read}
 
 -- ---- the parts of a sheet stand one behind the other
 
 -- the place behind the header
 abbrev pub behindHead : Set → ℕ
-behindHead t = 7 + furtherLength (t .head)
+behindHead t = 7 + headLength (t .head)
 
 -- the place behind the stations
 abbrev pub behindStations : Set → ℕ
@@ -60,7 +60,7 @@ module _ (plan : Bool) (t : Set) (a : Alloc) where
       let al = rows m (allocationBytes a) in
       let h₂ = stands-left bs 0 (hd ++ st ++ al) endBytes h in
       let h₁ = stands-left bs 0 (hd ++ st) al h₂ in
-      let l₁ = head-length (t .head) in
+      let l₁ = head-long (t .head) in
       let l₂ = stations-length t (t .n) in
       let l₃ = allocations-length a m in
       let e₁ : 0 + length hd ≡ behindHead t = omega arith in
@@ -86,7 +86,7 @@ module _ (plan : Bool) (t : Set) (a : Alloc) where
       let hd = headBytes (t .head) in
       let st = rows (t .n) (stationBytes t) in
       let al = rows m (allocationBytes a) in
-      let l₁ = head-length (t .head) in
+      let l₁ = head-long (t .head) in
       let l₂ = stations-length t (t .n) in
       let l₃ = allocations-length a m in
       let e₁ : behindHead t ≡ 0 + length hd = omega arith in
@@ -143,6 +143,7 @@ module _ (plan : Bool) (bs : List ℕ) (t : Set) (a : Alloc) (parts : SheetParts
   -- ---- and the numbers that are read from them
 
   parts-set : (head m : ℕ) → Numbers32 t → setOf bs (passedAll plan head (behindHead t) (t .n) m) ≡ firstPlaces t
+  unfolding headNumber furtherSize
   parts-set head m small =
       let numbers = stations-read bs (behindHead t) t (t .n) (parts .stations) (omega arith) small in
       let w = fill-same (t .n) _ (at (t .w)) zeros (numbers .walk) in
@@ -150,8 +151,9 @@ module _ (plan : Bool) (bs : List ℕ) (t : Set) (a : Alloc) (parts : SheetParts
       let d = fill-same (t .n) _ (at (t .d)) zeros (numbers .deadline) in
       let p = fill-same (t .n) _ (at (t .p)) zeros (numbers .gap) in
       let ttrt = laid-ttrt bs (t .head) (parts .header) (small .header) in
-      let mode = laid-mode bs (t .head) (parts .header) first-station (small .mode) in
-      rw (ttrt, mode, w, c, d, p)
+      let mode = laid-head bs (t .head) (parts .header) first-station 0 (omega arith) (small .mode) in
+      let frame = laid-head bs (t .head) (parts .header) first-station 1 (omega arith) (small .frame) in
+      rw (ttrt, mode, frame, w, c, d, p)
 
   parts-alloc : (head : ℕ) → ((i : ℕ) → i < allocationsFor plan (t .n) → at (a .s) i < 2 ^ 32)
       → allocOf bs (passedAll plan head (behindHead t) (t .n) (allocationsFor plan (t .n))) ≡ firstAllocations (allocationsFor plan (t .n)) a
@@ -224,6 +226,7 @@ kept-small plan t a k =
     record {
       header = omega (arith, k .numbers .header .ttrt);
       mode = omega (arith, k .numbers .header .mode);
+      frame = omega (arith, k .numbers .header .frame);
       walk = λ i l. omega (arith, k .numbers .stations i l .walk);
       longest = λ i l. omega (arith, k .numbers .stations i l .longest);
       deadline = λ i l. omega (arith, k .numbers .stations i l .deadline .1);

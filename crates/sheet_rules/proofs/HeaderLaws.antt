@@ -1,149 +1,228 @@
--- The header in the bytes: where TTRT and the mode stand, what is read of them, and that what is read stands there again.
-use Prim.Native.Nat.{ℕ, _+_, _%_, _^_, _≤_, _<_}
+-- The header in the bytes: where TTRT and the fields behind it stand, what is read of them, and that what is read stands there again. One argument over the field k, the mode's being 0.
+use Prim.Native.Nat.{ℕ, zero, suc, _+_, _-_, _^_, _≤_, _<_}
 use mathlib.Core.Path.{_≡_, refl, sym, ap, subst, _∙_}
-use mathlib.Core.Bool.{true, false}
-use mathlib.Core.List.{List, [], _∷_, _++_}
+use mathlib.Core.Bool.{true}
+use mathlib.Core.List.{List, _++_, append-nil}
 use mathlib.Core.Logic.{_⊎_, inl, inr, ⊎-elim, _≢_}
-use native.Mathlib.Nat.{mod-eq-of-lt}
 use native.Mathlib.Omega.{arith}
-use lib.Dec.{eqb}
 use lib.ListN.{length}
-use borrow.Author.Tests.{eq-eqb, ne-eqb, eqb-true, eqb-false}
-use Rattle.units.specs.Places.{at}
-use Rattle.units.specs.JudgingLaws.{true-or-false}
+use Rattle.units.specs.Places.{sumBelow}
+use Rattle.units.specs.SmallLaws.{below-or-not}
 use Rattle.sets.specs.declared.Head.{Head}
 use Rattle.fields.specs.Rows.{Stands}
-use Rattle.fields.specs.Bytes.{numberAt, bytesOf, AllBytes}
-use Rattle.fields.specs.Fields.{tagAt}
-use Rattle.fields.specs.Header.{absent, headerNumber}
+use Rattle.fields.specs.Bytes.{numberAt, bytesOf, bodyOf, AllBytes}
+use Rattle.fields.specs.Fields.{modeTag, frameTag, furtherSize, tagAt}
+use Rattle.fields.specs.Header.{furtherCount, absent, headerNumber, behindTag, furtherPlace, placeOf, saidAt, givenAt}
 use Rattle.fields.proofs.SegmentLaws.{stands-left, stands-right, stands-join}
-use Rattle.fields.proofs.ByteLaws.{number-read, number-stands, stands-one}
-use Rattle.fields.proofs.FieldLaws.{Whole}
-use Rattle.fields.proofs.HeaderLaws.{header-absent, header-there, header-one, header-neither}
-use Rattle.scan.proofs.PassedLaws.{Optional, not-there, there, HeaderStands}
-use Rattle.sheets.specs.Layout.{mark, modeBytes, headBytes, furtherLength}
-use Rattle.sheets.specs.Reading.{modeIn, headIn}
-use Rattle.sheets.proofs.WritingLaws.{mode-none, mode-some, mode-long, further-length}
+use Rattle.fields.proofs.ByteLaws.{number-read, number-stands}
+use Rattle.fields.proofs.FieldLaws.{Whole, further-small}
+use Rattle.fields.proofs.HeaderLaws.{same-or-not, header-there, header-one, header-out, behind-there, behind-not, given-absent, given-there, place-first, place-next, place-of, roomIn, body-length, body-read, body-stands}
+use Rattle.scan.proofs.PassedLaws.{HeaderStands}
+use Rattle.sheets.specs.Layout.{mark, headNumber, mostOf, furtherBytes, headUpTo, headBytes, lengthUpTo, headLength}
+use Rattle.sheets.specs.Reading.{numberIn, headIn}
+use Rattle.sheets.proofs.WritingLaws.{further-none, further-some, length-none, length-some, up-to-none, up-to-more, length-more, up-to-length}
 use Rattle.sheet_rules.proofs.StandLaws.{mark-stands, whole-stands}
 
--- a mode is what absence means, or it is not
-absent-or-not : (mode : ℕ) → (mode ≡ absent) ⊎ (mode ≢ absent)
-absent-or-not mode = ⊎-elim (λ (e : eqb mode absent ≡ true). inl (eqb-true mode absent e)) (λ (e : eqb mode absent ≡ false). inr (eqb-false mode absent e)) (true-or-false (eqb mode absent))
-
--- ---- what is read of the mode
+-- ---- what is read
 
 module _ (bs : List ℕ) where
-  pub reads-absent : tagAt bs 7 ≢ 4 → modeIn bs ≡ absent
-  reads-absent other = rw (ne-eqb (tagAt bs 7) 4 other) (header-absent (at bs 10))
+  -- the number of a tag is the one that is read for it
+  pub number-of : (tag : ℕ) → modeTag ≤ tag → tag ≤ frameTag → headNumber (headIn bs) tag ≡ numberIn bs tag
+  unfolding headNumber
+  number-of tag low high =
+      ⊎-elim (λ (e : tag ≡ 4). subst (λ (k : ℕ). headNumber (headIn bs) k ≡ numberIn bs k) (sym e) refl)
+      (λ (other : tag ≢ 4). let e : tag ≡ 5 = five tag low high other in subst (λ (k : ℕ). headNumber (headIn bs) k ≡ numberIn bs k) (sym e) refl)
+      (same-or-not tag 4)
+    where
+      five : (tag : ℕ) → 4 ≤ tag → tag ≤ 5 → tag ≢ 4 → tag ≡ 5
+      five tag low high other = ⊎-elim (λ (b : tag < 5). absurd (other (omega arith))) (λ (b : 5 ≤ tag). omega arith) (below-or-not tag 5)
 
-  reads-there : tagAt bs 7 ≡ 4 → modeIn bs ≡ headerNumber true (at bs 10)
-  reads-there e = rw (eq-eqb (tagAt bs 7) 4 e)
+  -- the same by the field
+  pub number-at : (k : ℕ) → k < furtherCount → headNumber (headIn bs) (modeTag + k) ≡ givenAt bs (furtherPlace bs k) (modeTag + k)
+  number-at k l = number-of (modeTag + k) (omega arith) (omega arith) ∙ ap (λ (a : ℕ). givenAt bs a (modeTag + k)) (place-of bs k)
 
-  pub reads-mode : (mode : ℕ) → tagAt bs 7 ≡ 4 → at bs 10 ≡ mode → mode ≢ absent → modeIn bs ≡ mode
-  reads-mode mode e is other = reads-there e ∙ ap (headerNumber true) is ∙ header-there mode other
+  module _ (tag : ℕ) (low : modeTag ≤ tag) (high : tag ≤ frameTag) where
+    -- not there
+    pub reads-absent : tagAt bs (placeOf bs tag) ≢ tag → headNumber (headIn bs) tag ≡ absent
+    reads-absent other = number-of tag low high ∙ given-absent bs tag (placeOf bs tag) other
 
-  pub reads-none : tagAt bs 7 ≡ 4 → at bs 10 ≡ absent → modeIn bs ≡ 0
-  reads-none e is = reads-there e ∙ ap (headerNumber true) is ∙ header-one
+    reads-there : tagAt bs (placeOf bs tag) ≡ tag → headNumber (headIn bs) tag ≡ headerNumber true (saidAt bs (placeOf bs tag) tag)
+    reads-there e = number-of tag low high ∙ given-there bs tag (placeOf bs tag) e
 
-  -- a field that says anything but 2 names no mode
-  pub no-mode : tagAt bs 7 ≡ 4 → at bs 10 ≢ 2 → ¬ ((1 ≤ modeIn bs) × (modeIn bs ≤ 2))
-  no-mode e other = subst (λ (mode : ℕ). ¬ ((1 ≤ mode) × (mode ≤ 2))) (sym (reads-there e)) (header-neither (at bs 10) other)
+    -- there, with a number that is not 1
+    pub reads-number : tagAt bs (placeOf bs tag) ≡ tag → saidAt bs (placeOf bs tag) tag ≢ absent → headNumber (headIn bs) tag ≡ saidAt bs (placeOf bs tag) tag
+    reads-number e other = reads-there e ∙ header-there _ other
 
--- ---- how much the header has behind TTRT
-
-module _ (h : Head) where
-  pub none-further : h .mode ≡ absent → furtherLength h ≡ 0
-  none-further e = sym (further-length h) ∙ ap length (mode-none (h .mode) e)
-
-  pub some-further : h .mode ≢ absent → furtherLength h ≡ 4
-  some-further other = sym (further-length h) ∙ mode-long (h .mode) other
+    -- there, with a number that is not 2 to the highest: out of range
+    pub reads-out : tagAt bs (placeOf bs tag) ≡ tag → ¬ ((2 ≤ saidAt bs (placeOf bs tag) tag) × (saidAt bs (placeOf bs tag) tag ≤ mostOf tag))
+        → ¬ ((1 ≤ headNumber (headIn bs) tag) × (headNumber (headIn bs) tag ≤ mostOf tag))
+    reads-out e out = subst (λ (n : ℕ). ¬ ((1 ≤ n) × (n ≤ mostOf tag))) (sym (reads-there e)) (header-out (mostOf tag) _ out)
 
 -- ---- a header that was laid out
 
+-- the number of field k, and its bytes
+abbrev headAt : Head → ℕ → ℕ
+headAt h k = headNumber h (modeTag + k)
+
 module _ (bs : List ℕ) (h : Head) (stands : Stands bs 0 (headBytes h)) where
+  up-to-stands : (top : ℕ) → Stands bs 0 (headUpTo h top) → (k : ℕ) → k ≤ top → Stands bs 0 (headUpTo h k)
+  up-to-stands zero s k l = let e : 0 ≡ k = omega arith in subst (λ (n : ℕ). Stands bs 0 (headUpTo h n)) e s
+  up-to-stands (suc top) s k l =
+      ⊎-elim (λ (b : k < suc top). up-to-stands top (stands-left bs 0 (headUpTo h top) (furtherBytes (modeTag + top) (headAt h top)) (subst (Stands bs 0) (up-to-more h top) s)) k (omega arith))
+      (λ (b : suc top ≤ k). let e : suc top ≡ k = omega arith in subst (λ (n : ℕ). Stands bs 0 (headUpTo h n)) e s)
+      (below-or-not k (suc top))
+
   ttrt-field : Stands bs 0 (mark 1 4 ++ bytesOf (h .ttrt))
-  unfolding headBytes
-  ttrt-field = stands-left bs 0 (mark 1 4 ++ bytesOf (h .ttrt)) (modeBytes (h .mode)) stands
-
-  mode-field : Stands bs 7 (modeBytes (h .mode))
-  unfolding headBytes bytesOf
-  mode-field = stands-right bs 0 (mark 1 4 ++ bytesOf (h .ttrt)) (modeBytes (h .mode)) stands
-
-  -- where there is a mode's field, its start and its byte stand
-  mode-parts : h .mode ≢ absent → Stands bs 7 (mark 4 1) × Stands bs 10 (h .mode % 256 ∷ [])
-  mode-parts other =
-      let s = subst (Stands bs 7) (mode-some (h .mode) other) mode-field in
-      (stands-left bs 7 (mark 4 1) (h .mode % 256 ∷ []) s, stands-right bs 7 (mark 4 1) (h .mode % 256 ∷ []) s)
-
-  mode-whole : h .mode ≢ absent → Whole bs 7 4 1
-  mode-whole other =
-      let s = mode-parts other in
-      whole-stands bs 7 4 1 (s .0) (omega (arith, s .1 .fits))
+  ttrt-field = subst (Stands bs 0) (up-to-none h) (up-to-stands furtherCount stands 0 (omega arith))
 
   pub laid-ttrt : h .ttrt < 2 ^ 32 → numberAt bs 3 ≡ h .ttrt
   unfolding bytesOf
   laid-ttrt small = number-read bs 3 (h .ttrt) small (stands-right bs 0 (mark 1 4) (bytesOf (h .ttrt)) ttrt-field)
 
+  -- the place behind the first k fields
+  abbrev behind : ℕ → ℕ
+  behind k = 7 + lengthUpTo h k
+
+  field-stands : (k : ℕ) → k < furtherCount → Stands bs (behind k) (furtherBytes (modeTag + k) (headAt h k))
+  field-stands k l =
+      let e : 0 + length (headUpTo h k) ≡ behind k = omega (arith, up-to-length h k) in
+      subst (λ (a : ℕ). Stands bs a (furtherBytes (modeTag + k) (headAt h k))) e
+      (stands-right bs 0 (headUpTo h k) (furtherBytes (modeTag + k) (headAt h k)) (subst (Stands bs 0) (up-to-more h k) (up-to-stands furtherCount stands (suc k) (omega arith))))
+
+  -- where there is a field, its start and its body stand
+  field-parts : (k : ℕ) → k < furtherCount → headAt h k ≢ absent
+      → Stands bs (behind k) (mark (modeTag + k) (furtherSize (modeTag + k))) × Stands bs (behind k + 3) (bodyOf (furtherSize (modeTag + k)) (headAt h k))
+  field-parts k l other =
+      let m = mark (modeTag + k) (furtherSize (modeTag + k)) in
+      let b = bodyOf (furtherSize (modeTag + k)) (headAt h k) in
+      let s = subst (Stands bs (behind k)) (further-some (modeTag + k) (headAt h k) other) (field-stands k l) in
+      (stands-left bs (behind k) m b s, stands-right bs (behind k) m b s)
+
+  field-whole : (k : ℕ) → k < furtherCount → headAt h k ≢ absent → Whole bs (behind k) (modeTag + k) (furtherSize (modeTag + k))
+  field-whole k l other =
+      let s = field-parts k l other in
+      whole-stands bs (behind k) (modeTag + k) (furtherSize (modeTag + k)) (s .0) (omega (arith, s .1 .fits, body-length (modeTag + k) (headAt h k)))
+
   -- behind the header a station stands
-  module _ (station : tagAt bs (7 + furtherLength h) ≡ 2) where
-    at-once : h .mode ≡ absent → tagAt bs 7 ≢ 4
-    at-once e f =
-        let here : tagAt bs 7 ≡ 2 = subst (λ (k : ℕ). tagAt bs (7 + k) ≡ 2) (none-further h e) station in
-        absurd (omega (arith, here, f))
+  module _ (station : tagAt bs (7 + headLength h) ≡ 2) where
+    -- so behind the first k fields stands a station or one of the others
+    next-tag : (d k : ℕ) → k + d ≡ furtherCount → (tagAt bs (behind k) ≡ 2) ⊎ (modeTag + k ≤ tagAt bs (behind k))
+    next-tag zero k e = let all : furtherCount ≡ k = omega arith in inl (subst (λ (n : ℕ). tagAt bs (behind n) ≡ 2) all station)
+    next-tag (suc d) k e =
+        ⊎-elim (λ (none : headAt h k ≡ absent).
+        let same : behind (suc k) ≡ behind k = omega (arith, length-more h k, length-none (modeTag + k) (headAt h k) none) in
+        ⊎-elim (λ (x : tagAt bs (behind (suc k)) ≡ 2). inl (subst (λ (a : ℕ). tagAt bs a ≡ 2) same x))
+        (λ (x : modeTag + suc k ≤ tagAt bs (behind (suc k))).
+        let y : modeTag + suc k ≤ tagAt bs (behind k) = subst (λ (a : ℕ). modeTag + suc k ≤ tagAt bs a) same x in
+        inr (omega arith))
+        (next-tag d (suc k) (omega arith)))
+        (λ (other : headAt h k ≢ absent). inr (omega (arith, field-whole k (omega arith) other .has-tag)))
+        (same-or-not (headAt h k) absent)
 
-    pub laid-mode : h .mode < 256 → modeIn bs ≡ h .mode
-    laid-mode small =
-        ⊎-elim (λ (e : h .mode ≡ absent). reads-absent bs (at-once e) ∙ sym e)
-        (λ (other : h .mode ≢ absent).
-        let byte : at bs 10 ≡ h .mode % 256 = mode-parts other .1 .same 0 (omega arith) in
-        reads-mode bs (h .mode) (mode-whole other .has-tag) (byte ∙ mod-eq-of-lt small) other)
-        (absent-or-not (h .mode))
+    -- and a field whose number is 1 is not there
+    field-none : (k : ℕ) → k < furtherCount → headAt h k ≡ absent → tagAt bs (behind k) ≢ modeTag + k
+    field-none k l none e =
+        let same : behind (suc k) ≡ behind k = omega (arith, length-more h k, length-none (modeTag + k) (headAt h k) none) in
+        let here : tagAt bs (behind (suc k)) ≡ modeTag + k = ap (tagAt bs) same ∙ e in
+        ⊎-elim (λ (x : tagAt bs (behind (suc k)) ≡ 2). absurd (omega (arith, x, here)))
+        (λ (x : modeTag + suc k ≤ tagAt bs (behind (suc k))). absurd (omega (arith, x, here)))
+        (next-tag (furtherCount - suc k) (suc k) (omega arith))
 
-    pub laid-header : HeaderStands bs (7 + furtherLength h)
+    -- so each field is looked for where it was laid
+    laid-place : (k : ℕ) → k ≤ furtherCount → furtherPlace bs k ≡ behind k
+    unfolding sumBelow
+    laid-place zero l = place-first bs
+    laid-place (suc k) l =
+        let before = laid-place k (omega arith) in
+        place-next bs k ∙ ap (behindTag bs (modeTag + k)) before ∙
+        ⊎-elim (λ (none : headAt h k ≡ absent).
+        behind-not bs (modeTag + k) (behind k) (field-none k l none) ∙ sym (omega (arith, length-more h k, length-none (modeTag + k) (headAt h k) none)))
+        (λ (other : headAt h k ≢ absent).
+        let long : behind k + 3 + furtherSize (modeTag + k) ≡ behind (suc k) = omega (arith, length-more h k, length-some (modeTag + k) (headAt h k) other) in
+        behind-there bs (modeTag + k) (behind k) (field-whole k l other .has-tag) ∙ long)
+        (same-or-not (headAt h k) absent)
+
+    -- and its number is read
+    pub laid-head : (k : ℕ) → k < furtherCount → headNumber h (modeTag + k) < roomIn (furtherSize (modeTag + k)) → headNumber (headIn bs) (modeTag + k) ≡ headNumber h (modeTag + k)
+    laid-head k l small =
+        number-at bs k l ∙ ap (λ (a : ℕ). givenAt bs a (modeTag + k)) (laid-place k (omega arith)) ∙
+        ⊎-elim (λ (none : headAt h k ≡ absent). given-absent bs (modeTag + k) (behind k) (field-none k l none) ∙ sym none)
+        (λ (other : headAt h k ≢ absent).
+        let said = body-read (modeTag + k) bs (behind k + 3) (headAt h k) small (field-parts k l other .1) in
+        given-there bs (modeTag + k) (behind k) (field-whole k l other .has-tag) ∙ ap (headerNumber true) said ∙ header-there (headAt h k) other)
+        (same-or-not (headAt h k) absent)
+
+    pub laid-header : HeaderStands bs (7 + headLength h)
     unfolding bytesOf
     laid-header =
         record {
           ttrt = whole-stands bs 0 1 4 (stands-left bs 0 (mark 1 4) (bytesOf (h .ttrt)) ttrt-field) (ttrt-field .fits);
-          mode = ⊎-elim (λ (e : h .mode ≡ absent). not-there (at-once e) (ap (λ (k : ℕ). 7 + k) (none-further h e)))
-              (λ (other : h .mode ≢ absent). there (mode-whole other) (ap (λ (k : ℕ). 7 + k) (some-further h other)))
-              (absent-or-not (h .mode));
+          further = λ k l e.
+              let place = laid-place k (omega arith) in
+              let here : tagAt bs (behind k) ≡ modeTag + k = sym (ap (tagAt bs) place) ∙ e in
+              subst (λ (a : ℕ). Whole bs a (modeTag + k) (furtherSize (modeTag + k))) (sym place) (field-whole k l (λ none. field-none k l none here));
+          behind = sym (laid-place furtherCount (omega arith));
         }
 
--- ---- a header that was read, its mode not 0
+-- ---- a header that was read, none of its numbers 0
 
-module _ (bs : List ℕ) (bytes : AllBytes bs) (from : ℕ) (header : HeaderStands bs from) (some : 1 ≤ modeIn bs) where
+module _ (bs : List ℕ) (bytes : AllBytes bs) (from : ℕ) (header : HeaderStands bs from) (some : (tag : ℕ) → 1 ≤ headNumber (headIn bs) tag) where
   read-ttrt : Stands bs 0 (mark 1 4 ++ bytesOf (numberAt bs 3))
   read-ttrt =
       let inside = header .ttrt .inside in
       stands-join bs 0 (mark 1 4) (bytesOf (numberAt bs 3)) (mark-stands bs 0 1 4 bytes (omega arith) (header .ttrt)) (number-stands bs 3 bytes (omega arith))
 
-  -- the mode's field stands in the bytes, and the stations begin behind it
-  read-mode : Stands bs 7 (modeBytes (modeIn bs)) × (from ≡ 7 + furtherLength (headIn bs))
-  read-mode = go (header .mode)
-    where
-      go : Optional bs 7 4 1 from → Stands bs 7 (modeBytes (modeIn bs)) × (from ≡ 7 + furtherLength (headIn bs))
-      go (not-there other e) =
-          let none = reads-absent bs other in
-          let inside = header .ttrt .inside in (
-            subst (Stands bs 7) (sym (mode-none (modeIn bs) none)) (record { fits = omega arith; same = λ i l. absurd (omega arith) }),
-            e ∙ sym (ap (λ (k : ℕ). 7 + k) (none-further (headIn bs) none)),
-          )
-      go (there w e) =
-          let inside = w .inside in
-          let tag = w .has-tag in
-          let named : at bs 10 ≢ absent = λ one. absurd (omega (arith, some, reads-none bs tag one)) in
-          let is = reads-mode bs (at bs 10) tag refl named in
-          let other : modeIn bs ≢ absent = λ one. named (sym is ∙ one) in
-          let small : at bs 10 < 256 = bytes 10 (omega arith) in
-          let byte : at bs 10 ≡ modeIn bs % 256 = sym (ap (λ (k : ℕ). k % 256) is ∙ mod-eq-of-lt small) in (
-            subst (Stands bs 7) (sym (mode-some (modeIn bs) other))
-                (stands-join bs 7 (mark 4 1) (modeIn bs % 256 ∷ []) (mark-stands bs 7 4 1 bytes (omega arith) w) (stands-one bs 10 (modeIn bs % 256) (omega arith) byte)),
-            e ∙ sym (ap (λ (k : ℕ). 7 + k) (some-further (headIn bs) other)),
-          )
+  -- the header up to its first k fields stands in the bytes, and the next is looked for behind them
+  Read : ℕ → Type 0
+  Read k = Stands bs 0 (headUpTo (headIn bs) k) × (furtherPlace bs k ≡ 7 + lengthUpTo (headIn bs) k)
+
+  -- one field more that is not there
+  read-absent : (k : ℕ) → k < furtherCount → Read k → tagAt bs (furtherPlace bs k) ≢ modeTag + k → Read (suc k)
+  unfolding Read
+  read-absent k l before other =
+      let tag = modeTag + k in
+      let none : headNumber (headIn bs) (modeTag + k) ≡ absent = number-at bs k l ∙ given-absent bs tag (furtherPlace bs k) other in
+      let number = headNumber (headIn bs) tag in
+      let same : headUpTo (headIn bs) (suc k) ≡ headUpTo (headIn bs) k =
+      up-to-more (headIn bs) k ∙ ap (λ (s : List ℕ). headUpTo (headIn bs) k ++ s) (further-none tag number none) ∙ append-nil (headUpTo (headIn bs) k) in
+      let place = place-next bs k ∙ behind-not bs tag (furtherPlace bs k) other in
+      (subst (Stands bs 0) (sym same) (before .0), omega (arith, place, before .1, length-more (headIn bs) k, length-none tag number none))
+
+  -- and one that is
+  read-there : (k : ℕ) → k < furtherCount → Read k → tagAt bs (furtherPlace bs k) ≡ modeTag + k → Read (suc k)
+  unfolding Read
+  read-there k l before e =
+      let a = furtherPlace bs k in
+      let tag = modeTag + k in
+      let number = headNumber (headIn bs) tag in
+      let given : headNumber (headIn bs) (modeTag + k) ≡ headerNumber true (saidAt bs (furtherPlace bs k) (modeTag + k)) = number-at bs k l ∙ given-there bs tag a e in
+      let named : saidAt bs (furtherPlace bs k) (modeTag + k) ≢ absent = λ one. absurd (omega (arith, some tag, given, ap (headerNumber true) one, header-one)) in
+      let is : headNumber (headIn bs) (modeTag + k) ≡ saidAt bs (furtherPlace bs k) (modeTag + k) = given ∙ header-there _ named in
+      let other : headNumber (headIn bs) (modeTag + k) ≢ absent = λ one. named (sym is ∙ one) in
+      let w = header .further k l e in
+      let inside = w .inside in
+      let start = mark-stands bs a tag (furtherSize tag) bytes (omega (arith, further-small tag)) w in
+      let body = subst (λ (n : ℕ). Stands bs (a + 3) (bodyOf (furtherSize tag) n)) (sym is) (body-stands tag bs (a + 3) bytes (omega arith)) in
+      let field = stands-join bs a (mark tag (furtherSize tag)) (bodyOf (furtherSize tag) number) start body in
+      let here : furtherPlace bs k ≡ 0 + length (headUpTo (headIn bs) k) = omega (arith, before .1, up-to-length (headIn bs) k) in
+      let laid = subst (λ (b : ℕ). Stands bs b (furtherBytes tag number)) here (subst (Stands bs a) (sym (further-some tag number other)) field) in
+      let place = place-next bs k ∙ behind-there bs tag a e in (
+        subst (Stands bs 0) (sym (up-to-more (headIn bs) k)) (stands-join bs 0 (headUpTo (headIn bs) k) (furtherBytes tag number) (before .0) laid),
+        omega (arith, place, before .1, length-more (headIn bs) k, length-some tag number other),
+      )
+
+  read-up-to : (k : ℕ) → k ≤ furtherCount → Read k
+  unfolding Read sumBelow
+  read-up-to zero l = (subst (Stands bs 0) (sym (up-to-none (headIn bs))) read-ttrt, place-first bs)
+  read-up-to (suc k) l =
+      ⊎-elim (λ (e : tagAt bs (furtherPlace bs k) ≡ modeTag + k). read-there k l (read-up-to k (omega arith)) e)
+      (λ (other : tagAt bs (furtherPlace bs k) ≢ modeTag + k). read-absent k l (read-up-to k (omega arith)) other)
+      (same-or-not (tagAt bs (furtherPlace bs k)) (modeTag + k))
 
   pub read-header : Stands bs 0 (headBytes (headIn bs))
-  unfolding headBytes bytesOf
-  read-header = stands-join bs 0 (mark 1 4 ++ bytesOf (numberAt bs 3)) (modeBytes (modeIn bs)) read-ttrt (read-mode .0)
+  unfolding Read
+  read-header = read-up-to furtherCount (omega arith) .0
 
-  pub read-from : from ≡ 7 + furtherLength (headIn bs)
-  read-from = read-mode .1
+  pub read-from : from ≡ 7 + headLength (headIn bs)
+  unfolding Read
+  read-from = header .behind ∙ read-up-to furtherCount (omega arith) .1

@@ -1,10 +1,11 @@
 -- The promises hold because a sheet's parts stand one behind the other, are counted where they stand, and hold the numbers that were written.
 use Prim.Native.Nat.{ℕ, zero, suc, _+_, _^_, _≤_, _<_}
 use mathlib.Core.Path.{_≡_, refl, sym, ap, _∙_}
-use mathlib.Core.Bool.{Bool, true, false}
+use mathlib.Core.Bool.{Bool, true, false, cond}
 use mathlib.Core.List.{List, [], _∷_, _++_, append-nil}
 use mathlib.Core.Logic.{⊎-elim, _↔_, _≢_}
 use native.Mathlib.Omega.{arith}
+use lib.Dec.{eqb}
 use lib.ListN.{length, take, drop, getD-replicate, List·getD-eq-default}
 use lib.Seq.{take-at}
 use borrow.Author.Tests.{leb-true}
@@ -16,13 +17,16 @@ use Rattle.units.specs.JudgingLaws.{held, not-given, passed}
 use Rattle.sets.specs.Rules.{SameSet, CountAllowed}
 use Rattle.sets.specs.Judged.{judged, judgedThen, blankSet, zeros}
 use Rattle.sets.specs.SetLaws.{decides-count, judged-same}
+use Rattle.sets.specs.declared.Head.{Head}
 use Rattle.sets.specs.declared.Set.{Set}
 use Rattle.plans.specs.Planned.{judgedPlan, blankAlloc}
 use Rattle.plans.proofs.SameLaws.{judged-plan-same}
 use Rattle.plans.specs.declared.Alloc.{Alloc}
 use Rattle.fields.specs.Rows.{rows}
-use Rattle.fields.specs.Bytes.{bytesOf, AllBytes}
-use Rattle.fields.specs.Fields.{allocationsFor, tagAt}
+use Rattle.fields.specs.Bytes.{bytesOf, bodyAt, bodyOf, AllBytes}
+use Rattle.fields.specs.Fields.{furtherSize, allocationsFor}
+use Rattle.fields.specs.Header.{behindTag, furtherPlace}
+use Rattle.fields.proofs.HeaderLaws.{behind-there, behind-not}
 use Rattle.fields.proofs.SegmentLaws.{rows-same}
 use Rattle.fields.specs.declared.Passed.{Passed}
 use Rattle.scan.specs.Scanned.{scanned}
@@ -30,15 +34,15 @@ use Rattle.scan.specs.FirstFault.{Fault, no-start, not-allowed, cut-body, follo
 use Rattle.scan.specs.declared.Scanned.{Scanned}
 use Rattle.scan.proofs.ScanLaws.{zero-or-not, fault-there, end-there, stopped, shape-fault, shape-whole}
 use Rattle.scan.proofs.PassedLaws.{whole-ended, scanned-ended, through, plan-no-request}
-use Rattle.sheets.specs.Layout.{mark, modeBytes, headBytes, stationWith, stationBytes, allocationBytes, sheetOf, requestSheet, planSheet, sheetLength}
+use Rattle.sheets.specs.Layout.{mark, headNumber, mostOf, furtherBytes, furtherLength, headUpTo, headBytes, headLength, stationWith, stationBytes, allocationBytes, sheetOf, requestSheet, planSheet, sheetLength}
 use Rattle.sheets.specs.Reading.{thenNumber, setIn, allocIn, judgedSheet, readSheet, readRequest, readPlan}
 use Rattle.sheets.specs.Writing.{writtenAnswer, writtenBuffer, requestWritten, planWritten}
-use Rattle.sheet_rules.specs.Promised.{Promised, ZeroPast, GivenRequest, GivenPlan, firstPlaces, firstAllocations, requestLength, planLength, smallSet, Numbers32}
+use Rattle.sheet_rules.specs.Promised.{Promised, ZeroPast, GivenRequest, GivenPlan, firstPlaces, firstAllocations, requestLength, planLength, ByTag, There, said, smallSet, Numbers32}
 use Rattle.sheets.specs.ReadLaws.{then-rest, then-keeps, then-none, read-refused, read-accepted, read-number, sheet-accepted}
-use Rattle.sheets.proofs.ReadingLaws.{mode-unnamed}
-use Rattle.sheets.proofs.WritingLaws.{mode-none, sheet-long, answer-accepted, answer-number, buffer-accepted, buffer-refused, number-none, number-short, number-judged as written-judged}
+use Rattle.sheets.proofs.ReadingLaws.{head-out}
+use Rattle.sheets.proofs.WritingLaws.{further-none, length-none, length-some, head-fields, head-lengths, sheet-long, answer-accepted, answer-number, buffer-accepted, buffer-refused, number-none, number-short, number-judged as written-judged}
 use Rattle.sheet_rules.proofs.BackLaws.{read-back, laid-number, first-same, first-allocations}
-use Rattle.sheet_rules.proofs.HeaderLaws.{reads-absent, reads-mode, no-mode, none-further, some-further}
+use Rattle.sheet_rules.proofs.HeaderLaws.{reads-absent, reads-number, reads-out}
 use Rattle.sheet_rules.proofs.StandingLaws.{may-stand}
 use Rattle.sheet_rules.proofs.AgainLaws.{read-again}
 use Rattle.sheets.specs.declared.ReadPlan.{ReadPlan}
@@ -361,46 +365,100 @@ plan-laid-out : (t : Set) (a : Alloc) → CountAllowed t → Numbers32 t → ((i
 unfolding judgedSheet
 plan-laid-out t a count small shares = laid-number true t a count small shares
 
-small-written : requestSheet (smallSet timely) ≡ 1 ∷ 0 ∷ 4 ∷ 0 ∷ 0 ∷ 0 ∷ 1 ∷ 2 ∷ 0 ∷ 16 ∷ 0 ∷ 0 ∷ 0 ∷ 1 ∷ 0 ∷ 0 ∷ 0 ∷ 0 ∷ 0 ∷ 0 ∷ 0 ∷ 1 ∷ 0 ∷ 0 ∷ 0 ∷ 1 ∷ 255 ∷ 0 ∷ 0 ∷ []
-unfolding sheetOf headBytes modeBytes stationWith rows bytesOf fill
+small-written : requestSheet (smallSet timely 1) ≡ 1 ∷ 0 ∷ 4 ∷ 0 ∷ 0 ∷ 0 ∷ 1 ∷ 2 ∷ 0 ∷ 16 ∷ 0 ∷ 0 ∷ 0 ∷ 1 ∷ 0 ∷ 0 ∷ 0 ∷ 0 ∷ 0 ∷ 0 ∷ 0 ∷ 1 ∷ 0 ∷ 0 ∷ 0 ∷ 1 ∷ 255 ∷ 0 ∷ 0 ∷ []
+unfolding sheetOf headUpTo headNumber furtherBytes bodyOf furtherSize stationWith rows bytesOf fill
 small-written = refl
 
-fddi-written : requestSheet (smallSet fddi)
+fddi-written : requestSheet (smallSet fddi 1)
     ≡ 1 ∷ 0 ∷ 4 ∷ 0 ∷ 0 ∷ 0 ∷ 1 ∷ 4 ∷ 0 ∷ 1 ∷ 2 ∷ 2 ∷ 0 ∷ 16 ∷ 0 ∷ 0 ∷ 0 ∷ 1 ∷ 0 ∷ 0 ∷ 0 ∷ 0 ∷ 0 ∷ 0 ∷ 0 ∷ 1 ∷ 0 ∷ 0 ∷ 0 ∷ 1 ∷ 255 ∷ 0 ∷ 0 ∷ []
-unfolding sheetOf headBytes modeBytes stationWith rows bytesOf fill
+unfolding sheetOf headUpTo headNumber furtherBytes bodyOf furtherSize stationWith rows bytesOf fill
 fddi-written = refl
 
--- a sheet of mode 1 has no field behind TTRT's
-timely-bytes : (plan : Bool) (t : Set) (a : Alloc) → t .head .mode ≡ timely
+frame-written : requestSheet (smallSet timely 40)
+    ≡ 1 ∷ 0 ∷ 4 ∷ 0 ∷ 0 ∷ 0 ∷ 1 ∷ 5 ∷ 0 ∷ 4 ∷ 0 ∷ 0 ∷ 0 ∷ 40 ∷ 2 ∷ 0 ∷ 16 ∷ 0 ∷ 0 ∷ 0 ∷ 1 ∷ 0 ∷ 0 ∷ 0 ∷ 0 ∷ 0 ∷ 0 ∷ 0 ∷ 1 ∷ 0 ∷ 0 ∷ 0 ∷ 1 ∷ 255 ∷ 0 ∷ 0 ∷ []
+unfolding sheetOf headUpTo headNumber furtherBytes bodyOf furtherSize stationWith rows bytesOf fill
+frame-written = refl
+
+both-written : requestSheet (smallSet fddi 65_535)
+    ≡ 1 ∷ 0 ∷ 4 ∷ 0 ∷ 0 ∷ 0 ∷ 1 ∷ 4 ∷ 0 ∷ 1 ∷ 2 ∷ 5 ∷ 0 ∷ 4 ∷ 0 ∷ 0 ∷ 255 ∷ 255 ∷ 2 ∷ 0 ∷ 16 ∷ 0 ∷ 0 ∷ 0 ∷ 1 ∷ 0 ∷ 0 ∷ 0 ∷ 0 ∷ 0 ∷ 0 ∷ 0 ∷ 1 ∷ 0 ∷ 0 ∷ 0 ∷ 1 ∷ 255 ∷ 0 ∷ 0 ∷ []
+unfolding sheetOf headUpTo headNumber furtherBytes bodyOf furtherSize stationWith rows bytesOf fill
+both-written = refl
+
+-- ---- the header
+
+tags : ByTag
+unfolding headNumber mostOf furtherPlace behindTag bodyAt furtherSize
+tags =
+    record {
+      mode-number = λ h. refl;
+      frame-number = λ h. refl;
+      mode-most = refl;
+      frame-most = refl;
+      mode-place = λ bs. refl;
+      frame-first = λ bs other. behind-not bs 4 7 other;
+      frame-second = λ bs e. behind-there bs 4 7 e;
+      mode-said = λ bs a. refl;
+      frame-said = λ bs a. refl;
+    }
+
+-- what the header has behind TTRT
+lengths : (h : Head) → headLength h ≡ cond (eqb (h .mode) 1) 0 4 + cond (eqb (h .frame) 1) 0 7
+unfolding furtherLength furtherSize
+lengths h = head-lengths h
+
+none-further : (h : Head) → h .mode ≡ 1 → h .frame ≡ 1 → headLength h ≡ 0
+none-further h e d = omega (arith, head-lengths h, length-none 4 (h .mode) e, length-none 5 (h .frame) d)
+
+all-further : (h : Head) → h .mode ≢ 1 → h .frame ≢ 1 → headLength h ≡ 11
+unfolding furtherSize
+all-further h e d = omega (arith, head-lengths h, length-some 4 (h .mode) e, length-some 5 (h .frame) d)
+
+-- a number of 1 has no field
+uncut-bytes : (plan : Bool) (t : Set) (a : Alloc) → t .head .frame ≡ 1
     → sheetOf plan t a
-    ≡ mark 1 4 ++ bytesOf (t .head .ttrt) ++ rows (t .n) (stationBytes t) ++ rows (allocationsFor plan (t .n)) (allocationBytes a) ++ mark 255 0
-unfolding sheetOf headBytes
-timely-bytes plan t a e =
-    let first = mark 1 4 ++ bytesOf (t .head .ttrt) in
-    let header : first ++ modeBytes (t .head .mode) ≡ first = ap (λ (s : List ℕ). first ++ s) (mode-none (t .head .mode) e) ∙ append-nil first in
+    ≡ mark 1 4 ++ bytesOf (t .head .ttrt) ++ furtherBytes 4 (t .head .mode)
+    ++ rows (t .n) (stationBytes t) ++ rows (allocationsFor plan (t .n)) (allocationBytes a) ++ mark 255 0
+unfolding sheetOf
+uncut-bytes plan t a e =
+    let first = mark 1 4 ++ bytesOf (t .head .ttrt) ++ furtherBytes 4 (t .head .mode) in
+    let header : headBytes (t .head) ≡ first = head-fields (t .head) ∙ ap (λ (s : List ℕ). first ++ s) (further-none 5 (t .head .frame) e) ∙ append-nil first in
     ap (λ (s : List ℕ). s ++ rows (t .n) (stationBytes t) ++ rows (allocationsFor plan (t .n)) (allocationBytes a) ++ mark 255 0) header
 
--- a mode that has no name is out of its range
-other-mode : (plan : Bool) (bs : List ℕ) → WholeSheet plan bs → tagAt bs 7 ≡ 4 → at bs 10 ≢ 2 → readSheet plan bs .number ≡ 4
-other-mode plan bs w e other =
+timely-bytes : (plan : Bool) (t : Set) (a : Alloc) → t .head .mode ≡ timely → t .head .frame ≡ 1
+    → sheetOf plan t a
+    ≡ mark 1 4 ++ bytesOf (t .head .ttrt) ++ rows (t .n) (stationBytes t) ++ rows (allocationsFor plan (t .n)) (allocationBytes a) ++ mark 255 0
+timely-bytes plan t a e d =
+    let first = mark 1 4 ++ bytesOf (t .head .ttrt) in
+    let header : first ++ furtherBytes 4 (t .head .mode) ≡ first = ap (λ (s : List ℕ). first ++ s) (further-none 4 (t .head .mode) e) ∙ append-nil first in
+    uncut-bytes plan t a d
+    ∙ ap (λ (s : List ℕ). s ++ rows (t .n) (stationBytes t) ++ rows (allocationsFor plan (t .n)) (allocationBytes a) ++ mark 255 0) header
+
+-- a number of the header that is out of its range
+other-number : (plan : Bool) (bs : List ℕ) → WholeSheet plan bs → (tag : ℕ) → 4 ≤ tag → tag ≤ 5 → There bs tag
+    → ¬ ((2 ≤ said bs tag) × (said bs tag ≤ mostOf tag)) → readSheet plan bs .number ≡ 4
+other-number plan bs w tag low high e out =
     let z : scanned plan bs .number ≡ 0 = ap (λ (r : Scanned). r .number) (end-there plan bs w) in
-    number-judged plan bs z ∙ mode-unnamed plan (setIn plan bs) (allocIn plan bs) (count-read plan bs z) (no-mode bs e other)
+    number-judged plan bs z ∙ head-out plan (setIn plan bs) (allocIn plan bs) tag (count-read plan bs z) (reads-out bs tag low high e out)
 
 pub promised : Promised
 promised =
     record {
       may-stand = may-stand;
-      timely-header = λ t e. none-further (t .head) e;
-      other-header = λ t other. some-further (t .head) other;
+      header-length = lengths;
       request-length = λ t. let e = sheet-long false t blankAlloc in omega arith;
       plan-length = λ t a. let e = sheet-long true t a in omega arith;
-      shortest = λ t one e. omega (arith, sheet-long false t blankAlloc, none-further (t .head) e);
-      longest-timely = λ t one e. omega (arith, sheet-long false t blankAlloc, none-further (t .head) e);
-      longest = λ t all other. omega (arith, sheet-long false t blankAlloc, some-further (t .head) other);
-      longest-plan = λ t a all other. omega (arith, sheet-long true t a, some-further (t .head) other);
+      shortest = λ t one e d. omega (arith, sheet-long false t blankAlloc, none-further (t .head) e d);
+      longest-timely = λ t one e d. omega (arith, sheet-long false t blankAlloc, none-further (t .head) e d);
+      longest = λ t all e d. omega (arith, sheet-long false t blankAlloc, all-further (t .head) e d);
+      longest-plan = λ t a all e d. omega (arith, sheet-long true t a, all-further (t .head) e d);
+      header-fields = head-fields;
+      field-none = λ tag. further-none tag 1 refl;
+      uncut-sheet = uncut-bytes;
       timely-sheet = timely-bytes;
       written-out = small-written;
       written-out-fddi = fddi-written;
+      written-out-frame = frame-written;
+      written-out-both = both-written;
       request-back = request-written;
       plan-back = plan-written;
       back-same = first-same;
@@ -420,9 +478,10 @@ promised =
       plan-whole = whole-exactly true;
       stations-passed = counted;
       allocations-passed = λ plan bs w. whole-ended plan bs w .all;
-      mode-absent = λ plan bs other. reads-absent bs other;
-      mode-fddi = λ plan bs e two. reads-mode bs 2 e two (λ one. omega arith);
-      mode-other = other-mode;
+      by-tag = tags;
+      header-absent = λ plan bs. reads-absent bs;
+      header-there = λ plan bs. reads-number bs;
+      header-other = other-number;
       request-judged = request-judgement;
       plan-judged = plan-judgement;
       plan-no-request = no-request;

@@ -1,15 +1,19 @@
 -- The table decides the sentence because each of its rows does, and no tag has two rows.
 use Prim.Native.Nat.{ℕ, _≤_, _<_}
-use mathlib.Core.Path.{_≡_, refl, sym, _∙_}
+use mathlib.Core.Path.{_≡_, refl, sym, ap, _∙_}
 use mathlib.Core.Bool.{Bool, true, false, not, true≢false}
 use mathlib.Core.Logic.{_↔_, _⊎_, inl, inr, _≢_, ⊎-elim}
 use native.Mathlib.Omega.{arith}
 use borrow.Author.Tests.{eqb-true, eqb-false, eq-eqb, ltb-true, lt-ltb, leb-false, lt-leb}
 use lib.Dec.{leb, ltb, eqb}
-use Rattle.units.specs.JudgingLaws.{Decides, true-or-false, decides-le, decides-both}
-use Rattle.fields.specs.Fields.{allocationsFor, due, headed, row, isFurther, inHeader, isAllowed}
+use Rattle.units.specs.JudgingLaws.{Decides, true-or-false, decides-le, decides-both, decides-between}
+use Rattle.units.specs.SmallLaws.{below-or-not}
+use Rattle.units.specs.Judging.{between}
+use Rattle.fields.specs.Fields.{allocationsFor, due, headed, row, furtherSize, isFurther, inHeader, isAllowed}
+use Rattle.fields.proofs.FieldLaws.{further-one, further-four}
+use Rattle.fields.proofs.HeaderLaws.{same-or-not}
 use Rattle.fields.specs.declared.Passed.{Passed}
-use Rattle.sheet_rules.specs.Standing.{MayStand, a-head, a-mode, a-station, an-allocation, an-end}
+use Rattle.sheet_rules.specs.Standing.{MayStand, a-head, a-mode, a-frame, a-station, an-allocation, an-end}
 
 decides-eq : (a b : ℕ) → Decides (eqb a b) (a ≡ b)
 decides-eq a b = (eqb-true a b, eq-eqb a b)
@@ -54,13 +58,13 @@ module _ (p : Passed) (tag size : ℕ) where
   abbrev End : Type 0
   End = (((size ≡ 0) × (1 ≤ p .head)) × (1 ≤ p .stations)) × (p .allocations ≡ due p)
 
-  abbrev Mode : Type 0
-  Mode = ((tag ≡ 4) × (size ≡ 1)) × (((1 ≤ p .head) × (p .head < tag)) × (p .stations ≡ 0))
+  abbrev Further : Type 0
+  Further = (((4 ≤ tag) × (tag ≤ 5)) × (size ≡ furtherSize tag)) × (((1 ≤ p .head) × (p .head < tag)) × (p .stations ≡ 0))
 
   abbrev Rows : Type 0
   Rows =
       ((tag ≡ 1) × Head)
-      ⊎ ((tag ≢ 1) × (((tag ≡ 2) × Station) ⊎ ((tag ≢ 2) × (((tag ≡ 3) × Allocation) ⊎ ((tag ≢ 3) × (((tag ≡ 255) × End) ⊎ ((tag ≢ 255) × Mode)))))))
+      ⊎ ((tag ≢ 1) × (((tag ≡ 2) × Station) ⊎ ((tag ≢ 2) × (((tag ≡ 3) × Allocation) ⊎ ((tag ≢ 3) × (((tag ≡ 255) × End) ⊎ ((tag ≢ 255) × Further)))))))
 
   rows-decided : Decides (isAllowed p tag size) Rows
   unfolding isAllowed
@@ -76,13 +80,13 @@ module _ (p : Passed) (tag size : ℕ) where
       let end = decides-both _ (eqb (p .allocations) (due p)) _ _
       (decides-both _ (leb 1 (p .stations)) _ _ (decides-both (eqb size 0) (headed p) _ _ (decides-eq size 0) behind) (decides-le 1 (p .stations)))
       (decides-eq (p .allocations) (due p)) in
-      let mode = decides-both (isFurther tag size) (inHeader p tag) _ _
-      (decides-both (eqb tag 4) (eqb size 1) _ _ (decides-eq tag 4) (decides-eq size 1))
+      let further = decides-both (isFurther tag size) (inHeader p tag) _ _
+      (decides-both (between 4 5 tag) (eqb size (furtherSize tag)) _ _ (decides-between 4 5 tag) (decides-eq size (furtherSize tag)))
       (decides-both _ (eqb (p .stations) 0) _ _ (decides-both (headed p) (ltb (p .head) tag) _ _ behind (decides-lt (p .head) tag)) (decides-eq (p .stations) 0)) in
       decides-row tag 1 _ _ _ _ head
       (decides-row tag 2 _ _ _ _ station
       (decides-row tag 3 _ _ _ _ allocation
-      (decides-row tag 255 _ _ _ _ end mode)))
+      (decides-row tag 255 _ _ _ _ end further)))
 
 -- an allocation is due only in a plan, one for each station
 in-plan : (plan : Bool) (stations allocations : ℕ) → allocations < allocationsFor plan stations → (plan ≡ true) × (allocations < stations)
@@ -93,6 +97,17 @@ due-in-plan : (plan : Bool) (stations allocations : ℕ) → plan ≡ true → a
 due-in-plan plan stations allocations e l = rw e l
 
 module _ (p : Passed) (tag size : ℕ) where
+  -- a further field of the header is the mode or F
+  further-says : Further p tag size → MayStand p tag size
+  further-says f =
+      let low = f .0 .0 .0 in
+      let above = f .1 .0 .1 in
+      ⊎-elim (λ (e : tag ≡ 4). a-mode e (f .0 .1 ∙ ap furtherSize e ∙ further-one) (f .1 .0 .0) (omega arith) (f .1 .1))
+      (λ (other : tag ≢ 4).
+      let e : tag ≡ 5 = ⊎-elim (λ (b : tag < 5). absurd (other (omega arith))) (λ (b : 5 ≤ tag). omega (arith, f .0 .0 .1)) (below-or-not tag 5) in
+      a-frame e (f .0 .1 ∙ further-four tag other) (f .1 .0 .0) (omega arith) (f .1 .1))
+      (same-or-not tag 4)
+
   rows-say : Rows p tag size → MayStand p tag size
   rows-say =
       ⊎-elim (λ (x : (tag ≡ 1) × Head p tag size). a-head (x .0) (x .1 .0) (x .1 .1))
@@ -104,14 +119,17 @@ module _ (p : Passed) (tag size : ℕ) where
       an-allocation (z .0) (z .1 .0 .0) (z .1 .0 .1) (both .0) (both .1))
       (λ z.
       ⊎-elim (λ (w : (tag ≡ 255) × End p tag size). an-end (w .0) (w .1 .0 .0 .0) (w .1 .0 .0 .1) (w .1 .0 .1) (w .1 .1))
-      (λ w. a-mode (w .1 .0 .0) (w .1 .0 .1) (w .1 .1 .0 .0) (omega (arith, w .1 .0 .0, w .1 .1 .0 .1)) (w .1 .1 .1))
+      (λ w. further-says (w .1))
       (z .1))
       (y .1))
       (x .1))
 
   say-rows : MayStand p tag size → Rows p tag size
   say-rows (a-head e s h) = inl (e, (s, h))
-  say-rows (a-mode e s h l n) = inr (omega arith, inr (omega arith, inr (omega arith, inr (omega arith, ((e, s), ((h, omega arith), n))))))
+  say-rows (a-mode e s h l n) =
+      inr (omega arith, inr (omega arith, inr (omega arith, inr (omega arith, (((omega arith, omega arith), s ∙ sym (ap furtherSize e ∙ further-one)), ((h, omega arith), n))))))
+  say-rows (a-frame e s h l n) =
+      inr (omega arith, inr (omega arith, inr (omega arith, inr (omega arith, (((omega arith, omega arith), s ∙ sym (further-four tag (λ d. omega arith))), ((h, omega arith), n))))))
   say-rows (a-station e s h n a) = inr (omega arith, inl (e, (((s, h), n), a)))
   say-rows (an-allocation e s h f a) = inr (omega arith, inr (omega arith, inl (e, ((s, h), due-in-plan (p .plan) (p .stations) (p .allocations) f a))))
   say-rows (an-end e s h n a) = inr (omega arith, inr (omega arith, inr (omega arith, inl (e, (((s, h), n), a)))))

@@ -1,23 +1,26 @@
 -- What is promised of reading and writing sheets beside the contracts; `proofs/Promised.antt` proves it.
 use Prim.Native.Nat.{ℕ, _+_, _*_, _^_, _≤_, _<_}
 use mathlib.Core.Path.{_≡_}
-use mathlib.Core.Bool.{Bool, true, false}
+use mathlib.Core.Bool.{Bool, true, false, cond}
 use mathlib.Core.List.{List, [], _∷_, _++_}
 use mathlib.Core.Logic.{_↔_, _≢_}
+use lib.Dec.{eqb}
 use lib.ListN.{length, take, drop}
 use Rattle.units.specs.Numbers.{timely, fddi}
 use Rattle.units.specs.Places.{at, fill}
 use Rattle.sets.specs.Rules.{SameSet, CountAllowed}
 use Rattle.sets.specs.Judged.{judged, blankSet, zeros}
+use Rattle.sets.specs.declared.Head.{Head}
 use Rattle.sets.specs.declared.Set.{Set}
 use Rattle.plans.specs.Planned.{judgedPlan, blankAlloc}
 use Rattle.plans.specs.declared.Alloc.{Alloc}
 use Rattle.fields.specs.Rows.{rows}
-use Rattle.fields.specs.Bytes.{bytesOf, AllBytes}
+use Rattle.fields.specs.Bytes.{numberAt, bytesOf, AllBytes}
 use Rattle.fields.specs.Fields.{isAllowed, allocationsFor, tagAt}
+use Rattle.fields.specs.Header.{placeOf, saidAt}
 use Rattle.fields.specs.declared.Passed.{Passed}
 use Rattle.scan.specs.FirstFault.{FirstFault, WholeSheet}
-use Rattle.sheets.specs.Layout.{mark, furtherLength, stationBytes, allocationBytes, sheetOf, requestSheet, planSheet}
+use Rattle.sheets.specs.Layout.{mark, headNumber, mostOf, furtherBytes, headBytes, headLength, stationBytes, allocationBytes, sheetOf, requestSheet, planSheet}
 use Rattle.sheets.specs.Reading.{setIn, allocIn, readSheet, readRequest, readPlan}
 use Rattle.sheets.specs.Writing.{requestWritten, planWritten}
 use Rattle.sheet_rules.specs.Standing.{MayStand}
@@ -47,10 +50,11 @@ pub record ZeroPast (t : Set) : Type 0 where
   pub deadline : (i : ℕ) → t .n ≤ i → at (t .d) i ≡ 0
   pub gap : (i : ℕ) → t .n ≤ i → at (t .p) i ≡ 0
 
--- TTRT and the numbers of the first N stations are 32-bit numbers, as those of every set of the code are; the mode is one byte, as on a sheet
+-- TTRT, F and the numbers of the first N stations are 32-bit numbers, as those of every set of the code are; the mode is one byte, as on a sheet
 pub record Numbers32 (t : Set) : Type 0 where
   pub header : t .head .ttrt < 2 ^ 32
   pub mode : t .head .mode < 256
+  pub frame : t .head .frame < 2 ^ 32
   pub walk : (i : ℕ) → i < t .n → at (t .w) i < 2 ^ 32
   pub longest : (i : ℕ) → i < t .n → at (t .c) i < 2 ^ 32
   pub deadline : (i : ℕ) → i < t .n → at (t .d) i < 2 ^ 32
@@ -74,48 +78,93 @@ GivenPlan bs =
 
 -- a request sheet: 10 + 19N bytes, and what the header has behind TTRT
 abbrev pub requestLength : Set → ℕ
-requestLength t = 10 + 19 * t .n + furtherLength (t .head)
+requestLength t = 10 + 19 * t .n + headLength (t .head)
 
 -- a plan sheet: 10 + 26N bytes, and the same
 abbrev pub planLength : Set → ℕ
-planLength t = 10 + 26 * t .n + furtherLength (t .head)
+planLength t = 10 + 26 * t .n + headLength (t .head)
+
+-- ---- the header's fields behind TTRT, by their tags
+
+-- what tag 4 and what tag 5 stand for in a header, and where and how its field is read
+pub record ByTag : Type 0 where
+  pub mode-number : (h : Head) → headNumber h 4 ≡ h .mode
+  pub frame-number : (h : Head) → headNumber h 5 ≡ h .frame
+  -- the highest number: mode 2, F 65,535
+  pub mode-most : mostOf 4 ≡ 2
+  pub frame-most : mostOf 5 ≡ 65_535
+  -- the mode's field stands at 7, if it is there; F's at 7, or behind the mode's 4 bytes at 11
+  pub mode-place : (bs : List ℕ) → placeOf bs 4 ≡ 7
+  pub frame-first : (bs : List ℕ) → tagAt bs 7 ≢ 4 → placeOf bs 5 ≡ 7
+  pub frame-second : (bs : List ℕ) → tagAt bs 7 ≡ 4 → placeOf bs 5 ≡ 11
+  -- the mode is one byte, F four
+  pub mode-said : (bs : List ℕ) (a : ℕ) → saidAt bs a 4 ≡ at bs (a + 3)
+  pub frame-said : (bs : List ℕ) (a : ℕ) → saidAt bs a 5 ≡ numberAt bs (a + 3)
+
+-- the field with this tag is there
+abbrev pub There : List ℕ → ℕ → Type 0
+There bs tag = tagAt bs (placeOf bs tag) ≡ tag
+
+-- the number in it
+abbrev pub said : List ℕ → ℕ → ℕ
+said bs tag = saidAt bs (placeOf bs tag) tag
 
 -- ---- examples
 
--- TTRT 1, one station of w 1, C 0, D 1, P 1, in a mode
-abbrev pub smallSet : ℕ → Set
-smallSet mode =
-    record { head = record { ttrt = 1; mode = mode }; n = 1; w = fill 1 (λ i. 1) zeros; c = zeros; d = fill 1 (λ i. 1) zeros; p = fill 1 (λ i. 1) zeros }
+-- TTRT 1, one station of w 1, C 0, D 1, P 1, in a mode, with frames up to F
+abbrev pub smallSet : ℕ → ℕ → Set
+smallSet mode frame =
+    record { head = record { ttrt = 1; mode = mode; frame = frame }; n = 1; w = fill 1 (λ i. 1) zeros; c = zeros; d = fill 1 (λ i. 1) zeros; p = fill 1 (λ i. 1) zeros }
 
 -- ---- the promises
 
 pub record Promised : Type 0 where
   -- what may stand where is what 01 says of each tag: the table that the reader goes by decides the sentence
   pub may-stand : (p : Passed) (tag size : ℕ) → (isAllowed p tag size ≡ true) ↔ MayStand p tag size
-  -- the header has nothing behind TTRT where the mode is 1, else the 4 bytes of the mode's field
-  pub timely-header : (t : Set) → t .head .mode ≡ timely → furtherLength (t .head) ≡ 0
-  pub other-header : (t : Set) → t .head .mode ≢ timely → furtherLength (t .head) ≡ 4
+  -- the header has behind TTRT 4 bytes where the mode is not 1, and 7 where F is not 1
+  pub header-length : (h : Head) → headLength h ≡ cond (eqb (h .mode) 1) 0 4 + cond (eqb (h .frame) 1) 0 7
   -- a request sheet has 10 + 19N bytes, a plan sheet 10 + 26N, and these
   pub request-length : (t : Set) → length (requestSheet t) ≡ requestLength t
   pub plan-length : (t : Set) (a : Alloc) → length (planSheet t a) ≡ planLength t
-  -- 29 bytes for one timely-token station, 2,442 for 128; 2,446 for 128 stations of another mode, and 3,342 for their plan
-  pub shortest : (t : Set) → t .n ≡ 1 → t .head .mode ≡ timely → length (requestSheet t) ≡ 29
-  pub longest-timely : (t : Set) → t .n ≡ 128 → t .head .mode ≡ timely → length (requestSheet t) ≡ 2_442
-  pub longest : (t : Set) → t .n ≡ 128 → t .head .mode ≢ timely → length (requestSheet t) ≡ 2_446
-  pub longest-plan : (t : Set) (a : Alloc) → t .n ≡ 128 → t .head .mode ≢ timely → length (planSheet t a) ≡ 3_342
-  -- a sheet of mode 1 is the sheet of before there were modes: TTRT's field, the stations, the allocations, the end
-  pub timely-sheet : (plan : Bool) (t : Set) (a : Alloc) → t .head .mode ≡ timely
+  -- 29 bytes for one timely-token station without F, 2,442 for 128; 2,453 for 128 stations with both fields, and 3,349 for their plan
+  pub shortest : (t : Set) → t .n ≡ 1 → t .head .mode ≡ timely → t .head .frame ≡ 1 → length (requestSheet t) ≡ 29
+  pub longest-timely : (t : Set) → t .n ≡ 128 → t .head .mode ≡ timely → t .head .frame ≡ 1 → length (requestSheet t) ≡ 2_442
+  pub longest : (t : Set) → t .n ≡ 128 → t .head .mode ≢ timely → t .head .frame ≢ 1 → length (requestSheet t) ≡ 2_453
+  pub longest-plan : (t : Set) (a : Alloc) → t .n ≡ 128 → t .head .mode ≢ timely → t .head .frame ≢ 1 → length (planSheet t a) ≡ 3_349
+  -- the header's fields stand in the order of their tags: TTRT's, the mode's, F's; one whose number is 1 has no byte
+  pub header-fields : (h : Head) → headBytes h ≡ mark 1 4 ++ bytesOf (h .ttrt) ++ furtherBytes 4 (h .mode) ++ furtherBytes 5 (h .frame)
+  pub field-none : (tag : ℕ) → furtherBytes tag 1 ≡ []
+  -- so a sheet with F 1 has the bytes that it had before there was F
+  pub uncut-sheet : (plan : Bool) (t : Set) (a : Alloc) → t .head .frame ≡ 1
+      → sheetOf plan t a
+      ≡ mark 1 4 ++ bytesOf (t .head .ttrt) ++ furtherBytes 4 (t .head .mode)
+      ++ rows (t .n) (stationBytes t) ++ rows (allocationsFor plan (t .n)) (allocationBytes a) ++ mark 255 0
+  -- and one of mode 1 beside it those of before there were modes: TTRT's field, the stations, the allocations, the end
+  pub timely-sheet : (plan : Bool) (t : Set) (a : Alloc) → t .head .mode ≡ timely → t .head .frame ≡ 1
       → sheetOf plan t a
       ≡ mark 1 4 ++ bytesOf (t .head .ttrt) ++ rows (t .n) (stationBytes t) ++ rows (allocationsFor plan (t .n)) (allocationBytes a) ++ mark 255 0
   -- one sheet written out: TTRT 1, one station of w 1, C 0, D 1, P 1
-  pub written-out : requestSheet (smallSet timely)
+  pub written-out : requestSheet (smallSet timely 1)
       ≡ 1 ∷ 0 ∷ 4 ∷ 0 ∷ 0 ∷ 0 ∷ 1
       ∷ 2 ∷ 0 ∷ 16 ∷ 0 ∷ 0 ∷ 0 ∷ 1 ∷ 0 ∷ 0 ∷ 0 ∷ 0 ∷ 0 ∷ 0 ∷ 0 ∷ 1 ∷ 0 ∷ 0 ∷ 0 ∷ 1
       ∷ 255 ∷ 0 ∷ 0 ∷ []
   -- the same for FDDI: tag 4, length 1, value 2 directly behind TTRT
-  pub written-out-fddi : requestSheet (smallSet fddi)
+  pub written-out-fddi : requestSheet (smallSet fddi 1)
       ≡ 1 ∷ 0 ∷ 4 ∷ 0 ∷ 0 ∷ 0 ∷ 1
       ∷ 4 ∷ 0 ∷ 1 ∷ 2
+      ∷ 2 ∷ 0 ∷ 16 ∷ 0 ∷ 0 ∷ 0 ∷ 1 ∷ 0 ∷ 0 ∷ 0 ∷ 0 ∷ 0 ∷ 0 ∷ 0 ∷ 1 ∷ 0 ∷ 0 ∷ 0 ∷ 1
+      ∷ 255 ∷ 0 ∷ 0 ∷ []
+  -- F 40 of a timely-token set: tag 5, length 4 directly behind TTRT
+  pub written-out-frame : requestSheet (smallSet timely 40)
+      ≡ 1 ∷ 0 ∷ 4 ∷ 0 ∷ 0 ∷ 0 ∷ 1
+      ∷ 5 ∷ 0 ∷ 4 ∷ 0 ∷ 0 ∷ 0 ∷ 40
+      ∷ 2 ∷ 0 ∷ 16 ∷ 0 ∷ 0 ∷ 0 ∷ 1 ∷ 0 ∷ 0 ∷ 0 ∷ 0 ∷ 0 ∷ 0 ∷ 0 ∷ 1 ∷ 0 ∷ 0 ∷ 0 ∷ 1
+      ∷ 255 ∷ 0 ∷ 0 ∷ []
+  -- F 65,535 of an FDDI set: behind the mode
+  pub written-out-both : requestSheet (smallSet fddi 65_535)
+      ≡ 1 ∷ 0 ∷ 4 ∷ 0 ∷ 0 ∷ 0 ∷ 1
+      ∷ 4 ∷ 0 ∷ 1 ∷ 2
+      ∷ 5 ∷ 0 ∷ 4 ∷ 0 ∷ 0 ∷ 255 ∷ 255
       ∷ 2 ∷ 0 ∷ 16 ∷ 0 ∷ 0 ∷ 0 ∷ 1 ∷ 0 ∷ 0 ∷ 0 ∷ 0 ∷ 0 ∷ 0 ∷ 0 ∷ 1 ∷ 0 ∷ 0 ∷ 0 ∷ 1
       ∷ 255 ∷ 0 ∷ 0 ∷ []
   -- read back as written: a request
@@ -155,10 +204,15 @@ pub record Promised : Type 0 where
   pub stations-passed : (plan : Bool) (bs : List ℕ) (w : WholeSheet plan bs) → (setIn plan bs .n ≡ w .passed .stations) × CountAllowed (setIn plan bs)
   -- and in a plan as many allocations passed, in a request none
   pub allocations-passed : (plan : Bool) (bs : List ℕ) (w : WholeSheet plan bs) → w .passed .allocations ≡ allocationsFor plan (w .passed .stations)
-  -- tag 4 directly behind TTRT names the mode: absent is timely-token, the value 2 is FDDI, and with any other value, 1 among them, the sheet gets 4
-  pub mode-absent : (plan : Bool) (bs : List ℕ) → tagAt bs 7 ≢ 4 → setIn plan bs .head .mode ≡ timely
-  pub mode-fddi : (plan : Bool) (bs : List ℕ) → tagAt bs 7 ≡ 4 → at bs 10 ≡ 2 → setIn plan bs .head .mode ≡ fddi
-  pub mode-other : (plan : Bool) (bs : List ℕ) → WholeSheet plan bs → tagAt bs 7 ≡ 4 → at bs 10 ≢ 2 → readSheet plan bs .number ≡ 4
+  -- the header's fields behind TTRT, one rule for the mode, tag 4, and F, tag 5
+  pub by-tag : ByTag
+  -- absent means 1
+  pub header-absent : (plan : Bool) (bs : List ℕ) (tag : ℕ) → 4 ≤ tag → tag ≤ 5 → ¬ There bs tag → headNumber (setIn plan bs .head) tag ≡ 1
+  -- a field that is there gives its number, if that is not 1
+  pub header-there : (plan : Bool) (bs : List ℕ) (tag : ℕ) → 4 ≤ tag → tag ≤ 5 → There bs tag → said bs tag ≢ 1 → headNumber (setIn plan bs .head) tag ≡ said bs tag
+  -- with any number that is not 2 to the highest, 1 among them, the sheet gets 4
+  pub header-other : (plan : Bool) (bs : List ℕ) → WholeSheet plan bs → (tag : ℕ) → 4 ≤ tag → tag ≤ 5 → There bs tag
+      → ¬ ((2 ≤ said bs tag) × (said bs tag ≤ mostOf tag)) → readSheet plan bs .number ≡ 4
   -- its number is the judgement of what the bytes hold: 4 or 5, and 7 for plans, or 0
   pub request-judged : (bs : List ℕ) → WholeSheet false bs → readRequest bs .number ≡ judged (setIn false bs)
   pub plan-judged : (bs : List ℕ) → WholeSheet true bs → readPlan bs .number ≡ judgedPlan (setIn true bs) (allocIn true bs)

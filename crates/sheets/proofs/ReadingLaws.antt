@@ -3,19 +3,24 @@ use Prim.Native.Nat.{ℕ, _≤_}
 use mathlib.Core.Path.{_≡_}
 use mathlib.Core.Bool.{Bool, true, false}
 use mathlib.Core.List.{List}
-use mathlib.Core.Logic.{_≢_}
+use mathlib.Core.Logic.{⊎-elim, _≢_}
 use native.Mathlib.Omega.{arith}
-use Rattle.sets.specs.Rules.{CountAllowed}
+use lib.Dec.{eqb}
+use Rattle.units.specs.JudgingLaws.{true-or-false}
+use Rattle.sets.specs.Rules.{CountAllowed, HeadInRange}
 use Rattle.sets.specs.Judged.{blankSet}
 use Rattle.sets.specs.SetLaws.{judged-four}
+use Rattle.sets.specs.declared.Head.{Head}
 use Rattle.sets.specs.declared.Set.{Set}
 use Rattle.plans.specs.Planned.{blankAlloc}
 use Rattle.plans.specs.declared.Alloc.{Alloc}
 use Rattle.plans.proofs.Promised.{promised}
+use Rattle.fields.specs.Fields.{modeTag}
 use Rattle.fields.proofs.FieldLaws.{allocations-few}
 use Rattle.scan.specs.Scanned.{scanned}
-use Rattle.scan.proofs.PassedLaws.{header-behind, scanned-ended}
+use Rattle.scan.proofs.PassedLaws.{scanned-ended}
 use Rattle.sheets.specs.Bounds.{PassedFits}
+use Rattle.sheets.specs.Layout.{headNumber, mostOf}
 use Rattle.sheets.specs.Reading.{setIn, allocIn, judgedSheet, readSheet}
 use Rattle.sheets.specs.ReadLaws.{then-rest, then-keeps, read-refused}
 
@@ -25,10 +30,9 @@ module _ (plan : Bool) (bs : List ℕ) where
   scanned-fits h =
       let e = scanned-ended plan bs h in
       let p = scanned plan bs .passed in
-      let from = header-behind bs (p .from) (e .header) in
       let few = e .few in
       let last = e .last in
-      record { header = from; some = e .some; few = few; fewer = omega (arith, e .all, allocations-few plan (p .stations)); inside = omega arith }
+      record { header = e .header .behind; some = e .some; few = few; fewer = omega (arith, e .all, allocations-few plan (p .stations)); inside = omega arith }
 
   pub sheet-misshapen : scanned plan bs .number ≢ 0 → readSheet plan bs ≡ record { set = blankSet; alloc = blankAlloc; number = scanned plan bs .number }
   unfolding readSheet
@@ -39,8 +43,17 @@ module _ (plan : Bool) (bs : List ℕ) where
   unfolding readSheet
   sheet-refused e h = rw (then-rest (scanned plan bs .number) (judgedSheet plan (setIn plan bs) (allocIn plan bs)) e) (read-refused _ _ _ h)
 
--- a mode that has no name is out of its range
-pub mode-unnamed : (plan : Bool) (t : Set) (a : Alloc) → CountAllowed t → ¬ ((1 ≤ t .head .mode) × (t .head .mode ≤ 2)) → judgedSheet plan t a ≡ 4
+-- ---- the header's numbers
+
+-- they are in their ranges, each by its tag
+pub head-ranges : (h : Head) → HeadInRange h → (tag : ℕ) → (1 ≤ headNumber h tag) × (headNumber h tag ≤ mostOf tag)
+unfolding headNumber mostOf
+head-ranges h r tag =
+    ⊎-elim (λ (e : eqb tag modeTag ≡ true). rw e (r .mode)) (λ (e : eqb tag modeTag ≡ false). rw e (r .frame)) (true-or-false (eqb tag modeTag))
+
+-- a set with one that is not is judged 4
+pub head-out : (plan : Bool) (t : Set) (a : Alloc) (tag : ℕ) → CountAllowed t
+    → ¬ ((1 ≤ headNumber (t .head) tag) × (headNumber (t .head) tag ≤ mostOf tag)) → judgedSheet plan t a ≡ 4
 unfolding judgedSheet
-mode-unnamed true t a count out = promised .given-four t a .1 (count, λ r. out (r .0 .header .mode))
-mode-unnamed false t a count out = judged-four t .1 (count, λ r. out (r .header .mode))
+head-out true t a tag count out = promised .given-four t a .1 (count, λ r. out (head-ranges (t .head) (r .0 .header) tag))
+head-out false t a tag count out = judged-four t .1 (count, λ r. out (head-ranges (t .head) (r .header) tag))

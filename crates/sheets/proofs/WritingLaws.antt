@@ -1,56 +1,102 @@
 -- The laws of layout and writing.
-use Prim.Native.Nat.{ℕ, zero, suc, _+_, _*_, _%_, _≤_, _<_}
+use Prim.Native.Nat.{ℕ, zero, suc, _+_, _*_, _≤_, _<_}
 use mathlib.Core.Path.{_≡_, refl, sym, ap, _∙_}
-use mathlib.Core.Bool.{Bool, true, false}
-use mathlib.Core.List.{List, [], _∷_, _++_}
+use mathlib.Core.Bool.{Bool}
+use mathlib.Core.List.{List, [], _++_}
 use mathlib.Core.Logic.{⊎-elim, _≢_}
 use native.Mathlib.Numerals.{add-one}
 use native.Mathlib.Nat.{mul-zero, mul-suc, mul-le-mul-left}
 use native.Mathlib.Omega.{arith}
 use lib.ListN.{length, drop, length-append}
-use lib.Dec.{eqb}
 use borrow.Author.Tests.{le-leb, lt-leb, ne-eqb}
-use Rattle.units.specs.JudgingLaws.{held, failed, true-or-false}
+use Rattle.units.specs.JudgingLaws.{held, failed}
+use Rattle.units.specs.Places.{sumBelow}
 use Rattle.sets.specs.declared.Head.{Head}
 use Rattle.sets.specs.declared.Set.{Set}
 use Rattle.plans.specs.declared.Alloc.{Alloc}
 use Rattle.fields.specs.Rows.{rows, laid}
-use Rattle.fields.specs.Bytes.{bytesOf}
-use Rattle.fields.specs.Fields.{allocationsFor}
-use Rattle.fields.specs.Header.{absent}
+use Rattle.fields.specs.Bytes.{bytesOf, bodyOf}
+use Rattle.fields.specs.Fields.{modeTag, furtherSize, allocationsFor}
+use Rattle.fields.specs.Header.{furtherCount, absent}
 use Rattle.fields.specs.RowLaws.{rows-none, laid-none, laid-first}
 use Rattle.fields.proofs.SegmentLaws.{rows-length, laid-more, rows-then}
-use Rattle.sheets.specs.Layout.{mark, modeBytes, headBytes, furtherLength, stationWith, allocationWith, stationBytes, allocationBytes, endBytes, sheetOf, sheetLength}
+use Rattle.fields.proofs.FieldLaws.{further-small}
+use Rattle.fields.proofs.HeaderLaws.{same-or-not, body-length}
+use Rattle.sheets.specs.Layout.{mark, headNumber, furtherBytes, furtherLength, headUpTo, headBytes, lengthUpTo, headLength, stationWith, allocationWith, stationBytes, allocationBytes, endBytes, sheetOf, sheetLength}
 use Rattle.sheets.specs.Reading.{judgedSheet}
 use Rattle.sheets.specs.ReadLaws.{then-rest, then-keeps}
 use Rattle.sheets.specs.Writing.{writeNumber, writeAnswer, bufferAfter, refusedWriting, Wrote}
 
 -- ---- lengths
 
-pub mode-none : (mode : ℕ) → mode ≡ absent → modeBytes mode ≡ []
-unfolding modeBytes
-mode-none mode e = rw e refl
+module _ (tag number : ℕ) where
+  pub further-none : number ≡ absent → furtherBytes tag number ≡ []
+  unfolding furtherBytes
+  further-none e = rw e refl
 
-pub mode-some : (mode : ℕ) → mode ≢ absent → modeBytes mode ≡ mark 4 1 ++ (mode % 256 ∷ [])
-unfolding modeBytes
-mode-some mode other = rw (ne-eqb mode absent other) refl
+  pub further-some : number ≢ absent → furtherBytes tag number ≡ mark tag (furtherSize tag) ++ bodyOf (furtherSize tag) number
+  unfolding furtherBytes
+  further-some other = rw (ne-eqb number absent other) refl
 
-pub mode-long : (mode : ℕ) → mode ≢ absent → length (modeBytes mode) ≡ 4
-mode-long mode other = ap length (mode-some mode other)
+  pub length-none : number ≡ absent → furtherLength tag number ≡ 0
+  unfolding furtherLength
+  length-none e = rw e refl
 
-pub further-small : (h : Head) → furtherLength h ≤ 4
-unfolding furtherLength
-further-small h =
-    ⊎-elim (λ (e : eqb (h .mode) absent ≡ true). rw e (omega arith)) (λ (e : eqb (h .mode) absent ≡ false). rw e (omega arith)) (true-or-false (eqb (h .mode) absent))
+  pub length-some : number ≢ absent → furtherLength tag number ≡ 3 + furtherSize tag
+  unfolding furtherLength
+  length-some other = rw (ne-eqb number absent other) refl
 
-pub further-length : (h : Head) → length (modeBytes (h .mode)) ≡ furtherLength h
-unfolding modeBytes furtherLength
-further-length h =
-    ⊎-elim (λ (e : eqb (h .mode) absent ≡ true). rw e refl) (λ (e : eqb (h .mode) absent ≡ false). rw e refl) (true-or-false (eqb (h .mode) absent))
+  pub further-long : length (furtherBytes tag number) ≡ furtherLength tag number
+  further-long =
+      ⊎-elim (λ (e : number ≡ absent). ap length (further-none e) ∙ sym (length-none e))
+      (λ (other : number ≢ absent).
+      ap length (further-some other)
+      ∙ length-append (mark tag (furtherSize tag)) (bodyOf (furtherSize tag) number)
+      ∙ ap (λ (k : ℕ). 3 + k) (body-length tag number)
+      ∙ sym (length-some other))
+      (same-or-not number absent)
 
-pub head-length : (h : Head) → length (headBytes h) ≡ 7 + furtherLength h
-unfolding headBytes bytesOf
-head-length h = length-append (mark 1 4 ++ bytesOf (h .ttrt)) (modeBytes (h .mode)) ∙ ap (λ (k : ℕ). 7 + k) (further-length h)
+  pub length-small : furtherLength tag number ≤ 7
+  length-small =
+      ⊎-elim (λ (e : number ≡ absent). omega (arith, length-none e)) (λ (other : number ≢ absent). omega (arith, length-some other, further-small tag)) (same-or-not number absent)
+
+module _ (h : Head) where
+  -- one field more
+  pub up-to-none : headUpTo h 0 ≡ mark 1 4 ++ bytesOf (h .ttrt)
+  unfolding headUpTo
+  up-to-none = refl
+
+  pub up-to-more : (k : ℕ) → headUpTo h (suc k) ≡ headUpTo h k ++ furtherBytes (modeTag + k) (headNumber h (modeTag + k))
+  unfolding headUpTo
+  up-to-more k = refl
+
+  pub length-more : (k : ℕ) → lengthUpTo h (suc k) ≡ lengthUpTo h k + furtherLength (modeTag + k) (headNumber h (modeTag + k))
+  unfolding sumBelow
+  length-more k = refl
+
+  pub up-to-length : (k : ℕ) → length (headUpTo h k) ≡ 7 + lengthUpTo h k
+  unfolding headUpTo sumBelow bytesOf
+  up-to-length zero = refl
+  up-to-length (suc k) =
+      let f = furtherBytes (modeTag + k) (headNumber h (modeTag + k)) in
+      omega (arith, length-append (headUpTo h k) f, up-to-length k, further-long (modeTag + k) (headNumber h (modeTag + k)))
+
+  pub head-long : length (headBytes h) ≡ 7 + headLength h
+  head-long = up-to-length furtherCount
+
+  -- all of them, one by one
+  pub head-fields : headBytes h ≡ mark 1 4 ++ bytesOf (h .ttrt) ++ furtherBytes 4 (h .mode) ++ furtherBytes 5 (h .frame)
+  unfolding headUpTo headNumber
+  head-fields = refl
+
+  pub head-lengths : headLength h ≡ furtherLength 4 (h .mode) + furtherLength 5 (h .frame)
+  unfolding sumBelow headNumber
+  head-lengths = omega arith
+
+  pub head-small : (k : ℕ) → lengthUpTo h k ≤ 7 * k
+  unfolding sumBelow
+  head-small zero = omega arith
+  head-small (suc k) = omega (arith, head-small k, length-small (modeTag + k) (headNumber h (modeTag + k)))
 
 pub station-length : (w c d p : ℕ) → length (stationWith w c d p) ≡ 19
 unfolding stationWith bytesOf
@@ -74,7 +120,7 @@ sheet-long plan t a =
     let h = headBytes (t .head) in
     let st = rows n (stationBytes t) in
     let al = rows m (allocationBytes a) in
-    let l₁ = head-length (t .head) in
+    let l₁ = head-long (t .head) in
     let l₂ = stations-length t n in
     let l₃ = allocations-length a m in
     omega (arith, length-append (h ++ st ++ al) endBytes, length-append (h ++ st) al, length-append h st)
@@ -121,14 +167,14 @@ pub record PartsLaid (t : Set) (a : Alloc) (from m : ℕ) (o o₁ o₂ o₃ o₄
   pub end : o₄ ≡ laid o₃ (from + 19 * t .n + 7 * m) endBytes
 
 pub sheet-laid : (plan : Bool) (t : Set) (a : Alloc) (from m : ℕ) (o o₁ o₂ o₃ o₄ : List ℕ) → PartsLaid t a from m o o₁ o₂ o₃ o₄
-    → from ≡ 7 + furtherLength (t .head) → m ≡ allocationsFor plan (t .n) → sheetLength plan t ≤ length o → o₄ ≡ laid o 0 (sheetOf plan t a)
+    → from ≡ 7 + headLength (t .head) → m ≡ allocationsFor plan (t .n) → sheetLength plan t ≤ length o → o₄ ≡ laid o 0 (sheetOf plan t a)
 unfolding sheetOf
 sheet-laid plan t a from m o o₁ o₂ o₃ o₄ parts begun e fit =
     let n = t .n in
     let head = headBytes (t .head) in
     let stations = rows n (stationBytes t) in
     let allocations = rows m (allocationBytes a) in
-    let l₁ : length (headBytes (t .head)) ≡ 7 + furtherLength (t .head) = head-length (t .head) in
+    let l₁ : length (headBytes (t .head)) ≡ 7 + headLength (t .head) = head-long (t .head) in
     let l₂ : length (rows (t .n) (stationBytes t)) ≡ 19 * t .n = stations-length t n in
     let l₃ : length (rows m (allocationBytes a)) ≡ 7 * m = allocations-length a m in
     let j₁ = length-append head stations in

@@ -1,12 +1,14 @@
 -- What the small functions need of the bytes.
 use Prim.Native.Nat.{ℕ, _+_, _*_, _≤_, _<_}
 use mathlib.Core.List.{List}
+use mathlib.Core.Path.{_≡_}
 use lib.ListN.{length}
+use Rattle.fields.specs.Header.{furtherCount, furtherPlace}
 use Rattle.fields.specs.declared.Passed.{Passed}
 
 -- the fields that have passed lie inside the bytes, the header's first and a station among them
 pub record PassedFits (bs : List ℕ) (p : Passed) : Type 0 where
-  pub header : 7 ≤ p .from
+  pub header : p .from ≡ furtherPlace bs furtherCount
   pub some : 1 ≤ p .stations
   pub few : p .stations ≤ 128
   pub fewer : p .allocations ≤ 128

@@ -1,33 +1,59 @@
 -- How a sheet is laid out (01, "Sheets"): the bytes of a request and of a plan.
-use Prim.Native.Nat.{ℕ, _+_, _*_, _%_}
+use Prim.Native.Nat.{ℕ, zero, suc, _+_, _*_}
 use mathlib.Core.Bool.{Bool, true, false, cond}
 use mathlib.Core.List.{List, [], _∷_, _++_}
 use lib.Dec.{eqb}
-use Rattle.units.specs.Places.{at}
+use Rattle.units.specs.Numbers.{lastMode, mostFrame}
+use Rattle.units.specs.Places.{at, sumBelow}
 use Rattle.sets.specs.declared.Head.{Head}
 use Rattle.sets.specs.declared.Set.{Set}
 use Rattle.plans.specs.Planned.{blankAlloc}
 use Rattle.plans.specs.declared.Alloc.{Alloc}
 use Rattle.fields.specs.Rows.{rows}
-use Rattle.fields.specs.Bytes.{bytesOf}
-use Rattle.fields.specs.Fields.{headTag, headSize, stationTag, stationSize, allocationTag, allocationSize, modeTag, modeSize, endTag, endSize, allocationsFor}
-use Rattle.fields.specs.Header.{absent}
+use Rattle.fields.specs.Bytes.{bytesOf, bodyOf}
+use Rattle.fields.specs.Fields.{headTag, headSize, stationTag, stationSize, allocationTag, allocationSize, modeTag, endTag, endSize, furtherSize, allocationsFor}
+use Rattle.fields.specs.Header.{furtherCount, absent}
 
 -- the start of a field: one tag byte, two length bytes; no length here is above 255
 abbrev pub mark : ℕ → ℕ → List ℕ
 mark tag size = tag ∷ 0 ∷ size ∷ []
 
--- the mode: tag 4, length 1; no field where it is what its absence means
-unfoldable pub modeBytes : ℕ → List ℕ
-modeBytes mode = cond (eqb mode absent) [] (mark modeTag modeSize ++ (mode % 256 ∷ []))
+-- ---- the header
 
--- the header: tag 1, length 4, TTRT; then the mode. Later header fields follow here
-unfoldable pub headBytes : Head → List ℕ
-headBytes h = mark headTag headSize ++ bytesOf (h .ttrt) ++ modeBytes (h .mode)
+-- the number of the header behind TTRT that belongs to a tag: the mode, or F
+unfoldable pub headNumber : Head → ℕ → ℕ
+headNumber h tag = cond (eqb tag modeTag) (h .mode) (h .frame)
 
--- how many bytes the header has behind TTRT: none where the mode is 1, else 4
-unfoldable pub furtherLength : Head → ℕ
-furtherLength h = cond (eqb (h .mode) absent) 0 (3 + modeSize)
+-- the highest that is allowed: 2, the last mode that has a name, or 65,535
+unfoldable pub mostOf : ℕ → ℕ
+mostOf tag = cond (eqb tag modeTag) lastMode mostFrame
+
+-- its field: the tag, its length, the number; no field where the number is what its absence means
+unfoldable pub furtherBytes : ℕ → ℕ → List ℕ
+furtherBytes tag number = cond (eqb number absent) [] (mark tag (furtherSize tag) ++ bodyOf (furtherSize tag) number)
+
+-- how many bytes it has
+unfoldable pub furtherLength : ℕ → ℕ → ℕ
+furtherLength tag number = cond (eqb number absent) 0 (3 + furtherSize tag)
+
+-- the header up to its first k fields behind TTRT: tag 1, length 4, TTRT; then these
+unfoldable pub headUpTo : Head → ℕ → List ℕ
+headUpTo h zero = mark headTag headSize ++ bytesOf (h .ttrt)
+headUpTo h (suc k) = headUpTo h k ++ furtherBytes (modeTag + k) (headNumber h (modeTag + k))
+
+-- the header: TTRT, the mode, F
+abbrev pub headBytes : Head → List ℕ
+headBytes h = headUpTo h furtherCount
+
+-- how many bytes the first k fields behind TTRT have
+abbrev pub lengthUpTo : Head → ℕ → ℕ
+lengthUpTo h k = sumBelow k (λ i. furtherLength (modeTag + i) (headNumber h (modeTag + i)))
+
+-- how many bytes the header has behind TTRT: 4 where the mode is not 1, and 7 where F is not 1
+abbrev pub headLength : Head → ℕ
+headLength h = lengthUpTo h furtherCount
+
+-- ---- the fields behind it
 
 -- a station: tag 2, length 16, holding w, C, D, P
 unfoldable pub stationWith : ℕ → ℕ → ℕ → ℕ → List ℕ
@@ -67,4 +93,4 @@ planSheet t a = sheetOf true t a
 
 -- how many bytes a sheet has: 10 + 19N for a request, 10 + 26N for a plan, and what the header has behind TTRT
 abbrev pub sheetLength : Bool → Set → ℕ
-sheetLength plan t = 10 + furtherLength (t .head) + 19 * t .n + 7 * allocationsFor plan (t .n)
+sheetLength plan t = 10 + headLength (t .head) + 19 * t .n + 7 * allocationsFor plan (t .n)

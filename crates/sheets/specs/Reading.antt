@@ -3,16 +3,15 @@
 use Prim.Native.Nat.{ℕ, zero, suc, _+_, _*_}
 use mathlib.Core.Bool.{Bool, cond, true, false}
 use mathlib.Core.List.{List}
-use lib.Dec.{eqb}
-use Rattle.units.specs.Places.{at, fill}
+use Rattle.units.specs.Places.{fill}
 use Rattle.sets.specs.Judged.{judged, blankSet, zeros}
 use Rattle.sets.specs.declared.Head.{Head}
 use Rattle.sets.specs.declared.Set.{Set}
 use Rattle.plans.specs.Planned.{judgedPlan, blankAlloc}
 use Rattle.plans.specs.declared.Alloc.{Alloc}
 use Rattle.fields.specs.Bytes.{numberAt}
-use Rattle.fields.specs.Fields.{modeTag, tagAt}
-use Rattle.fields.specs.Header.{headerNumber}
+use Rattle.fields.specs.Fields.{modeTag, frameTag}
+use Rattle.fields.specs.Header.{placeOf, givenAt}
 use Rattle.fields.specs.declared.Passed.{Passed}
 use Rattle.scan.specs.Scanned.{scanned}
 use Rattle.sheets.specs.declared.ReadRequest.{ReadRequest}
@@ -24,12 +23,12 @@ use Rattle.sheets.specs.declared.ReadPlan.{ReadPlan}
 abbrev pub column : List ℕ → ℕ → ℕ → ℕ → List ℕ
 column bs from step n = fill n (λ i. numberAt bs (from + step * i)) zeros
 
--- the mode's field stands behind the 7 bytes of TTRT's, if it is there; its one byte is the eleventh
-abbrev pub modeIn : List ℕ → ℕ
-modeIn bs = headerNumber (eqb (tagAt bs 7) modeTag) (at bs 10)
+-- the number that the header gives for a tag: that of its field, looked for at its place
+abbrev pub numberIn : List ℕ → ℕ → ℕ
+numberIn bs tag = givenAt bs (placeOf bs tag) tag
 
 abbrev pub headIn : List ℕ → Head
-headIn bs = record { ttrt = numberAt bs 3; mode = modeIn bs }
+headIn bs = record { ttrt = numberAt bs 3; mode = numberIn bs modeTag; frame = numberIn bs frameTag }
 
 -- w, C, D and P of the stations that have passed, 19 bytes each
 abbrev pub setOf : List ℕ → Passed → Set

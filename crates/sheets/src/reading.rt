@@ -1,11 +1,14 @@
 // Reading: the fields are handed out one after another from the left; then the numbers that they hold are read and judged.
 ghost use mathlib.Core.Path.{_≡_};
-ghost use Prim.Native.Nat.{_≤_};
+ghost use Prim.Native.Nat.{_+_, _≤_};
 ghost use lib.ListN.{length};
 ghost use Rattle.sets.specs.Judged.{blankSet};
 ghost use Rattle.plans.specs.Planned.{blankAlloc};
 ghost use Rattle.sheets.specs.Bounds.{PassedFits, ColumnFits};
-ghost use Rattle.sheets.specs.Reading.{column, modeIn, setOf, allocOf, readSheet};
+ghost use Rattle.fields.specs.Bytes.{bodyAt};
+ghost use Rattle.fields.specs.Fields.{furtherSize};
+ghost use Rattle.fields.specs.Header.{furtherCount, behindTag, furtherPlace, givenAt};
+ghost use Rattle.sheets.specs.Reading.{column, headIn, setOf, allocOf, readSheet};
 use crate::ReadPlan;
 use crate::bytes;
 use fields::Passed;
@@ -31,14 +34,48 @@ fn read_column(bs: &[u8], from: usize, step: usize, n: usize) -> [u32; 128]
     numbers
 }
 
-// The mode that the header holds.
-fn read_mode(bs: &[u8]) -> u32
-    requires { ⌜ 11 ≤ length (now bs) ⌝ }
-    ensures { λ r. ⌜ r ≡ modeIn (now (bs .entry)) ⌝ }
+// The number in a body of the header's field with this tag.
+fn read_body(bs: &[u8], at: usize, tag: u8) -> u32
+    requires { ⌜ at + 4 ≤ length (now bs) ⌝ }
+    ensures { λ r. ⌜ r ≡ bodyAt (furtherSize tag) (now (bs .entry)) at ⌝ }
 {
-    let there = bs[7] == fields::MODE_TAG;
-    let number = fields::bytes::wide(bs[10]);
+    if tag == fields::MODE_TAG {
+        return fields::bytes::wide(bs[at]);
+    }
+    bytes::number_at(bs, at)
+}
+
+// The number that the header gives for a tag, whose field would stand at the place.
+fn read_further(bs: &[u8], at: usize, tag: u8) -> u32
+    requires { ⌜ at + 7 ≤ length (now bs) ⌝ }
+    ensures { λ r. ⌜ r ≡ givenAt (now (bs .entry)) at tag ⌝ }
+{
+    let there = bs[at] == tag;
+    let number = read_body(bs, at + 3, tag);
     fields::header_number(there, number)
+}
+
+// The place behind that field, if it stands there; else the place itself.
+fn behind_further(bs: &[u8], at: usize, tag: u8) -> usize
+    requires { ⌜ at + 7 ≤ length (now bs) ⌝ }
+    ensures { λ r. ⌜ r ≡ behindTag (now (bs .entry)) tag at ⌝ }
+{
+    if bs[at] == tag {
+        return at + 3 + fields::further_size(tag);
+    }
+    at
+}
+
+// The header; a station stands behind it.
+fn read_head(bs: &[u8]) -> Head
+    requires { ⌜ furtherPlace (now bs) furtherCount + 19 ≤ length (now bs) ⌝ }
+    ensures { λ r. ⌜ r ≡ headIn (now (bs .entry)) ⌝ }
+{
+    let ttrt = bytes::number_at(bs, 3);
+    let mode = read_further(bs, 7, fields::MODE_TAG);
+    let second = behind_further(bs, 7, fields::MODE_TAG);
+    let frame = read_further(bs, second, fields::FRAME_TAG);
+    Head { ttrt, mode, frame }
 }
 
 // The set that the header and the stations hold.
@@ -46,8 +83,7 @@ fn read_set(bs: &[u8], passed: Passed) -> Set
     requires { ⌜ PassedFits (now bs) passed ⌝ }
     ensures { λ r. ⌜ r ≡ setOf (now (bs .entry)) passed ⌝ }
 {
-    let ttrt = bytes::number_at(bs, 3);
-    let mode = read_mode(bs);
+    let head = read_head(bs);
     let from = passed.from;
     let n = passed.stations;
     let count = n as u32;
@@ -56,7 +92,7 @@ fn read_set(bs: &[u8], passed: Passed) -> Set
     let d = read_column(bs, from + 11, 19, n);
     let p = read_column(bs, from + 15, 19, n);
     Set {
-        head: Head { ttrt, mode },
+        head,
         n: count,
         w,
         c,

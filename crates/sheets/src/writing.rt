@@ -3,7 +3,9 @@ ghost use mathlib.Core.Path.{_≡_};
 ghost use Prim.Native.Nat.{_+_, _*_, _≤_};
 ghost use lib.ListN.{length};
 ghost use Rattle.fields.specs.Rows.{laid, rows};
-ghost use Rattle.sheets.specs.Layout.{modeBytes, headBytes, furtherLength, stationWith, allocationWith, stationBytes, allocationBytes, sheetOf, sheetLength};
+ghost use Rattle.fields.specs.Bytes.{bodyOf};
+ghost use Rattle.fields.specs.Fields.{furtherSize};
+ghost use Rattle.sheets.specs.Layout.{furtherBytes, furtherLength, headBytes, headLength, stationWith, allocationWith, stationBytes, allocationBytes, sheetOf, sheetLength};
 ghost use Rattle.sheets.specs.Writing.{Wrote, refusedWriting};
 use crate::Written;
 use crate::bytes;
@@ -12,32 +14,58 @@ use sets::Head;
 use sets::Set;
 use units::numbers;
 
-// Writes the mode, if it is not what its absence means.
-fn put_mode(out: &mut [u8], at: usize, mode: u32)
-    requires { ⌜ at + length (modeBytes mode) ≤ length (now out) ⌝ }
-    ensures { λ _. ⌜ now (out .exit) ≡ laid (now (out .entry)) at (modeBytes mode) ⌝ }
+// How many bytes the header's field with this tag has.
+fn further_length(tag: u8, number: u32) -> usize
+    ensures { λ r. ⌜ r ≡ furtherLength tag number ⌝ }
 {
-    if mode != fields::ABSENT {
-        bytes::put_mark(out, at, fields::MODE_TAG, 1);
-        bytes::put_byte(out, at + 3, mode);
+    if number == fields::ABSENT {
+        return 0;
+    }
+    3 + fields::further_size(tag)
+}
+
+// Writes the body of the header's field with this tag.
+fn put_body(out: &mut [u8], at: usize, tag: u8, number: u32)
+    requires { ⌜ at + furtherSize tag ≤ length (now out) ⌝ }
+    ensures { λ _. ⌜ now (out .exit) ≡ laid (now (out .entry)) at (bodyOf (furtherSize tag) number) ⌝ }
+{
+    if tag == fields::MODE_TAG {
+        bytes::put_byte(out, at, number);
+    } else {
+        bytes::put_number(out, at, number);
+    }
+}
+
+// Writes the header's field with this tag, if its number is not what its absence means.
+fn put_further(out: &mut [u8], at: usize, tag: u8, number: u32)
+    requires { ⌜ at + furtherLength tag number ≤ length (now out) ⌝ }
+    ensures { λ _. ⌜ now (out .exit) ≡ laid (now (out .entry)) at (furtherBytes tag number) ⌝ }
+{
+    if number != fields::ABSENT {
+        let size = fields::further_size(tag);
+        let short = size as u8;
+        bytes::put_mark(out, at, tag, short);
+        put_body(out, at + 3, tag, number);
     }
 }
 
 // Writes the header.
 fn put_head(out: &mut [u8], h: Head)
-    requires { ⌜ 7 + furtherLength h ≤ length (now out) ⌝ }
+    requires { ⌜ 7 + headLength h ≤ length (now out) ⌝ }
     ensures { λ _. ⌜ now (out .exit) ≡ laid (now (out .entry)) 0 (headBytes h) ⌝ }
 {
     bytes::put_mark(out, 0, fields::HEAD_TAG, 4);
     bytes::put_number(out, 3, h.ttrt);
-    put_mode(out, 7, h.mode);
+    put_further(out, 7, fields::MODE_TAG, h.mode);
+    let second = 7 + further_length(fields::MODE_TAG, h.mode);
+    put_further(out, second, fields::FRAME_TAG, h.frame);
 }
 
 // How many bytes the header has behind TTRT.
-fn further_length(h: Head) -> usize
-    ensures { λ r. ⌜ r ≡ furtherLength h ⌝ }
+fn head_length(h: Head) -> usize
+    ensures { λ r. ⌜ r ≡ headLength h ⌝ }
 {
-    if h.mode == fields::ABSENT { 0 } else { 4 }
+    further_length(fields::MODE_TAG, h.mode) + further_length(fields::FRAME_TAG, h.frame)
 }
 
 // Writes one station.
@@ -96,7 +124,7 @@ fn sheet_length(plan: bool, t: Set) -> usize
 {
     let h = t.head;
     let n = t.n as usize;
-    10 + further_length(h) + 19 * n + 7 * fields::allocations_for(plan, n)
+    10 + head_length(h) + 19 * n + 7 * fields::allocations_for(plan, n)
 }
 
 // Writes all fields of a sheet.
@@ -107,7 +135,7 @@ fn put_sheet(plan: bool, t: Set, a: Alloc, out: &mut [u8])
     let n = t.n as usize;
     let m = fields::allocations_for(plan, n);
     let h = t.head;
-    let from = 7 + further_length(h);
+    let from = 7 + head_length(h);
     let behind = from + 19 * n;
     put_head(out, h);
     put_stations(out, from, t, n);

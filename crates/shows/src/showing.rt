@@ -1,10 +1,11 @@
 // What `show` prints: a request or plan sheet as text.
 ghost use Prim.Native.Nat.{_+_, _*_, _<_, _≤_};
-ghost use mathlib.Core.List.{[], _∷_, _++_};
+ghost use mathlib.Core.List.{[], _∷_};
 ghost use lib.ListN.{length};
 ghost use Rattle.fields.specs.Rows.{rows};
+ghost use Rattle.fields.specs.Header.{furtherCount};
 ghost use Rattle.text.specs.Text.{PutShort, decimalOf, lineOn, line};
-ghost use Rattle.outputs.specs.ShowText.{ttrtLine, modeLine, shareWords, stationLine, sheetText};
+ghost use Rattle.outputs.specs.ShowText.{furtherLine, headLines, shareWords, stationLine, sheetText};
 use plans::Alloc;
 use sets::Head;
 use sets::Set;
@@ -19,16 +20,28 @@ fn put_named(page: &mut [u8], at: usize, word: &[u8], number: u64) -> usize
     text::put_end(page, numbered)
 }
 
-// The header's lines: `ttrt N`, and `mode M` if it is not what its absence means.
+// `mode M` or `frame F`, by the tag, if the number is not what its absence means.
+fn put_further(page: &mut [u8], at: usize, tag: u8, number: u32) -> usize
+    requires { ⌜ at + 42 ≤ length (now page) ⌝ }
+    ensures { λ r. ⌜ PutShort 42 (now (page .entry)) at (furtherLine tag number) (now (page .exit)) r ⌝ }
+{
+    if number == fields::ABSENT {
+        return at;
+    }
+    if tag == fields::MODE_TAG {
+        return put_named(page, at, b"mode", units::wide(number));
+    }
+    put_named(page, at, b"frame", units::wide(number))
+}
+
+// The header's lines: `ttrt N`, then those of the numbers behind it.
 fn put_header(page: &mut [u8], h: Head) -> usize
-    requires { ⌜ 84 ≤ length (now page) ⌝ }
-    ensures { λ r. ⌜ PutShort 84 (now (page .entry)) 0 (ttrtLine (h .ttrt) ++ modeLine (h .mode)) (now (page .exit)) r ⌝ }
+    requires { ⌜ 126 ≤ length (now page) ⌝ }
+    ensures { λ r. ⌜ PutShort 126 (now (page .entry)) 0 (headLines h furtherCount) (now (page .exit)) r ⌝ }
 {
     let first = put_named(page, 0, b"ttrt", units::wide(h.ttrt));
-    if h.mode == fields::ABSENT {
-        return first;
-    }
-    put_named(page, first, b"mode", units::wide(h.mode))
+    let second = put_further(page, first, fields::MODE_TAG, h.mode);
+    put_further(page, second, fields::FRAME_TAG, h.frame)
 }
 
 // S, in a plan; and the line's end.

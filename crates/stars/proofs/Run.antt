@@ -6,6 +6,7 @@ use Rattle.sets.specs.Rules.{headInRange, stationInRange}
 use Rattle.sets.specs.Judged.{judgedThen}
 use Rattle.plans.specs.Rules.{timeAt}
 use Rattle.plans.specs.Planned.{smallestWith, judgedPlan, answered, leastAlloc}
+use Rattle.rings.specs.Frames.{framesFrom}
 use Rattle.rings.specs.Opening.{openedRing, openedWith}
 use Rattle.rings.specs.Sound.{isSound}
 use Rattle.rings.specs.State.{following}
@@ -15,7 +16,7 @@ use Rattle.rings.specs.HandingIn.{arrivalAllowed, holding, takenWith}
 use Rattle.stars.specs.Run.{WorkedRun}
 
 pub workedRun : WorkedRun
-unfolding sumBelow allBelow fill raise orElse allHold headInRange stationInRange judgedThen timeAt smallestWith judgedPlan answered leastAlloc openedRing openedWith isSound
+unfolding framesFrom sumBelow allBelow fill raise orElse allHold headInRange stationInRange judgedThen timeAt smallestWith judgedPlan answered leastAlloc openedRing openedWith isSound
     syncSent following limit timelyAfter timersAfter silentTimely silentTimers timelySound timersSound moved recordOf visitedWith arrivalAllowed holding takenWith
 workedRun =
     record {

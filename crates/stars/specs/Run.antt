@@ -9,7 +9,7 @@ use Rattle.plans.specs.Rules.{spareTime}
 use Rattle.plans.specs.declared.Alloc.{Alloc}
 use Rattle.units.specs.Places.{at}
 use Rattle.rings.specs.Opening.{opening}
-use Rattle.rings.specs.Steps.{visited}
+use Rattle.rings.specs.Steps.{Ask, visited}
 use Rattle.rings.specs.HandingIn.{handedIn}
 use Rattle.rings.specs.declared.Ring.{Ring}
 use Rattle.rings.specs.declared.Message.{Message}
@@ -87,12 +87,16 @@ answerOf x =
       number = 0;
     }
 
+-- a thousand ticks are asked for at every visit
+abbrev pub asked : Ask
+asked = record { frames = 1000; length = 1 }
+
 -- from this ring on, every call is answered so
 abbrev pub Runs : Ring → List Call → Type 0
 Runs r [] = Unit {0}
 Runs r (message station arrival ∷ rest) =
     (handedIn r (messageOf station arrival) .number ≡ 0) × Runs (handedIn r (messageOf station arrival) .ring) rest
-Runs r (visit x ∷ rest) = (visited r 1000 .answer ≡ answerOf x) × Runs (visited r 1000 .ring) rest
+Runs r (visit x ∷ rest) = (visited r asked .answer ≡ answerOf x) × Runs (visited r asked .ring) rest
 
 -- ---- the table holds
 

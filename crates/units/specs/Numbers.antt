@@ -19,7 +19,7 @@ wrongShape = 2
 abbrev pub runsOn : ℕ
 runsOn = 3
 
--- 4: a number outside the ranges for w, C, D, P, TTRT, S or the mode
+-- 4: a number outside the ranges for w, C, D, P, TTRT, S, the mode or F
 abbrev pub outOfRange : ℕ
 outOfRange = 4
 
@@ -86,6 +86,10 @@ mostStations = 128
 -- TTRT: 1 to 1,000,000
 abbrev pub mostTtrt : ℕ
 mostTtrt = 1_000_000
+
+-- F, the longest frame: 1 to 65,535
+abbrev pub mostFrame : ℕ
+mostFrame = 65_535
 
 -- walk time w of a station, to the next: 0 to 1,000,000
 abbrev pub mostWalk : ℕ

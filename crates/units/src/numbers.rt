@@ -9,7 +9,7 @@ pub const CUT_SHORT: u8 = 1;
 pub const WRONG_SHAPE: u8 = 2;
 // A byte follows the end field.
 pub const RUNS_ON: u8 = 3;
-// A number outside the ranges for w, C, D, P, TTRT, S or the mode.
+// A number outside the ranges for w, C, D, P, TTRT, S, the mode or F.
 pub const OUT_OF_RANGE: u8 = 4;
 // τ is 0 or above TTRT.
 pub const BAD_WALK_TIME: u8 = 5;
@@ -46,6 +46,8 @@ pub const LAST_MODE: u32 = 2;
 pub const MOST_STATIONS: u32 = 128;
 
 pub const MOST_TTRT: u32 = 1_000_000;
+
+pub const MOST_FRAME: u32 = 65_535;
 
 pub const MOST_WALK: u32 = 1_000_000;
 

@@ -9,7 +9,6 @@ use borrow.Author.Tests.{lt-ltb, le-ltb, ne-eqb}
 use lib.Dec.{eqb}
 use lib.IntN.{ℤ, pos, negsuc}
 use Rattle.units.specs.SmallLaws.{below-or-not}
-use Rattle.units.specs.Places.{at}
 use Rattle.sheets.specs.Reading.{readRequest, readPlan, thenNumber}
 use Rattle.plans.specs.Planned.{planned}
 use Rattle.rings.specs.declared.Ring.{Ring}
@@ -21,8 +20,8 @@ use Rattle.lines.specs.Scan.{isEmptyLine}
 use Rattle.lines.specs.declared.Scan.{Scan}
 use Rattle.outputs.specs.PlanText.{planLines, planPrinted}
 use Rattle.outputs.specs.PlanSheet.{planningNumber}
-use Rattle.outputs.specs.ShowText.{sheetText, showPrinted}
-use Rattle.calls.specs.RunText.{isVisit, isMessage, messageIn, signOf, signedOf, withoutSign, completion, visitLine, takenText, answerText, saidAt, saidOver, runOn}
+use Rattle.outputs.specs.ShowText.{headLines, sheetText, showPrinted}
+use Rattle.calls.specs.RunText.{isVisit, askIn, isMessage, messageIn, signOf, signedOf, withoutSign, completion, visitLine, takenText, answerText, saidAt, saidOver, runOn}
 use Rattle.calls.specs.declared.Run.{Run}
 use Rattle.usage.specs.Endings.{isRefusal, colon, hasColon, isRefused, shownNumber, isUnread, someUnread}
 use Rattle.usage.specs.Promised.{Promised}
@@ -53,7 +52,7 @@ shown-told true j k plan request p r = refusal-or j plan p
 shown-told false j k plan request p r = refusal-or k request r
 
 show-told : (sheet : List ℕ) → isRefusal (showPrinted sheet) ≡ isRefused (shownNumber sheet)
-unfolding showPrinted sheetText line
+unfolding showPrinted sheetText headLines line
 show-told sheet = shown-told (eqb (readRequest sheet .number) 2) (readPlan sheet .number) (readRequest sheet .number) _ _ refl refl
 
 -- ---- where no colon stands
@@ -139,7 +138,7 @@ answer-told : (ring : Ring) (s : Scan) (n : ℕ) → hasColon (answerText ring s
 unfolding answerText
 answer-told ring s n =
     told-of (isEmptyLine s) (isVisit s) (isMessage s) _ _ _
-    (quiet-refused (visited ring (at (s .values) 0) .answer .number) _ (quiet-visit (visited ring (at (s .values) 0) .answer .«record»)))
+    (quiet-refused (visited ring (askIn s) .answer .number) _ (quiet-visit (visited ring (askIn s) .answer .«record»)))
     (quiet-taken (handedIn ring (messageIn s) .number))
     (colon-unread n)
 

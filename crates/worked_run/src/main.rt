@@ -1,6 +1,7 @@
 // The ★ worked run of the build definition: four stations, messages of 20, six visits with 1,000 asynchronous ticks asked for. It prints the table.
 use libc::STDOUT_FILENO;
 use plans::Alloc;
+use rings::Ask;
 use rings::Message;
 use rings::Ring;
 use rings::VisitRecord;
@@ -59,6 +60,7 @@ fn four_stations() -> Set {
         head: Head {
             ttrt: 100,
             mode: numbers::TIMELY,
+            frame: 1,
         },
         n: 4,
         w,
@@ -86,7 +88,10 @@ fn message(ring: Ring, station: u64, arrival: u64) -> Ring {
 
 // A visit with 1,000 asynchronous ticks asked for: the row, or the refusal.
 fn visit(ring: Ring, visit: u64) -> Ring {
-    let visited = ring.visit(1000);
+    let visited = ring.visit(Ask {
+        frames: 1000,
+        length: 1,
+    });
     let answer = visited.answer;
     let number = answer.number;
     if number == 0 {

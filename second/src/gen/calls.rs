@@ -1,10 +1,10 @@
 //! Call scripts that mix accepted and refused calls, made by following the ring.
 
 use super::random::Random;
-use super::sets;
+use super::{sets, Sort};
 use crate::planted::Planted;
 use crate::ring::{Message, Ring, StationNumber, Ticks};
-use crate::rules::{Head, Mode, Plan, Request, Station, LAST_TIME};
+use crate::rules::{Ask, Head, Plan, Request, Station, LAST_TIME};
 use crate::text::Call;
 
 /// The calls of one script.
@@ -31,12 +31,14 @@ struct Script {
     ring: Ring,
     calls: Vec<Call>,
     manner: Manner,
+    /// Whether frames of any length are asked for, or only such of one tick.
+    uncut: bool,
 }
 
 impl Script {
-    fn new(plan: &Plan, manner: Manner) -> Script {
+    fn new(plan: &Plan, manner: Manner, sort: Sort) -> Script {
         let ring = Ring::open(plan, Planted::Nothing).expect("the plan is sound");
-        Script { ring, calls: vec![], manner }
+        Script { ring, calls: vec![], manner, uncut: sort.uncut }
     }
 
     fn push(&mut self, call: Call) {
@@ -70,13 +72,40 @@ impl Script {
     fn crowded_call(&self, random: &mut Random, ready: impl Fn(usize) -> bool) -> Call {
         match (random.between(0, 9), self.free_station(random, ready)) {
             (0..=7, Some(index)) => Call::HandIn(self.next_message(index)),
-            (0..=8, _) => Call::Visit(u32::MAX),
+            (0..=8, _) => Call::Visit(self.largest_ask(random)),
             _ => self.mixed_call(random),
         }
     }
 
-    fn ask(&self, random: &mut Random) -> u32 {
-        let spare = self.ring.plan().spare().expect("a plan keeps the token rule") as u32;
+    fn ask(&self, random: &mut Random) -> Ask {
+        let ticks = self.ticks(random);
+        if !self.uncut {
+            return ticks.into();
+        }
+        let frame = self.ring.plan().request.head.frame;
+        let length = match random.between(0, 9) {
+            0 => random.pick(&[0, frame + 1, u32::MAX]),
+            1 => 1,
+            2 | 3 => frame,
+            _ => random.between32(1, frame),
+        };
+        let frames = if random.once_in(2) { ticks } else { ticks.div_ceil(length.max(1)) };
+        Ask { frames, length }
+    }
+
+    /// As many frames as there are, most often of the longest.
+    fn largest_ask(&self, random: &mut Random) -> Ask {
+        let frame = self.ring.plan().request.head.frame;
+        let length = match self.uncut {
+            true if random.once_in(3) => random.between32(1, frame),
+            true => frame,
+            false => 1,
+        };
+        Ask { frames: u32::MAX, length }
+    }
+
+    fn ticks(&self, random: &mut Random) -> u32 {
+        let spare = self.ring.plan().spare() as u32;
         match random.between(0, 5) {
             0 => 0,
             1 => u32::MAX,
@@ -171,9 +200,9 @@ impl Script {
 }
 
 /// A plan and a script for its ring.
-pub fn script(random: &mut Random, mode: Mode) -> (Plan, Vec<Call>) {
-    let plan = sets::plan_to_run(random, mode);
-    let mut script = Script::new(&plan, Manner::any(random));
+pub fn script(random: &mut Random, sort: Sort) -> (Plan, Vec<Call>) {
+    let plan = sets::plan_to_run(random, sort);
+    let mut script = Script::new(&plan, Manner::any(random), sort);
     while script.calls.len() < CALLS {
         script.push_any(random);
     }
@@ -181,21 +210,25 @@ pub fn script(random: &mut Random, mode: Mode) -> (Plan, Vec<Call>) {
 }
 
 /// A ring of long rotations, whose clock comes near to the last time in few visits.
-fn slow_plan(random: &mut Random, mode: Mode) -> Plan {
+fn slow_plan(random: &mut Random, sort: Sort) -> Plan {
     let count = random.index(3) + 1;
     let ttrt = 1_000_000;
     let walk_sum = random.between32(999_900, ttrt - 4 * count as u32);
     let walks = random.split(walk_sum, count);
-    let share = (ttrt - walk_sum) / (2 * count as u32);
+    // Behind F − 1 there is room for a few ticks at each visit.
+    let room = ttrt - walk_sum;
+    let overrun = if sort.uncut { random.between32(0, room - 4 * count as u32) } else { 0 };
+    let share = (room - overrun) / (2 * count as u32);
     // In FDDI nothing is sure within the first rotation.
-    let sure_from = if mode == Mode::Fddi { ttrt } else { 0 };
+    let sure_from = if sort.is_fddi() { ttrt } else { 0 };
     let station = |&walk: &u32| {
         let deadline = sure_from + random.pick(&[ttrt, 2 * ttrt, 2 * ttrt + 5]);
         let longest = random.between32(1, share);
         Station { walk, longest, deadline, gap: deadline }
     };
     let stations = walks.iter().map(station).collect();
-    sets::smallest_plan(&Request { head: Head::new(ttrt, mode), stations })
+    let head = Head { frame: overrun + 1, ..Head::new(ttrt, sort.mode) };
+    sets::smallest_plan(&Request { head, stations })
 }
 
 /// The two counts of visits that bring the clock to `target`: those that ask for one tick,
@@ -209,11 +242,11 @@ fn visits_to(plan: &Plan, target: u64) -> (u64, u64) {
 
 /// A script whose clock comes to the last time or next to it: the plan, the visits that ask
 /// for one tick, those that ask for none, and the calls after them.
-pub fn late_script(random: &mut Random, mode: Mode) -> (Plan, [u64; 2], Vec<Call>) {
-    let plan = slow_plan(random, mode);
+pub fn late_script(random: &mut Random, sort: Sort) -> (Plan, [u64; 2], Vec<Call>) {
+    let plan = slow_plan(random, sort);
     let target = LAST_TIME - 5_000_000 + random.pick(&[0, 4_999_999, 5_000_000, 5_000_001]);
     let (asking, silent) = visits_to(&plan, target);
-    let mut script = Script::new(&plan, Manner::any(random));
+    let mut script = Script::new(&plan, Manner::any(random), sort);
     for (count, ask) in [(asking, 1), (silent, 0)] {
         // Only visits without a walk can be refused, at the very end.
         let _ = (0..count).try_for_each(|_| script.ring.visit(ask).map(|_| ()));

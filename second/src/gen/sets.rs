@@ -1,10 +1,11 @@
 //! Sets of stations and allocations: feasible, tight, impossible by one tick, and wild.
 
 use super::random::Random;
+use super::Sort;
 use crate::planner;
 use crate::planted::Planted;
 use crate::rules::{fddi_least_time, least_time, Head, Mode, Plan, Request, Station};
-use crate::rules::{MOST_GAP, MOST_STATIONS};
+use crate::rules::{FRAME, MOST_GAP, MOST_STATIONS};
 
 const MOST_TICKS: u32 = 100_000_000;
 
@@ -49,7 +50,7 @@ fn short_deadline(random: &mut Random, ttrt: u32) -> u32 {
     }
 }
 
-/// The time of an FDDI rotation that is not the station's own: τ, and the other stations' S.
+/// The time of an FDDI rotation that is not the station's own: τ, F − 1, and the others' S.
 struct Rotation {
     ttrt: u32,
     before: u32,
@@ -105,18 +106,17 @@ fn walks(random: &mut Random, sum: u32, count: usize) -> Vec<u32> {
 }
 
 /// A set with a plan.
-pub fn feasible(random: &mut Random, mode: Mode) -> Request {
-    let head = Head::new(rotation_target(random), mode);
+pub fn feasible(random: &mut Random, sort: Sort) -> Request {
+    let ttrt = rotation_target(random);
     let count = station_count(random);
-    feasible_of(random, head, count, deadline)
+    feasible_of(random, (sort, ttrt), count, deadline)
 }
 
 /// A set with a plan, whose messages take few rotations.
-fn lively(random: &mut Random, mode: Mode) -> Request {
-    let head = Head::new(rotation_target(random), mode);
-    let ttrt = head.ttrt;
+fn lively(random: &mut Random, sort: Sort) -> Request {
+    let ttrt = rotation_target(random);
     let count = if random.once_in(30) { MOST_STATIONS } else { random.index(6) + 1 };
-    let mut request = feasible_of(random, head, count, short_deadline);
+    let mut request = feasible_of(random, (sort, ttrt), count, short_deadline);
     for station in &mut request.stations {
         let longer = random.pick(&[0, 0, 1, ttrt]);
         station.gap = (station.deadline + longer).min(MOST_GAP);
@@ -124,27 +124,39 @@ fn lively(random: &mut Random, mode: Mode) -> Request {
     request
 }
 
+/// F − 1, from 0 to the room that there is for it.
+fn overrun(random: &mut Random, room: u32) -> u32 {
+    let near = match random.between(0, 5) {
+        0 => room,
+        1 => random.between32(0, room),
+        2 => 1,
+        3 => random.pick(&[2, 9, *FRAME.end()]),
+        _ => random.between32(1, room / 4),
+    };
+    near.min(room).min(*FRAME.end() - 1)
+}
+
 fn feasible_of(
     random: &mut Random,
-    head: Head,
+    (sort, ttrt): (Sort, u32),
     count: usize,
     deadline: fn(&mut Random, u32) -> u32,
 ) -> Request {
-    let ttrt = head.ttrt;
     let walk_sum = match random.between(0, 5) {
         0 => ttrt,
         1 => random.between32(1, ttrt),
         2 => 1,
         _ => random.between32(1, ttrt / 8),
     };
-    let room = ttrt - walk_sum.min(ttrt);
+    let room = ttrt - walk_sum;
+    let overrun = if sort.uncut { overrun(random, room) } else { 0 };
+    let room = room - overrun;
     let shared = if random.once_in(2) { room } else { random.between32(0, room) };
     let shares = random.split(shared, count);
     let walks = walks(random, walk_sum, count);
-    let fddi = Mode::of(head.mode) == Some(Mode::Fddi);
     let station = |(&walk, &share): (&u32, &u32)| {
-        let (longest, deadline) = if fddi {
-            let rotation = Rotation { ttrt, before: walk_sum + shared - share };
+        let (longest, deadline) = if sort.is_fddi() {
+            let rotation = Rotation { ttrt, before: walk_sum + overrun + shared - share };
             fddi_message(random, &rotation, share, deadline)
         } else {
             let deadline = deadline(random, ttrt);
@@ -152,6 +164,7 @@ fn feasible_of(
         };
         Station { walk, longest, deadline, gap: gap(random, deadline) }
     };
+    let head = Head { frame: overrun + 1, ..Head::new(ttrt, sort.mode) };
     Request { head, stations: walks.iter().zip(&shares).map(station).collect() }
 }
 
@@ -173,16 +186,21 @@ pub fn smallest_plan(request: &Request) -> Plan {
     planner::plan(request, Planted::Nothing).expect("the set is feasible")
 }
 
-/// A feasible set with all spare time walked away, and `over` ticks more.
-pub fn tight(random: &mut Random, mode: Mode, over: u32) -> Request {
-    let mut request = feasible(random, mode);
-    let spare = smallest_plan(&request).spare().expect("a plan keeps the token rule") as u32;
+/// A feasible set with all spare time walked away, and `over` ticks more; or given to a frame.
+pub fn tight(random: &mut Random, sort: Sort, over: u32) -> Request {
+    let mut request = feasible(random, sort);
+    let spare = smallest_plan(&request).spare() as u32;
     let index = random.index(request.stations.len());
-    let more = match mode {
+    let more = match sort.mode {
         Mode::Timely => spare,
         Mode::Fddi => most_walk(&request, index, spare),
     };
-    request.stations[index].walk += more + over;
+    let longer = request.head.frame + more + over;
+    if sort.uncut && FRAME.contains(&longer) && random.once_in(2) {
+        request.head.frame = longer;
+    } else {
+        request.stations[index].walk += more + over;
+    }
     request
 }
 
@@ -208,24 +226,26 @@ fn most_walk(request: &Request, index: usize, spare: u32) -> u32 {
 
 /// A set of FDDI in which each station's S rises with every other's, by little at a time: the
 /// deadlines are of about as many rotations as there are stations.
-fn climbing(random: &mut Random) -> Request {
+fn climbing(random: &mut Random, sort: Sort) -> Request {
     let ttrt = random.between32(20, 5_000);
     let count = random.index(7) + 2;
     let walk_sum = random.between32(1, ttrt / 8);
+    let overrun = if sort.uncut { random.between32(1, ttrt / 8) } else { 0 };
     let rotations = count as u32 + random.between32(0, 1);
     let walks = random.split(walk_sum, count);
     let station = |&walk: &u32| {
         let rest = random.between32(0, ttrt - 1);
         let deadline = (rotations + random.pick(&[0, 0, 1])) * ttrt + rest;
-        let longest = (rest + random.between32(0, ttrt / 4)).saturating_sub(walk_sum);
+        let longest = (rest + random.between32(0, ttrt / 4)).saturating_sub(walk_sum + overrun);
         Station { walk, longest, deadline, gap: deadline }
     };
-    Request { head: Head::new(ttrt, Mode::Fddi), stations: walks.iter().map(station).collect() }
+    let head = Head { frame: overrun + 1, ..Head::new(ttrt, Mode::Fddi) };
+    Request { head, stations: walks.iter().map(station).collect() }
 }
 
 /// A tight set with one message longer by one tick; most often impossible by one tick.
-fn longer_by_one(random: &mut Random, mode: Mode) -> Request {
-    let mut request = tight(random, mode, 0);
+fn longer_by_one(random: &mut Random, sort: Sort) -> Request {
+    let mut request = tight(random, sort, 0);
     let index = random.index(request.stations.len());
     let station = &mut request.stations[index];
     station.longest = (station.longest + 1).min(MOST_TICKS);
@@ -233,37 +253,40 @@ fn longer_by_one(random: &mut Random, mode: Mode) -> Request {
 }
 
 /// Numbers in range, without regard to the rules.
-fn wild(random: &mut Random, mode: Mode) -> Request {
-    let mut request = feasible(random, mode);
+fn wild(random: &mut Random, sort: Sort) -> Request {
+    let mut request = feasible(random, sort);
     for station in &mut request.stations {
         station.longest = random.between32(0, MOST_TICKS);
         station.deadline = random.between32(1, MOST_TICKS);
         station.gap = random.between32(station.deadline, MOST_GAP);
     }
+    if sort.uncut {
+        request.head.frame = random.between32(*FRAME.start(), *FRAME.end());
+    }
     request
 }
 
 /// A set in range, of any of these kinds.
-pub fn request(random: &mut Random, mode: Mode) -> Request {
+pub fn request(random: &mut Random, sort: Sort) -> Request {
     match random.between(0, 9) {
-        0 => tight(random, mode, 0),
-        1 => tight(random, mode, 1),
-        2 => longer_by_one(random, mode),
-        3 => wild(random, mode),
-        4 | 5 if mode == Mode::Fddi => climbing(random),
-        _ => feasible(random, mode),
+        0 => tight(random, sort, 0),
+        1 => tight(random, sort, 1),
+        2 => longer_by_one(random, sort),
+        3 => wild(random, sort),
+        4 | 5 if sort.is_fddi() => climbing(random, sort),
+        _ => feasible(random, sort),
     }
 }
 
 /// The smallest plan of a feasible set, or one with some of the spare time given away.
-pub fn sound_plan(random: &mut Random, mode: Mode) -> Plan {
-    let request = feasible(random, mode);
+pub fn sound_plan(random: &mut Random, sort: Sort) -> Plan {
+    let request = feasible(random, sort);
     generous_plan(random, &request)
 }
 
 /// The same of a set that suits a run of a few hundred calls.
-pub fn plan_to_run(random: &mut Random, mode: Mode) -> Plan {
-    let request = if random.once_in(8) { feasible(random, mode) } else { lively(random, mode) };
+pub fn plan_to_run(random: &mut Random, sort: Sort) -> Plan {
+    let request = if random.once_in(8) { feasible(random, sort) } else { lively(random, sort) };
     generous_plan(random, &request)
 }
 
@@ -273,7 +296,7 @@ fn generous_plan(random: &mut Random, request: &Request) -> Plan {
         return smallest;
     }
     let mut plan = smallest.clone();
-    let spare = plan.spare().expect("a plan keeps the token rule") as u32;
+    let spare = plan.spare() as u32;
     let given = random.between32(0, spare);
     let extra = random.split(given, plan.allocation.len());
     plan.allocation.iter_mut().zip(extra).for_each(|(s, more)| *s += more);
@@ -286,13 +309,13 @@ fn generous_plan(random: &mut Random, request: &Request) -> Plan {
 }
 
 /// A plan in range, now and then with one S too small by a tick, or too large by one.
-pub fn plan(random: &mut Random, mode: Mode) -> Plan {
-    let mut plan = sound_plan(random, mode);
+pub fn plan(random: &mut Random, sort: Sort) -> Plan {
+    let mut plan = sound_plan(random, sort);
     let index = random.index(plan.allocation.len());
     match random.between(0, 9) {
         0 => plan.allocation[index] = plan.allocation[index].saturating_sub(1),
         1 => {
-            let spare = plan.spare().expect("a plan keeps the token rule") as u32;
+            let spare = plan.spare() as u32;
             plan.allocation[index] += spare + random.between32(0, 1);
         }
         _ => (),
@@ -324,13 +347,24 @@ fn head_edges(plan: &Plan) -> Vec<Plan> {
         let edge = |mode| changed(plan, |plan| plan.request.head.mode = mode);
         edges.extend([0, 1, 3, 255, 256, 258, u32::MAX].map(edge));
     }
+    if plan.request.head.frame > 1 {
+        edges
+            .extend(frame_edges(plan).map(|frame| changed(plan, |p| p.request.head.frame = frame)));
+    }
     edges
+}
+
+/// The ends of F's range and of what the plan leaves room for, and one past them.
+pub fn frame_edges(plan: &Plan) -> [u32; 8] {
+    let most = plan.request.head.frame.saturating_add(plan.spare() as u32);
+    let (last, past) = (*FRAME.end(), *FRAME.end() + 1);
+    [0, 1, 2, most, most.saturating_add(1), last, past, u32::MAX]
 }
 
 fn station_edges(plan: &Plan, index: usize) -> Vec<Plan> {
     let Station { walk, deadline, gap, .. } = plan.request.stations[index];
     let s = plan.allocation[index];
-    let spare = plan.spare().expect("a plan keeps the token rule") as u32;
+    let spare = plan.spare() as u32;
     let mut edges = vec![];
     let mut add = |values: &[u32], place: fn(&mut Plan, usize) -> &mut u32| {
         edges.extend(values.iter().map(|&value| changed(plan, |p| *place(p, index) = value)));
@@ -370,21 +404,21 @@ fn one_long_walk(plan: &mut Plan, index: usize) {
 }
 
 /// A small plan, to be damaged at every place.
-pub fn small_plan(random: &mut Random, mode: Mode) -> Plan {
-    let head = Head::new(rotation_target(random), mode);
+pub fn small_plan(random: &mut Random, sort: Sort) -> Plan {
+    let ttrt = rotation_target(random);
     let count = random.index(3) + 1;
-    smallest_plan(&feasible_of(random, head, count, deadline))
+    smallest_plan(&feasible_of(random, (sort, ttrt), count, deadline))
 }
 
 /// A plan with any of its numbers at an edge.
-pub fn plan_at_edge(random: &mut Random, mode: Mode) -> Plan {
-    let edges = at_edges(&small_plan(random, mode));
+pub fn plan_at_edge(random: &mut Random, sort: Sort) -> Plan {
+    let edges = at_edges(&small_plan(random, sort));
     random.pick(&edges)
 }
 
 /// A plan of any kind, in range or not, now and then of a wrong count of stations.
-pub fn any_plan(random: &mut Random, mode: Mode) -> Plan {
-    let mut plan = if random.once_in(3) { plan_at_edge(random, mode) } else { plan(random, mode) };
+pub fn any_plan(random: &mut Random, sort: Sort) -> Plan {
+    let mut plan = if random.once_in(3) { plan_at_edge(random, sort) } else { plan(random, sort) };
     if random.once_in(10) {
         let count = random.pick(&[0, MOST_STATIONS + 1, MOST_STATIONS + 2]);
         plan.request.stations.resize(count, plan.request.stations[0]);

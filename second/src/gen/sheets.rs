@@ -1,11 +1,21 @@
 //! Sheets, sound ones and damaged ones.
 
 use super::random::Random;
-use super::sets;
-use crate::rules::{Mode, Plan};
-use crate::sheet::{fields, mode_field, STATION_TAG};
+use super::{sets, Sort};
+use crate::rules::{Plan, FRAME};
+use crate::sheet::{fields, frame_field, mode_field, FRAME_TAG, STATION_TAG};
 
 const TAGS: [u8; 7] = [0, 1, 2, 3, 4, 254, 255];
+/// The same for sheets that have an F.
+const UNCUT_TAGS: [u8; 9] = [0, 1, 2, 3, 4, 5, 6, 254, 255];
+
+fn tags(sort: Sort) -> &'static [u8] {
+    if sort.uncut {
+        &UNCUT_TAGS
+    } else {
+        &TAGS
+    }
+}
 
 #[derive(Clone, Copy, Debug, PartialEq, Eq)]
 pub enum SheetKind {
@@ -20,32 +30,73 @@ fn fields_of(kind: SheetKind, plan: &Plan) -> Vec<Vec<u8>> {
     }
 }
 
-fn sound_fields(random: &mut Random, kind: SheetKind, mode: Mode) -> Vec<Vec<u8>> {
+fn sound_fields(random: &mut Random, kind: SheetKind, sort: Sort) -> Vec<Vec<u8>> {
     match kind {
-        SheetKind::Request => fields(&sets::request(random, mode), &[]),
-        SheetKind::Plan => fields_of(kind, &sets::plan(random, mode)),
+        SheetKind::Request => fields(&sets::request(random, sort), &[]),
+        SheetKind::Plan => fields_of(kind, &sets::plan(random, sort)),
     }
 }
 
 /// A sheet: sound, with a number at an edge, or damaged once or twice.
-pub fn sheet(random: &mut Random, kind: SheetKind, mode: Mode) -> Vec<u8> {
+pub fn sheet(random: &mut Random, kind: SheetKind, sort: Sort) -> Vec<u8> {
     match random.between(0, 9) {
-        0..=3 => sound_fields(random, kind, mode).concat(),
-        4 => fields_of(kind, &sets::plan_at_edge(random, mode)).concat(),
+        0..=3 => sound_fields(random, kind, sort).concat(),
+        4 => fields_of(kind, &sets::plan_at_edge(random, sort)).concat(),
         5 => {
-            let fields = sound_fields(random, kind, mode);
-            let once = damaged(random, fields);
+            let fields = sound_fields(random, kind, sort);
+            let once = damaged(random, fields, sort);
             damaged_bytes(random, once)
         }
-        6 if mode == Mode::Fddi => {
-            let fields = sound_fields(random, kind, mode);
+        6 if sort.uncut => {
+            let fields = sound_fields(random, kind, sort);
+            damaged_frame(random, fields).concat()
+        }
+        6 if sort.is_fddi() => {
+            let fields = sound_fields(random, kind, sort);
             damaged_mode(random, fields).concat()
         }
         _ => {
-            let fields = sound_fields(random, kind, mode);
-            damaged(random, fields)
+            let fields = sound_fields(random, kind, sort);
+            damaged(random, fields, sort)
         }
     }
+}
+
+/// Where a sheet has the field of F, or might have it.
+fn frame_place(fields: &[Vec<u8>]) -> (usize, bool) {
+    let behind_ttrt = |tag: u8| fields.iter().position(|field| field[0] == tag);
+    match behind_ttrt(FRAME_TAG) {
+        Some(place) => (place, true),
+        None => (behind_ttrt(STATION_TAG).unwrap_or(1), false),
+    }
+}
+
+fn any_frame(random: &mut Random) -> u32 {
+    let (last, past) = (*FRAME.end(), *FRAME.end() + 1);
+    let inside = random.between32(2, last);
+    random.pick(&[0, 1, 2, inside, last, past, u32::MAX])
+}
+
+/// F's field with another value or length, elsewhere, twice, or beside a mode on either side.
+fn damaged_frame(random: &mut Random, mut fields: Vec<Vec<u8>>) -> Vec<Vec<u8>> {
+    let (place, there) = frame_place(&fields);
+    let frame = any_frame(random);
+    if !there {
+        fields.insert(place, frame_field(frame));
+    }
+    let elsewhere = random.index(fields.len() + 1);
+    let near = random.between(0, 1) as usize;
+    match random.between(0, 4) {
+        0 => fields[place] = frame_field(frame),
+        1 => fields[place] = [vec![5, 0, random.pick(&[0, 1, 3, 5])], vec![0, 0, 0, 2, 2]].concat(),
+        2 => fields.insert(elsewhere, frame_field(frame)),
+        3 => fields.insert(place + near, mode_field(random.pick(&[0, 1, 2, 3]))),
+        _ => {
+            let moved = fields.remove(place);
+            fields.insert(elsewhere.min(fields.len()), moved);
+        }
+    }
+    fields
 }
 
 /// The mode's field, which is the second, with another value or length, elsewhere, or twice.
@@ -64,18 +115,18 @@ fn damaged_mode(random: &mut Random, mut fields: Vec<Vec<u8>>) -> Vec<Vec<u8>> {
     fields
 }
 
-fn damaged(random: &mut Random, fields: Vec<Vec<u8>>) -> Vec<u8> {
+fn damaged(random: &mut Random, fields: Vec<Vec<u8>>, sort: Sort) -> Vec<u8> {
     if random.once_in(2) {
         return damaged_bytes(random, fields.concat());
     }
-    damaged_fields(random, fields).concat()
+    damaged_fields(random, fields, sort).concat()
 }
 
 /// Damage to whole fields: a wrong tag or length, a field too many, too few or elsewhere.
-fn damaged_fields(random: &mut Random, mut fields: Vec<Vec<u8>>) -> Vec<Vec<u8>> {
+fn damaged_fields(random: &mut Random, mut fields: Vec<Vec<u8>>, sort: Sort) -> Vec<Vec<u8>> {
     let (index, other) = (random.index(fields.len()), random.index(fields.len()));
     match random.between(0, 6) {
-        0 => fields[index][0] = random.pick(&TAGS),
+        0 => fields[index][0] = random.pick(tags(sort)),
         1 => fields[index][1] = random.byte(),
         2 => fields[index][2] = random.pick(&[0, 3, 4, 5, 15, 16, 17, 255]),
         3 => fields.insert(other, fields[index].clone()),
@@ -89,7 +140,7 @@ fn damaged_fields(random: &mut Random, mut fields: Vec<Vec<u8>>) -> Vec<Vec<u8>>
 /// The first station again and again, to 127, 128 or 129 fields of it or beyond.
 fn many_stations(random: &mut Random, fields: &[Vec<u8>]) -> Vec<Vec<u8>> {
     let times = random.between(124, 130) as usize;
-    let first = if fields[1][0] == STATION_TAG { 1 } else { 2 };
+    let first = fields.iter().position(|field| field[0] == STATION_TAG).expect("a station");
     let mut many = fields[..first].to_vec();
     many.extend(vec![fields[first].clone(); times]);
     many.extend_from_slice(&fields[first + 1..]);
@@ -114,15 +165,18 @@ fn damaged_bytes(random: &mut Random, mut bytes: Vec<u8>) -> Vec<u8> {
 }
 
 /// A small sheet damaged in every way in turn, each at every place.
-pub fn every_damage(random: &mut Random, kind: SheetKind, mode: Mode) -> Vec<Vec<u8>> {
-    let plan = sets::small_plan(random, mode);
+pub fn every_damage(random: &mut Random, kind: SheetKind, sort: Sort) -> Vec<Vec<u8>> {
+    let plan = sets::small_plan(random, sort);
     let fields = fields_of(kind, &plan);
     let whole = fields.concat();
     let mut sheets: Vec<Vec<u8>> = (0..=whole.len()).map(|cut| whole[..cut].to_vec()).collect();
     sheets.extend(every_byte_changed(random, &whole));
-    sheets.extend(every_field_damaged(&fields));
-    if mode == Mode::Fddi {
+    sheets.extend(every_field_damaged(&fields, tags(sort)));
+    if sort.is_fddi() {
         sheets.extend(every_mode_damaged(&fields));
+    }
+    if sort.uncut {
+        sheets.extend(every_frame_damaged(&fields));
     }
     sheets.extend([0, 1, 3, 255].map(|byte| [&whole[..], &[byte]].concat()));
     sheets.extend(sets::at_edges(&plan).iter().map(|plan| fields_of(kind, plan).concat()));
@@ -155,10 +209,27 @@ fn every_mode_damaged(fields: &[Vec<u8>]) -> Vec<Vec<u8>> {
     sheets
 }
 
-fn every_field_damaged(fields: &[Vec<u8>]) -> Vec<Vec<u8>> {
+/// F's field with the ends of its range and one past, at every place, alone and as a second one.
+fn every_frame_damaged(fields: &[Vec<u8>]) -> Vec<Vec<u8>> {
+    let (place, there) = frame_place(fields);
+    let behind = place + usize::from(there);
+    let others = [&fields[..place], &fields[behind..]].concat();
+    let with = |fields: &[Vec<u8>], at: usize, frame: u32| {
+        [&fields[..at], &[frame_field(frame)], &fields[at..]].concat().concat()
+    };
+    let values = [0, 1, 2, 3, 255, 256, 65_534, 65_535, 65_536, 65_537, 1 << 24, u32::MAX];
+    let mut sheets: Vec<Vec<u8>> = values.map(|frame| with(&others, place, frame)).to_vec();
+    for frame in [1, 2] {
+        sheets.extend((0..=others.len()).map(|at| with(&others, at, frame)));
+        sheets.extend((0..=fields.len()).map(|at| with(fields, at, frame)));
+    }
+    sheets
+}
+
+fn every_field_damaged(fields: &[Vec<u8>], tags: &[u8]) -> Vec<Vec<u8>> {
     let mut sheets = vec![];
     for (index, field) in fields.iter().enumerate() {
-        let heads = TAGS.iter().map(|&tag| [tag, field[1], field[2]]);
+        let heads = tags.iter().map(|&tag| [tag, field[1], field[2]]);
         let lengths = [0, 1, field[2].wrapping_sub(1), field[2] + 1, 255];
         let heads = heads.chain(lengths.map(|length| [field[0], 0, length]));
         for head in heads.chain([[field[0], 1, field[2]]]) {

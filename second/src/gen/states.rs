@@ -1,9 +1,9 @@
 //! States of rings, sound ones and ones with a number at an edge or past it, and calls on them.
 
 use super::random::Random;
-use super::sets;
+use super::{sets, Sort};
 use crate::ring::{Message, StationNumber};
-use crate::rules::{Mode, Plan, LAST_TIME};
+use crate::rules::{Ask, Mode, Plan, LAST_TIME};
 use crate::state::{Place, State, LAST_CLOCK, MOST_LATE, VISITS_END};
 use crate::text::Call;
 
@@ -11,17 +11,17 @@ use crate::text::Call;
 const LAST_UNUSED: u64 = u32::MAX as u64;
 
 /// A state, and one to three calls.
-pub fn state_with_calls(random: &mut Random, mode: Mode) -> (State, Vec<Call>) {
-    let mut state = state(random, mode);
+pub fn state_with_calls(random: &mut Random, sort: Sort) -> (State, Vec<Call>) {
+    let mut state = state(random, sort);
     add_histories(random, &mut state);
-    let calls = (0..random.between(1, 3)).map(|_| call(random, &state)).collect();
+    let calls = (0..random.between(1, 3)).map(|_| call(random, &state, sort)).collect();
     (state, calls)
 }
 
 /// A sound state of a ring in which messages take few visits, and one to six calls.
-pub fn sound_with_calls(random: &mut Random, mode: Mode) -> (State, Vec<Call>) {
-    let plan = sets::plan_to_run(random, mode);
-    let mut state = state_of(random, plan, mode);
+pub fn sound_with_calls(random: &mut Random, sort: Sort) -> (State, Vec<Call>) {
+    let plan = sets::plan_to_run(random, sort);
+    let mut state = state_of(random, plan, sort);
     let ttrt = u64::from(state.plan.request.head.ttrt);
     if random.once_in(8) {
         state.clock = random.pick(&[LAST_TIME - ttrt, LAST_TIME, LAST_TIME + 1, LAST_CLOCK]);
@@ -34,7 +34,7 @@ pub fn sound_with_calls(random: &mut Random, mode: Mode) -> (State, Vec<Call>) {
         }
     }
     add_histories(random, &mut state);
-    let calls = (0..random.between(1, 6)).map(|_| call(random, &state)).collect();
+    let calls = (0..random.between(1, 6)).map(|_| call(random, &state, sort)).collect();
     (state, calls)
 }
 
@@ -56,9 +56,10 @@ fn add_history(random: &mut Random, state: &mut State, index: usize) {
     place.last = if random.once_in(2) { random.between(0, clock) } else { random.pick(&times) };
 }
 
-fn call(random: &mut Random, state: &State) -> Call {
+fn call(random: &mut Random, state: &State, sort: Sort) -> Call {
     if random.once_in(2) {
-        return Call::Visit(ask(random, state));
+        let ticks = ticks(random, state);
+        return Call::Visit(if sort.uncut { ask(random, state, ticks) } else { ticks.into() });
     }
     let mut message = good_message(random, state);
     if random.once_in(3) {
@@ -67,7 +68,17 @@ fn call(random: &mut Random, state: &State) -> Call {
     Call::HandIn(message)
 }
 
-fn ask(random: &mut Random, state: &State) -> u32 {
+/// About so many ticks in frames, or as many frames; their length may be none that there is.
+fn ask(random: &mut Random, state: &State, ticks: u32) -> Ask {
+    let frame = state.plan.request.head.frame;
+    let inside = random.between32(1, frame.min(65_535));
+    let lengths = [1, inside, inside, inside, frame, frame, 0, frame.saturating_add(1), u32::MAX];
+    let length = random.pick(&lengths);
+    let frames = if random.once_in(2) { ticks } else { ticks.div_ceil(length.max(1)) };
+    Ask { frames, length }
+}
+
+fn ticks(random: &mut Random, state: &State) -> u32 {
     let asked = random.between32(0, state.plan.request.head.ttrt);
     random.pick(&[0, 1, asked, u32::MAX])
 }
@@ -124,25 +135,25 @@ fn spoil(random: &mut Random, state: &State, message: &mut Message) {
 }
 
 /// A state, sound unless its plan is not, and then often with one or two numbers at an edge.
-fn state(random: &mut Random, mode: Mode) -> State {
+fn state(random: &mut Random, sort: Sort) -> State {
     let any = random.once_in(4);
-    let plan = if any { sets::any_plan(random, mode) } else { sets::sound_plan(random, mode) };
-    let mut state = state_of(random, plan, mode);
+    let plan = if any { sets::any_plan(random, sort) } else { sets::sound_plan(random, sort) };
+    let mut state = state_of(random, plan, sort);
     if !random.once_in(4) {
         for _ in 0..random.between(1, 2) {
-            edge(random, mode, &mut state);
+            edge(random, sort, &mut state);
         }
     }
     state
 }
 
-fn state_of(random: &mut Random, plan: Plan, mode: Mode) -> State {
+fn state_of(random: &mut Random, plan: Plan, sort: Sort) -> State {
     let places: Vec<Place> =
-        (0..plan.allocation.len()).map(|index| place(random, &plan, index, mode)).collect();
+        (0..plan.allocation.len()).map(|index| place(random, &plan, index, sort)).collect();
     let sent: u64 = places.iter().map(|place| u64::from(place.sent)).sum();
     State {
         clock: random.between(0, LAST_TIME),
-        token: random.between32(0, places.len().saturating_sub(1) as u32),
+        token: random.between(0, places.len().saturating_sub(1) as u64) as u32,
         visits: random.between(0, VISITS_END - 1),
         unused: (plan.allocated() - sent).min(LAST_UNUSED),
         plan,
@@ -150,10 +161,10 @@ fn state_of(random: &mut Random, plan: Plan, mode: Mode) -> State {
     }
 }
 
-fn place(random: &mut Random, plan: &Plan, index: usize, mode: Mode) -> Place {
+fn place(random: &mut Random, plan: &Plan, index: usize, sort: Sort) -> Place {
     let longest = plan.request.stations[index].longest;
     let ttrt = plan.request.head.ttrt;
-    let (trt, late) = match mode {
+    let (trt, late) = match sort.mode {
         Mode::Timely => (random.between32(0, ttrt), 0),
         Mode::Fddi => fddi_timer(random, ttrt),
     };
@@ -175,13 +186,15 @@ fn fddi_timer(random: &mut Random, ttrt: u32) -> (u32, u32) {
 }
 
 /// Puts one number at an end of what is sound, or past it.
-fn edge(random: &mut Random, mode: Mode, state: &mut State) {
+fn edge(random: &mut Random, sort: Sort, state: &mut State) {
     let count = state.places.len();
     match random.between(0, 6) {
-        4 if mode == Mode::Fddi && random.once_in(2) => mode_edge(random, state),
+        4 if sort.is_fddi() && random.once_in(2) => mode_edge(random, state),
+        5 if sort.uncut && random.once_in(2) => frame_edge(random, state),
         0 => {
             let count = count as u32;
-            state.token = random.pick(&[count, count.saturating_sub(1), count + 1, u32::MAX]);
+            let last = u32::MAX;
+            state.token = random.pick(&[count, count.saturating_sub(1), count + 1, last]);
         }
         1 => {
             let unused = state.unused;
@@ -195,7 +208,7 @@ fn edge(random: &mut Random, mode: Mode, state: &mut State) {
         3 => state.visits = random.pick(&[VISITS_END - 1, VISITS_END, u64::MAX]),
         _ if count > 0 => {
             let index = random.index(count);
-            place_edge(random, mode, state, index);
+            place_edge(random, sort, state, index);
         }
         _ => (),
     }
@@ -209,12 +222,17 @@ fn mode_edge(random: &mut Random, state: &mut State) {
     state.unused = random.pick(&[unused, unused, unused, unused.saturating_add(1 << 32), u64::MAX]);
 }
 
-fn place_edge(random: &mut Random, mode: Mode, state: &mut State, index: usize) {
+/// An F at an end of its range, of what the plan leaves room for, or past it.
+fn frame_edge(random: &mut Random, state: &mut State) {
+    state.plan.request.head.frame = random.pick(&sets::frame_edges(&state.plan));
+}
+
+fn place_edge(random: &mut Random, sort: Sort, state: &mut State, index: usize) {
     let ttrt = state.plan.request.head.ttrt;
     let longest = state.plan.request.stations[index].longest;
     let s = state.plan.allocation[index];
     let place = &mut state.places[index];
-    let fddi = mode == Mode::Fddi;
+    let fddi = sort.is_fddi();
     match random.between(0, 4) {
         0 if fddi && random.once_in(2) => {
             place.late = random.pick(&[0, MOST_LATE, MOST_LATE + 1, MOST_LATE + 2, u32::MAX]);

@@ -2,8 +2,8 @@
 
 use super::calls;
 use super::random::Random;
-use super::sets;
-use crate::rules::{Mode, Plan};
+use super::{sets, Sort};
+use crate::rules::Plan;
 use crate::text::show_stations;
 
 /// Lines that fit nowhere, or not everywhere.
@@ -44,41 +44,60 @@ const STRAY_MODES: [&str; 10] = [
     "mode 2 2",
 ];
 
+/// The same for texts that have an F.
+const STRAY_FRAMES: [&str; 15] = [
+    "frame",
+    "frame 0",
+    "frame 1",
+    "frame 2",
+    "frame 2",
+    "frame 65535",
+    "frame 65536",
+    "frame 4294967295",
+    "frame 4294967296",
+    "frame 2 2",
+    "mode 1",
+    "mode 2",
+    "visit 1 2 3",
+    "visit 3 4294967296",
+    "visit 3 0",
+];
+
 /// The text of a request or plan, at times with a stray line or a broken byte.
-pub fn sheet_text(random: &mut Random, mode: Mode) -> Vec<u8> {
+pub fn sheet_text(random: &mut Random, sort: Sort) -> Vec<u8> {
     let text = match random.between(0, 5) {
-        0 | 1 => show_stations(&sets::request(random, mode), &[]),
+        0 | 1 => show_stations(&sets::request(random, sort), &[]),
         2 => {
-            let plan = sets::plan_at_edge(random, mode);
+            let plan = sets::plan_at_edge(random, sort);
             let shown = random.pick(&[&plan.allocation[..], &[]]);
             show_stations(&plan.request, shown)
         }
         3 => {
             // Lines of both kinds, unless the allocation has one number only.
-            let plan = sets::plan(random, mode);
+            let plan = sets::plan(random, sort);
             show_stations(&plan.request, &plan.allocation[..1])
         }
         _ => {
-            let plan = sets::plan(random, mode);
+            let plan = sets::plan(random, sort);
             show_stations(&plan.request, &plan.allocation)
         }
     };
-    untidy(random, mode, &text)
+    untidy(random, sort, &text)
 }
 
 /// The plan and the calls of a script as text.
-pub fn script_text(random: &mut Random, mode: Mode) -> (Plan, Vec<u8>) {
-    let (plan, calls) = calls::script(random, mode);
+pub fn script_text(random: &mut Random, sort: Sort) -> (Plan, Vec<u8>) {
+    let (plan, calls) = calls::script(random, sort);
     let text: String = calls.iter().map(|call| format!("{call}\n")).collect();
-    (plan, untidy(random, mode, &text))
+    (plan, untidy(random, sort, &text))
 }
 
 /// The text with blanks, comments and stray lines put in, and now and then a byte changed.
-fn untidy(random: &mut Random, mode: Mode, text: &str) -> Vec<u8> {
+fn untidy(random: &mut Random, sort: Sort, text: &str) -> Vec<u8> {
     let mut lines: Vec<String> = text.lines().map(str::to_string).collect();
     for _ in 0..random.between(0, 4) {
         let index = random.index(lines.len());
-        put_in(random, mode, &mut lines, index);
+        put_in(random, sort, &mut lines, index);
     }
     let mut bytes = lines.join("\n").into_bytes();
     if !random.once_in(4) {
@@ -91,7 +110,7 @@ fn untidy(random: &mut Random, mode: Mode, text: &str) -> Vec<u8> {
     bytes
 }
 
-fn put_in(random: &mut Random, mode: Mode, lines: &mut Vec<String>, index: usize) {
+fn put_in(random: &mut Random, sort: Sort, lines: &mut Vec<String>, index: usize) {
     match random.between(0, 7) {
         0 => lines.insert(index, String::new()),
         1 => lines.insert(index, " \t# a comment: ttrt 5".to_string()),
@@ -99,8 +118,13 @@ fn put_in(random: &mut Random, mode: Mode, lines: &mut Vec<String>, index: usize
         3 => lines[index] = format!("  {} ", lines[index].replace(' ', "  ")),
         4 => lines[index] = lines[index].replace(' ', "\t") + "\r",
         5 => lines[index] = lines[index].replace(' ', " 00"),
-        6 if mode == Mode::Fddi && random.once_in(2) => {
-            lines.insert(random.pick(&[0, 1, 2, index + 1]), random.pick(&STRAY_MODES).to_string());
+        6 if sort.uncut && random.once_in(2) => {
+            let place = random.pick(&[0, 1, 2, 3, index + 1]).min(lines.len());
+            lines.insert(place, random.pick(&STRAY_FRAMES).to_string());
+        }
+        6 if sort.is_fddi() && random.once_in(2) => {
+            let place = random.pick(&[0, 1, 2, index + 1]).min(lines.len());
+            lines.insert(place, random.pick(&STRAY_MODES).to_string());
         }
         6 => lines.insert(index + 1, random.pick(&STRAY_LINES).to_string()),
         _ => drop(lines.remove(index)),

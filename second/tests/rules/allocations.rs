@@ -1,8 +1,8 @@
 use crate::{station, timely};
-use second::gen::{random::Random, sets};
+use second::gen::{random::Random, sets, Sort};
 use second::planner;
 use second::planted::Planted;
-use second::rules::{least_time, Mode, Plan, Refusal, Request};
+use second::rules::{least_time, Plan, Refusal, Request};
 
 fn plan(request: &Request) -> Result<Plan, Refusal> {
     planner::plan(request, Planted::Nothing)
@@ -39,7 +39,7 @@ fn two_stations_fit_exactly_and_then_not() {
     let pair =
         |longest| Request { head: timely(100), stations: vec![station(1, longest, 60, 60); 2] };
     let fits = plan(&pair(9)).expect("feasible");
-    assert_eq!((fits.allocation.clone(), fits.spare()), (vec![49, 49], Some(0)));
+    assert_eq!((fits.allocation.clone(), fits.spare()), (vec![49, 49], 0));
     assert_eq!(plan(&pair(10)), Err(Refusal::NoAllocation));
 }
 
@@ -69,7 +69,7 @@ fn the_search_finds_what_trying_every_s_finds() {
 #[test]
 fn every_s_of_a_plan_is_the_smallest() {
     for place in 0..1_000 {
-        let request = sets::feasible(&mut Random::of_case(8, place), Mode::Timely);
+        let request = sets::feasible(&mut Random::of_case(8, place), Sort::TIMELY);
         let smallest = plan(&request).expect("feasible");
         assert_eq!(smallest.judge(), Ok(()));
         for index in 0..smallest.allocation.len() {

@@ -2,9 +2,8 @@
 
 use crate::{worked_plan, worked_request};
 use second::frames::{answer, from_hex, show_set, to_hex, NO_CASE};
-use second::gen::{write_cases, Kind};
+use second::gen::{write_cases, Kind, Sort};
 use second::planted::Planted;
-use second::rules::Mode;
 use second::sheet::fields;
 
 fn answered(case: &str) -> String {
@@ -112,7 +111,7 @@ fn hex() {
     assert_eq!((to_hex(&[]), from_hex("-")), ("-".to_string(), Some(vec![])));
 }
 
-fn cases(kind: (Kind, Mode), seed: u64, count: u64) -> Vec<String> {
+fn cases(kind: (Kind, Sort), seed: u64, count: u64) -> Vec<String> {
     let mut bytes = vec![];
     write_cases(kind, seed, count, &mut bytes).expect("room in memory");
     String::from_utf8(bytes).expect("text").lines().map(str::to_string).collect()
@@ -121,10 +120,10 @@ fn cases(kind: (Kind, Mode), seed: u64, count: u64) -> Vec<String> {
 #[test]
 fn every_case_is_framed_and_comes_again_from_its_seed() {
     for kind in Kind::ALL.into_iter().filter(|&kind| kind != Kind::Late) {
-        for (mode, name) in [(Mode::Timely, ""), (Mode::Fddi, "fddi-")] {
-            let kind = (kind, mode);
+        for sort in Sort::ALL {
+            let kind = (kind, sort);
             let made = cases(kind, 3, 40);
-            let name = format!("{name}{}", kind.0.name());
+            let name = format!("{}{}", sort.prefix(), kind.0.name());
             assert!(made.len() >= 40);
             assert!(made.iter().all(|case| answered(case) != NO_CASE), "{name}");
             assert_eq!(made, cases(kind, 3, 40));
@@ -135,7 +134,7 @@ fn every_case_is_framed_and_comes_again_from_its_seed() {
 }
 
 /// The numbers that begin the answers to a kind's cases, each once, in order.
-fn numbers(kind: (Kind, Mode), count: u64) -> Vec<u8> {
+fn numbers(kind: (Kind, Sort), count: u64) -> Vec<u8> {
     let first = |case: &String| {
         let answer = answered(case);
         answer.split(' ').next().and_then(|word| word.parse().ok()).expect("a number")
@@ -150,7 +149,7 @@ fn each_once(mut numbers: Vec<u8>) -> Vec<u8> {
 }
 
 /// The numbers that the calls of a kind's cases are refused with, and 0 for an accepted call.
-fn numbers_of_calls(kind: (Kind, Mode), count: u64) -> Vec<u8> {
+fn numbers_of_calls(kind: (Kind, Sort), count: u64) -> Vec<u8> {
     let of_calls = |case: &String| -> Vec<u8> {
         let said = answered(case);
         let calls = &said[..said.rfind('|').expect("a call")];
@@ -163,30 +162,30 @@ fn numbers_of_calls(kind: (Kind, Mode), count: u64) -> Vec<u8> {
 
 #[test]
 fn every_number_of_a_kind_is_reached() {
-    for mode in Mode::ALL {
-        assert_eq!(numbers((Kind::Requests, mode), 600), [0, 1, 2, 3, 4, 5]);
-        assert_eq!(numbers((Kind::Plans, mode), 600), [0, 1, 2, 3, 4, 5, 7]);
-        assert_eq!(numbers((Kind::Edges, mode), 3), [0, 1, 2, 3, 4, 5, 7]);
-        assert_eq!(numbers((Kind::Planning, mode), 600), [0, 2, 4, 5, 6]);
-        assert_eq!(numbers((Kind::Writing, mode), 600), [0, 2, 4, 5, 7, 14]);
-        assert_eq!(numbers((Kind::Openings, mode), 600), [0, 2, 4, 5, 7]);
+    for sort in Sort::ALL {
+        assert_eq!(numbers((Kind::Requests, sort), 600), [0, 1, 2, 3, 4, 5]);
+        assert_eq!(numbers((Kind::Plans, sort), 600), [0, 1, 2, 3, 4, 5, 7]);
+        assert_eq!(numbers((Kind::Edges, sort), 3), [0, 1, 2, 3, 4, 5, 7]);
+        assert_eq!(numbers((Kind::Planning, sort), 600), [0, 2, 4, 5, 6]);
+        assert_eq!(numbers((Kind::Writing, sort), 600), [0, 2, 4, 5, 7, 14]);
+        assert_eq!(numbers((Kind::Openings, sort), 600), [0, 2, 4, 5, 7]);
         for kind in [Kind::States, Kind::Steps] {
-            assert_eq!(numbers_of_calls((kind, mode), 2_000), [0, 8, 9, 10, 11, 12, 13]);
+            assert_eq!(numbers_of_calls((kind, sort), 2_000), [0, 8, 9, 10, 11, 12, 13]);
         }
     }
 }
 
 #[test]
 fn the_empty_text_is_among_the_commands() {
-    let made = cases((Kind::Commands, Mode::Timely), 7, 2_000);
+    let made = cases((Kind::Commands, Sort::TIMELY), 7, 2_000);
     assert!(made.iter().any(|case| case == "command compose;-"));
 }
 
 #[test]
 fn accepted_sheets_are_written_again_the_same() {
     for (kind, name) in [(Kind::Requests, "request"), (Kind::Plans, "plan")] {
-        let both = Mode::ALL.map(|mode| cases((kind, mode), 21, 500));
-        both.concat().iter().for_each(|case| written_again(name, case));
+        let every = Sort::ALL.map(|sort| cases((kind, sort), 21, 500));
+        every.concat().iter().for_each(|case| written_again(name, case));
     }
 }
 
@@ -209,15 +208,20 @@ fn shown_and_composed(sheet: &str) {
 #[test]
 fn feasible_and_impossible_by_one_tick() {
     use second::gen::{random::Random, sets};
-    for place in 0..500 {
+    for place in 0..1_000 {
+        let sort = if place % 2 == 0 { Sort::TIMELY } else { Sort::UNCUT };
         let planned = |over| {
-            let request = sets::tight(&mut Random::of_case(5, place), Mode::Timely, over);
+            let request = sets::tight(&mut Random::of_case(5, place), sort, over);
             answered(&format!("planning {}", show_set(&request, &[])))
         };
         let exact = planned(0);
         let list = exact.strip_prefix("0 0 ").expect("no spare time");
-        // Without any S the tick too many is one of walking, and breaks other rules.
-        let impossible = if list.contains(|digit| digit > '0') { &["6"][..] } else { &["4", "5"] };
+        // Without any S a tick of walking too many breaks other rules; one of F does not.
+        let impossible = match list.contains(|digit| digit > '0') {
+            true => &["6"][..],
+            false if sort.uncut => &["4", "5", "6"],
+            false => &["4", "5"],
+        };
         assert!(impossible.contains(&&*planned(1)), "{list}");
     }
 }
@@ -227,8 +231,9 @@ fn fddi_sets_that_one_tick_of_walking_makes_impossible() {
     use second::gen::{random::Random, sets};
     let mut impossible = 0;
     for place in 0..500 {
+        let sort = if place % 2 == 0 { Sort::FDDI } else { Sort::FDDI_UNCUT };
         let planned = |over| {
-            let request = sets::tight(&mut Random::of_case(5, place), Mode::Fddi, over);
+            let request = sets::tight(&mut Random::of_case(5, place), sort, over);
             answered(&format!("planning {}", show_set(&request, &[])))
         };
         assert!(planned(0).starts_with("0 "));

@@ -110,7 +110,7 @@ fn given_vectors() {
 fn numbers_before_and_behind_the_mode() {
     let moded = |mode, ttrt| {
         let mut request = alike(2, 250, 48);
-        request.head = Head { ttrt, mode };
+        request.head = Head { ttrt, mode, frame: 1 };
         planned(&request)
     };
     assert_eq!(moded(2, 100), Ok(vec![24; 2]));
@@ -118,7 +118,7 @@ fn numbers_before_and_behind_the_mode() {
         assert_eq!([moded(mode, 100), moded(mode, 1)], [Err(4), Err(4)], "mode {mode}");
     }
     assert_eq!(moded(2, 1), Err(5));
-    let none = Request { head: Head { ttrt: 100, mode: 3 }, stations: vec![] };
+    let none = Request { head: Head { ttrt: 100, mode: 3, frame: 1 }, stations: vec![] };
     assert_eq!(planned(&none), Err(2));
 }
 
@@ -133,7 +133,8 @@ fn small(random: &mut Random) -> Request {
         let most = random.pick(&[1, 3, 5, 40]);
         station(walk, random.between32(0, most), deadline, deadline)
     };
-    Request { head: fddi(ttrt), stations: walks.iter().map(station).collect() }
+    let stations = walks.iter().map(station).collect();
+    Request { head: Head { frame: random.pick(&[1, 1, 2, 3]), ..fddi(ttrt) }, stations }
 }
 
 /// Every vector of a sum within the token rule.

@@ -14,6 +14,8 @@ mod states;
 mod steps;
 mod texts;
 mod ticks;
+mod uncut;
+mod uncut_sheets;
 
 use second::rules::{Head, Mode, Plan, Request, Station};
 

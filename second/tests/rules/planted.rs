@@ -4,53 +4,60 @@ use std::collections::HashSet;
 
 use second::check::{Broken, WatchedRing};
 use second::frames::answer;
-use second::gen::{calls, random::Random, Kind};
+use second::gen::{calls, random::Random, Kind, Sort};
 use second::planted::Planted;
 use second::ring::Ring;
-use second::rules::Mode;
 
-/// How many of the first cases of a kind the error answers otherwise.
-fn differences(kind: Kind, mode: Mode, planted: Planted) -> usize {
-    let differs = |case: &String| answer(case, planted) != answer(case, Planted::Nothing);
-    (0..400).flat_map(|place| kind.case(mode, 6, place)).filter(differs).count()
+/// The first cases of a kind, and what is answered to them without an error.
+fn answered(kind: Kind, sort: Sort) -> Vec<(String, String)> {
+    let cases = (0..400).flat_map(|place| kind.case(sort, 6, place));
+    cases.map(|case| (case.clone(), answer(&case, Planted::Nothing))).collect()
 }
 
-/// The kinds and modes whose cases show an error. A message served ahead shows in every mode.
-fn shown_by(planted: Planted) -> Vec<(Kind, Mode)> {
+/// The kind and the sorts whose cases show an error. A message served ahead shows in every sort, and
+/// so does a frame that begins at the limit: one of one tick is such a frame too.
+fn shown_by(planted: Planted) -> (Kind, &'static [Sort]) {
+    const TIMELY: &[Sort] = &[Sort::TIMELY, Sort::UNCUT];
+    const FDDI: &[Sort] = &[Sort::FDDI, Sort::FDDI_UNCUT];
+    const UNCUT: &[Sort] = &[Sort::UNCUT, Sort::FDDI_UNCUT];
     match planted {
-        Planted::Nothing => vec![],
-        Planted::TimeForNobody | Planted::RoundedDown => vec![(Kind::Planning, Mode::Timely)],
-        Planted::OthersLeftOut | Planted::OneVisitTooMany => vec![(Kind::Planning, Mode::Fddi)],
-        Planted::ServedAhead => Mode::ALL.map(|mode| (Kind::Runs, mode)).to_vec(),
+        Planted::Nothing => (Kind::Runs, &[]),
+        Planted::TimeForNobody | Planted::RoundedDown => (Kind::Planning, TIMELY),
+        Planted::OthersLeftOut | Planted::OneVisitTooMany => (Kind::Planning, FDDI),
+        Planted::OverrunLeftOut => (Kind::Planning, UNCUT),
+        Planted::ServedAhead | Planted::FrameAtLimit => (Kind::Runs, &Sort::ALL),
         Planted::CountNotLowered | Planted::TimerResetWhenLate | Planted::HoldingAfterSending => {
-            vec![(Kind::Runs, Mode::Fddi)]
+            (Kind::Runs, FDDI)
         }
-        _ => vec![(Kind::Runs, Mode::Timely)],
+        Planted::FrameCut => (Kind::Runs, UNCUT),
+        _ => (Kind::Runs, TIMELY),
     }
 }
 
 #[test]
 fn comparing_finds_every_planted_error() {
-    for planted in Planted::ALL {
-        for (kind, mode) in
-            [Kind::Planning, Kind::Runs].map(|kind| Mode::ALL.map(|m| (kind, m))).concat()
-        {
-            let found = differences(kind, mode, planted);
-            let shown = shown_by(planted).contains(&(kind, mode));
-            assert!(
-                if shown { found > 10 } else { found == 0 },
-                "{planted:?}: {found} in {kind:?}"
-            );
+    for (kind, sort) in
+        [Kind::Planning, Kind::Runs].map(|kind| Sort::ALL.map(|s| (kind, s))).concat()
+    {
+        let answered = answered(kind, sort);
+        for planted in Planted::ALL {
+            let differs = |(case, right): &&(String, String)| answer(case, planted) != *right;
+            let shown = shown_by(planted).0 == kind && shown_by(planted).1.contains(&sort);
+            let tried = if shown { 400 } else { 100 };
+            let found = answered[..tried].iter().filter(differs).count();
+            // Among the FDDI sets are a few whose mode was changed to timely-token.
+            let as_expected = if shown { found > 10 } else { found < 5 };
+            assert!(as_expected, "{planted:?}: {found} in {kind:?} of {sort:?}");
         }
     }
-    assert_eq!([0, 13].map(Planted::from_number), [None, None]);
-    assert_eq!(Planted::from_number(12), Some(Planted::OneVisitTooMany));
+    assert_eq!([0, 17].map(Planted::from_number), [None, None]);
+    assert_eq!(Planted::from_number(16), Some(Planted::OverrunLeftOut));
 }
 
 /// Every promise that the runs with the error break.
-fn broken(planted: Planted, mode: Mode) -> HashSet<Broken> {
+fn broken(planted: Planted, sort: Sort) -> HashSet<Broken> {
     let of_run = |place| {
-        let (plan, script) = calls::script(&mut Random::of_case(6, place), mode);
+        let (plan, script) = calls::script(&mut Random::of_case(6, place), sort);
         let mut ring = WatchedRing::suspected(Ring::open(&plan, planted).expect("sound"));
         script.into_iter().flat_map(move |call| ring.checked(&call).1)
     };
@@ -61,18 +68,36 @@ fn broken(planted: Planted, mode: Mode) -> HashSet<Broken> {
 fn the_promises_find_wrong_limits() {
     let late = HashSet::from([
         Broken::LimitNotExact,
+        Broken::TooMuchInRotation,
         Broken::TokenLate,
         Broken::MessageLate,
         Broken::UnsentAtDeadline,
         Broken::WrongElevenAnswer,
         Broken::Unsound,
     ]);
-    let timely = |planted| broken(planted, Mode::Timely);
-    assert_eq!(timely(Planted::LimitWithoutUnused), late);
-    for planted in [Planted::UnusedFromZero, Planted::TrtResetLate, Planted::UnusedCleared] {
-        assert!(timely(planted).contains(&Broken::LimitNotExact), "{planted:?}");
+    assert_eq!(broken(Planted::LimitWithoutUnused, Sort::TIMELY), late);
+    for sort in [Sort::TIMELY, Sort::UNCUT] {
+        for planted in [
+            Planted::UnusedFromZero,
+            Planted::TrtResetLate,
+            Planted::UnusedCleared,
+            Planted::WholeFrameKept,
+        ] {
+            assert!(broken(planted, sort).contains(&Broken::LimitNotExact), "{planted:?}");
+        }
     }
-    for mode in Mode::ALL {
-        assert_eq!(broken(Planted::Nothing, mode), HashSet::new());
+    for sort in Sort::ALL {
+        assert_eq!(broken(Planted::Nothing, sort), HashSet::new());
+    }
+}
+
+#[test]
+fn the_promises_find_wrong_frames() {
+    for sort in [Sort::UNCUT, Sort::FDDI_UNCUT] {
+        assert_eq!(broken(Planted::FrameCut, sort), HashSet::from([Broken::FramesNotExact]));
+        let broken = broken(Planted::FrameAtLimit, sort);
+        for promise in [Broken::FramesNotExact, Broken::TooMuchAsynchronous, Broken::TokenLate] {
+            assert!(broken.contains(&promise), "{sort:?}: {promise:?}");
+        }
     }
 }

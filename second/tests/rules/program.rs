@@ -149,7 +149,7 @@ fn usage_for_anything_else() {
         &["else"],
         &["plan", "more"],
         &["run"],
-        &["--planted", "13", "plan"],
+        &["--planted", "17", "plan"],
         &["--planted"],
         &["generate", "runs", "1"],
         &["generate", "runs", "1", "1", "-", "more"],

@@ -4,10 +4,10 @@ use std::collections::HashMap;
 
 use second::check::WatchedRing;
 use second::frames::answer;
-use second::gen::{calls, random::Random, Kind};
+use second::gen::{calls, random::Random, Kind, Sort};
 use second::planted::Planted;
 use second::ring::Ring;
-use second::rules::{Mode, Refusal, LAST_TIME};
+use second::rules::{Refusal, LAST_TIME};
 use second::text::{Answer, Call};
 use second::waits;
 
@@ -15,8 +15,8 @@ use second::waits;
 /// one after the deadline.
 type Counts = HashMap<u8, usize>;
 
-fn follow(place: u64, mode: Mode, counts: &mut Counts) {
-    let (plan, script) = calls::script(&mut Random::of_case(1, place), mode);
+fn follow(place: u64, sort: Sort, counts: &mut Counts) {
+    let (plan, script) = calls::script(&mut Random::of_case(1, place), sort);
     let ring = Ring::open(&plan, Planted::Nothing).expect("sound");
     let mut ring = WatchedRing::new(ring, Planted::Nothing);
     for call in &script {
@@ -42,13 +42,13 @@ fn kind(answer: &Result<Answer, Refusal>) -> u8 {
 
 #[test]
 fn thousands_of_runs_keep_every_promise() {
-    for mode in Mode::ALL {
+    for sort in Sort::ALL {
         let mut counts = Counts::new();
-        (0..3_000).for_each(|place| follow(place, mode, &mut counts));
+        (0..2_000).for_each(|place| follow(place, sort, &mut counts));
         for kind in [0, 9, 10, 11, 12, 100, 101] {
-            assert!(counts[&kind] > 1_000, "{mode:?}, {kind}: {counts:?}");
+            assert!(counts[&kind] > 1_000, "{sort:?}, {kind}: {counts:?}");
         }
-        assert_eq!(counts.len(), 7, "{mode:?}: {counts:?}");
+        assert_eq!(counts.len(), 7, "{sort:?}: {counts:?}");
     }
 }
 
@@ -58,7 +58,7 @@ fn thousands_of_runs_keep_every_promise() {
 fn the_scripts_reach_the_edges() {
     let mut reached = [0; 7];
     for place in 0..1_000 {
-        let (plan, script) = calls::script(&mut Random::of_case(2, place), Mode::Timely);
+        let (plan, script) = calls::script(&mut Random::of_case(2, place), Sort::TIMELY);
         let mut ring = Ring::open(&plan, Planted::Nothing).expect("sound");
         script.iter().for_each(|call| count_edges(&mut ring, call, &mut reached));
     }
@@ -69,8 +69,8 @@ fn count_edges(ring: &mut Ring, call: &Call, reached: &mut [usize; 7]) {
     match call {
         Call::Visit(ask) => {
             let visit = ring.visit(*ask).expect("in time");
-            reached[0] += usize::from(*ask == 0);
-            reached[1] += usize::from(*ask == u32::MAX);
+            reached[0] += usize::from(ask.frames == 0);
+            reached[1] += usize::from(ask.frames == u32::MAX);
             reached[2] += usize::from(visit.completed.is_some_and(|done| done.margin <= 1));
         }
         Call::HandIn(message) => {
@@ -105,9 +105,8 @@ fn waits_for_asynchronous_time() {
 
 #[test]
 fn a_clock_at_the_last_time() {
-    for place in 0..4 {
-        let mode = if place < 2 { Mode::Timely } else { Mode::Fddi };
-        let case = &Kind::Late.case(mode, 1, place)[0];
+    for place in 0..8 {
+        let case = &Kind::Late.case(Sort::ALL[place as usize / 2], 1, place)[0];
         let answers = answer(case, Planted::Nothing);
         assert!(answers.contains("|refused 13"), "{answers}");
     }
@@ -118,7 +117,7 @@ fn the_extremes_are_among_the_rings() {
     let mut sizes = HashMap::<usize, usize>::new();
     let (mut shortest, mut no_walk) = (0, 0);
     for place in 0..3_000 {
-        let (plan, _) = calls::script(&mut Random::of_case(1, place), Mode::Timely);
+        let (plan, _) = calls::script(&mut Random::of_case(1, place), Sort::TIMELY);
         *sizes.entry(plan.allocation.len()).or_default() += 1;
         shortest += usize::from(plan.request.head.ttrt == 1);
         no_walk += usize::from(plan.request.stations.iter().any(|station| station.walk == 0));

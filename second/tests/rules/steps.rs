@@ -1,7 +1,7 @@
 //! The ring once more, by timers and a running u, step by step as the rules are written: the
 //! steps over any state, from an opening on.
 
-use second::gen::{calls, random::Random};
+use second::gen::{calls, random::Random, Sort};
 use second::planted::Planted;
 use second::ring::{Ring, Ticks};
 use second::rules::{Mode, Plan};
@@ -42,8 +42,8 @@ fn assert_same(ring: &Ring, state: &State) {
 
 #[test]
 fn absolute_times_and_timers_agree() {
-    for (place, mode) in (0..1_000).flat_map(|place| Mode::ALL.map(|mode| (place, mode))) {
-        let (plan, script) = calls::script(&mut Random::of_case(9, place), mode);
+    for (place, sort) in (0..1_000).flat_map(|place| Sort::ALL.map(|sort| (place, sort))) {
+        let (plan, script) = calls::script(&mut Random::of_case(9, place), sort);
         let mut ring = Ring::open(&plan, Planted::Nothing).expect("sound");
         let mut state = opened(&plan);
         for call in &script {

@@ -101,10 +101,11 @@ fn lines_are_numbered_and_tidied() {
 fn calls() {
     let read = |text: &str| read_call(&Line { number: 9, text: text.into() });
     assert_eq!(read(""), Ok(None));
-    assert_eq!(read("visit 4294967295"), Ok(Some(Call::Visit(u32::MAX))));
+    assert_eq!(read("visit 4294967295"), Ok(Some(Call::Visit(u32::MAX.into()))));
     let call = read("message 3 18446744073709551615 7").expect("readable").expect("a call");
     assert_eq!(call.to_string(), "message 3 18446744073709551615 7");
-    for text in ["visit", "visit 4294967296", "visit 1 2", "message 1 2", "visits 1 1", "visit x"] {
+    for text in ["visit", "visit 4294967296", "visit 1 2 3", "message 1 2", "visits 1 1", "visit x"]
+    {
         assert_eq!(read(text), Err(Fault::Unreadable(9)), "{text}");
     }
 }

@@ -1,10 +1,11 @@
 //! FDDI tick by tick, as request No. 1 says it: every timer runs up by one at a time and, on
-//! reaching TTRT, goes to 0 and raises a late count.
+//! reaching TTRT, goes to 0 and raises a late count. Frames are sent tick by tick too, as request
+//! No. 4 says it: one begins while the time used is below the limit, and is finished.
 
-use second::gen::{calls, random::Random};
+use second::gen::{calls, random::Random, Sort};
 use second::planted::Planted;
 use second::ring::{Ring, Ticks};
-use second::rules::{Mode, Plan};
+use second::rules::{Ask, Plan, Refusal};
 use second::text::Call;
 
 /// One station's timer and late count.
@@ -60,6 +61,25 @@ impl Timers {
     }
 }
 
+impl Timers {
+    /// Sends frames under a limit; gives the time that they took.
+    fn send(&mut self, ask: Ask, limit: u32) -> u32 {
+        let (mut used, mut frames, mut left_of_frame) = (0, 0, 0);
+        loop {
+            if left_of_frame == 0 {
+                if frames == ask.frames || used >= limit {
+                    return used;
+                }
+                frames += 1;
+                left_of_frame = ask.length;
+            }
+            self.tick();
+            used += 1;
+            left_of_frame -= 1;
+        }
+    }
+}
+
 /// Follows one script; gives how often a token came late, and the largest count seen.
 fn follow(plan: &Plan, script: &[Call]) -> (usize, u32) {
     let mut ring = Ring::open(plan, Planted::Nothing).expect("sound");
@@ -71,15 +91,18 @@ fn follow(plan: &Plan, script: &[Call]) -> (usize, u32) {
             let _ = ring.hand_in(message);
             continue;
         };
+        if !(1..=plan.request.head.frame).contains(&ask.length) {
+            assert_eq!(ring.visit(*ask), Err(Refusal::WrongLength));
+            continue;
+        }
         let visit = ring.visit(*ask).expect("in time");
         let here = visit.station.index();
         let before = timers.timers[here];
         assert_eq!((visit.start, visit.trt), (timers.now as Ticks, before.ticks.into()));
         let limit = timers.token(here);
         assert_eq!(visit.limit, limit.into());
-        assert_eq!(visit.asynchronous, limit.min(*ask).into());
         timers.pass(visit.synchronous as u32);
-        timers.pass(visit.asynchronous as u32);
+        assert_eq!(visit.asynchronous, timers.send(*ask, limit).into());
         timers.pass(plan.request.stations[here].walk);
         for (index, timer) in timers.timers.iter().enumerate() {
             let shown = (ring.trt(index), ring.late(index));
@@ -95,7 +118,8 @@ fn follow(plan: &Plan, script: &[Call]) -> (usize, u32) {
 fn absolute_times_and_ticks_agree() {
     let (mut runs, mut late_tokens) = (0, 0);
     for place in 0..2_000 {
-        let (plan, script) = calls::script(&mut Random::of_case(12, place), Mode::Fddi);
+        let sort = if place % 2 == 0 { Sort::FDDI } else { Sort::FDDI_UNCUT };
+        let (plan, script) = calls::script(&mut Random::of_case(12, place), sort);
         if plan.request.head.ttrt <= 300 {
             let (late, largest) = follow(&plan, &script);
             assert!(largest <= 1, "no count of a ring from an opening comes to 2");

@@ -1,8 +1,9 @@
 -- `answer_line` is right because it goes by what the line is, as the definition does.
-use mathlib.Core.Path.{refl, sym, ap, _∙_}
+use mathlib.Core.Path.{sym, ap, _∙_}
 use native.Mathlib.Omega.{arith}
+use Rattle.rings.specs.Steps.{visited}
 use Rattle.rings.specs.HandingIn.{handedIn}
-use Rattle.calls.specs.RunLaws.{answered-empty, answered-visit, answered-message, answered-unread, ask-small}
+use Rattle.calls.specs.RunLaws.{answered-empty, answered-visit, answered-message, answered-unread}
 use Rattle.text.specs.TextLaws.{unread-short, put-none, put-as}
 use borrow.Author.Needs.{needs}
 use Rattle.calls.proofs.answer_line.Statement.{statement}
@@ -20,13 +21,10 @@ returns c =
 is-visit-requires : tie.Need-is-visit-requires
 is-visit-requires c κs = search needs
 
-array-read-asked : tie.Need-array-read-asked
-array-read-asked c = search needs
-
-cast-answer-visit : tie.Need-cast-answer-visit
-cast-answer-visit c =
-    let visits = c .before .before in
-    omega (arith, ask-small (visits .before .before .before .before .before .args .s) (sym (visits .before .is-visit .ensures) ∙ visits .if2 .taken))
+ask-in-requires : tie.Need-ask-in-requires
+ask-in-requires c κs =
+    let visits = c .before in
+    sym (visits .before .is-visit .ensures) ∙ visits .if2 .taken
 
 answer-visit-requires : tie.Need-answer-visit-requires
 answer-visit-requires c κs = search needs
@@ -37,11 +35,13 @@ same-length c = search needs
 returns-2 : tie.Need-returns-2
 returns-2 c =
     let called = c .before .before in
-    let visits = called .before .before .before in
+    let asked = called .before in
+    let visits = asked .before .before in
     let other = visits .before .before in
     let start = other .before .before .before in
     let both = answered-visit (start .args .ring) (start .args .s) (start .args .line) _ (sym (other .before .is-empty-line .ensures) ∙ other .if1 .left)
-    (sym (visits .before .is-visit .ensures) ∙ visits .if2 .taken) refl in
+    (sym (visits .before .is-visit .ensures) ∙ visits .if2 .taken)
+    (ap (visited (start .args .ring)) (asked .ask-in .ensures)) in
     record { put = put-as (called .answer-visit .ensures .put) (both .0) (omega arith); behind = called .answer-visit .ensures .behind ∙ both .1 }
 
 is-message-requires : tie.Need-is-message-requires
@@ -93,8 +93,7 @@ answer-line-spec =
     is-empty-line-requires
     returns
     is-visit-requires
-    array-read-asked
-    cast-answer-visit
+    ask-in-requires
     answer-visit-requires
     same-length
     returns-2

@@ -1,9 +1,12 @@
 -- `line_drafted` is right because it goes by what the line is, as the definition does.
 use mathlib.Core.Path.{_≡_, sym, _∙_}
 use mathlib.Core.Bool.{true, false}
+use borrow.Author.Tests.{le-leb, lt-leb}
+use lib.Dec.{leb}
+use Rattle.fields.specs.Fields.{modeTag}
 use Rattle.lines.specs.Scan.{codeOf, isEmptyLine}
-use Rattle.drafts.specs.Compose.{ttrtWord, modeWord, isTtrt, isMode, isStation, isPlanStation, lineDrafted}
-use Rattle.drafts.specs.ComposeLaws.{line-fits}
+use Rattle.drafts.specs.Compose.{ttrtWord, isTtrt, lineTag, isStation, isPlanStation, lineDrafted}
+use Rattle.drafts.specs.ComposeLaws.{line-fits, tag-fits}
 use borrow.Author.Needs.{needs}
 use Rattle.drafts.proofs.line_drafted.Statement.{statement}
 use Rattle.drafts.proofs.line_drafted.Tie as tie
@@ -19,23 +22,24 @@ a-ttrt c = sym (c .before .is-line .ensures) ∙ c .if2 .taken
 no-ttrt : (c : tie.Else2) → isTtrt (c .before .before .before .before .args .s) ≡ false
 no-ttrt c = sym (c .before .is-line .ensures) ∙ c .if2 .left
 
-a-mode : (c : tie.Then3) → isMode (c .before .before .before .before .before .before .args .s) ≡ true
-a-mode c = sym (c .before .is-line2 .ensures) ∙ c .if3 .taken
+-- a further line of the header
+a-further : (c : tie.Then3) → leb modeTag (lineTag (c .before .before .before .before .before .before .args .s)) ≡ true
+a-further c = rw (← c .before .line-tag .ensures) (le-leb _ _ (c .if3 .taken))
 
-no-mode : (c : tie.Else3) → isMode (c .before .before .before .before .before .before .args .s) ≡ false
-no-mode c = sym (c .before .is-line2 .ensures) ∙ c .if3 .left
+no-further : (c : tie.Else3) → leb modeTag (lineTag (c .before .before .before .before .before .before .args .s)) ≡ false
+no-further c = rw (← c .before .line-tag .ensures) (lt-leb _ _ (c .if3 .left))
 
 a-station : (c : tie.Then4) → isStation (c .before .before .before .before .before .before .before .before .args .s) ≡ true
-a-station c = sym (c .before .is-line3 .ensures) ∙ c .if4 .taken
+a-station c = sym (c .before .is-line2 .ensures) ∙ c .if4 .taken
 
 no-station : (c : tie.Else4) → isStation (c .before .before .before .before .before .before .before .before .args .s) ≡ false
-no-station c = sym (c .before .is-line3 .ensures) ∙ c .if4 .left
+no-station c = sym (c .before .is-line2 .ensures) ∙ c .if4 .left
 
 a-plan-station : (c : tie.Then5) → isPlanStation (c .before .before .before .before .before .before .before .before .before .before .args .s) ≡ true
-a-plan-station c = sym (c .before .is-line4 .ensures) ∙ c .if5 .taken
+a-plan-station c = sym (c .before .is-line3 .ensures) ∙ c .if5 .taken
 
 no-plan-station : (c : tie.Else5) → isPlanStation (c .before .before .before .before .before .before .before .before .before .before .args .s) ≡ false
-no-plan-station c = sym (c .before .is-line4 .ensures) ∙ c .if5 .left
+no-plan-station c = sym (c .before .is-line3 .ensures) ∙ c .if5 .left
 
 -- ---- the needs
 
@@ -66,8 +70,8 @@ returns-2 c =
     let here = c .before .before .before in
     rw (some-line (here .before .before), a-ttrt here, ← c .before .narrow .ensures) (c .with-ttrt .ensures)
 
-is-line-requires-2 : tie.Need-is-line-requires-2
-is-line-requires-2 c κs = search needs
+line-tag-requires : tie.Need-line-tag-requires
+line-tag-requires c κs = search needs
 
 array-read-narrow-2 : tie.Need-array-read-narrow-2
 array-read-narrow-2 c = search needs
@@ -75,20 +79,20 @@ array-read-narrow-2 c = search needs
 narrow-requires-2 : tie.Need-narrow-requires-2
 narrow-requires-2 c κs =
     let here = c .before in
-    line-fits (here .before .before .before .before .before .before .args .s) (codeOf modeWord) 1 (a-mode here) .first
+    tag-fits (here .before .before .before .before .before .before .args .s) (a-further here) .first
 
-with-mode-requires : tie.Need-with-mode-requires
-with-mode-requires c κs = search needs
+with-further-requires : tie.Need-with-further-requires
+with-further-requires c κs = search needs
 
 returns-3 : tie.Need-returns-3
 unfolding lineDrafted
 returns-3 c =
     let here = c .before .before .before in
     let second = here .before .before in
-    rw (some-line (second .before .before), no-ttrt second, a-mode here, ← c .before .narrow2 .ensures) (c .with-mode .ensures)
+    rw (some-line (second .before .before), no-ttrt second, a-further here, ← c .before .narrow2 .ensures, ← here .before .line-tag .ensures) (c .with-further .ensures)
 
-is-line-requires-3 : tie.Need-is-line-requires-3
-is-line-requires-3 c κs = search needs
+is-line-requires-2 : tie.Need-is-line-requires-2
+is-line-requires-2 c κs = search needs
 
 with-station-requires : tie.Need-with-station-requires
 with-station-requires c κs = line-fits _ _ _ (a-station c)
@@ -99,10 +103,10 @@ returns-4 c =
     let here = c .before in
     let third = here .before .before in
     let second = third .before .before in
-    rw (some-line (second .before .before), no-ttrt second, no-mode third, a-station here) (c .with-station .ensures)
+    rw (some-line (second .before .before), no-ttrt second, no-further third, a-station here) (c .with-station .ensures)
 
-is-line-requires-4 : tie.Need-is-line-requires-4
-is-line-requires-4 c κs = search needs
+is-line-requires-3 : tie.Need-is-line-requires-3
+is-line-requires-3 c κs = search needs
 
 with-station-requires-2 : tie.Need-with-station-requires-2
 with-station-requires-2 c κs = line-fits _ _ _ (a-plan-station c)
@@ -114,7 +118,7 @@ returns-5 c =
     let fourth = here .before .before in
     let third = fourth .before .before in
     let second = third .before .before in
-    rw (some-line (second .before .before), no-ttrt second, no-mode third, no-station fourth, a-plan-station here) (c .with-station2 .ensures)
+    rw (some-line (second .before .before), no-ttrt second, no-further third, no-station fourth, a-plan-station here) (c .with-station2 .ensures)
 
 with-unread-requires : tie.Need-with-unread-requires
 with-unread-requires c κs = search needs
@@ -126,7 +130,7 @@ returns-6 c =
     let fourth = here .before .before in
     let third = fourth .before .before in
     let second = third .before .before in
-    rw (some-line (second .before .before), no-ttrt second, no-mode third, no-station fourth, no-plan-station here) (c .with-unread .ensures)
+    rw (some-line (second .before .before), no-ttrt second, no-further third, no-station fourth, no-plan-station here) (c .with-unread .ensures)
 
 pub line-drafted-spec : {M : Type 1} → statement M
 line-drafted-spec =
@@ -139,15 +143,15 @@ line-drafted-spec =
     narrow-requires
     with-ttrt-requires
     returns-2
-    is-line-requires-2
+    line-tag-requires
     array-read-narrow-2
     narrow-requires-2
-    with-mode-requires
+    with-further-requires
     returns-3
-    is-line-requires-3
+    is-line-requires-2
     with-station-requires
     returns-4
-    is-line-requires-4
+    is-line-requires-3
     with-station-requires-2
     returns-5
     with-unread-requires

@@ -7,8 +7,8 @@ use Rattle.plans.proofs.token_fits.Tie as tie
 sum-first-requires : tie.Need-sum-first-requires
 sum-first-requires c κs = search needs
 
-walk-time-requires : tie.Need-walk-time-requires
-walk-time-requires c κs = search needs
+lost-requires : tie.Need-lost-requires
+lost-requires c κs = search needs
 
 add-result : tie.Need-add-result
 add-result c = search needs
@@ -17,8 +17,8 @@ wide-requires : tie.Need-wide-requires
 wide-requires c κs = search needs
 
 returns : tie.Need-returns
-returns c = rw (c .before .before .sum-first .ensures .sum, c .before .walk-time .ensures .sum, c .wide .ensures .same) refl
+returns c = rw (c .before .before .sum-first .ensures .sum, c .before .lost .ensures .is, c .wide .ensures .same) refl
 
 pub token-fits-spec : {M : Type 1} → statement M
 token-fits-spec =
-    tie.close (tie.spec sum-first-requires walk-time-requires add-result wide-requires returns)
+    tie.close (tie.spec sum-first-requires lost-requires add-result wide-requires returns)

@@ -1,13 +1,14 @@
--- `read_set` is right because it reads TTRT, the mode and the four columns of the stations.
+-- `read_set` is right because it reads the header and the four columns of the stations.
+use native.Mathlib.Omega.{arith}
 use borrow.Author.Needs.{needs}
 use Rattle.sheets.proofs.reading.read_set.Statement.{statement}
 use Rattle.sheets.proofs.reading.read_set.Tie as tie
 
-number-at-requires : tie.Need-number-at-requires
-number-at-requires c κs = search needs
-
-read-mode-requires : tie.Need-read-mode-requires
-read-mode-requires c κs = search needs
+read-head-requires : tie.Need-read-head-requires
+read-head-requires c κs =
+    let fits = c .before .pre in
+    let some = fits .some in
+    omega (arith, fits .header, fits .inside)
 
 cast-count : tie.Need-cast-count
 cast-count c = search needs
@@ -42,8 +43,7 @@ returns c =
     let second = third .before in
     let first = second .before in
     rw (
-      first .before .before .number-at .ensures,
-      first .before .read-mode .ensures,
+      first .before .read-head .ensures,
       first .read-column .ensures,
       second .read-column2 .ensures,
       third .read-column3 .ensures,
@@ -54,8 +54,7 @@ pub read-set-spec : {M : Type 1} → statement M
 read-set-spec =
     tie.close
     (tie.spec
-    number-at-requires
-    read-mode-requires
+    read-head-requires
     cast-count
     add-read-column
     read-column-requires

@@ -1,24 +1,28 @@
 -- `further_length` is right because it asks the definition's test.
-use mathlib.Core.Path.{_≡_, refl}
-use mathlib.Core.Bool.{false}
-use lib.Dec.{eqb}
-use borrow.Author.Tests.{ne-eqb}
-use Rattle.fields.specs.Header.{absent}
-use Rattle.sheets.specs.Layout.{furtherLength}
+use Prim.Native.Nat.{ℕ, _+_}
+use mathlib.Core.Path.{sym, ap, _∙_}
+use native.Mathlib.Omega.{arith}
+use Rattle.fields.proofs.FieldLaws.{further-small}
+use Rattle.sheets.proofs.WritingLaws.{length-none, length-some}
+use borrow.Author.Needs.{needs}
 use Rattle.sheets.proofs.writing.further_length.Statement.{statement}
 use Rattle.sheets.proofs.writing.further_length.Tie as tie
 
 returns : tie.Need-returns
-unfolding furtherLength
 returns c =
-    let same : c .before .before .args .h .mode ≡ absent = c .if1 .taken in
-    rw same refl
+    let args = c .before .args in
+    sym (length-none (args .tag) (args .number) (c .if1 .taken))
+
+further-size-requires : tie.Need-further-size-requires
+further-size-requires c κs = search needs
+
+add-result : tie.Need-add-result
+add-result c = omega (arith, c .further-size .ensures, further-small (c .before .before .args .tag))
 
 returns-2 : tie.Need-returns-2
-unfolding furtherLength
 returns-2 c =
-    let other : eqb (c .before .before .args .h .mode) absent ≡ false = ne-eqb _ _ (c .if1 .left) in
-    rw other refl
+    let args = c .before .before .args in
+    ap (λ (k : ℕ). 3 + k) (c .further-size .ensures) ∙ sym (length-some (args .tag) (args .number) (c .before .if1 .left))
 
 pub further-length-spec : {M : Type 1} → statement M
-further-length-spec = tie.close (tie.spec returns returns-2)
+further-length-spec = tie.close (tie.spec returns further-size-requires add-result returns-2)

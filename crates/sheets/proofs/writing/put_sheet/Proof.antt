@@ -14,8 +14,8 @@ cast-n c = search needs
 allocations-for-requires : tie.Need-allocations-for-requires
 allocations-for-requires c κs = search needs
 
-further-length-requires : tie.Need-further-length-requires
-further-length-requires c κs = search needs
+head-length-requires : tie.Need-head-length-requires
+head-length-requires c κs = search needs
 
 add-from : tie.Need-add-from
 add-from c = search needs
@@ -39,7 +39,7 @@ put-allocations-requires c κs =
     let start = counted .before .before .before in
     let few = allocations-few (start .args .plan) (start .args .t .n) in
     let said = counted .allocations-for .ensures in
-    let begun = measured .further-length .ensures in
+    let begun = measured .head-length .ensures in
     let fit = start .pre in
     (omega arith, omega arith)
 
@@ -71,7 +71,7 @@ returns c =
       allocations = allocated .put-allocations .ensures;
       end = ended .put-mark .ensures;
     })
-    (ap (λ (k : ℕ). 7 + k) (measured .further-length .ensures)) (counted .allocations-for .ensures) (start .pre .1)
+    (ap (λ (k : ℕ). 7 + k) (measured .head-length .ensures)) (counted .allocations-for .ensures) (start .pre .1)
 
 pub put-sheet-spec : {M : Type 1} → statement M
 put-sheet-spec =
@@ -79,7 +79,7 @@ put-sheet-spec =
     (tie.spec
     cast-n
     allocations-for-requires
-    further-length-requires
+    head-length-requires
     add-from
     mul-behind
     add-behind

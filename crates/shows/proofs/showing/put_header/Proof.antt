@@ -1,12 +1,9 @@
--- `put_header` is right because the mode's line stands behind TTRT's, and there is none where the mode is what its absence means.
-use mathlib.Core.Path.{sym, ap, _∙_}
-use mathlib.Core.List.{List, _++_, append-nil}
-use Prim.Native.Nat.{ℕ}
+-- `put_header` is right because the lines behind TTRT's stand one behind the other.
 use native.Mathlib.Omega.{arith}
 use Rattle.text.specs.Text.{PutShort}
 use Rattle.text.specs.TextLaws.{put-short-then, put-as}
-use Rattle.outputs.specs.ShowText.{ttrtLine, modeLine}
-use Rattle.outputs.proofs.ShowLaws.{mode-line-none, mode-line-some}
+use Rattle.outputs.specs.ShowText.{ttrtLine}
+use Rattle.outputs.proofs.ShowLaws.{head-lines}
 use borrow.Author.Needs.{needs}
 use Rattle.shows.proofs.showing.put_header.Statement.{statement}
 use Rattle.shows.proofs.showing.put_header.Tie as tie
@@ -20,6 +17,12 @@ wide-requires c κs = search needs
 put-named-requires : tie.Need-put-named-requires
 put-named-requires c κs = search needs
 
+put-further-requires : tie.Need-put-further-requires
+put-further-requires c κs = search needs
+
+put-further-requires-2 : tie.Need-put-further-requires-2
+put-further-requires-2 c κs = search needs
+
 same-length : tie.Need-same-length
 same-length c = search needs
 
@@ -31,33 +34,12 @@ ttrt-put c = put-as (c .put-named .ensures) (rw (c .before .wide .ensures .same)
 
 returns : tie.Need-returns
 returns c =
-    let first = c .before .before .before .before in
+    let third = c .before .before in
+    let second = third .before .before .before .before in
+    let first = second .before .before .before .before in
     let start = first .before .before .before .before .before in
-    let none = mode-line-none (start .args .h .mode) (c .if1 .taken) in
-    let line = ttrtLine (start .args .h .ttrt) in
-    put-as (ttrt-put first) (sym (append-nil line) ∙ ap (λ (s : List ℕ). line ++ s) (sym none)) (omega arith)
-
-slice-aggregate-put-named-2 : tie.Need-slice-aggregate-put-named-2
-slice-aggregate-put-named-2 c = search needs
-
-wide-requires-2 : tie.Need-wide-requires-2
-wide-requires-2 c κs = search needs
-
-put-named-requires-2 : tie.Need-put-named-requires-2
-put-named-requires-2 c κs = search needs
-
-same-length-2 : tie.Need-same-length-2
-same-length-2 c = search needs
-
-returns-2 : tie.Need-returns-2
-returns-2 c =
-    let second = c .before .before in
-    let other = second .before .before .before .before in
-    let first = other .before .before .before .before in
-    let start = first .before .before .before .before .before in
-    let some = mode-line-some (start .args .h .mode) (other .if1 .left) in
-    let mode-put = put-as {t = modeLine (start .args .h .mode)} {more = 42} (second .put-named2 .ensures) (rw (second .before .wide2 .ensures .same) (sym some)) (omega arith) in
-    put-short-then (ttrt-put first) mode-put (omega (arith, start .pre))
+    let two = put-short-then (ttrt-put first) (second .put-further .ensures) (omega (arith, start .pre)) in
+    rw (head-lines (start .args .h)) (put-short-then two (third .put-further2 .ensures) (omega (arith, start .pre)))
 
 pub put-header-spec : {M : Type 1} → statement M
 put-header-spec =
@@ -66,10 +48,7 @@ put-header-spec =
     slice-aggregate-put-named
     wide-requires
     put-named-requires
+    put-further-requires
+    put-further-requires-2
     same-length
-    returns
-    slice-aggregate-put-named-2
-    wide-requires-2
-    put-named-requires-2
-    same-length-2
-    returns-2)
+    returns)

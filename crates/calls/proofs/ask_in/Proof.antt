@@ -1,0 +1,35 @@
+-- `ask_in` is right because a visit's numbers are 32-bit numbers, and a line of one number names no length.
+use native.Mathlib.Omega.{arith}
+use Rattle.calls.specs.RunLaws.{ask-small, length-small, ask-alone, ask-named}
+use borrow.Author.Needs.{needs}
+use Rattle.calls.proofs.ask_in.Statement.{statement}
+use Rattle.calls.proofs.ask_in.Tie as tie
+
+array-read-asked : tie.Need-array-read-asked
+array-read-asked c = search needs
+
+cast-frames : tie.Need-cast-frames
+cast-frames c =
+    let start = c .before in
+    omega (arith, ask-small (start .args .s) (start .pre))
+
+returns : tie.Need-returns
+returns c =
+    let start = c .before .before .before in
+    ask-alone (start .args .s) (c .if1 .taken)
+
+array-read-named : tie.Need-array-read-named
+array-read-named c = search needs
+
+cast-length : tie.Need-cast-length
+cast-length c =
+    let start = c .before .before .before in
+    omega (arith, length-small (start .args .s) (start .pre) (c .if1 .left))
+
+returns-2 : tie.Need-returns-2
+returns-2 c =
+    let start = c .before .before .before in
+    ask-named (start .args .s) (c .if1 .left)
+
+pub ask-in-spec : {M : Type 1} → statement M
+ask-in-spec = tie.close (tie.spec array-read-asked cast-frames returns array-read-named cast-length returns-2)

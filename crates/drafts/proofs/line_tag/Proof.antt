@@ -1,0 +1,38 @@
+-- `line_tag` is right because it asks for the words in the definition's order.
+use mathlib.Core.Path.{_≡_, refl, sym, _∙_}
+use mathlib.Core.Bool.{true, false}
+use Rattle.lines.specs.Scan.{codeOf}
+use Rattle.drafts.specs.Compose.{modeWord, frameWord, isLine, lineTag}
+use borrow.Author.Needs.{needs}
+use Rattle.drafts.proofs.line_tag.Statement.{statement}
+use Rattle.drafts.proofs.line_tag.Tie as tie
+
+no-mode : (c : tie.Else1) → isLine (c .before .before .args .s) (codeOf modeWord) 1 ≡ false
+no-mode c = sym (c .before .is-line .ensures) ∙ c .if1 .left
+
+is-line-requires : tie.Need-is-line-requires
+is-line-requires c κs = search needs
+
+returns : tie.Need-returns
+unfolding lineTag
+returns c =
+    let named : isLine (c .before .before .args .s) (codeOf modeWord) 1 ≡ true = sym (c .before .is-line .ensures) ∙ c .if1 .taken in
+    rw named refl
+
+is-line-requires-2 : tie.Need-is-line-requires-2
+is-line-requires-2 c κs = search needs
+
+returns-2 : tie.Need-returns-2
+unfolding lineTag
+returns-2 c =
+    let named : isLine (c .before .before .before .before .args .s) (codeOf frameWord) 1 ≡ true = sym (c .before .is-line2 .ensures) ∙ c .if2 .taken in
+    rw (no-mode (c .before .before), named) refl
+
+returns-3 : tie.Need-returns-3
+unfolding lineTag
+returns-3 c =
+    let named : isLine (c .before .before .before .before .args .s) (codeOf frameWord) 1 ≡ false = sym (c .before .is-line2 .ensures) ∙ c .if2 .left in
+    rw (no-mode (c .before .before), named) refl
+
+pub line-tag-spec : {M : Type 1} → statement M
+line-tag-spec = tie.close (tie.spec is-line-requires returns is-line-requires-2 returns-2 returns-3)

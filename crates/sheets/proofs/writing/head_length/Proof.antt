@@ -1,0 +1,26 @@
+-- `head_length` is right because it adds the lengths of the fields behind TTRT.
+use native.Mathlib.Omega.{arith}
+use Rattle.sheets.proofs.WritingLaws.{length-small, head-lengths}
+use borrow.Author.Needs.{needs}
+use Rattle.sheets.proofs.writing.head_length.Statement.{statement}
+use Rattle.sheets.proofs.writing.head_length.Tie as tie
+
+further-length-requires : tie.Need-further-length-requires
+further-length-requires c κs = search needs
+
+further-length-requires-2 : tie.Need-further-length-requires-2
+further-length-requires-2 c κs = search needs
+
+add-result : tie.Need-add-result
+add-result c =
+    let args = c .before .before .args in
+    omega (arith, c .before .further-length .ensures, c .further-length2 .ensures, length-small 4 (args .h .mode), length-small 5 (args .h .frame))
+
+returns : tie.Need-returns
+returns c =
+    let args = c .before .before .args in
+    omega (arith, c .before .further-length .ensures, c .further-length2 .ensures, head-lengths (args .h))
+
+pub head-length-spec : {M : Type 1} → statement M
+head-length-spec =
+    tie.close (tie.spec further-length-requires further-length-requires-2 add-result returns)

@@ -1,0 +1,72 @@
+-- `put_further` is right because the line has the word of its tag, and there is none where the number is what its absence means.
+use mathlib.Core.Path.{sym}
+use mathlib.Core.List.{[]}
+use native.Mathlib.Omega.{arith}
+use Rattle.text.specs.Text.{PutShort}
+use Rattle.text.specs.TextLaws.{put-none, put-as}
+use Rattle.outputs.proofs.ShowLaws.{line-none, mode-line, frame-line}
+use borrow.Author.Needs.{needs}
+use Rattle.shows.proofs.showing.put_further.Statement.{statement}
+use Rattle.shows.proofs.showing.put_further.Tie as tie
+
+returns : tie.Need-returns
+returns c =
+    let args = c .before .before .args in
+    let nothing : PutShort 0 (args .page .now) (args .at) [] (args .page .now) (args .at) = record { put = put-none _ _; short = omega arith } in
+    put-as nothing (sym (line-none (args .tag) (args .number) (c .if1 .taken))) (omega arith)
+
+slice-aggregate-put-named : tie.Need-slice-aggregate-put-named
+slice-aggregate-put-named c = search needs
+
+wide-requires : tie.Need-wide-requires
+wide-requires c κs = search needs
+
+put-named-requires : tie.Need-put-named-requires
+put-named-requires c κs = search needs
+
+same-length : tie.Need-same-length
+same-length c = search needs
+
+returns-2 : tie.Need-returns-2
+returns-2 c =
+    let called = c .before .before in
+    let mode = called .before .before .before .before in
+    let some = mode .before in
+    let args = some .before .before .args in
+    put-as (called .put-named .ensures) (rw (called .before .wide .ensures .same) (mode-line (args .tag) (args .number) (mode .if2 .taken) (some .if1 .left))) (omega arith)
+
+slice-aggregate-put-named-2 : tie.Need-slice-aggregate-put-named-2
+slice-aggregate-put-named-2 c = search needs
+
+wide-requires-2 : tie.Need-wide-requires-2
+wide-requires-2 c κs = search needs
+
+put-named-requires-2 : tie.Need-put-named-requires-2
+put-named-requires-2 c κs = search needs
+
+same-length-2 : tie.Need-same-length-2
+same-length-2 c = search needs
+
+returns-3 : tie.Need-returns-3
+returns-3 c =
+    let called = c .before .before in
+    let other = called .before .before .before .before in
+    let some = other .before in
+    let args = some .before .before .args in
+    put-as (called .put-named2 .ensures) (rw (called .before .wide2 .ensures .same) (frame-line (args .tag) (args .number) (other .if2 .left) (some .if1 .left))) (omega arith)
+
+pub put-further-spec : {M : Type 1} → statement M
+put-further-spec =
+    tie.close
+    (tie.spec
+    returns
+    slice-aggregate-put-named
+    wide-requires
+    put-named-requires
+    same-length
+    returns-2
+    slice-aggregate-put-named-2
+    wide-requires-2
+    put-named-requires-2
+    same-length-2
+    returns-3)
