@@ -37,7 +37,9 @@ use Rattle.lines.specs.declared.Scan.{Scan}
 four : (x d e f : List ℕ) → ((x ++ d) ++ e) ++ f ≡ x ++ ((d ++ e) ++ f)
 four x d e f = simp append-assoc
 
-pub visit-words : (w a b c d e f : List ℕ) (rest : List (List ℕ)) → line (w ∷ a ∷ b ∷ c ∷ d ∷ e ∷ f ∷ rest) ≡ ((((w ++ (space ∷ a)) ++ (space ∷ b)) ++ (space ∷ c)) ++ (((space ∷ d) ++ (space ∷ e)) ++ (space ∷ f))) ++ lineOn rest
+pub visit-words : (w a b c d e f : List ℕ) (rest : List (List ℕ))
+    → line (w ∷ a ∷ b ∷ c ∷ d ∷ e ∷ f ∷ rest)
+    ≡ ((((w ++ (space ∷ a)) ++ (space ∷ b)) ++ (space ∷ c)) ++ (((space ∷ d) ++ (space ∷ e)) ++ (space ∷ f))) ++ lineOn rest
 visit-words w a b c d e f rest =
     rw (line-first, line-next, line-next, line-next, line-next, line-next, line-next)
     (ap (λ (front : List ℕ). front ++ lineOn rest) (four (((w ++ (space ∷ a)) ++ (space ∷ b)) ++ (space ∷ c)) (space ∷ d) (space ∷ e) (space ∷ f)))
@@ -69,7 +71,9 @@ module _ (ring : Ring) (s : Scan) (n : ℕ) where
   answered-visit v e i m =
       (rw (e, i) (ap (λ (x : Visited). visitText (x .answer)) m), rw (e, i) (ap (λ (x : Visited). x .ring) m))
 
-  pub answered-message : (t : Taken) → isEmptyLine s ≡ false → isVisit s ≡ false → isMessage s ≡ true → t ≡ handedIn ring (messageIn s) → (takenText (t .number) ≡ answerText ring s n) × (t .ring ≡ ringAfter ring s)
+  pub answered-message : (t : Taken)
+      → isEmptyLine s ≡ false → isVisit s ≡ false → isMessage s ≡ true → t ≡ handedIn ring (messageIn s)
+      → (takenText (t .number) ≡ answerText ring s n) × (t .ring ≡ ringAfter ring s)
   unfolding answerText ringAfter
   answered-message t e i j m =
       (rw (e, i, j) (ap (λ (x : Taken). takenText (x .number)) m), rw (e, i, j) (ap (λ (x : Taken). x .ring) m))
@@ -120,7 +124,9 @@ unfolding runOn saidAt
 goes-on u b e = (rw (ne-eqb b newline e), rw (ne-eqb b newline e))
 
 -- one byte more: the line ends
-pub line-ends : (u : Run) (b : ℕ) → b ≡ newline → (runOn u b ≡ record { ring = ringAfter (u .ring) (u .scan); scan = freshScan; line = nextLine (u .line) }) × (saidAt u b ≡ answerText (u .ring) (u .scan) (u .line))
+pub line-ends : (u : Run) (b : ℕ) → b ≡ newline
+    → (runOn u b ≡ record { ring = ringAfter (u .ring) (u .scan); scan = freshScan; line = nextLine (u .line) })
+    × (saidAt u b ≡ answerText (u .ring) (u .scan) (u .line))
 unfolding runOn saidAt
 line-ends u b e = (rw (eq-eqb b newline e), rw (eq-eqb b newline e))
 
@@ -159,7 +165,9 @@ pub ran-none : (u : Run) (text page : List ℕ) → length page < pageSize → R
 unfolding pieceOf runAfter
 ran-none u text page small = record { behind = rw (lt-ltb (length page) pageSize small); said = not-printed small }
 
-pub ran-piece : (u : Run) (text : List ℕ) (end : ℕ) (before after : List ℕ) (r : Ran) → end ≡ min (length text) pieceSize → pageSize ≤ length before → RanPiece u text end before after r → RanOn u text before after r
+pub ran-piece : (u : Run) (text : List ℕ) (end : ℕ) (before after : List ℕ) (r : Ran)
+    → end ≡ min (length text) pieceSize → pageSize ≤ length before
+    → RanPiece u text end before after r → RanOn u text before after r
 unfolding pieceOf
 ran-piece u text end before after r e large h =
     let piece : take end text ≡ take pieceSize text = ap (λ (k : ℕ). take k text) e ∙ take-piece text pieceSize in

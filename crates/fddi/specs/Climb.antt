@@ -3,9 +3,9 @@ use Prim.Native.Nat.{ℕ, zero, suc, _+_, _-_, _*_, min}
 use mathlib.Core.Bool.{Bool, true, false, cond, _&&_, _||_}
 use mathlib.Core.List.{List}
 use lib.Dec.{leb, ltb, eqb}
-use lib.ListN.{replicate}
 use Rattle.units.specs.Small.{roundedUp}
 use Rattle.units.specs.Places.{at, sumBelow, fill}
+pub use Rattle.units.specs.Places.{zeros}
 use Rattle.fddi.specs.Rules.{stations, wholeRotations, lost, tokenFits}
 use Rattle.fddi.specs.declared.Load.{Load}
 use Rattle.fddi.specs.declared.Found.{Found}
@@ -57,10 +57,6 @@ moreAt l taken i = lacking (l .ttrt) (rotationsAt l i) (at (l .c) i) (at (l .d) 
 -- the next S at station i
 abbrev pub nextAt : Load → ℕ → List ℕ → ℕ → ℕ
 nextAt l taken s i = next (l .ttrt) (l .grid) (rotationsAt l i) (at (l .c) i) (moreAt l taken i) (at s i)
-
--- 128 zeros
-abbrev pub zeros : List ℕ
-zeros = replicate 128 0
 
 -- q at each station, 0 past them
 abbrev pub rotationsOf : Load → List ℕ

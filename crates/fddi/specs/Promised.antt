@@ -27,7 +27,10 @@ pub record Promised : Type 0 where
   pub all-stations : (l : Load) (s : ℕ → ℕ) (i : ℕ) → i < stations l → others (stations l) s i + s i ≡ sumBelow (stations l) s
   -- the deadline rule in products: q shares are enough for C, and q − 1 are, or q shares and the rest of D are enough for C and all that is taken
   pub in-products : (l : Load) (s : ℕ → ℕ) (i : ℕ) → i < stations l
-      → (at (l .c) i ≤ timeAt l s i) ↔ ((at (l .c) i ≤ rotationsAt l i * s i) × ((at (l .c) i ≤ (rotationsAt l i - 1) * s i) ⊎ (at (l .c) i + (sumBelow (stations l) s + lost l) ≤ rotationsAt l i * s i + rest (l .ttrt) (at (l .d) i))))
+      → (at (l .c) i ≤ timeAt l s i) ↔
+      ((at (l .c) i ≤ rotationsAt l i * s i)
+      × ((at (l .c) i ≤ (rotationsAt l i - 1) * s i)
+      ⊎ (at (l .c) i + (sumBelow (stations l) s + lost l) ≤ rotationsAt l i * s i + rest (l .ttrt) (at (l .d) i))))
   -- the test by products that the climb makes decides it
   pub another-way : (l : Load) (s : ℕ → ℕ) (i : ℕ) → i < stations l
       → Decides (holds (rotationsAt l i) (at (l .c) i) (moreAt l (sumBelow (stations l) s + lost l) i) (s i)) (at (l .c) i ≤ timeAt l s i)

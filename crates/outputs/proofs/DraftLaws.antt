@@ -190,15 +190,19 @@ unfoldable pub kindBehind : Bool → ℕ → ℕ
 kindBehind plan zero = 0
 kindBehind plan (suc k) = kindOf plan
 
+-- the k-th further number is absent, so that no line names it
+abbrev noLine : Head → ℕ → Bool
+noLine h k = eqb (headNumber h (modeTag + k)) absent
+
 -- the tag of the last of the lines of TTRT and the first k fields behind it
 unfoldable pub tagBehind : Head → ℕ → ℕ
 tagBehind h zero = 1
-tagBehind h (suc k) = cond (eqb (headNumber h (modeTag + k)) absent) (tagBehind h k) (modeTag + k)
+tagBehind h (suc k) = cond (noLine h k) (tagBehind h k) (modeTag + k)
 
 -- the number of the next line
 unfoldable pub headLine : Head → ℕ → ℕ
 headLine h zero = nextLine 1
-headLine h (suc k) = cond (eqb (headNumber h (modeTag + k)) absent) (headLine h k) (nextLine (headLine h k))
+headLine h (suc k) = cond (noLine h k) (headLine h k) (nextLine (headLine h k))
 
 -- the header so far; a number that no line names is what its absence means
 unfoldable headSoFar : Head → ℕ → Head
@@ -222,13 +226,17 @@ tag-some : (h : Head) (k : ℕ) → 1 ≤ tagBehind h k
 unfolding tagBehind
 tag-some h zero = omega arith
 tag-some h (suc k) =
-    ⊎-elim (λ (e : eqb (headNumber h (modeTag + k)) absent ≡ true). rw e (tag-some h k)) (λ (e : eqb (headNumber h (modeTag + k)) absent ≡ false). rw e (omega arith)) (true-or-false (eqb (headNumber h (modeTag + k)) absent))
+    ⊎-elim (λ (e : noLine h k ≡ true). rw e (tag-some h k))
+    (λ (e : noLine h k ≡ false). rw e (omega arith))
+    (true-or-false (noLine h k))
 
 tag-below : (h : Head) (k : ℕ) → tagBehind h k < modeTag + k
 unfolding tagBehind
 tag-below h zero = omega arith
 tag-below h (suc k) =
-    ⊎-elim (λ (e : eqb (headNumber h (modeTag + k)) absent ≡ true). rw e (omega (arith, tag-below h k))) (λ (e : eqb (headNumber h (modeTag + k)) absent ≡ false). rw e (omega arith)) (true-or-false (eqb (headNumber h (modeTag + k)) absent))
+    ⊎-elim (λ (e : noLine h k ≡ true). rw e (omega (arith, tag-below h k)))
+    (λ (e : noLine h k ≡ false). rw e (omega arith))
+    (true-or-false (noLine h k))
 
 pub head-some : (h : Head) → leb 1 (tagBehind h furtherCount) ≡ true
 head-some h = le-leb 1 (tagBehind h furtherCount) (tag-some h furtherCount)

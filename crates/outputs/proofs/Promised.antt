@@ -77,7 +77,8 @@ empty-said : planPrinted [] ≡ refusedLine 1
 empty-said = text-refused _ _ (λ e. absurd (omega (arith, e, empty-read))) ∙ ap refusedLine empty-read
 
 olderSet : ℕ → Set
-olderSet frame = record { head = record { ttrt = 100; mode = 2; frame = frame }; n = 1; w = fill 1 (λ i. 2) zeros; c = fill 1 (λ i. 20) zeros; d = fill 1 (λ i. 200) zeros; p = fill 1 (λ i. 200) zeros }
+olderSet frame =
+    record { head = record { ttrt = 100; mode = 2; frame = frame }; n = 1; w = fill 1 (λ i. 2) zeros; c = fill 1 (λ i. 20) zeros; d = fill 1 (λ i. 200) zeros; p = fill 1 (λ i. 200) zeros }
 
 workedSet : Set
 workedSet =

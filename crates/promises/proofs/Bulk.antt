@@ -30,7 +30,7 @@ use Rattle.promises.proofs.Runs.{made, heldRun, visit-goes, visit-stops
 use Rattle.promises.proofs.Timely.{TimelyVisit, Timely, steady, timely}
 use Rattle.promises.proofs.Lists.{somewhere-of, each-append, each-both}
 use Rattle.promises.proofs.Rotations.{InOrder, soon}
-use Rattle.promises.proofs.Waits.{offered, offered-soon}
+use Rattle.promises.proofs.Waits.{OfferedSoon, offered, offered-soon}
 
 -- ---- the visits among further calls
 
@@ -39,14 +39,20 @@ unfolding noted
 noted-before zero x new old = refl
 noted-before (suc k) x new old = refl
 
+-- the records of a run that goes on with this ring, these records and these messages
+abbrev told : Ring → List VisitRecord → List Message → List Call → List VisitRecord
+told r records ms later = run (record { ring = r; records = records; messages = ms }) later .records
+
 -- what was told before stays behind what is told now
-splits : (later : List Call) (r : Ring) (new old : List VisitRecord) (ms ns : List Message) → run (record { ring = r; records = new ++ old; messages = ms }) later .records ≡ run (record { ring = r; records = new; messages = ns }) later .records ++ old
+splits : (later : List Call) (r : Ring) (new old : List VisitRecord) (ms ns : List Message)
+    → told r (new ++ old) ms later ≡ told r new ns later ++ old
 unfolding run after
 splits [] r new old ms ns = refl
 splits (visit ask ∷ later) r new old ms ns =
+    let q = visited r ask .ring in
     let k = visited r ask .answer .number in
     let v = visited r ask .answer .«record» in
-    ap (λ (l : List VisitRecord). run (record { ring = visited r ask .ring; records = l; messages = ms }) later .records) (noted-before k v new old) ∙ splits later (visited r ask .ring) (noted k v new) old ms ns
+    ap (λ (l : List VisitRecord). told q l ms later) (noted-before k v new old) ∙ splits later q (noted k v new) old ms ns
 splits (message m ∷ later) r new old ms ns = splits later (handedIn r m .ring) new old (noted (handedIn r m .number) m ms) (noted (handedIn r m .number) m ns)
 
 -- the visits of the run are those among the further calls, and those before
@@ -58,6 +64,12 @@ visits-more : (s : Run) (c : Call) (later : List Call) → visitsAmong s (c ∷ 
 unfolding run after
 visits-more s (visit ask) later = splits later (visited (s .ring) ask .ring) [] (noted (visited (s .ring) ask .answer .number) (visited (s .ring) ask .answer .«record») []) [] []
 visits-more s (message m) later = splits later (handedIn (s .ring) m .ring) [] [] (noted (handedIn (s .ring) m .number) m []) []
+
+-- a call that adds these visits adds them behind those of the later ones
+visits-then : (s : Run) (c : Call) (later : List Call) (added : List VisitRecord)
+    → visitsAmong s (c ∷ []) ≡ added → visitsAmong s (c ∷ later) ≡ visitsAmong (after s c) later ++ added
+visits-then s c later added e =
+    visits-more s c later ∙ ap (λ (l : List VisitRecord). visitsAmong (after s c) later ++ l) e
 
 -- ---- what one call adds
 
@@ -136,7 +148,7 @@ module _ (t : Set) (a : Alloc) (P : Plan t a) where
   begun [] s K = inl (record { none = refl; clock = refl })
   begun (c ∷ later) s K =
       ⊎-elim (λ (n : AddsNone t a P s K c).
-      let same : visitsAmong s (c ∷ later) ≡ visitsAmong (after s c) later = visits-more s c later ∙ ap (λ (l : List VisitRecord). visitsAmong (after s c) later ++ l) (n .none) ∙ append-nil (visitsAmong (after s c) later) in
+      let same = visits-then s c later [] (n .none) ∙ append-nil (visitsAmong (after s c) later) in
       ⊎-elim (λ (b : NotBegun (after s c) later). inl (record { none = same ∙ b .none; clock = b .clock ∙ n .clock }))
       (λ (b : Begun (after s c) later).
       inr (record { newer = b .newer; first = b .first; visits = same ∙ b .visits; start = b .start ∙ n .clock }))
@@ -146,7 +158,7 @@ module _ (t : Set) (a : Alloc) (P : Plan t a) where
       (record {
         newer = visitsAmong (after s c) later;
         first = made s (w .ask);
-        visits = visits-more s c later ∙ ap (λ (l : List VisitRecord). visitsAmong (after s c) later ++ l) (w .one);
+        visits = visits-then s c later (made s (w .ask) ∷ []) (w .one);
         start = course-facts t a P s (K .common) (w .ask) (w .goes) .start;
       }))
       (adds t a P s K c)
@@ -171,12 +183,16 @@ module _ (t : Set) (a : Alloc) (P : Plan t a) where
     sooner long = offered t a i known (s .records) (visitsAmong s later) left long (rw (visits-added s later) at in-order)
 
     -- where the clock has come further than N + 1 rotations, there were N·(N + 1) visits
-    begun-ticks : (b : Begun s later) → s .ring .clock + (t .n + 1) * t .head .ttrt < run s later .ring .clock → Somewhere (λ v before. Offered i v × (v .start .0 ≤ b .first .start .0 + (t .n + 1) * t .head .ttrt)) (b .newer ++ b .first ∷ [])
+    begun-ticks : (b : Begun s later) → s .ring .clock + longestWait t < run s later .ring .clock
+        → Somewhere (OfferedSoon t a i known left (b .first) (s .records)) (b .newer ++ b .first ∷ [])
     begun-ticks b far =
+        let clock = run s later .ring .clock in
         let same : run s later .records ≡ b .newer ++ b .first ∷ s .records = visits-added s later ∙ rw (b .visits, append-assoc) in
         let E = rw same at in-order in
+        let late = rw same at (latest-within t a (timing (run s later .ring)) (run s later .records) (now .timed)) in
         ⊎-elim (λ (few : length (b .newer) + 1 < t .n * (t .n + 1)).
-        let near = soon t a (b .first) (s .records) (t .n + 1) (b .newer) (omega (arith, mul-comm (t .n + 1) (t .n))) E (run s later .ring .clock) (rw same at (latest-within t a (timing (run s later .ring)) (run s later .records) (now .timed))) in
+        let within : length (b .newer) + 1 ≤ (t .n + 1) * t .n = omega (arith, mul-comm (t .n + 1) (t .n)) in
+        let near = soon t a (b .first) (s .records) (t .n + 1) (b .newer) within E clock late in
         absurd (omega (arith, b .start)))
         (λ (long : t .n * (t .n + 1) ≤ length (b .newer) + 1). offered-soon t a i known left (b .first) (s .records) (b .newer) long E)
         (below-or-not (length (b .newer) + 1) (t .n * (t .n + 1)))

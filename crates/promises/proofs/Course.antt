@@ -82,8 +82,15 @@ following-wraps : (n i : ℕ) → n ≤ i + 1 → following n i ≡ 0
 unfolding following
 following-wraps n i l = rw (le-ltb (i + 1) n l)
 
--- where the token goes from station i: to the next, or from the last to station 0
-pub following-is : (n i : ℕ) → i < n → ((i + 1 < n) × (following n i ≡ i + 1)) ⊎ ((i + 1 ≡ n) × (following n i ≡ 0))
+-- from station i the token goes to the next
+abbrev pub ToNext : ℕ → ℕ → Type 0
+ToNext n i = (i + 1 < n) × (following n i ≡ i + 1)
+
+-- or from the last to station 0
+abbrev pub ToFirst : ℕ → ℕ → Type 0
+ToFirst n i = (i + 1 ≡ n) × (following n i ≡ 0)
+
+pub following-is : (n i : ℕ) → i < n → ToNext n i ⊎ ToFirst n i
 following-is n i l =
     ⊎-elim (λ (b : i + 1 < n). inl (b, following-next n i b))
     (λ (b : n ≤ i + 1). inr (omega arith, following-wraps n i b))
@@ -126,14 +133,20 @@ module _ (t : Set) (a : Alloc) (r q : Timing) (v : VisitRecord) (h : List VisitR
   pub latest-other : (i : ℕ) → i ≢ r .token → latestOf i (v ∷ h) ≡ latestOf i h
   latest-other i b = latest-there (visitOf i) v h (ne-eqb (v .station .0) i (λ e. b (sym e ∙ F .station)))
 
+  token-known : q .token < t .n
+  token-known =
+      ⊎-elim (λ (b : ToNext (t .n) (r .token)). omega (arith, F .token, b .0, b .1))
+      (λ (b : ToFirst (t .n) (r .token)). omega (arith, F .token, b .1, C .token))
+      (following-is (t .n) (r .token) (C .token))
+
   rounds-kept : (k : ℕ) × Rounds t q k
   rounds-kept =
       let k = C .rounds .0 in
       let g = C .rounds .1 in
-      ⊎-elim (λ (b : (r .token + 1 < t .n) × (following (t .n) (r .token) ≡ r .token + 1)).
+      ⊎-elim (λ (b : ToNext (t .n) (r .token)).
       let e : q .token ≡ r .token + 1 = F .token ∙ b .1 in
       (k, record { visits = omega (arith, g .visits, F .visits); walked = rw e (omega (arith, g .walked, F .clock, at-token, sum-step (r .token) (at (t .w)))) }))
-      (λ (b : (r .token + 1 ≡ t .n) × (following (t .n) (r .token) ≡ 0)).
+      (λ (b : ToFirst (t .n) (r .token)).
       let e : q .token ≡ 0 = F .token ∙ b .1 in (
         k + 1,
         record {
@@ -189,7 +202,7 @@ module _ (t : Set) (a : Alloc) (r q : Timing) (v : VisitRecord) (h : List VisitR
       record {
         set = F .set;
         alloc = F .alloc;
-        token = ⊎-elim (λ (b : (r .token + 1 < t .n) × (following (t .n) (r .token) ≡ r .token + 1)). omega (arith, F .token, b .0, b .1)) (λ (b : (r .token + 1 ≡ t .n) × (following (t .n) (r .token) ≡ 0)). omega (arith, F .token, b .1, C .token)) (following-is (t .n) (r .token) (C .token));
+        token = token-known;
         turn = F .token ∙ ap (following (t .n)) (sym (F .station));
         counted = F .visits ∙ add-one (r .visits) ∙ ap suc (C .counted);
         rounds = rounds-kept;

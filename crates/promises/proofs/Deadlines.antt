@@ -17,7 +17,7 @@ pub record Enough (ttrt s clock trt sent rest deadline k : ℕ) : Type 0 where
 abbrev pub InTime : ℕ → ℕ → ℕ → ℕ → ℕ → ℕ → ℕ → Type 0
 InTime ttrt s clock trt sent rest deadline = (k : ℕ) × Enough ttrt s clock trt sent rest deadline k
 
-module _ (ttrt s clock trt sent rest deadline : ℕ) (share : s ≤ ttrt) (held : 0 < rest) where
+module _ {ttrt s clock trt sent rest deadline : ℕ} (share : s ≤ ttrt) (held : 0 < rest) where
   -- looked at x ticks from now on, while the token is not late, the remainder can still be sent by the deadline
   pub in-time : (x : ℕ) → trt + x + s ≤ ttrt + sent → InTime ttrt s clock trt sent rest deadline → clock + x + rest ≤ deadline
   in-time x soon e = go (e .0) (e .1)
@@ -35,8 +35,8 @@ module _ (ttrt s clock trt sent rest deadline : ℕ) (share : s ≤ ttrt) (held 
       go (suc k) h = (k, record { shares = omega arith; ends = omega arith })
 
 -- a station whose last synchronous part ended by the arrival is in time, whatever is at most X of it remains
-pub fresh-in-time : (ttrt s d clock trt sent rest arrival : ℕ) → rest ≤ leastTime ttrt d s → clock + sent ≤ arrival + trt → InTime ttrt s clock trt sent rest (arrival + d)
-fresh-in-time ttrt s d clock trt sent rest arrival fits ended = go (wholeRotations ttrt d) (alpha ttrt d) fits (rotations-within ttrt d) (omega arith)
+pub fresh-in-time : {ttrt s clock trt sent rest : ℕ} (arrival d : ℕ) → rest ≤ leastTime ttrt d s → clock + sent ≤ arrival + trt → InTime ttrt s clock trt sent rest (arrival + d)
+fresh-in-time {ttrt} {s} {clock} {trt} {sent} {rest} arrival d fits ended = go (wholeRotations ttrt d) (alpha ttrt d) fits (rotations-within ttrt d) (omega arith)
   where
     go : (m α : ℕ) → rest ≤ timeWith m α s → m * ttrt ≤ d → (m + 1) * ttrt ≤ d + α → InTime ttrt s clock trt sent rest (arrival + d)
     go m α fit whole more =
@@ -45,5 +45,5 @@ fresh-in-time ttrt s d clock trt sent rest arrival fits ended = go (wholeRotatio
         (below-or-not (m * s) rest)
 
 -- while another station is visited, nothing changes but clock and TRT, by as much
-pub later-in-time : (ttrt s clock trt sent rest deadline x : ℕ) → InTime ttrt s clock trt sent rest deadline → InTime ttrt s (clock + x) (trt + x) sent rest deadline
-later-in-time ttrt s clock trt sent rest deadline x e = (e .0, record { shares = e .1 .shares; ends = omega (arith, e .1 .ends) })
+pub later-in-time : {ttrt s clock trt sent rest deadline : ℕ} (x : ℕ) → InTime ttrt s clock trt sent rest deadline → InTime ttrt s (clock + x) (trt + x) sent rest deadline
+later-in-time x e = (e .0, record { shares = e .1 .shares; ends = omega (arith, e .1 .ends) })

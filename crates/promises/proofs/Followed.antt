@@ -19,7 +19,7 @@ use Rattle.promises.specs.History.{syncStartOf, sentBy, Somewhere}
 use Rattle.promises.specs.Facts.{Completing, Leaving}
 use Rattle.promises.specs.Valid.{StillHeld, CompletedBy, Followed, dueBy}
 use Rattle.promises.proofs.Course.{Plan, same-or-not}
-use Rattle.promises.proofs.Runs.{made, movedRun, heldRun, course-facts, message-parts, message-facts, after-visit, after-message, after-held, Steady, steady-after}
+use Rattle.promises.proofs.Runs.{made, movedRun, Completes, heldRun, course-facts, message-parts, message-facts, after-visit, after-message, after-held, Steady, steady-after}
 
 -- ---- what a station sent, with one visit more
 
@@ -38,9 +38,12 @@ sent-none i = refl
 -- what has to follow from what the runs keep: of a ring that holds the message, and of a record that completes it
 pub record Follows (t : Set) (m : Message) (K : Run → Type 0) (Waiting : Ring → Type 0) (Finished : VisitRecord → Type 0) : Type 0 where
   pub waits : (s : Run) → K s → 0 < at (s .ring .rest) (m .station .0) → at (s .ring .arrival) (m .station .0) ≡ m .arrival .0 → Waiting (s .ring)
-  pub ends : (s : Run) → K s → (ask : Ask) → visitNumber (s .ring) ask ≡ 0 → m .station .0 ≡ s .ring .token → at (s .ring .arrival) (m .station .0) ≡ m .arrival .0 → Completing t (s .ring) (movedRun s ask .ring) (syncStartOf t (made s ask)) (made s ask) → Finished (made s ask)
+  pub ends : (s : Run) → K s → (ask : Ask)
+      → visitNumber (s .ring) ask ≡ 0 → m .station .0 ≡ s .ring .token → at (s .ring .arrival) (m .station .0) ≡ m .arrival .0
+      → Completes t s ask → Finished (made s ask)
 
-module _ (t : Set) (a : Alloc) (P : Plan t a) (K : Run → Type 0) (S : Steady t a K) (m : Message) (known : m .station .0 < t .n) (Waiting : Ring → Type 0) (Finished : VisitRecord → Type 0) (L : Follows t m K Waiting Finished) where
+module _ (t : Set) (a : Alloc) (P : Plan t a) (K : Run → Type 0) (S : Steady t a K)
+    (m : Message) (Waiting : Ring → Type 0) (Finished : VisitRecord → Type 0) (L : Follows t m K Waiting Finished) where
   -- the message completed, and as it is to be then
   abbrev Done : VisitRecord → List VisitRecord → Type 0
   Done v before = CompletedBy t m v before × Finished v
@@ -174,27 +177,26 @@ module _ (t : Set) (a : Alloc) (P : Plan t a) (K : Run → Type 0) (S : Steady t
   follow-run then s k [] W = W
   follow-run then s k (c ∷ cs) W = follow-run then (after s c) (steady-after t a P K S s k c) cs (follow-after then s k c W)
 
--- ---- from the handing in on
+  -- ---- from the handing in on
 
-module _ (t : Set) (a : Alloc) (P : Plan t a) (K : Run → Type 0) (S : Steady t a K) (m : Message) (Waiting : Ring → Type 0) (Finished : VisitRecord → Type 0) (L : Follows t m K Waiting Finished) (s : Run) (k : K s) (taken : handInNumber (s .ring) m ≡ 0) where
-  followed-held : Followed t m Waiting Finished s (heldRun s m)
-  followed-held =
-      let A = message-facts t a P s (S .common s k) m taken in
-      record {
-        since = [];
-        visits = refl;
-        either =
-            inl
-            (still-held t a P K S m (A .known) Waiting Finished L (heldRun s m) (S .takes s k m taken) []
-            (record {
-              held = rw (A .rest-here) (A .length .0);
-              arrival = A .arrival-here;
-              parts = omega (arith, A .rest-here, sent-none (m .station .0));
-            }));
-      }
+  module _ (s : Run) (k : K s) (taken : handInNumber (s .ring) m ≡ 0) where
+    followed-held : Follow s (heldRun s m)
+    followed-held =
+        let A = message-facts t a P s (S .common s k) m taken in
+        record {
+          since = [];
+          visits = refl;
+          either =
+              inl
+              (still-held (heldRun s m) (S .takes s k m taken) []
+              (record {
+                held = rw (A .rest-here) (A .length .0);
+                arrival = A .arrival-here;
+                parts = omega (arith, A .rest-here, sent-none (m .station .0));
+              }));
+        }
 
-  pub followed-from : (later : List Call) → Followed t m Waiting Finished s (run (after s (message m)) later)
-  followed-from later =
-      let A = message-facts t a P s (S .common s k) m taken in
-      let e = after-held t a P s (S .common s k) m taken in
-      follow-run t a P K S m (A .known) Waiting Finished L s (after s (message m)) (steady-after t a P K S s k (message m)) later (rw e followed-held)
+    pub followed-from : (later : List Call) → Follow s (run (after s (message m)) later)
+    followed-from later =
+        let e = after-held t a P s (S .common s k) m taken in
+        follow-run s (after s (message m)) (steady-after t a P K S s k (message m)) later (rw e followed-held)

@@ -12,13 +12,12 @@ use Rattle.sets.specs.declared.Set.{Set}
 use Rattle.plans.specs.declared.Alloc.{Alloc}
 use Rattle.timers.specs.Kept.{TokenRule, Kept, Since as NumbersSince}
 use Rattle.timers.proofs.Promised.{promised as timers-promised}
-use Rattle.rings.specs.State.{following}
 use Rattle.rings.specs.Timers.{Fddi, timerOf, hasRun, silentTrt}
 use Rattle.rings.specs.declared.VisitRecord.{VisitRecord}
 use Rattle.promises.specs.History.{overrunOf, syncStartOf, latestOf}
 use Rattle.promises.specs.Facts.{Timing, VisitCourse, VisitLaps, timerPlan, rises, timersIn}
 use Rattle.promises.specs.Valid.{allShares}
-use Rattle.promises.proofs.Course.{Plan, Course, Unvisited, Since, following-is, same-or-not, latest-own, latest-other, course-kept}
+use Rattle.promises.proofs.Course.{Plan, Course, Unvisited, Since, ToNext, ToFirst, following-is, same-or-not, latest-own, latest-other, course-kept}
 
 -- ---- what is kept
 
@@ -75,9 +74,9 @@ module _ (t : Set) (a : Alloc) (r q : Timing) (v : VisitRecord) (h : List VisitR
 
   kept-next : Kept (timerPlan t a) (hasRun t (timersIn q)) (q .token)
   kept-next =
-      ⊎-elim (λ (b : (r .token + 1 < t .n) × (following (t .n) (r .token) ≡ r .token + 1)).
+      ⊎-elim (λ (b : ToNext (t .n) (r .token)).
       rw (C .token ∙ b .1) (timers-promised .next (timerPlan t a) (hasRun t (timersIn r)) (hasRun t (timersIn q)) (r .token) (rises t v) (token-rule t a P) (T .kept) (F .moves) (b .0)))
-      (λ (b : (r .token + 1 ≡ t .n) × (following (t .n) (r .token) ≡ 0)).
+      (λ (b : ToFirst (t .n) (r .token)).
       rw (C .token ∙ b .1) (timers-promised .round (timerPlan t a) (hasRun t (timersIn r)) (hasRun t (timersIn q)) (r .token) (rises t v) (token-rule t a P) (T .kept) (F .moves) (b .0)))
       (following-is (t .n) (r .token) (T .course .token))
 

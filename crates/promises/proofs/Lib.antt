@@ -20,6 +20,7 @@
 --     Rotations    how long rotations take
 --     Waits        among enough visits a station is offered a limit above 0
 --     Bulk         the same of the visits among further calls
+--     Computed     what a run is computed with
 --     Witness      the run in which the promises are called upon
 --     FddiWitness  the run in which the token is as late as it can be
 --     BulkWitness  the run in which bulk data waits long
@@ -46,6 +47,7 @@ pub mod Turns
 pub mod Rotations
 pub mod Waits
 pub mod Bulk
+pub mod Computed
 pub mod Witness
 pub mod FddiWitness
 pub mod BulkWitness

@@ -8,6 +8,7 @@ use Rattle.units.specs.Places.{at}
 use Rattle.units.specs.PlaceLaws.{sum-part}
 use Rattle.units.specs.SmallLaws.{below-or-not}
 use Rattle.sets.specs.declared.Set.{Set}
+use Rattle.plans.specs.Rules.{leastTime}
 use Rattle.plans.specs.declared.Alloc.{Alloc}
 use Rattle.rings.specs.declared.Ring.{Ring}
 use Rattle.rings.specs.declared.Message.{Message}
@@ -44,11 +45,18 @@ module _ (t : Set) (a : Alloc) (r : Ring) (h : List VisitRecord) (P : Plan t a) 
   pub share-small : (i : ℕ) → i < t .n → at (a .s) i ≤ t .head .ttrt
   share-small i l = omega (arith, sum-part (t .n) (at (a .s)) i l, P .token)
 
+  -- what is at most C is at most X
+  within-c : (i : ℕ) → i < t .n → (x : ℕ) → x ≤ at (t .c) i → x ≤ leastTime (t .head .ttrt) (at (t .d) i) (at (a .s) i)
+  within-c i l x small = omega (arith, P .deadlines (T .mode) i l)
+
+  -- looked at now, the token is not late
+  not-late : (i : ℕ) → i < t .n → at (r .trt) i + 0 + at (a .s) i ≤ t .head .ttrt + at (r .sent) i
+  not-late i l = omega (arith, never-late t a (timing r) h T i l)
+
   -- a held message can still be sent by its deadline
   pub still-in-time : (i : ℕ) → i < t .n → Waiting t a r i → r .clock + at (r .rest) i ≤ deadlineAt t r i
   still-in-time i l w =
-      omega
-      (arith, in-time (t .head .ttrt) (at (a .s) i) (r .clock) (at (r .trt) i) (at (r .sent) i) (at (r .rest) i) (deadlineAt t r i) (share-small i l) (w .held) 0 (omega (arith, never-late t a (timing r) h T i l)) (w .intime))
+      omega (arith, in-time (share-small i l) (w .held) 0 (not-late i l) (w .intime))
 
   pub held-in-time : (i : ℕ) → i < t .n → Messaged t a r i → 0 < at (r .rest) i → Waiting t a r i
   held-in-time i l M held = ⊎-elim (λ (x : Idle t r i). absurd (omega arith)) (λ (w : Waiting t a r i). w) M
@@ -58,7 +66,8 @@ module _ (t : Set) (a : Alloc) (r : Ring) (h : List VisitRecord) (P : Plan t a) 
 
 -- ---- one visit more
 
-module _ (t : Set) (a : Alloc) (r q : Ring) (v : VisitRecord) (h : List VisitRecord) (P : Plan t a) (T : Timed t a (timing r) h) (C : VisitCourse t a (timing r) (timing q) v) (F : VisitTimers t (timing r) (timing q) v) (G : VisitMessages t a r q v) where
+module _ (t : Set) (a : Alloc) (r q : Ring) (v : VisitRecord) (h : List VisitRecord) (P : Plan t a) (T : Timed t a (timing r) h)
+    (C : VisitCourse t a (timing r) (timing q) v) (F : VisitTimers t (timing r) (timing q) v) (G : VisitMessages t a r q v) where
   -- at another station nothing changes but clock and TRT
   other-kept : (i : ℕ) → i < t .n → i ≢ r .token → Messaged t a r i → Messaged t a q i
   other-kept i l b M =
@@ -79,7 +88,7 @@ module _ (t : Set) (a : Alloc) (r q : Ring) (v : VisitRecord) (h : List VisitRec
         had = rw (G .had) (w .had);
         intime =
             rw (C .sent-there i b, F .trt-there i l b, G .rest-there i b, G .arrival, C .clock)
-            (later-in-time (t .head .ttrt) (at (a .s) i) (r .clock) (at (r .trt) i) (at (r .sent) i) (at (r .rest) i) (deadlineAt t r i) (rises t v) (w .intime));
+            (later-in-time (rises t v) (w .intime));
       }))
       M
 
@@ -89,6 +98,7 @@ module _ (t : Set) (a : Alloc) (r q : Ring) (v : VisitRecord) (h : List VisitRec
       ⊎-elim (λ (b : 0 < at (r .rest) (r .token)).
       let w : Waiting t a r (r .token) = held-in-time t a r h P T (r .token) (T .course .token) M b in
       let same : at (q .rest) (r .token) ≡ at (r .rest) (r .token) = omega (arith, G .rest-here, s .nothing) in
+      let fits = within-c t a r h P T (r .token) (T .course .token) (at (r .rest) (r .token)) (K .small) in
       let ahead : r .clock < at (r .arrival) (r .token) =
       ⊎-elim (λ (z : at (r .rest) (r .token) ≡ 0). absurd (omega arith)) (λ (z : syncStartOf t v < at (r .arrival) (r .token)). omega (arith, C .start)) (s .reason) in
       inr
@@ -97,7 +107,7 @@ module _ (t : Set) (a : Alloc) (r q : Ring) (v : VisitRecord) (h : List VisitRec
         had = rw (G .had) (w .had);
         intime =
             rw (C .sent-here, s .nothing, F .trt-here, same, G .arrival, C .clock)
-            (fresh-in-time (t .head .ttrt) (at (a .s) (r .token)) (at (t .d) (r .token)) (r .clock + rises t v) (rises t v) 0 (at (r .rest) (r .token)) (at (r .arrival) (r .token)) (omega (arith, K .small, P .deadlines (T .mode) (r .token) (T .course .token))) (omega arith));
+            (fresh-in-time (at (r .arrival) (r .token)) (at (t .d) (r .token)) fits (omega arith));
       }))
       (λ (b : at (r .rest) (r .token) ≤ 0).
       inl (record { none = omega (arith, G .rest-here); ended = inl (C .sent-here ∙ s .nothing) }))
@@ -111,7 +121,9 @@ module _ (t : Set) (a : Alloc) (r q : Ring) (v : VisitRecord) (h : List VisitRec
       let whole : v .synchronous .0 ≡ at (a .s) (r .token) = omega (arith, s .amount) in
       let parts : at (q .rest) (r .token) + at (a .s) (r .token) ≡ at (r .rest) (r .token) = omega (arith, G .rest-here) in
       let none : r .clock + 0 ≡ r .clock = omega arith in
-      let next = rw none at (served-in-time (t .head .ttrt) (at (a .s) (r .token)) (r .clock) (at (r .trt) (r .token)) (at (r .sent) (r .token)) (at (r .rest) (r .token)) (deadlineAt t r (r .token)) (share-small t a r h P T (r .token) (T .course .token)) (s .held) 0 (rises t v) (at (q .rest) (r .token)) (omega (arith, never-late t a (timing r) h T (r .token) (T .course .token))) parts (w .intime)) in
+      let share = share-small t a r h P T (r .token) (T .course .token) in
+      let soon = not-late t a r h P T (r .token) (T .course .token) in
+      let next = rw none at (served-in-time share (s .held) 0 (rises t v) (at (q .rest) (r .token)) soon parts (w .intime)) in
       inr
       (record {
         held = omega (arith, G .rest-here);
@@ -173,13 +185,14 @@ module _ (t : Set) (a : Alloc) (r q : Ring) (m : Message) (h : List VisitRecord)
 
   taken-here : Messaged t a r (m .station .0) → Messaged t a q (m .station .0)
   taken-here M =
+      let fits = within-c t a r h P T (m .station .0) (A .known) (m .length .0) (A .length .1) in
       inr
       (record {
         held = rw (A .rest-here) (A .length .0);
         had = A .had-here;
         intime =
             rw (sent-same, trt-same, clock-same, A .rest-here, A .arrival-here)
-            (fresh-in-time (t .head .ttrt) (at (a .s) (m .station .0)) (at (t .d) (m .station .0)) (r .clock) (at (r .trt) (m .station .0)) (at (r .sent) (m .station .0)) (m .length .0) (m .arrival .0) (omega (arith, A .length .1, P .deadlines (T .mode) (m .station .0) (A .known))) (ended-before M));
+            (fresh-in-time (m .arrival .0) (at (t .d) (m .station .0)) fits (ended-before M));
       })
 
   taken-there : (i : ℕ) → i ≢ m .station .0 → Messaged t a r i → Messaged t a q i

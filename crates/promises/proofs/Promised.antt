@@ -27,8 +27,8 @@ use Rattle.rings.specs.declared.Opened.{Opened}
 use Rattle.rings.specs.declared.Message.{Message}
 use Rattle.rings.specs.declared.VisitRecord.{VisitRecord}
 use Rattle.promises.specs.Run.{Call, Run, run, runOf, ringOf, recordsOf}
-use Rattle.promises.specs.History.{syncStartOf, Each}
-use Rattle.promises.specs.Facts.{timing, Completing, Leaving}
+use Rattle.promises.specs.History.{Each}
+use Rattle.promises.specs.Facts.{timing, Leaving}
 use Rattle.promises.specs.Valid.{AheadOf, Regular, FinishesInTime, dueBy, NeverLate, ExactLimits, DeadlinesKept, TimelyKept, Valid, Timely as Mode}
 use Rattle.promises.specs.Promised.{Promised}
 use Rattle.promises.proofs.Lists.{each-of}
@@ -37,7 +37,7 @@ use Rattle.promises.proofs.Stores.{Latest, Never}
 use Rattle.promises.proofs.Timing.{latest-within}
 use Rattle.promises.proofs.Messages.{Waiting, deadlineAt, clock-ahead, held-in-time, completed-in-time}
 use Rattle.promises.proofs.Opening.{plan-of}
-use Rattle.promises.proofs.Runs.{made, movedRun, visit-goes, visit-stops, course-facts, message-parts, message-facts, message-number}
+use Rattle.promises.proofs.Runs.{made, movedRun, Completes, visit-goes, visit-stops, course-facts, message-parts, message-facts, message-number}
 use Rattle.promises.proofs.Timely.{TimelyVisit, Timely, timer-facts, margin-made, window-kept, tick-limit, steady, timely}
 use Rattle.promises.proofs.Fddi.{Older, older-steady, older, fddi-kept}
 use Rattle.promises.proofs.Followed.{Follows, followed-from}
@@ -52,23 +52,29 @@ module _ (t : Set) (a : Alloc) (P : Plan t a) (s : Run) (K : Timely t a s) where
   -- ---- visits
 
   -- a message that a visit completes is finished by its deadline
-  finished : (ask : Ask) → visitNumber (s .ring) ask ≡ 0
-      → Completing t (s .ring) (movedRun s ask .ring) (syncStartOf t (made s ask)) (made s ask) → made s ask .finish .0 ≤ deadlineAt t (s .ring) (s .ring .token)
+  finished : (ask : Ask) → visitNumber (s .ring) ask ≡ 0 → Completes t s ask → made s ask .finish .0 ≤ deadlineAt t (s .ring) (s .ring .token)
   finished ask go c =
-      completed-in-time t a (s .ring) (movedRun s ask .ring) (made s ask) (s .records) P (K .timed) (course-facts t a P s (K .common) ask go) (timer-facts t a P s K ask go) (message-parts t a P s (K .common) ask go) (K .messaged (s .ring .token) (K .common .course .token)) c
+      let C = course-facts t a P s (K .common) ask go in
+      let F = timer-facts t a P s K ask go in
+      let G = message-parts t a P s (K .common) ask go in
+      let M = K .messaged (s .ring .token) (K .common .course .token) in
+      completed-in-time t a (s .ring) (movedRun s ask .ring) (made s ask) (s .records) P (K .timed) C F G M c
 
   made-in-time : (ask : Ask) → visitNumber (s .ring) ask ≡ 0 → made s ask .completed ≡ 1 → FinishesInTime t (s .ring) (made s ask)
   made-in-time ask go flag =
       let r = s .ring in
       let q = movedRun s ask .ring in
       let v = made s ask in
+      let C = course-facts t a P s (K .common) ask go in
+      let F = timer-facts t a P s K ask go in
       let G = message-parts t a P s (K .common) ask go in
-      ⊎-elim (λ (c : Completing t r q (syncStartOf t v) v).
+      let M = K .messaged (r .token) (K .common .course .token) in
+      ⊎-elim (λ (c : Completes t s ask).
       record {
-        start = course-facts t a P s (K .common) ask go .start;
+        start = C .start;
         finish = c .finish;
         in-time = finished ask go c;
-        margin = margin-made t a r q v (s .records) P (K .timed) (course-facts t a P s (K .common) ask go) (timer-facts t a P s K ask go) G (K .messaged (s .ring .token) (K .common .course .token)) c;
+        margin = margin-made t a r q v (s .records) P (K .timed) C F G M c;
       })
       (λ (c : Leaving r q v). absurd (omega (arith, c .flag)))
       (G .completing)
@@ -148,7 +154,10 @@ module _ (t : Set) (a : Alloc) (plan : Plan t a) (mode : Mode t) where
 
   never-late-kept : NeverLate t a (t .head .ttrt)
   never-late-kept =
-      record { apart = λ calls. each (λ v before k. k .apart) calls; since = λ calls i l u e. omega (arith, latest-within t a (timing (ringOf t a calls)) (recordsOf t a calls) (every calls .timed) i l u e) }
+      record {
+        apart = λ calls. each (λ v before k. k .apart) calls;
+        since = λ calls i l u e. omega (arith, latest-within t a (timing (ringOf t a calls)) (recordsOf t a calls) (every calls .timed) i l u e);
+      }
 
   limits-kept : ExactLimits t a
   limits-kept =

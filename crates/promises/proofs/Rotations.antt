@@ -106,8 +106,14 @@ module _ (t : Set) (a : Alloc) (first : VisitRecord) (old : List VisitRecord) wh
       (λ (b : t .n ≤ R .since). own-more v newer E R (omega (arith, R .high)))
       (below-or-not (R .since) (t .n))
 
+  -- this moment is at most TTRT after the start of each station's latest visit
+  abbrev Within : ℕ → List VisitRecord → Type 0
+  Within moment h = (i : ℕ) → i < t .n → (u : VisitRecord) → latestOf i h ≡ some u → moment ≤ u .start .0 + t .head .ttrt
+
   -- within k rotations: the next start is at most k·TTRT after the first
-  pub soon : (k : ℕ) (newer : List VisitRecord) → length newer + 1 ≤ k * t .n → Each (InOrder t a) (all newer) → (next : ℕ) → ((i : ℕ) → i < t .n → (u : VisitRecord) → latestOf i (all newer) ≡ some u → next ≤ u .start .0 + t .head .ttrt) → next ≤ first .start .0 + k * t .head .ttrt
+  pub soon : (k : ℕ) (newer : List VisitRecord)
+      → length newer + 1 ≤ k * t .n → Each (InOrder t a) (all newer)
+      → (next : ℕ) → Within next (all newer) → next ≤ first .start .0 + k * t .head .ttrt
   soon k newer few E next late =
       let R = rotations newer E in
       let l : R .whole < k = lt-of-mul-lt-mul-right (t .n) (omega (arith, R .count, R .low)) in

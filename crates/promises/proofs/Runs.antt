@@ -17,8 +17,8 @@ use Rattle.rings.specs.declared.Ring.{Ring}
 use Rattle.rings.specs.declared.Message.{Message}
 use Rattle.rings.specs.declared.VisitRecord.{VisitRecord}
 use Rattle.promises.specs.Run.{Call, visit, message, Run, noted, after, run}
-use Rattle.promises.specs.History.{Each}
-use Rattle.promises.specs.Facts.{timing, VisitCourse, VisitMessages, Accepting, rises}
+use Rattle.promises.specs.History.{syncStartOf, Each}
+use Rattle.promises.specs.Facts.{timing, VisitCourse, VisitMessages, Completing, Accepting, rises}
 use Rattle.promises.specs.Valid.{InTurn, ShareKept}
 use Rattle.promises.proofs.Course.{Plan, Course, course-kept, same-or-not}
 use Rattle.promises.proofs.Stores.{Stored, Told, stored-kept, told-kept, stored-taken, told-taken}
@@ -55,6 +55,10 @@ movedRun s ask =
       records = made s ask ∷ s .records;
       messages = s .messages;
     }
+
+-- the visit completes the message that its station holds
+abbrev pub Completes : Set → Run → Ask → Type 0
+Completes t s ask = Completing t (s .ring) (movedRun s ask .ring) (syncStartOf t (made s ask)) (made s ask)
 
 abbrev pub heldRun : Run → Message → Run
 heldRun s m = record { ring = holding (s .ring) m; records = s .records; messages = m ∷ s .messages }

@@ -1,6 +1,6 @@
 -- What the promises need of the rings' own steps: `ring_rules` promises what an accepted visit (`Done`) and an accepted handing in (`Held`) do.
 -- Here that is put as the facts that add up. What FDDI's timers do, station by station, is a law of `rings`. Nothing else of `promises` looks into a step.
-use Prim.Native.Nat.{_+_, _*_, _≤_, _<_}
+use Prim.Native.Nat.{ℕ, _+_, _*_, _-_, _≤_, _<_}
 use mathlib.Core.Path.{_≡_, refl, sym, subst, subst₂, _∙_}
 use mathlib.Core.Bool.{true}
 use mathlib.Core.Logic.{_⊎_, inl, inr, ⊎-elim}
@@ -28,7 +28,7 @@ use Rattle.ring_rules.specs.Promised.{Done, Held}
 use Rattle.ring_rules.proofs.MovedLaws.{done}
 use Rattle.ring_rules.proofs.HeldLaws.{held, held-sound}
 use Rattle.promises.specs.Facts.{timing, VisitCourse, VisitTimers, VisitOffer, VisitLaps, VisitMessages, Sending, Silent, Completing, Leaving, Accepting}
-use Rattle.promises.proofs.Course.{following-is}
+use Rattle.promises.proofs.Course.{ToNext, ToFirst, following-is}
 
 -- ---- a visit, of the ring's own plan
 
@@ -39,19 +39,25 @@ module _ (r : Ring) (L : Shaped r) (ask : Ask) (go : visitNumber r ask ≡ 0) wh
   pub visit-early : r .clock ≤ mostClock
   visit-early = visit-passed r ask go .1 .1
 
+  abbrev async : ℕ
+  async = asyncSent r ask
+
+  abbrev sync : ℕ
+  sync = syncSent r async
+
   abbrev next : Ring
-  next = moved r (syncSent r (asyncSent r ask)) (asyncSent r ask)
+  next = moved r sync async
 
   abbrev made : VisitRecord
-  made = recordOf r (syncSent r (asyncSent r ask)) (asyncSent r ask)
+  made = recordOf r sync async
 
   does : Done r ask next made
   does = done r ask L s (visit-passed r ask go .1 .0)
 
   token-next : next .token ≡ following (count r) (r .token)
   token-next =
-      ⊎-elim (λ (b : (r .token + 1 < count r) × (following (count r) (r .token) ≡ r .token + 1)). does .moved .on (b .0) ∙ sym (b .1))
-      (λ (b : (r .token + 1 ≡ count r) × (following (count r) (r .token) ≡ 0)). does .moved .round (b .0) ∙ sym (b .1))
+      ⊎-elim (λ (b : ToNext (count r) (r .token)). does .moved .on (b .0) ∙ sym (b .1))
+      (λ (b : ToFirst (count r) (r .token)). does .moved .round (b .0) ∙ sym (b .1))
       (following-is (count r) (r .token) (s .token))
 
   own-course : VisitCourse (r .set) (r .alloc) (timing r) (timing next) made
@@ -63,7 +69,7 @@ module _ (r : Ring) (L : Shaped r) (ask : Ask) (go : visitNumber r ask ≡ 0) wh
         start = does .start;
         set = M .set;
         alloc = M .alloc;
-        within = sync-within r (asyncSent r ask) .0;
+        within = sync-within r async .0;
         sent-here = M .sent;
         sent-there = M .sents;
         clock = M .clock;
@@ -100,19 +106,22 @@ module _ (r : Ring) (L : Shaped r) (ask : Ask) (go : visitNumber r ask ≡ 0) wh
   own-laps : Fddi (r .set) → VisitLaps (r .set) (r .alloc) (timing r) (timing next) made
   unfolding moved recordOf
   own-laps e =
+      let A = does .amounts in
+      let had = hasRun (r .set) (timersOf r) (r .token) in
       let offered = limit-ran r L s e in
+      let within : async ≤ ttrt r - had + overrun r = omega (arith, offered, A .within) in
       record {
         moves =
             record {
-              sync = syncSent r (asyncSent r ask);
-              async = asyncSent r ask;
-              within = sync-within r (asyncSent r ask) .0;
-              early = timers-promised .early (ttrt r) (overrun r) (hasRun (r .set) (timersOf r) (r .token)) (asyncSent r ask) (omega (arith, offered, does .amounts .within)) (λ none. does .amounts .shut (offered ∙ none));
+              sync = sync;
+              async = async;
+              within = sync-within r async .0;
+              early = timers-promised .early (ttrt r) (overrun r) had async within (λ none. A .shut (offered ∙ none));
               length = refl;
-              here = ran-here r L s e (syncSent r (asyncSent r ask)) (asyncSent r ask);
-              there = ran-there r L s e (syncSent r (asyncSent r ask)) (asyncSent r ask);
+              here = ran-here r L s e sync async;
+              there = ran-there r L s e sync async;
             };
-        below = moved-below r L s e (syncSent r (asyncSent r ask)) (asyncSent r ask);
+        below = moved-below r L s e sync async;
       }
 
   sending : Sending (r .alloc) r (r .clock) made ⊎ Silent r (r .clock) made

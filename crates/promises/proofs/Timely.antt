@@ -53,7 +53,8 @@ pub record TimelyVisit (t : Set) (a : Alloc) (v : VisitRecord) (before : List Vi
   pub room : v .asynchronous .0 + asyncOf (t .n) before ≤ spareTime t (at (a .s)) + overrunOf t
   pub none-late : NoneLate v before
 
-module _ (t : Set) (a : Alloc) (r q : Ring) (v : VisitRecord) (h : List VisitRecord) (P : Plan t a) (T : Timed t a (timing r) h) (C : VisitCourse t a (timing r) (timing q) v) (F : VisitTimers t (timing r) (timing q) v) where
+module _ (t : Set) (a : Alloc) (r q : Ring) (v : VisitRecord) (h : List VisitRecord) (P : Plan t a) (T : Timed t a (timing r) h)
+    (C : VisitCourse t a (timing r) (timing q) v) (F : VisitTimers t (timing r) (timing q) v) where
   -- the timer at the token is the gap since the latest visit
   gap-since : (u : VisitRecord) → latestOf (v .station .0) h ≡ some u → v .start .0 ≡ u .start .0 + v .trt .0
   gap-since u e =

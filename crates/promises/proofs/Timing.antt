@@ -13,14 +13,13 @@ use Rattle.sets.specs.Rules.{tau}
 use Rattle.sets.specs.declared.Set.{Set}
 use Rattle.plans.specs.declared.Alloc.{Alloc}
 use Rattle.rings.specs.Timers.{silentTrt}
-use Rattle.rings.specs.State.{following}
 use Rattle.rings.specs.declared.VisitRecord.{VisitRecord}
 use Rattle.promises.specs.History.{asyncOf, latestOf}
 use Rattle.promises.specs.Facts.{Timing, VisitCourse, VisitTimers, rises}
 use Rattle.promises.specs.Valid.{Timely}
 use Rattle.promises.proofs.Sums.{sum-grows, sum-changed, sum-kept, sum-between}
 use Rattle.promises.proofs.Windows.{async-step, async-none, async-grows, async-moves}
-use Rattle.promises.proofs.Course.{Plan, Course, following-is, same-or-not, at-token, latest-own, latest-other, course-kept}
+use Rattle.promises.proofs.Course.{Plan, Course, ToNext, ToFirst, following-is, same-or-not, at-token, latest-own, latest-other, course-kept}
 
 -- ---- what is kept
 
@@ -62,12 +61,20 @@ module _ (t : Set) (a : Alloc) (r : Timing) (h : List VisitRecord) (T : Timed t 
   -- the token is never late, not even where the station has not sent all of S
   pub never-late : (i : ℕ) → i < t .n → at (r .trt) i + at (a .s) i ≤ t .head .ttrt + at (r .sent) i
   never-late i l =
+      let token = T .course .token in
       ⊎-elim (λ (b : i < r .token).
-      omega
-      (arith, T .passed i b, T .course .token, async-grows (r .token - i) (t .n) h (omega arith), sum-grows (t .n) (r .token) (at (t .w)) (omega arith), sum-grows (t .n) (r .token) (at (a .s)) (omega arith), sum-between (r .token) i (at (r .sent)) (at (a .s)) b (λ j m. T .course .sents j (omega arith))))
+      let window = async-grows (r .token - i) (t .n) h (omega arith) in
+      let walk = sum-grows (t .n) (r .token) (at (t .w)) (omega arith) in
+      let shares = sum-grows (t .n) (r .token) (at (a .s)) (omega arith) in
+      let own = sum-between (r .token) i (at (r .sent)) (at (a .s)) b (λ j m. T .course .sents j (omega arith)) in
+      omega (arith, T .passed i b))
       (λ (b : r .token ≤ i).
-      omega
-      (arith, T .coming i l b, async-grows (r .token + t .n - i) (t .n) h (omega arith), sum-grows i (r .token) (at (t .w)) b, sum-grows i (r .token) (at (r .sent)) b, sum-mono i (at (r .sent)) (at (a .s)) (λ j m. T .course .sents j (omega arith)), sum-between (t .n) i (at (r .sent)) (at (a .s)) l (λ j m. T .course .sents j m)))
+      let window = async-grows (r .token + t .n - i) (t .n) h (omega arith) in
+      let walk = sum-grows i (r .token) (at (t .w)) b in
+      let sent = sum-grows i (r .token) (at (r .sent)) b in
+      let shares = sum-mono i (at (r .sent)) (at (a .s)) (λ j m. T .course .sents j (omega arith)) in
+      let own = sum-between (t .n) i (at (r .sent)) (at (a .s)) l (λ j m. T .course .sents j m) in
+      omega (arith, T .coming i l b))
       (below-or-not i (r .token))
 
   -- so a station's latest visit started at most TTRT ago
@@ -95,25 +102,30 @@ module _ (t : Set) (a : Alloc) (r q : Timing) (v : VisitRecord) (h : List VisitR
   sent-changed : (k : ℕ) → r .token < k → sumBelow k (at (q .sent)) + at (r .sent) (r .token) ≡ sumBelow k (at (r .sent)) + v .synchronous .0
   sent-changed k l = sum-changed k (r .token) (at (r .sent)) (at (q .sent)) l (C .sent-there) ∙ ap (λ (z : ℕ). sumBelow k (at (r .sent)) + z) (C .sent-here)
 
+  -- what is walked and sent up to the token's station rises by this visit's walk and synchronous part
+  before-more : before t q (r .token + 1) ≡ before t r (r .token) + at (t .w) (v .station .0) + v .synchronous .0
+  before-more =
+      let walked = sum-step (r .token) (at (t .w)) in
+      let sent = sum-step (r .token) (at (r .sent)) in
+      omega (arith, walk, sent-changed (r .token + 1) (omega arith))
+
   -- the timer of a station up to the token's, as the token has now passed it
   timer-passed : (i : ℕ) → i ≤ r .token → at (q .trt) i + before t q i ≡ v .asynchronous .0 + asyncOf (r .token - i) h + before t q (r .token + 1)
   timer-passed i l =
       ⊎-elim (λ (b : i < r .token).
-      omega
-      (arith, T .passed i b, F .trt-there i (omega (arith, T .course .token)) (omega arith), walk, sent-kept i l, sent-changed (r .token + 1) (omega arith), sum-step (r .token) (at (t .w)), sum-step (r .token) (at (r .sent))))
+      let trt = F .trt-there i (omega (arith, T .course .token)) (omega arith) in
+      omega (arith, T .passed i b, sent-kept i l, before-more))
       (λ (b : r .token ≤ i).
       let e : i ≡ r .token = omega arith in
       let d : r .token - r .token ≡ 0 = omega arith in
-      rw (e, d)
-      (omega
-      (arith, async-none h, F .trt-here, walk, sent-kept (r .token) (omega arith), sent-changed (r .token + 1) (omega arith), sum-step (r .token) (at (t .w)), sum-step (r .token) (at (r .sent)))))
+      rw (e, d) (omega (arith, async-none h, F .trt-here, sent-kept (r .token) (omega arith), before-more)))
       (below-or-not i (r .token))
 
   -- and of a station past it
   timer-coming : (i : ℕ) → i < t .n → r .token < i → at (q .trt) i + before t q i ≡ v .asynchronous .0 + asyncOf (r .token + t .n - i) h + before t q (r .token + 1) + before t q (t .n)
   timer-coming i l b =
-      omega
-      (arith, T .coming i l (omega arith), F .trt-there i l (omega arith), walk, sent-changed i b, sent-changed (t .n) (T .course .token), sent-changed (r .token + 1) (omega arith), sum-step (r .token) (at (t .w)), sum-step (r .token) (at (r .sent)))
+      let trt = F .trt-there i l (omega arith) in
+      omega (arith, T .coming i l (omega arith), sent-changed i b, sent-changed (t .n) (T .course .token), before-more)
 
   -- ---- where the token goes on to the next station
 
@@ -170,10 +182,10 @@ module _ (t : Set) (a : Alloc) (r q : Timing) (v : VisitRecord) (h : List VisitR
 
   pub timed-kept : r .clock ≤ mostClock → Timed t a q (v ∷ h)
   timed-kept =
-      ⊎-elim (λ (b : (r .token + 1 < t .n) × (following (t .n) (r .token) ≡ r .token + 1)).
+      ⊎-elim (λ (b : ToNext (t .n) (r .token)).
       let e : q .token ≡ r .token + 1 = C .token ∙ b .1 in
       kept-with (next-passed e) (next-coming e))
-      (λ (b : (r .token + 1 ≡ t .n) × (following (t .n) (r .token) ≡ 0)).
+      (λ (b : ToFirst (t .n) (r .token)).
       let e : q .token ≡ 0 = C .token ∙ b .1 in
       kept-with (λ i l. absurd (omega arith)) (λ i l _. wrap-coming (b .0) e i l))
       (following-is (t .n) (r .token) (T .course .token))

@@ -121,10 +121,12 @@ module _ (t : Set) (a : Alloc) where
 -- ---- in ticks: N·(N + 1) visits make N + 1 rotations, and the one that is offered a limit above 0 starts within them
 
 module _ (t : Set) (a : Alloc) (i : ℕ) (known : i < t .n) (left : 1 ≤ spareTime t (at (a .s))) (first : VisitRecord) (old : List VisitRecord) where
-  abbrev OfferedSoon : VisitRecord → List VisitRecord → Type 0
+  abbrev pub OfferedSoon : VisitRecord → List VisitRecord → Type 0
   OfferedSoon v before = Offered i v × Soon t a first old (t .n + 1) v before
 
-  just-enough : (newer : List VisitRecord) → t .n * (t .n + 1) ≤ length newer + 1 → length newer ≤ (t .n + 1) * t .n → AllInOrder t a (newer ++ first ∷ old) → Somewhere OfferedSoon (newer ++ first ∷ [])
+  just-enough : (newer : List VisitRecord)
+      → t .n * (t .n + 1) ≤ length newer + 1 → length newer ≤ (t .n + 1) * t .n → AllInOrder t a (newer ++ first ∷ old)
+      → Somewhere OfferedSoon (newer ++ first ∷ [])
   just-enough newer long few E =
       somewhere-each (λ v before. Offered i v) (Soon t a first old (t .n + 1)) (newer ++ first ∷ [])
       (offered t a i known old (newer ++ first ∷ []) left (rw length-append (omega arith)) (rw append-assoc E))

@@ -46,7 +46,13 @@ pub record BulkWaits : Type 0 where
   -- station 1 asks for at least A* at each visit
   pub asks : AlwaysAsks 1 1 sent five
   -- and is offered 0 at both of its own: all of A* was sent in the rotation before, first by itself and then by station 0
-  pub waits : visitsAmong sent five ≡ row 0 399 100 0 97 0 0 (pos 0) 0 ∷ row 1 399 100 0 0 0 0 (pos 0) 0 ∷ row 0 299 99 1 97 1 0 (pos 0) 0 ∷ row 1 299 100 0 0 0 0 (pos 0) 0 ∷ row 0 200 100 0 97 0 0 (pos 0) 0 ∷ []
+  pub waits : visitsAmong sent five ≡
+      row 0 399 100 0 97 0 0 (pos 0) 0
+      ∷ row 1 399 100 0 0 0 0 (pos 0) 0
+      ∷ row 0 299 99 1 97 1 0 (pos 0) 0
+      ∷ row 1 299 100 0 0 0 0 (pos 0) 0
+      ∷ row 0 200 100 0 97 0 0 (pos 0) 0
+      ∷ []
   -- the visit after these is its own again, and is offered A*
   pub ends : visitsAmong sent (five ++ greedy ∷ []) ≡ row 1 498 99 1 0 1 0 (pos 0) 0 ∷ visitsAmong sent five
   -- it starts 298 ticks after the first of them did; the promise is 300

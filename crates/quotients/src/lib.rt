@@ -91,11 +91,3 @@ pub fn divide_narrow(dividend: u32, divisor: u32) -> NarrowDivision
         remainder,
     }
 }
-
-// The quotient of 32-bit numbers rounded up.
-pub fn rounded_up_narrow(dividend: u32, divisor: u32) -> u32
-    ensures { λ r. ⌜ Share dividend divisor r ⌝ }
-{
-    let share = rounded_up(units::wide(dividend), units::wide(divisor));
-    share as u32
-}

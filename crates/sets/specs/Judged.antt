@@ -1,9 +1,8 @@
 -- The judgement of any set whatever, in the order of the refusal numbers, so that the lowest that applies is given.
 use Prim.Native.Nat.{ℕ}
-use mathlib.Core.List.{List}
-use lib.ListN.{replicate}
 use Rattle.units.specs.Numbers.{accepted, wrongShape, outOfRange, badWalkTime}
 use Rattle.units.specs.Judging.{orElse}
+pub use Rattle.units.specs.Places.{zeros}
 use Rattle.sets.specs.Rules.{countAllowed, numbersAllowed, walkTimeAllowed}
 use Rattle.sets.specs.declared.Set.{Set}
 
@@ -15,10 +14,6 @@ judgedThen t rest =
 -- 0, or the lowest of 2, 4 and 5 that applies
 abbrev pub judged : Set → ℕ
 judged t = judgedThen t accepted
-
--- 128 places of 0
-abbrev pub zeros : List ℕ
-zeros = replicate 128 0
 
 -- what a refused call hands back for a set: N = 0 and every place 0
 abbrev pub blankSet : Set

@@ -134,14 +134,14 @@ pub record RowsLaid (out₀ out : List ℕ) (from at step n i : ℕ) (row : ℕ 
   pub so-far : out ≡ laid out₀ from (rows i row)
   pub long : length out ≡ length out₀
 
-module _ (out₀ : List ℕ) (from step n : ℕ) (row : ℕ → List ℕ) (each : (i : ℕ) → length (row i) ≡ step) where
+module _ {out₀ : List ℕ} {from step n : ℕ} {row : ℕ → List ℕ} (each : (i : ℕ) → length (row i) ≡ step) where
   pub rows-begin : RowsLaid out₀ out₀ from from step n 0 row
   rows-begin = record { counted = omega arith; here = omega (arith, mul-zero step); so-far = sym (rw rows-none (laid-none _ _)); long = refl }
 
   -- a turn lays the next row behind them
-  pub rows-turn : (out next : List ℕ) (at i : ℕ) → RowsLaid out₀ out from at step n i row → i < n → from + step * n ≤ length out₀
+  pub rows-turn : {out next : List ℕ} {at i : ℕ} → RowsLaid out₀ out from at step n i row → i < n → from + step * n ≤ length out₀
       → next ≡ laid out at (row i) → length next ≡ length out → RowsLaid out₀ next from (at + step) step n (i + 1) row
-  rows-turn out next at i r l fits e same =
+  rows-turn {out} {next} {at} {i} r l fits e same =
       let room : step * suc i ≤ step * n = mul-le-mul-left step l in
       let one-more = mul-suc step i in
       let here = r .here in
@@ -152,8 +152,8 @@ module _ (out₀ : List ℕ) (from step n : ℕ) (row : ℕ → List ℕ) (each 
         long = same ∙ r .long;
       }
 
-  pub rows-end : (out : List ℕ) (at i : ℕ) → RowsLaid out₀ out from at step n i row → n ≤ i → out ≡ laid out₀ from (rows n row)
-  rows-end out at i r done =
+  pub rows-end : {out : List ℕ} {at i : ℕ} → RowsLaid out₀ out from at step n i row → n ≤ i → out ≡ laid out₀ from (rows n row)
+  rows-end {i = i} r done =
       let all : i ≡ n = omega (arith, r .counted) in
       r .so-far ∙ ap (λ (k : ℕ). laid out₀ from (rows k row)) all
 

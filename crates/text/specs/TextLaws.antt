@@ -35,7 +35,9 @@ put-then {before} {middle} {after} {s} {t} {a} {r} {q} p k fits =
 pub put-length : {before after s : List ℕ} {a r : ℕ} → Put before a s after r → a + length s ≤ length before → length after ≡ length before
 put-length {before} {after} {s} {a} p fits = ap length (p .page) ∙ laid-length before a s fits
 
-pub put-short-then : {before middle after s t : List ℕ} {a r q most more : ℕ} → PutShort most before a s middle r → PutShort more middle r t after q → a + most + more ≤ length before → PutShort (most + more) before a (s ++ t) after q
+pub put-short-then : {before middle after s t : List ℕ} {a r q most more : ℕ}
+    → PutShort most before a s middle r → PutShort more middle r t after q → a + most + more ≤ length before
+    → PutShort (most + more) before a (s ++ t) after q
 put-short-then {before} {middle} {after} {s} {t} {a} {r} {q} p k fits =
     record {
       put = put-then (p .put) (k .put) (omega (arith, p .short, k .short));
@@ -68,7 +70,9 @@ within-none not-both =
     }
 
 -- what is put behind a segment, with room for both
-pub within-then : {before middle after s t : List ℕ} {a r q most more : ℕ} → PutShort most before a s middle r → PutWithin more middle r t after q → length t ≤ more → a + most + more ≤ length before → PutShort (most + more) before a (s ++ t) after q
+pub within-then : {before middle after s t : List ℕ} {a r q most more : ℕ}
+    → PutShort most before a s middle r → PutWithin more middle r t after q → length t ≤ more → a + most + more ≤ length before
+    → PutShort (most + more) before a (s ++ t) after q
 within-then p k few fits =
     put-short-then p (k .put (omega (arith, p .put .next, p .short, put-length (p .put) (omega (arith, p .short)))) few) fits
 
@@ -116,10 +120,14 @@ pub field-short : (n : ℕ) → length (space ∷ decimalOf n) ≤ 21
 field-short n = omega (arith, decimal-short 20 n)
 
 -- a number's field, or the line's end, put behind a segment
-pub field-then : {before middle after s : List ℕ} {a r q most : ℕ} (n : ℕ) → PutShort most before a s middle r → PutWithin 21 middle r (space ∷ decimalOf n) after q → a + most + 21 ≤ length before → PutShort (most + 21) before a (s ++ (space ∷ decimalOf n)) after q
+pub field-then : {before middle after s : List ℕ} {a r q most : ℕ} (n : ℕ)
+    → PutShort most before a s middle r → PutWithin 21 middle r (space ∷ decimalOf n) after q → a + most + 21 ≤ length before
+    → PutShort (most + 21) before a (s ++ (space ∷ decimalOf n)) after q
 field-then n p k fits = within-then p k (field-short n) fits
 
-pub end-then : {before middle after s : List ℕ} {a r q most : ℕ} → PutShort most before a s middle r → PutWithin 1 middle r (newline ∷ []) after q → a + most + 1 ≤ length before → PutShort (most + 1) before a (s ++ (newline ∷ [])) after q
+pub end-then : {before middle after s : List ℕ} {a r q most : ℕ}
+    → PutShort most before a s middle r → PutWithin 1 middle r (newline ∷ []) after q → a + most + 1 ≤ length before
+    → PutShort (most + 1) before a (s ++ (newline ∷ [])) after q
 end-then p k fits = within-then p k (omega arith) fits
 
 -- more places than are needed change nothing

@@ -75,7 +75,10 @@ loop-less : tie.Need-loop-less Inv-loop μ-loop
 loop-less c = search needs
 
 -- what is away from a station: the time lost, and the others' S
-away-is : (c : tie.After-room Inv-loop μ-loop) → c .room .result ≡ lost (c .before .before .before .before .before .before .before .args .t1) + others (stations (c .before .before .before .before .before .before .before .args .t1)) (at (c .before .before .before .before .before .before .before .args .t2)) (c .before .before .before .loop .i)
+away-is : (c : tie.After-room Inv-loop μ-loop) →
+    let at-loop = c .before .before .before in
+    let args = at-loop .before .before .before .before .args in
+    c .room .result ≡ lost (args .t1) + others (stations (args .t1)) (at (args .t2)) (at-loop .loop .i)
 away-is c =
     let at-loop = c .before .before .before in
     let start = at-loop .before .before .before .before in
@@ -83,7 +86,10 @@ away-is c =
     omega (arith, c .room .ensures, sum-stations (start .args .t1) (start .args .t2) long, others-own (stations (start .args .t1)) (at (start .args .t2)) (at-loop .loop .i) (omega arith))
 
 -- so the time that the code asks for is X at the station
-time-is : (c : tie.After-least-time Inv-loop μ-loop) → c .least-time .result ≡ timeAt (c .before .before .before .before .before .before .before .before .before .args .t1) (at (c .before .before .before .before .before .before .before .before .before .args .t2)) (c .before .before .before .before .before .loop .i)
+time-is : (c : tie.After-least-time Inv-loop μ-loop) →
+    let at-loop = c .before .before .before .before .before in
+    let args = at-loop .before .before .before .before .args in
+    c .least-time .result ≡ timeAt (args .t1) (at (args .t2)) (at-loop .loop .i)
 time-is c =
     let at-loop = c .before .before .before .before .before in
     let l = at-loop .before .before .before .before .args .t1 in

@@ -1,5 +1,5 @@
 -- `least_plan` is right because each round is the definition's, and the sum rises in each but the last, so the rounds that the definition has left are enough.
-use Prim.Native.Nat.{_+_, _-_, _≤_}
+use Prim.Native.Nat.{_+_, _-_, _≤_, _<_}
 use mathlib.Core.Path.{_≡_, refl, sym, ap, _∙_}
 use mathlib.Core.Bool.{true, false}
 use native.Mathlib.Omega.{arith}
@@ -68,7 +68,10 @@ sum-after : (c : tie.After-round Inv-loop μ-loop) → c .round .result .sum ≡
 sum-after c = ap (λ (r : Raised). r .sum) (after-is c)
 
 -- past the second test the token rule holds after the round
-fits : (c : tie.Else2 Inv-loop μ-loop) → after (c .before .before .before .before .before .before .before .before .before .args .l) (c .before .before .before .loop .s) .sum + lost (c .before .before .before .before .before .before .before .before .before .args .l) ≤ c .before .before .before .before .before .before .before .before .before .args .l .ttrt
+fits : (c : tie.Else2 Inv-loop μ-loop) →
+    let at-loop = c .before .before .before in
+    let l = at-loop .before .before .before .before .before .before .args .l in
+    after l (at-loop .loop .s) .sum + lost l ≤ l .ttrt
 fits c = omega (arith, sum-after (c .before .before), c .before .before .before .before .before .lost .ensures .is, c .if2 .left)
 
 returns-2 : tie.Need-returns-2 Inv-loop μ-loop
@@ -76,7 +79,8 @@ returns-2 c =
     let at-round = c .before .before .before in
     let at-loop = at-round .before in
     let l = at-loop .before .before .before .before .before .before .args .l in
-    c .none2 .ensures ∙ sym (underway-breaks l (at-loop .loop .s) (at-loop .loop .sum) (at-loop .loop .inv) (omega (arith, sum-after at-round, at-loop .before .before .lost .ensures .is, c .before .if2 .taken)))
+    let breaks : l .ttrt < after l (at-loop .loop .s) .sum + lost l = omega (arith, sum-after at-round, at-loop .before .before .lost .ensures .is, c .before .if2 .taken) in
+    c .none2 .ensures ∙ sym (underway-breaks l (at-loop .loop .s) (at-loop .loop .sum) (at-loop .loop .inv) breaks)
 
 returns-3 : tie.Need-returns-3 Inv-loop μ-loop
 returns-3 c =

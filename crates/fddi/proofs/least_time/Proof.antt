@@ -61,8 +61,10 @@ returns-2 c =
     let at-whole = c .before .before .before .before in
     let args = at-whole .before .before .before .before .args in
     let some : 0 < wholeRotations (args .ttrt) (args .d) = rw (← rotations-said at-whole) (omega arith) in
-    rw (c .least .ensures, c .before .room2 .ensures, c .before .before .room .ensures, rotations-said at-whole, at-whole .before .wide3 .ensures .same, at-whole .before .before .wide2 .ensures .same, at-whole .before .before .before .wide .ensures .same)
-    (sym (time-some (wholeRotations (args .ttrt) (args .d)) (rest (args .ttrt) (args .d) - args .away) (args .s) some))
+    let at-wide3 = at-whole .before in
+    rw (c .least .ensures, c .before .room2 .ensures, c .before .before .room .ensures, rotations-said at-whole)
+    (rw (at-wide3 .wide3 .ensures .same, at-wide3 .before .wide2 .ensures .same, at-wide3 .before .before .wide .ensures .same)
+    (sym (time-some (wholeRotations (args .ttrt) (args .d)) (rest (args .ttrt) (args .d) - args .away) (args .s) some)))
 
 pub least-time-spec : {M : Type 1} → statement M
 least-time-spec =

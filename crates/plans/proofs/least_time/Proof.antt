@@ -14,7 +14,9 @@ wide-requires c κs = search needs
 mul-result : tie.Need-mul-result
 mul-result c =
     let at-wide = c .before in
-    omega (arith, at-wide .before .rotations .ensures .small, product-room (at-wide .before .rotations .result .whole) (at-wide .wide .result) 0 (omega (arith, at-wide .before .rotations .ensures .small)) (omega arith) (omega arith))
+    let turns = at-wide .before .rotations in
+    let few = turns .ensures .small in
+    omega (arith, product-room (turns .result .whole) (at-wide .wide .result) 0 (omega arith) (omega arith) (omega arith))
 
 room-requires : tie.Need-room-requires
 room-requires c κs = search needs
@@ -22,8 +24,9 @@ room-requires c κs = search needs
 add-result : tie.Need-add-result
 add-result c =
     let at-wide = c .before .before in
-    omega
-    (arith, product-room (at-wide .before .rotations .result .whole) (at-wide .wide .result) (c .room .result) (omega (arith, at-wide .before .rotations .ensures .small)) (omega arith) (omega arith))
+    let turns = at-wide .before .rotations in
+    let few = turns .ensures .small in
+    omega (arith, product-room (turns .result .whole) (at-wide .wide .result) (c .room .result) (omega arith) (omega arith) (omega arith))
 
 returns : tie.Need-returns
 returns c =

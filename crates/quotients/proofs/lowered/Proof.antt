@@ -29,7 +29,8 @@ add-quotient : tie.Need-add-quotient Inv-loop μ-loop
 add-quotient c = omega (arith, kept-small 2 (omega arith) (c .before .loop .inv .1))
 
 -- where the half fits, it is taken off
-taken : (c : tie.Then1 Inv-loop μ-loop) → Kept (c .before .before .before .args .dividend) (c .before .before .loop .part / 2) (c .before .before .loop .quotient + c .before .before .loop .quotient + 1) (c .before .before .loop .rest - c .before .before .loop .part / 2)
+taken : (c : tie.Then1 Inv-loop μ-loop) → let loop = c .before .before .loop in
+    Kept (c .before .before .before .args .dividend) (loop .part / 2) (loop .quotient + loop .quotient + 1) (loop .rest - loop .part / 2)
 taken c = kept-in (turn (c .before) .twice) (omega arith) (c .before .before .loop .inv .1)
 
 add-quotient-2 : tie.Need-add-quotient-2 Inv-loop μ-loop

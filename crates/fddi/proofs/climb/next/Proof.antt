@@ -34,10 +34,13 @@ add-more : tie.Need-add-more
 add-more c = search needs
 
 -- what the code adds up is the definition's number
-more-is : (c : tie.After-room2) → c .before .wide4 .result + c .room2 .result ≡ lacking (c .before .before .before .before .before .before .args .ttrt) (c .before .before .before .before .before .before .args .q) (c .before .before .before .before .before .before .args .c) (c .before .before .before .before .before .before .args .d) (c .before .before .before .before .before .before .args .taken)
+more-is : (c : tie.After-room2) → let args = c .before .before .before .before .before .before .args in
+    c .before .wide4 .result + c .room2 .result ≡ lacking (args .ttrt) (args .q) (args .c) (args .d) (args .taken)
 more-is c =
-    rw (c .room2 .ensures, c .before .wide4 .ensures .same, c .before .before .room .ensures, c .before .before .before .wide3 .ensures .same, c .before .before .before .before .wide2 .ensures .same, c .before .before .before .before .before .wide .ensures .same)
-    refl
+    let at-room = c .before .before in
+    let at-wide3 = at-room .before in
+    rw (c .room2 .ensures, c .before .wide4 .ensures .same, at-room .room .ensures)
+    (rw (at-wide3 .wide3 .ensures .same, at-wide3 .before .wide2 .ensures .same, at-wide3 .before .before .wide .ensures .same) refl)
 
 holds-requires : tie.Need-holds-requires
 holds-requires c κs = search needs

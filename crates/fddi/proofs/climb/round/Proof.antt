@@ -85,7 +85,10 @@ loop-less : tie.Need-loop-less Inv-loop μ-loop
 loop-less c = search needs
 
 -- the number that the code adds is the station's next S
-one-is : (c : tie.After-next Inv-loop μ-loop) → c .next .result ≡ nextAt (c .before .before .before .before .before .before .before .args .t1) (c .before .before .before .before .before .before .before .args .taken) (c .before .before .before .before .before .before .before .args .t4) (c .before .before .before .before .loop .i)
+one-is : (c : tie.After-next Inv-loop μ-loop) →
+    let at-loop = c .before .before .before .before in
+    let args = at-loop .before .before .before .args in
+    c .next .result ≡ nextAt (args .t1) (args .taken) (args .t4) (at-loop .loop .i)
 one-is c = c .next .ensures .is ∙ rw (q-is (c .before .before .before)) refl
 
 loop-again : tie.Need-loop-again Inv-loop μ-loop

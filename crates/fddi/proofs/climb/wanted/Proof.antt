@@ -69,11 +69,13 @@ stepped-requires-2 c κs =
     }
 
 -- the second test in the definition's numbers
-whole-enough : (c : tie.Then2) → c .before .before .before .before .before .args .c ≤ (c .before .before .before .before .before .args .q - 1) * stepped (c .before .before .before .before .before .args .grid) (c .before .before .before .before .before .args .q) (c .before .before .before .before .before .args .more)
+whole-enough : (c : tie.Then2) → let args = c .before .before .before .before .before .args in
+    args .c ≤ (args .q - 1) * stepped (args .grid) (args .q) (args .more)
 whole-enough c =
     rw (c .before .before .wide2 .ensures .same, c .before .wide3 .ensures .same, c .before .before .before .stepped .ensures .is) at (c .if2 .taken)
 
-late-less : (c : tie.Else2) → (c .before .before .before .before .before .args .q - 1) * stepped (c .before .before .before .before .before .args .grid) (c .before .before .before .before .before .args .q) (c .before .before .before .before .before .args .more) < c .before .before .before .before .before .args .c
+late-less : (c : tie.Else2) → let args = c .before .before .before .before .before .args in
+    (args .q - 1) * stepped (args .grid) (args .q) (args .more) < args .c
 late-less c =
     rw (c .before .before .wide2 .ensures .same, c .before .wide3 .ensures .same, c .before .before .before .stepped .ensures .is) at (c .if2 .left)
 

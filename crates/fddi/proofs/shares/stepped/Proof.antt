@@ -21,7 +21,8 @@ rounded-up-requires : tie.Need-rounded-up-requires
 rounded-up-requires c κs = search needs
 
 -- what the code multiplies is the definition's number
-stepped-is : (c : tie.After-rounded-up) → c .rounded-up .result * c .before .before .wide .result ≡ stepped (c .before .before .before .args .grid) (c .before .before .before .args .q) (c .before .before .before .args .x)
+stepped-is : (c : tie.After-rounded-up) → let args = c .before .before .before .args in
+    c .rounded-up .result * c .before .before .wide .result ≡ stepped (args .grid) (args .q) (args .x)
 stepped-is c = rw (c .rounded-up .ensures .is, c .before .wide2 .ensures .same, c .before .before .wide .ensures .same) refl
 
 mul-result : tie.Need-mul-result

@@ -15,8 +15,8 @@ use Rattle.rings.proofs.steps.moved_on.Tie as tie
 -- a ring is the moved one if its fields are: what is stored, and then the four that are called for
 stored : (r : Ring) (sync async by start : ℕ) (timers : Timers) (x : Ring) → x .visits ≡ r .visits + 1 → x .clock ≡ r .clock + by → x .last ≡ set (r .last) (r .token) start
     → x .sent ≡ set (r .sent) (r .token) sync → x .rest ≡ set (r .rest) (r .token) (at (r .rest) (r .token) - sync) → x .set ≡ r .set → x .alloc ≡ r .alloc
-    → x .arrival ≡ r .arrival → x .had ≡ r .had → x .filler ≡ r .filler → x .trt ≡ timers .trt → x .late ≡ timers .late → x .unused ≡ timers .unused → by ≡ rise r sync async → start ≡ syncStart r async
-    → timers ≡ timersAfter r sync async → x .token ≡ nextToken r → x ≡ moved r sync async
+    → x .arrival ≡ r .arrival → x .had ≡ r .had → x .filler ≡ r .filler → x .trt ≡ timers .trt → x .late ≡ timers .late → x .unused ≡ timers .unused
+    → by ≡ rise r sync async → start ≡ syncStart r async → timers ≡ timersAfter r sync async → x .token ≡ nextToken r → x ≡ moved r sync async
 unfolding moved
 stored r sync async by start timers x visits clock last sent rest kept alloc arrival had filler trt late unused rises begins moves token =
     (λ i. record {

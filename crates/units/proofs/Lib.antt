@@ -1,0 +1,2 @@
+-- FillLaws     a loop that stores a number at each place it passes
+pub mod FillLaws
