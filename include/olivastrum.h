@@ -4,6 +4,8 @@
  *     sheet bytes --olivastrum_read_request_sheet--> set --olivastrum_plan_set--> allocation
  *     set and allocation --olivastrum_write_plan_sheet--> sheet bytes
  *     set and allocation --olivastrum_open_ring--> ring --olivastrum_visit, olivastrum_hand_in--> the same ring, moved on
+ *     set and allocation --olivastrum_begin_log, olivastrum_add_visit, olivastrum_end_log--> log bytes
+ *     log bytes --olivastrum_read_log, olivastrum_log_entry--> set, allocation and visits
  *
  * Who owns what. The host owns all memory. A function looks at what it is handed while the call runs, keeps no
  * pointer, takes nothing from the heap, prints nothing and has no state of its own. So every function is reentrant:
@@ -45,8 +47,8 @@
 /* The version of the header and the library, as `./olivastrum version` prints it. */
 #define OLIVASTRUM_VERSION_MAJOR 0
 #define OLIVASTRUM_VERSION_MINOR 6
-#define OLIVASTRUM_VERSION_PATCH 0
-#define OLIVASTRUM_VERSION "0.6.0"
+#define OLIVASTRUM_VERSION_PATCH 1
+#define OLIVASTRUM_VERSION "0.6.1"
 
 #ifdef __cplusplus
 extern "C" {
@@ -70,7 +72,7 @@ enum {
     OLIVASTRUM_STILL_HELD = 11,       /* that station still holds an unsent message */
     OLIVASTRUM_BAD_ARRIVAL = 12,      /* arrival time not allowed */
     OLIVASTRUM_CLOCK_TOO_HIGH = 13,   /* visit: the clock is above 1,000,000,000,000 */
-    OLIVASTRUM_BUFFER_TOO_SHORT = 14  /* the output buffer is too short for the sheet */
+    OLIVASTRUM_BUFFER_TOO_SHORT = 14  /* the output buffer is too short for the sheet, or for a log's next visit and its end */
 };
 
 /* The most stations that a ring has, and so the places of each array. Places from N on are never looked at. */
@@ -86,6 +88,9 @@ enum {
 #define OLIVASTRUM_PLAN_BYTES(n) (10u + 26u * (n))
 #define OLIVASTRUM_MODE_BYTES 4u
 #define OLIVASTRUM_FRAME_BYTES 7u
+
+/* The bytes of a log: those of its plan sheet, and these for each visit. */
+#define OLIVASTRUM_VISIT_BYTES 20u
 
 /* A count of ticks, and a station's number from 0 in ring order. The one is never the other. */
 struct olivastrum_ticks {
@@ -166,6 +171,24 @@ struct olivastrum_visit_record {
     uint8_t completed;
 };
 
+/* A log that is being written: how many of its bytes are, and the recorder's counter of 32 bits, which runs past its top
+ * to 0, as it was at some clock of the ring. The number is that of the last call, and is not looked at. */
+struct olivastrum_recorder {
+    uint64_t at;
+    uint64_t clock;
+    uint32_t counter;
+    uint32_t number;
+};
+
+/* A visit as a log has it; any numbers, the station's has 8 bits. */
+struct olivastrum_entry {
+    uint32_t station;
+    uint32_t start;
+    uint32_t limit;
+    uint32_t synchronous;
+    uint32_t asynchronous;
+};
+
 /* ---- answers */
 struct olivastrum_read_request {
     struct olivastrum_set set;
@@ -181,6 +204,21 @@ struct olivastrum_read_plan {
 struct olivastrum_written {
     size_t length;
     uint8_t number;
+};
+
+/* The place of the first field behind the allocations, and how many visits stand from there on. */
+struct olivastrum_read_log {
+    struct olivastrum_set set;
+    struct olivastrum_alloc alloc;
+    uint64_t first;
+    uint64_t visits;
+    uint8_t number;
+};
+
+/* The place behind the entry is 0 where no visit stands. */
+struct olivastrum_next_entry {
+    struct olivastrum_entry entry;
+    uint64_t next;
 };
 
 struct olivastrum_planned {
@@ -222,17 +260,21 @@ OLIVASTRUM_SIZE(struct olivastrum_written, 16);
 OLIVASTRUM_SIZE(struct olivastrum_planned, 516);
 OLIVASTRUM_SIZE(struct olivastrum_opened, 6840);
 OLIVASTRUM_SIZE(struct olivastrum_visit_answer, 80);
+OLIVASTRUM_SIZE(struct olivastrum_recorder, 24);
+OLIVASTRUM_SIZE(struct olivastrum_entry, 20);
+OLIVASTRUM_SIZE(struct olivastrum_read_log, 2600);
+OLIVASTRUM_SIZE(struct olivastrum_next_entry, 32);
 
 #undef OLIVASTRUM_SIZE
 
 /* ---- the functions */
 
 /* Reads a request sheet: the set, or 1 to 5 with the blank set. */
-#define OLIVASTRUM_STACK_READ_REQUEST_SHEET 16896
+#define OLIVASTRUM_STACK_READ_REQUEST_SHEET 14848
 struct olivastrum_read_request olivastrum_read_request_sheet(const uint8_t *sheet, size_t length);
 
 /* Reads a plan sheet: the set and its allocation, or 1 to 5 or 7 with both blank. */
-#define OLIVASTRUM_STACK_READ_PLAN_SHEET 18944
+#define OLIVASTRUM_STACK_READ_PLAN_SHEET 16896
 struct olivastrum_read_plan olivastrum_read_plan_sheet(const uint8_t *sheet, size_t length);
 
 /* Writes a request sheet into the first bytes of out and leaves the rest: the sheet's length, or 2, 4, 5 or 14. */
@@ -260,6 +302,28 @@ struct olivastrum_visit_answer olivastrum_visit(struct olivastrum_ring *ring, st
 /* Hands in a message. The ring is changed where it stands; 8 to 12 leave it as it was. Returns the number. */
 #define OLIVASTRUM_STACK_HAND_IN 25088
 uint8_t olivastrum_hand_in(struct olivastrum_ring *ring, struct olivastrum_message message);
+
+/* Begins a log: the plan's fields, without their end, in the first bytes of out. The recorder's counter is what the host
+ * says it is at the ring's clock. The rest of out is left as it was; 2, 4, 5, 7 or 14 write nothing. */
+#define OLIVASTRUM_STACK_BEGIN_LOG 18944
+struct olivastrum_recorder olivastrum_begin_log(struct olivastrum_set set, struct olivastrum_alloc alloc, uint32_t counter, uint64_t clock, uint8_t *out, size_t length);
+
+/* Adds the record of an accepted visit: the counter moves on by what the clock rose. 14 where its field and the end do
+ * not fit: nothing is written, and the log can still be ended. */
+#define OLIVASTRUM_STACK_ADD_VISIT 512
+struct olivastrum_recorder olivastrum_add_visit(struct olivastrum_recorder recorder, struct olivastrum_visit_record record, uint8_t *out, size_t length);
+
+/* Ends a log: its length, or 14. */
+#define OLIVASTRUM_STACK_END_LOG 512
+struct olivastrum_written olivastrum_end_log(struct olivastrum_recorder recorder, uint8_t *out, size_t length);
+
+/* Reads a log: its plan and where its visits are, or 1 to 5 or 7 with all blank. A plan sheet is a log without visits. */
+#define OLIVASTRUM_STACK_READ_LOG 10240
+struct olivastrum_read_log olivastrum_read_log(const uint8_t *log, size_t length);
+
+/* The visit whose field begins at this place of a log, and the place behind it; all blank where none does. */
+#define OLIVASTRUM_STACK_LOG_ENTRY 512
+struct olivastrum_next_entry olivastrum_log_entry(const uint8_t *log, size_t length, uint64_t at);
 
 /* The most that a call of any of them needs. */
 #define OLIVASTRUM_STACK_MOST 31744

@@ -5,29 +5,34 @@ use std::io::{self, BufRead, BufReader, BufWriter, Read, Write};
 use std::path::Path;
 
 use crate::check::WatchedRing;
+use crate::compose::compose;
 use crate::frames::{self, from_hex, to_hex};
 use crate::gen::{self, Kind};
 use crate::lines::Lines;
+use crate::log::{plan_fields, Counter, Passed, Stream};
 use crate::planner;
 use crate::planted::Planted;
 use crate::ring::Ring;
 use crate::rules::{Plan, Refusal};
-use crate::sheet::{read_either, read_plan, read_request, write_plan, PLAN_READ, REQUEST_READ};
-use crate::text::{self, answer_line, number, read_call, Fault};
+use crate::sheet::{end_field, read_plan, read_request, visit_field, write_plan};
+use crate::sheet::{Sheet, ANY_TABLE, PLAN_READ, REQUEST_READ};
+use crate::text::{self, answer_line, number, read_call, Answer, Fault};
 use crate::waits;
 
 const USAGE: &str = "\
 usage: second [--planted K] [COMMAND]
   plan        a request sheet in, its plan as text out (also without a command)
                 second plan < ring.request
-  compose     a request or plan as text in, its sheet out
+  compose     a request, a plan or a log as text in, its bytes out
                 second compose < ring.txt > ring.request
-  show        a request or plan sheet in, its text out
+  show        a request sheet, a plan sheet or a log in, its text out
                 second show < ring.request
   plan-sheet  a request sheet in, its plan sheet out
                 second plan-sheet < ring.request > ring.plan
   run PLAN    calls as text in, one line of answer for each out
                 second run ring.plan < calls.txt
+  log PLAN    calls as text in, the log of their run out
+                second log ring.plan < calls.txt > ring.log
   generate KIND SEED COUNT [DIR]
               framed cases out, or into a file in DIR; fddi-KIND for sets that run FDDI,
               uncut-KIND and fddi-uncut-KIND for such with a longest frame F
@@ -40,24 +45,134 @@ usage: second [--planted K] [COMMAND]
   help        this text
 ";
 
-/// What a command says: on standard output, and on standard error.
-#[derive(Debug, Default, PartialEq, Eq)]
-pub struct Said {
-    pub out: Vec<u8>,
-    pub err: Vec<u8>,
+/// Where a command writes: standard output and standard error.
+pub struct Streams<O, E> {
+    pub out: O,
+    pub err: E,
 }
 
-impl Said {
-    fn text(text: String) -> Said {
-        Said { out: text.into_bytes(), err: vec![] }
+impl<O: Write, E: Write> Streams<O, E> {
+    fn text(&mut self, text: &str) -> io::Result<()> {
+        self.out.write_all(text.as_bytes())
     }
 
-    /// The bytes of a sheet; a refusal of them goes to standard error.
-    fn sheet(answer: Result<Vec<u8>, Fault>) -> Said {
+    /// A fault where standard output carries bytes.
+    fn fault(&mut self, fault: Fault) -> io::Result<()> {
+        writeln!(self.err, "{fault}")
+    }
+
+    fn sheet(&mut self, answer: Result<Vec<u8>, Refusal>) -> io::Result<()> {
         match answer {
-            Ok(out) => Said { out, err: vec![] },
-            Err(fault) => Said { out: vec![], err: format!("{fault}\n").into_bytes() },
+            Ok(bytes) => self.out.write_all(&bytes),
+            Err(refusal) => self.fault(Fault::Refused(refusal)),
         }
+    }
+
+    /// A command that has only its name; tells whether there is one.
+    fn simple(&mut self, name: &str, input: impl Read, planted: Planted) -> io::Result<bool> {
+        match name {
+            "plan" => {
+                let plan = planned(&at_most(input, REQUEST_READ)?, planted);
+                self.text(&plan.map_or_else(refused, |plan| text::show_plan(&plan)))?;
+            }
+            "plan-sheet" => {
+                let plan = planned(&at_most(input, REQUEST_READ)?, planted);
+                self.sheet(plan.and_then(|plan| write_plan(&plan, PLAN_READ)))?;
+            }
+            "show" => self.show(input)?,
+            "compose" => {
+                if let Err(fault) = compose(input, &mut self.out)? {
+                    self.fault(fault)?;
+                }
+            }
+            _ => return Ok(false),
+        }
+        Ok(true)
+    }
+
+    /// The text of a request, a plan or a log of any length. That of a log goes out as it is read,
+    /// and ends with the refusal if there is a fault behind its plan.
+    fn show(&mut self, input: impl Read) -> io::Result<()> {
+        let mut stream = Stream::new(input, ANY_TABLE);
+        // What is before the visits, once a visit has passed: shown, or refused.
+        let mut before: Option<Result<(), Refusal>> = None;
+        loop {
+            let passed = stream.pass()?;
+            let judged = || stream.passage().contents.judged();
+            match passed {
+                Err(refusal) => return self.text(&refused(refusal)),
+                Ok(Passed::Visit(entry)) => {
+                    if before.is_none() {
+                        before = Some(self.shown(judged())?);
+                    }
+                    if before == Some(Ok(())) {
+                        self.text(&format!("{entry}\n"))?;
+                    }
+                }
+                Ok(Passed::End) => {
+                    let shown = match before {
+                        None => self.shown(judged())?,
+                        Some(shown) => shown,
+                    };
+                    return shown.or_else(|refusal| self.text(&refused(refusal)));
+                }
+            }
+        }
+    }
+
+    fn shown(&mut self, sheet: Result<Sheet, Refusal>) -> io::Result<Result<(), Refusal>> {
+        match sheet {
+            Ok(sheet) => self.text(&text::show_sheet(&sheet)).map(Ok),
+            Err(refusal) => Ok(Err(refusal)),
+        }
+    }
+
+    /// Answers the calls as they are read, and waits for none with an answer unsaid.
+    fn run(&mut self, plan: &[u8], calls: impl Read, planted: Planted) -> io::Result<()> {
+        let mut ring = match opened(plan, planted) {
+            Ok(ring) => ring,
+            Err(refusal) => return self.text(&refused(refusal)),
+        };
+        let mut lines = Lines::new(calls);
+        while let Some(line) = lines.next_line()? {
+            match read_call(&line) {
+                Ok(None) => (),
+                Ok(Some(call)) => writeln!(self.out, "{}", answer_line(ring.answer(&call)))?,
+                Err(fault) => writeln!(self.out, "{fault}")?,
+            }
+            if lines.must_wait() {
+                self.out.flush()?;
+            }
+        }
+        Ok(())
+    }
+
+    /// Writes the log of a run: the fields of its plan, a field for each visit, the end. The first
+    /// line that cannot be read is named when the calls have ended.
+    fn log(&mut self, plan: &[u8], calls: impl Read, planted: Planted) -> io::Result<()> {
+        let mut ring = match opened(plan, planted) {
+            Ok(ring) => ring,
+            Err(refusal) => return self.fault(Fault::Refused(refusal)),
+        };
+        self.sheet(plan_fields(ring.ring().plan()))?;
+        let mut lines = Lines::new(calls);
+        let mut unread = None;
+        while let Some(line) = lines.next_line()? {
+            match read_call(&line) {
+                Ok(None) => (),
+                Ok(Some(call)) => {
+                    if let Ok(Answer::Visited(visit)) = ring.answer(&call) {
+                        self.out.write_all(&visit_field(&Counter::ZERO.entry(&visit)))?;
+                    }
+                }
+                Err(fault) => unread = unread.or(Some(fault)),
+            }
+            if lines.must_wait() {
+                self.out.flush()?;
+            }
+        }
+        self.out.write_all(&end_field())?;
+        unread.map_or(Ok(()), |fault| self.fault(fault))
     }
 }
 
@@ -69,49 +184,9 @@ fn planned(sheet: &[u8], planted: Planted) -> Result<Plan, Refusal> {
     planner::plan(&read_request(sheet)?, planted)
 }
 
-fn plan(sheet: &[u8], planted: Planted) -> Said {
-    Said::text(planned(sheet, planted).map_or_else(refused, |plan| text::show_plan(&plan)))
-}
-
-fn show(sheet: &[u8]) -> Said {
-    Said::text(read_either(sheet).map_or_else(refused, |sheet| text::show_sheet(&sheet)))
-}
-
-fn plan_sheet(sheet: &[u8], planted: Planted) -> Said {
-    let plan = planned(sheet, planted);
-    Said::sheet(plan.and_then(|plan| write_plan(&plan, PLAN_READ)).map_err(Fault::Refused))
-}
-
-/// Answers the calls as they are read, and waits for none with an answer unsaid.
-fn run(plan: &[u8], calls: impl Read, planted: Planted, out: &mut impl Write) -> io::Result<()> {
-    let opened = read_plan(plan).and_then(|plan| Ring::open(&plan, planted));
-    let mut ring = match opened {
-        Ok(ring) => WatchedRing::new(ring, planted),
-        Err(refusal) => return out.write_all(refused(refusal).as_bytes()),
-    };
-    let mut lines = Lines::new(calls);
-    while let Some(line) = lines.next_line()? {
-        match read_call(&line) {
-            Ok(None) => (),
-            Ok(Some(call)) => writeln!(out, "{}", answer_line(ring.answer(&call)))?,
-            Err(fault) => writeln!(out, "{fault}")?,
-        }
-        if lines.must_wait() {
-            out.flush()?;
-        }
-    }
-    Ok(())
-}
-
-/// A command that answers when its input has ended; `None` if there is none of this name.
-fn simple(name: &str, input: impl Read, planted: Planted) -> io::Result<Option<Said>> {
-    Ok(Some(match name {
-        "plan" => plan(&at_most(input, REQUEST_READ)?, planted),
-        "plan-sheet" => plan_sheet(&at_most(input, REQUEST_READ)?, planted),
-        "show" => show(&at_most(input, PLAN_READ)?),
-        "compose" => Said::sheet(text::compose(input)?),
-        _ => return Ok(None),
-    }))
+fn opened(plan: &[u8], planted: Planted) -> Result<WatchedRing, Refusal> {
+    let ring = Ring::open(&read_plan(plan)?, planted)?;
+    Ok(WatchedRing::new(ring, planted))
 }
 
 fn at_most(input: impl Read, most: usize) -> io::Result<Vec<u8>> {
@@ -120,19 +195,24 @@ fn at_most(input: impl Read, most: usize) -> io::Result<Vec<u8>> {
     Ok(bytes)
 }
 
-/// The `command` case: `NAME;HEX`, or `run;HEXPLAN;HEX`.
+/// The `command` case: `NAME;HEX`, or `run;HEXPLAN;HEX` and the same with `log`.
 pub fn framed_command(rest: &str, planted: Planted) -> Option<String> {
     let parts: Vec<&str> = rest.split(';').collect();
-    let said = match parts[..] {
+    let mut streams = Streams { out: vec![], err: vec![] };
+    match parts[..] {
         ["run", plan, calls] => {
-            let mut out = vec![];
-            run(&from_hex(plan)?, &from_hex(calls)?[..], planted, &mut out).ok()?;
-            Said { out, err: vec![] }
+            streams.run(&from_hex(plan)?, &from_hex(calls)?[..], planted).ok()?;
         }
-        [name, input] => simple(name, &from_hex(input)?[..], planted).ok()??,
+        ["log", plan, calls] => {
+            streams.log(&from_hex(plan)?, &from_hex(calls)?[..], planted).ok()?;
+        }
+        [name, input] => {
+            let input = from_hex(input)?;
+            streams.simple(name, &input[..], planted).ok().filter(|&known| known)?;
+        }
         _ => return None,
     };
-    Some(format!("{} {}", to_hex(&said.out), to_hex(&said.err)))
+    Some(format!("{} {}", to_hex(&streams.out), to_hex(&streams.err)))
 }
 
 /// One line of answer to each line of framed cases.
@@ -184,13 +264,6 @@ fn usage() -> io::Result<bool> {
     Ok(true)
 }
 
-fn say(said: Said) -> io::Result<bool> {
-    io::stdout().write_all(&said.out)?;
-    io::stdout().flush()?;
-    io::stderr().write_all(&said.err)?;
-    Ok(said.err.is_empty())
-}
-
 /// Runs the command that the arguments name; tells whether standard error stayed silent.
 pub fn main(arguments: &[&str]) -> io::Result<bool> {
     let ["--planted", word, rest @ ..] = arguments else {
@@ -204,18 +277,25 @@ pub fn main(arguments: &[&str]) -> io::Result<bool> {
 
 fn command(arguments: &[&str], planted: Planted) -> io::Result<bool> {
     let input = io::stdin().lock();
-    let mut out = BufWriter::new(io::stdout().lock());
+    let out = BufWriter::new(io::stdout().lock());
+    let mut streams = Streams { out, err: vec![] };
+    let plan = |path: &str| at_most(File::open(path)?, PLAN_READ);
     match arguments {
-        ["run", plan] => run(&at_most(File::open(plan)?, PLAN_READ)?, input, planted, &mut out)?,
-        ["answers"] => answers(input, planted, &mut out)?,
+        ["run", path] => streams.run(&plan(path)?, input, planted)?,
+        ["log", path] => streams.log(&plan(path)?, input, planted)?,
+        ["answers"] => answers(input, planted, &mut streams.out)?,
         ["generate", rest @ ..] => return generate(rest),
         ["waits", seed, count] => return waits(seed, count),
         [] | [_] => {
             let name = arguments.first().unwrap_or(&"plan");
-            return simple(name, input, planted)?.map_or_else(usage, say);
+            if !streams.simple(name, input, planted)? {
+                drop(streams);
+                return usage();
+            }
         }
         _ => return usage(),
     }
-    out.flush()?;
-    Ok(true)
+    streams.out.flush()?;
+    io::stderr().write_all(&streams.err)?;
+    Ok(streams.err.is_empty())
 }

@@ -2,11 +2,12 @@
 
 use crate::check::WatchedRing;
 use crate::commands::framed_command;
+use crate::log::{Counter, Entry, Recorder};
 use crate::planner;
 use crate::planted::Planted;
 use crate::ring::Ring;
 use crate::rules::{Head, Plan, Refusal, Request, Station, MOST_STATIONS};
-use crate::sheet::{read_plan, read_request, write_plan, write_request};
+use crate::sheet::{read_log, read_plan, read_request, write_plan, write_request};
 use crate::state::{Place, State};
 use crate::text::{answer_line, ask, call, number, Answer, Call};
 
@@ -41,6 +42,10 @@ fn try_answer(case: &str, planted: Planted) -> Option<String> {
         "run" => running(rest, planted, |answers, _| answers.join("|")),
         "ring" => running(rest, planted, |_, ring| show_ring(ring)),
         "state" => any_state(rest),
+        "log" => {
+            Some(line(read_log(&from_hex(rest)?), |(plan, entries)| show_log(&plan, &entries)))
+        }
+        "record" => recording(rest, planted),
         "command" => framed_command(rest, planted),
         _ => None,
     }
@@ -168,6 +173,55 @@ fn running(
         show(answers, ring.ring())
     };
     Some(line(opened, answered))
+}
+
+/// `PLANSET|STATION,START,LIMIT,SYNC,ASYNC|...`
+fn show_log(plan: &Plan, entries: &[Entry]) -> String {
+    let mut parts = vec![show_set(&plan.request, &plan.allocation)];
+    for entry in entries {
+        let Entry { station, start, limit, synchronous, asynchronous } = *entry;
+        parts.push(joined(&[station.into(), start, limit, synchronous, asynchronous]));
+    }
+    parts.join("|")
+}
+
+/// Opens the ring, begins a log, makes every call and adds every visit, until one does not fit.
+fn recording(rest: &str, planted: Planted) -> Option<String> {
+    let mut parts = rest.split(';');
+    let room = parse(parts.next()?)?;
+    let (shown, at) = parts.next()?.split_once(',')?;
+    let counter = Counter { shown: parse(shown)?, at: parse(at)? };
+    let plan = read_plan(&from_hex(parts.next()?)?);
+    let steps = read_steps(parts)?;
+    let begun = plan.and_then(|plan| {
+        let ring = WatchedRing::new(Ring::open(&plan, planted)?, planted);
+        Ok((ring, Recorder::begin(&plan, room)?))
+    });
+    let (mut ring, mut recorder) = match begun {
+        Ok(begun) => begun,
+        Err(refusal) => return Some(refusal.number().to_string()),
+    };
+    let added = add_visits(&mut ring, &mut recorder, counter, &steps);
+    let number = added.map_or_else(Refusal::number, |()| 0);
+    Some(format!("{number} {}", to_hex(&recorder.end())))
+}
+
+fn add_visits(
+    ring: &mut WatchedRing,
+    recorder: &mut Recorder,
+    counter: Counter,
+    steps: &[Step],
+) -> Result<(), Refusal> {
+    for step in steps {
+        for _ in 0..step.times {
+            match ring.answer(&step.call) {
+                Ok(Answer::Visited(visit)) => recorder.add(&counter.entry(&visit))?,
+                Ok(Answer::Taken) => (),
+                Err(_) => break,
+            }
+        }
+    }
+    Ok(())
 }
 
 /// Makes every call on a state; shows the answers, and then the state.

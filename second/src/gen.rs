@@ -1,6 +1,7 @@
 //! Framed cases from a seed. Each case depends on its kind, the seed and its place only.
 
 pub mod calls;
+pub mod logs;
 pub mod random;
 pub mod sets;
 pub mod sheets;
@@ -60,10 +61,12 @@ pub enum Kind {
     Openings,
     Steps,
     Commands,
+    Logs,
+    Records,
 }
 
 impl Kind {
-    pub const ALL: [Kind; 12] = [
+    pub const ALL: [Kind; 14] = [
         Kind::Requests,
         Kind::Plans,
         Kind::Planning,
@@ -76,6 +79,8 @@ impl Kind {
         Kind::Openings,
         Kind::Steps,
         Kind::Commands,
+        Kind::Logs,
+        Kind::Records,
     ];
 
     pub fn name(self) -> &'static str {
@@ -92,6 +97,8 @@ impl Kind {
             Kind::Openings => "openings",
             Kind::Steps => "steps",
             Kind::Commands => "commands",
+            Kind::Logs => "logs",
+            Kind::Records => "records",
         }
     }
 
@@ -119,6 +126,8 @@ impl Kind {
             Kind::Edges => edge_cases(random, sort),
             Kind::Openings => vec![opening_case(random, sort)],
             Kind::Commands => vec![command_case(random, sort)],
+            Kind::Logs => vec![format!("log {}", to_hex(&logs::log(random, sort)))],
+            Kind::Records => vec![record_case(random, sort)],
         }
     }
 }
@@ -207,23 +216,41 @@ fn edge_cases(random: &mut Random, sort: Sort) -> Vec<String> {
 }
 
 fn command_case(random: &mut Random, sort: Sort) -> String {
-    let name = random.pick(&["plan", "plan-sheet", "show", "compose", "run"]);
+    let name = random.pick(&["plan", "plan-sheet", "show", "compose", "run", "log"]);
     let kind = random.pick(&[SheetKind::Request, SheetKind::Plan]);
+    let of_log = random.once_in(3);
     let input = match name {
         "plan" | "plan-sheet" => to_hex(&sheets::sheet(random, SheetKind::Request, sort)),
+        "show" if of_log => to_hex(&logs::log(random, sort)),
         "show" => to_hex(&sheets::sheet(random, kind, sort)),
+        "compose" if random.once_in(100) => to_hex(&[]),
+        "compose" if of_log => to_hex(&texts::log_text(random, sort)),
         "compose" => to_hex(&texts::sheet_text(random, sort)),
         _ => run_input(random, sort),
     };
     format!("command {name};{input}")
 }
 
-/// A script for its plan; now and then the plan's sheet is damaged.
+/// A script for its plan; now and then the plan's sheet is damaged, or a log.
 fn run_input(random: &mut Random, sort: Sort) -> String {
     let (plan, text) = texts::script_text(random, sort);
     let mut sheet = fields(&plan.request, &plan.allocation).concat();
     if random.once_in(8) {
         sheet = sheets::sheet(random, SheetKind::Plan, sort);
+    } else if random.once_in(20) {
+        sheet = logs::log(random, sort);
     }
     format!("{};{}", to_hex(&sheet), to_hex(&text))
+}
+
+/// A run to record, into room enough, or too short for the plan, for some visit or for the end.
+fn record_case(random: &mut Random, sort: Sort) -> String {
+    let (plan, calls) = calls::script(random, sort);
+    let sheet = match random.once_in(8) {
+        true => sheets::sheet(random, SheetKind::Plan, sort),
+        false => fields(&plan.request, &plan.allocation).concat(),
+    };
+    let room = logs::room(random, &plan, &calls);
+    let (shown, at) = logs::counter(random);
+    format!("record {room};{shown},{at};{}{}", to_hex(&sheet), framed_calls(&calls))
 }

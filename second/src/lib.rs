@@ -2,9 +2,11 @@
 
 pub mod check;
 pub mod commands;
+pub mod compose;
 pub mod frames;
 pub mod gen;
 pub mod lines;
+pub mod log;
 pub mod planner;
 pub mod planted;
 pub mod raising;

@@ -1,6 +1,7 @@
-//! Request and plan sheets: a reader driven by a table of the fields allowed at each place,
-//! and a writer.
+//! Request and plan sheets and logs: a reader driven by a table of the fields allowed at each
+//! place, and a writer.
 
+use crate::log::Entry;
 use crate::rules::MOST_STATIONS;
 use crate::rules::{header_number, require, Head, Plan, Refusal, Request, Station};
 
@@ -9,6 +10,7 @@ pub const STATION_TAG: u8 = 2;
 const ALLOCATION_TAG: u8 = 3;
 const MODE_TAG: u8 = 4;
 pub const FRAME_TAG: u8 = 5;
+pub const VISIT_TAG: u8 = 16;
 const END_TAG: u8 = 255;
 
 /// What TTRT, the mode, F and the end take on a sheet.
@@ -35,31 +37,53 @@ enum Place {
     Moded,
     Stations,
     Allocations,
+    Visits,
     Done,
 }
 
 /// What the fields so far held.
 #[derive(Default)]
-struct Contents {
+pub struct Contents {
     ttrt: u32,
     mode: Option<u32>,
     frame: Option<u32>,
     stations: Vec<Station>,
     allocation: Vec<u32>,
+    pub entries: Vec<Entry>,
 }
 
 impl Contents {
-    fn head(&self) -> Head {
+    fn request(&self) -> Request {
         let [mode, frame] = [self.mode, self.frame].map(header_number);
-        Head { ttrt: self.ttrt, mode, frame }
+        Request { head: Head { ttrt: self.ttrt, mode, frame }, stations: self.stations.clone() }
+    }
+
+    fn plan(&self) -> Plan {
+        Plan { request: self.request(), allocation: self.allocation.clone() }
+    }
+
+    fn all_allocated(&self) -> bool {
+        self.allocation.len() == self.stations.len()
+    }
+
+    /// The sheet before any visit, judged: a request where it has no allocations.
+    pub fn judged(&self) -> Result<Sheet, Refusal> {
+        if self.allocation.is_empty() {
+            let request = self.request();
+            request.judge()?;
+            return Ok(Sheet::Request(request));
+        }
+        let plan = self.plan();
+        plan.judge()?;
+        Ok(Sheet::Plan(plan))
     }
 }
 
 /// A field allowed at some places: its head, what must hold, what to keep of it, where it leads.
-struct Row {
+pub struct Row {
     at: &'static [Place],
     tag: u8,
-    length: usize,
+    pub length: usize,
     when: fn(&Contents) -> bool,
     keep: fn(&mut Contents, &[u8]),
     then: Place,
@@ -101,50 +125,97 @@ const STATION_FIELD: Row = Row {
     then: Place::Stations,
 };
 
-const REQUEST_TABLE: [Row; 5] = [
+const REQUEST_END: Row = Row {
+    at: &[Place::Stations],
+    tag: END_TAG,
+    length: 0,
+    when: |contents| !contents.stations.is_empty(),
+    keep: |_, _| (),
+    then: Place::Done,
+};
+
+const FIRST_ALLOCATION: Row = Row {
+    at: &[Place::Stations],
+    tag: ALLOCATION_TAG,
+    length: 4,
+    when: |contents| !contents.stations.is_empty(),
+    keep: |contents, body| contents.allocation.push(number(body, 0)),
+    then: Place::Allocations,
+};
+
+const NEXT_ALLOCATION: Row = Row {
+    at: &[Place::Allocations],
+    tag: ALLOCATION_TAG,
+    length: 4,
+    when: |contents| !contents.all_allocated(),
+    keep: |contents, body| contents.allocation.push(number(body, 0)),
+    then: Place::Allocations,
+};
+
+const PLAN_END: Row = Row {
+    at: &[Place::Allocations],
+    tag: END_TAG,
+    length: 0,
+    when: Contents::all_allocated,
+    keep: |_, _| (),
+    then: Place::Done,
+};
+
+const VISIT: Row = Row {
+    at: &[Place::Allocations, Place::Visits],
+    tag: VISIT_TAG,
+    length: 17,
+    when: Contents::all_allocated,
+    keep: |contents, body| contents.entries.push(entry(body)),
+    then: Place::Visits,
+};
+
+const LOG_END: Row = Row {
+    at: &[Place::Visits],
+    tag: END_TAG,
+    length: 0,
+    when: |_| true,
+    keep: |_, _| (),
+    then: Place::Done,
+};
+
+const REQUEST_TABLE: &[Row] = &[TTRT_FIELD, MODE_FIELD, FRAME_FIELD, STATION_FIELD, REQUEST_END];
+
+const PLAN_TABLE: &[Row] = &[
     TTRT_FIELD,
     MODE_FIELD,
     FRAME_FIELD,
     STATION_FIELD,
-    Row {
-        at: &[Place::Stations],
-        tag: END_TAG,
-        length: 0,
-        when: |contents| !contents.stations.is_empty(),
-        keep: |_, _| (),
-        then: Place::Done,
-    },
+    FIRST_ALLOCATION,
+    NEXT_ALLOCATION,
+    PLAN_END,
 ];
 
-const PLAN_TABLE: [Row; 7] = [
+/// A log without a visit is a plan.
+pub const LOG_TABLE: &[Row] = &[
     TTRT_FIELD,
     MODE_FIELD,
     FRAME_FIELD,
     STATION_FIELD,
-    Row {
-        at: &[Place::Stations],
-        tag: ALLOCATION_TAG,
-        length: 4,
-        when: |contents| !contents.stations.is_empty(),
-        keep: |contents, body| contents.allocation.push(number(body, 0)),
-        then: Place::Allocations,
-    },
-    Row {
-        at: &[Place::Allocations],
-        tag: ALLOCATION_TAG,
-        length: 4,
-        when: |contents| contents.allocation.len() < contents.stations.len(),
-        keep: |contents, body| contents.allocation.push(number(body, 0)),
-        then: Place::Allocations,
-    },
-    Row {
-        at: &[Place::Allocations],
-        tag: END_TAG,
-        length: 0,
-        when: |contents| contents.allocation.len() == contents.stations.len(),
-        keep: |_, _| (),
-        then: Place::Done,
-    },
+    FIRST_ALLOCATION,
+    NEXT_ALLOCATION,
+    PLAN_END,
+    VISIT,
+    LOG_END,
+];
+
+/// A request, a plan or a log.
+pub const ANY_TABLE: &[Row] = &[
+    TTRT_FIELD,
+    MODE_FIELD,
+    FRAME_FIELD,
+    STATION_FIELD,
+    REQUEST_END,
+    FIRST_ALLOCATION,
+    NEXT_ALLOCATION,
+    PLAN_END,
+    VISIT,
+    LOG_END,
 ];
 
 /// The four-byte number at a place of a body, counted in numbers.
@@ -162,6 +233,17 @@ fn station(body: &[u8]) -> Station {
     }
 }
 
+fn entry(body: &[u8]) -> Entry {
+    let numbers = &body[1..];
+    Entry {
+        station: body[0],
+        start: number(numbers, 0),
+        limit: number(numbers, 1),
+        synchronous: number(numbers, 2),
+        asynchronous: number(numbers, 3),
+    }
+}
+
 impl Row {
     fn allows(&self, place: Place, head: &[u8; 3], contents: &Contents) -> bool {
         let length = usize::from(u16::from_be_bytes([head[1], head[2]]));
@@ -172,48 +254,75 @@ impl Row {
     }
 }
 
-/// Goes through the fields from the left; the first fault decides.
-fn contents(sheet: &[u8], table: &[Row]) -> Result<Contents, Refusal> {
-    let mut contents = Contents::default();
-    let mut place = Place::Start;
+/// Goes through the fields of a table from the left, one at a time.
+pub struct Passage {
+    table: &'static [Row],
+    place: Place,
+    pub contents: Contents,
+}
+
+impl Passage {
+    pub fn new(table: &'static [Row]) -> Passage {
+        Passage { table, place: Place::Start, contents: Contents::default() }
+    }
+
+    pub fn is_done(&self) -> bool {
+        self.place == Place::Done
+    }
+
+    /// The row that allows a field with this head here, or number 2.
+    pub fn row(&self, head: &[u8; 3]) -> Result<&'static Row, Refusal> {
+        let allows = |row: &&Row| row.allows(self.place, head, &self.contents);
+        self.table.iter().find(allows).ok_or(Refusal::WrongField)
+    }
+
+    pub fn take(&mut self, row: &Row, body: &[u8]) {
+        (row.keep)(&mut self.contents, body);
+        self.place = row.then;
+    }
+}
+
+/// What is on a sheet; the first fault decides.
+fn contents(sheet: &[u8], table: &'static [Row]) -> Result<Contents, Refusal> {
+    let mut passage = Passage::new(table);
     let mut rest = sheet;
-    while place != Place::Done {
+    while !passage.is_done() {
         let (head, after) = rest.split_first_chunk::<3>().ok_or(Refusal::EndsEarly)?;
-        let allowed = table.iter().find(|row| row.allows(place, head, &contents));
-        let row = allowed.ok_or(Refusal::WrongField)?;
+        let row = passage.row(head)?;
         let (body, after) = after.split_at_checked(row.length).ok_or(Refusal::EndsEarly)?;
-        (row.keep)(&mut contents, body);
-        place = row.then;
+        passage.take(row, body);
         rest = after;
     }
     require(rest.is_empty(), Refusal::TrailingByte)?;
-    Ok(contents)
+    Ok(passage.contents)
 }
 
 /// The set of a request sheet, or number 1 to 5.
 pub fn read_request(sheet: &[u8]) -> Result<Request, Refusal> {
-    let contents = contents(sheet, &REQUEST_TABLE)?;
-    let request = Request { head: contents.head(), stations: contents.stations };
+    let request = contents(sheet, REQUEST_TABLE)?.request();
     request.judge()?;
     Ok(request)
 }
 
 /// The plan of a plan sheet, or number 1 to 5 or 7.
 pub fn read_plan(sheet: &[u8]) -> Result<Plan, Refusal> {
-    let contents = contents(sheet, &PLAN_TABLE)?;
-    let request = Request { head: contents.head(), stations: contents.stations };
-    let plan = Plan { request, allocation: contents.allocation };
+    let plan = contents(sheet, PLAN_TABLE)?.plan();
     plan.judge()?;
     Ok(plan)
 }
 
-/// A sheet of either kind. The two tables differ only at the first field after the stations,
-/// and there the request's answer to a plan is 2: then the plan's answer counts.
-pub fn read_either(sheet: &[u8]) -> Result<Sheet, Refusal> {
-    match read_request(sheet) {
-        Err(Refusal::WrongField) => read_plan(sheet).map(Sheet::Plan),
-        answer => answer.map(Sheet::Request),
-    }
+/// The plan of a log and its visits, or number 1 to 5 or 7.
+pub fn read_log(log: &[u8]) -> Result<(Plan, Vec<Entry>), Refusal> {
+    let contents = contents(log, LOG_TABLE)?;
+    let plan = contents.plan();
+    plan.judge()?;
+    Ok((plan, contents.entries))
+}
+
+/// A sheet of either kind and the visits behind a plan, or number 1 to 5 or 7.
+pub fn read_any(sheet: &[u8]) -> Result<(Sheet, Vec<Entry>), Refusal> {
+    let contents = contents(sheet, ANY_TABLE)?;
+    Ok((contents.judged()?, contents.entries))
 }
 
 /// The fields of a sheet, unjudged; with an allocation they are those of a plan.
@@ -231,8 +340,21 @@ pub fn fields(request: &Request, allocation: &[u32]) -> Vec<Vec<u8>> {
         fields.push(field(STATION_TAG, &[walk, longest, deadline, gap]));
     }
     fields.extend(allocation.iter().map(|&s| field(ALLOCATION_TAG, &[s])));
-    fields.push(field(END_TAG, &[]));
+    fields.push(end_field());
     fields
+}
+
+pub fn end_field() -> Vec<u8> {
+    field(END_TAG, &[])
+}
+
+/// The field of a visit.
+pub fn visit_field(entry: &Entry) -> Vec<u8> {
+    let Entry { station, start, limit, synchronous, asynchronous } = *entry;
+    let mut bytes = vec![VISIT_TAG, 0, 17, station];
+    let numbers = [start, limit, synchronous, asynchronous];
+    numbers.iter().for_each(|number| bytes.extend(number.to_be_bytes()));
+    bytes
 }
 
 /// The field of a mode, any byte.

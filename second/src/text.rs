@@ -1,14 +1,12 @@
 //! Requests, plans, calls and answers as text.
 
 use std::fmt;
-use std::io::{self, Read};
 use std::str::FromStr;
 
-use crate::lines::{Line, Lines};
+use crate::lines::Line;
 use crate::ring::{Message, StationNumber, Visit};
-use crate::rules::MOST_STATIONS;
-use crate::rules::{header_number, require, Ask, Head, Plan, Refusal, Request, Station};
-use crate::sheet::{write_plan, write_request, Sheet, PLAN_READ, REQUEST_READ};
+use crate::rules::{header_number, Ask, Head, Plan, Refusal, Request, Station};
+use crate::sheet::Sheet;
 
 /// Why a text has no sheet.
 #[derive(Clone, Copy, Debug, PartialEq, Eq)]
@@ -125,103 +123,6 @@ pub fn show_stations(request: &Request, allocation: &[u32]) -> String {
         text.push('\n');
     }
     text
-}
-
-/// The bytes of the sheet that a text describes. A line that cannot be read comes before
-/// every refusal.
-pub fn compose<R: Read>(text: R) -> io::Result<Result<Vec<u8>, Fault>> {
-    let mut lines = Lines::new(text);
-    let mut draft = Draft::default();
-    while let Some(line) = lines.next_line()? {
-        if draft.take(&line.words()).is_none() {
-            return Ok(Err(Fault::Unreadable(line.number)));
-        }
-    }
-    Ok(draft.write().map_err(Fault::Refused))
-}
-
-/// What the lines so far said. At most one station too many is kept, to be refused.
-#[derive(Default)]
-struct Draft {
-    ttrt: Option<u32>,
-    mode: Option<u32>,
-    frame: Option<u32>,
-    stations: Vec<Station>,
-    allocation: Vec<u32>,
-    misplaced: bool,
-}
-
-impl Draft {
-    /// Takes one line's words; `None` if they cannot be read.
-    fn take(&mut self, words: &[&[u8]]) -> Option<()> {
-        match *words {
-            [] => Some(()),
-            [b"ttrt", ttrt] => self.take_ttrt(number(ttrt)?),
-            [b"mode", mode] => self.take_mode(number(mode)?),
-            [b"frame", frame] => self.take_frame(number(frame)?),
-            [b"station", ref numbers @ ..] => self.take_station(numbers),
-            _ => None,
-        }
-    }
-
-    /// `ttrt` stands once, before every station.
-    fn take_ttrt(&mut self, ttrt: u32) -> Option<()> {
-        self.misplaced |= self.ttrt.is_some() || !self.stations.is_empty();
-        self.ttrt = Some(ttrt);
-        Some(())
-    }
-
-    /// Behind `ttrt` and before every station.
-    fn in_head(&self) -> bool {
-        self.ttrt.is_some() && self.stations.is_empty()
-    }
-
-    /// `mode` stands at most once, in the head and before `frame`.
-    fn take_mode(&mut self, mode: u32) -> Option<()> {
-        self.misplaced |= self.mode.is_some() || self.frame.is_some() || !self.in_head();
-        self.mode = Some(mode);
-        Some(())
-    }
-
-    /// `frame` stands at most once, in the head.
-    fn take_frame(&mut self, frame: u32) -> Option<()> {
-        self.misplaced |= self.frame.is_some() || !self.in_head();
-        self.frame = Some(frame);
-        Some(())
-    }
-
-    fn take_station(&mut self, words: &[&[u8]]) -> Option<()> {
-        let numbers: Option<Vec<u32>> = words.iter().map(|word| number(word)).collect();
-        let (station, s) = match numbers?[..] {
-            [walk, longest, deadline, gap] => (Station { walk, longest, deadline, gap }, None),
-            [walk, longest, deadline, gap, s] => {
-                (Station { walk, longest, deadline, gap }, Some(s))
-            }
-            _ => return None,
-        };
-        if self.stations.len() <= MOST_STATIONS {
-            self.stations.push(station);
-            self.allocation.extend(s);
-        }
-        Some(())
-    }
-
-    /// What the lines before the stations say.
-    fn head(&self) -> Result<Head, Refusal> {
-        let ttrt = self.ttrt.ok_or(Refusal::WrongField)?;
-        let [mode, frame] = [self.mode, self.frame].map(header_number);
-        Ok(Head { ttrt, mode, frame })
-    }
-
-    /// Lines of both kinds leave fewer allocations than stations: they are refused for their count.
-    fn write(self) -> Result<Vec<u8>, Refusal> {
-        require(!self.misplaced, Refusal::WrongField)?;
-        let request = Request { head: self.head()?, stations: self.stations };
-        if self.allocation.is_empty() {
-            return write_request(&request, REQUEST_READ);
-        }
-        write_plan(&Plan { request, allocation: self.allocation }, PLAN_READ)
-    }
 }
 
 /// The call of a line: `Ok(None)` if the line is blank.

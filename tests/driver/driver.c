@@ -64,11 +64,10 @@ static void stations(struct plan *plan, int with_shares)
         no_case();
 }
 
-/* `N SET`, or `N PLANSET` where there is an allocation. */
-static void put_stations(const set_t *set, const alloc_t *alloc)
+/* SET, or PLANSET where there is an allocation. */
+static void put_set(const set_t *set, const alloc_t *alloc)
 {
-    put_after(' ', set->n);
-    put_after(' ', set->head.ttrt);
+    put_number(set->head.ttrt);
     if (set->head.mode != OLIVASTRUM_TIMELY || set->head.frame != 1)
         put_after(',', set->head.mode);
     if (set->head.frame != 1)
@@ -81,6 +80,14 @@ static void put_stations(const set_t *set, const alloc_t *alloc)
         if (alloc)
             put_after(',', alloc->s[i]);
     }
+}
+
+/* The number of stations, and the set or plan. */
+static void put_stations(const set_t *set, const alloc_t *alloc)
+{
+    put_after(' ', set->n);
+    put(" ");
+    put_set(set, alloc);
 }
 
 /* ---- a ring: `CLOCK,TOKEN,VISITS,U;TRT,s,REMAINING,HAD,ARRIVAL,LAST;..`, a late count behind LAST where it is not 0 */
@@ -368,6 +375,87 @@ static void state_case(void)
     put_ring(&ring);
 }
 
+/* ---- logs */
+
+/* `log HEX` */
+static void log_case(void)
+{
+    size_t length = hex(bytes, MOST_BYTES);
+    if (!ended())
+        no_case();
+    struct olivastrum_read_log read = reading_log(bytes, length);
+    put_number(read.number);
+    if (read.number != 0)
+        return;
+    put(" ");
+    put_set(&read.set, &read.alloc);
+    uint64_t at = read.first;
+    for (uint64_t i = 0; i < read.visits; i++) {
+        struct olivastrum_next_entry next = entry_at(length, at);
+        put_after('|', next.entry.station);
+        put_after(',', next.entry.start);
+        put_after(',', next.entry.limit);
+        put_after(',', next.entry.synchronous);
+        put_after(',', next.entry.asynchronous);
+        at = next.next;
+    }
+    /* What stands behind the last visit is none. */
+    if (entry_at(length, at).next != 0)
+        put(" !too-long");
+}
+
+/* Makes the call that stands here on the ring, again and again as often as it says; each accepted visit is added. */
+static struct olivastrum_recorder recorded(ring_t *ring, struct olivastrum_recorder recorder, size_t room)
+{
+    uint64_t count = 1;
+    if (passed("message ")) {
+        message(ring, 0);
+        return recorder;
+    }
+    if (passed("visits ")) {
+        count = number();
+        pass(" ");
+    } else {
+        pass("visit ");
+    }
+    struct olivastrum_ask ask = asked();
+    for (; count > 0 && recorder.number == 0; count--) {
+        struct olivastrum_visit_answer answer = visiting(ring, 1, ask);
+        if (answer.number != 0)
+            break;
+        recorder = adding_visit(recorder, answer.record, room);
+    }
+    return recorder;
+}
+
+/* `record ROOM;COUNTER,CLOCK;HEX` and CALLS */
+static void record_case(void)
+{
+    const uint8_t *log;
+    uint64_t room = number();
+    pass(";");
+    uint32_t counter = number32();
+    pass(",");
+    uint64_t clock = number();
+    pass(";");
+    if (room > MOST_BYTES)
+        room = MOST_BYTES;
+    struct olivastrum_opened opened = opened_sheet();
+    if (opened.number != 0) {
+        put_number(opened.number);
+        return;
+    }
+    struct olivastrum_recorder recorder = beginning_log(&opened.ring.set, &opened.ring.alloc, counter, clock, room);
+    while (recorder.number == 0 && passed(";"))
+        recorder = recorded(&opened.ring, recorder, room);
+    put_number(recorder.number);
+    if (recorder.at == 0)
+        return;
+    struct olivastrum_written ended = ending_log(recorder, room, &log);
+    put(" ");
+    put_hex(log, ended.length);
+}
+
 static void answer(void)
 {
     if (passed("request "))
@@ -388,6 +476,10 @@ static void answer(void)
         run_case(0);
     else if (passed("state "))
         state_case();
+    else if (passed("log "))
+        log_case();
+    else if (passed("record "))
+        record_case();
     else
         no_case();
 }

@@ -15,6 +15,12 @@ struct olivastrum_planned __real_olivastrum_plan_set(set_t set);
 struct olivastrum_opened __real_olivastrum_open_ring(set_t set, alloc_t alloc);
 struct olivastrum_visit_answer __real_olivastrum_visit(ring_t *ring, struct olivastrum_ask ask);
 uint8_t __real_olivastrum_hand_in(ring_t *ring, struct olivastrum_message message);
+struct olivastrum_read_log __real_olivastrum_read_log(const uint8_t *log, size_t length);
+struct olivastrum_next_entry __real_olivastrum_log_entry(const uint8_t *log, size_t length, uint64_t at);
+struct olivastrum_recorder __real_olivastrum_begin_log(set_t set, alloc_t alloc, uint32_t counter, uint64_t clock, uint8_t *out, size_t length);
+struct olivastrum_recorder __real_olivastrum_add_visit(struct olivastrum_recorder recorder, struct olivastrum_visit_record record, uint8_t *out,
+                                                       size_t length);
+struct olivastrum_written __real_olivastrum_end_log(struct olivastrum_recorder recorder, uint8_t *out, size_t length);
 
 /* What is changed where the fault of that name is asked for and the condition holds. */
 #define FAULT(name, condition, place)            \
@@ -164,4 +170,52 @@ uint8_t __wrap_olivastrum_hand_in(ring_t *ring, struct olivastrum_message messag
     uint8_t number = __real_olivastrum_hand_in(ring, message);
     spoil_ring(number, ring);
     return number;
+}
+
+/* ---- logs */
+struct olivastrum_read_log __wrap_olivastrum_read_log(const uint8_t *log, size_t length)
+{
+    struct olivastrum_read_log read = __real_olivastrum_read_log(log, length);
+    spoil_sheet(log, length);
+    spoil_set(read.number, &read.set);
+    spoil_alloc(read.number, read.set.n, &read.alloc);
+    FAULT("log-refused", read.number != 0, read.first);
+    return read;
+}
+
+struct olivastrum_next_entry __wrap_olivastrum_log_entry(const uint8_t *log, size_t length, uint64_t at)
+{
+    struct olivastrum_next_entry next = __real_olivastrum_log_entry(log, length, at);
+    FAULT("entry-none", next.next == 0, next.entry.station);
+    if (is_fault("entry-far") && next.next != 0)
+        next.next = length + 1;
+    return next;
+}
+
+struct olivastrum_recorder __wrap_olivastrum_begin_log(set_t set, alloc_t alloc, uint32_t counter, uint64_t clock, uint8_t *out, size_t length)
+{
+    struct olivastrum_recorder begun = __real_olivastrum_begin_log(set, alloc, counter, clock, out, length);
+    FAULT("log-before", 1, out[-1]);
+    FAULT("log-left", begun.at < length, out[begun.at]);
+    FAULT("begun-refused", begun.number != 0, begun.clock);
+    FAULT("begun-counter", begun.number == 0, begun.counter);
+    return begun;
+}
+
+struct olivastrum_recorder __wrap_olivastrum_add_visit(struct olivastrum_recorder recorder, struct olivastrum_visit_record record, uint8_t *out,
+                                                       size_t length)
+{
+    struct olivastrum_recorder next = __real_olivastrum_add_visit(recorder, record, out, length);
+    FAULT("added-before", 1, out[0]);
+    FAULT("added-left", next.at < length, out[next.at]);
+    FAULT("added-refused", next.number != 0, next.counter);
+    return next;
+}
+
+struct olivastrum_written __wrap_olivastrum_end_log(struct olivastrum_recorder recorder, uint8_t *out, size_t length)
+{
+    struct olivastrum_written ended = __real_olivastrum_end_log(recorder, out, length);
+    FAULT("ended-before", 1, out[0]);
+    FAULT("ended-left", ended.number == 0 && ended.length < length, out[ended.length]);
+    return ended;
 }

@@ -234,3 +234,64 @@ uint8_t handing_in(ring_t *ring, struct olivastrum_message message)
     *ring = *lent_ring;
     return number;
 }
+
+/* ---- logs */
+struct olivastrum_read_log reading_log(const uint8_t *log, size_t length)
+{
+    struct olivastrum_read_log read = olivastrum_read_log(lend_sheet(log, length), length);
+    sheet_unchanged(log, length);
+    read_set(read.number, &read.set);
+    must(read.number == 0 || (all_zero(&read.alloc, sizeof read.alloc) && read.first == 0 && read.visits == 0), "not-blank");
+    must(zero_past(read.set.n, read.alloc.s), "past-n");
+    return read;
+}
+
+struct olivastrum_next_entry entry_at(size_t length, uint64_t at)
+{
+    struct olivastrum_next_entry next = olivastrum_log_entry(lent + GUARD, length, at);
+    must(guarded(0, GUARD) && guarded(GUARD + length, length + 2 * GUARD), "touched");
+    must(next.next != 0 || all_zero(&next.entry, sizeof next.entry), "not-blank");
+    must(next.next == 0 || (next.next > at && next.next <= length), "too-long");
+    return next;
+}
+
+/* Nothing is written from `at` on, nor before the room. */
+static void log_kept(uint64_t at, size_t room)
+{
+    must(at <= room, "too-long");
+    must(guarded(0, GUARD) && (at > room || guarded(GUARD + at, room + 2 * GUARD)), "touched");
+}
+
+struct olivastrum_recorder beginning_log(const set_t *set, const alloc_t *alloc, uint32_t counter, uint64_t clock, size_t room)
+{
+    struct olivastrum_recorder recorder = olivastrum_begin_log(*set, *alloc, counter, clock, lend_room(room), room);
+    must(recorder.number == 0 || (recorder.at == 0 && recorder.clock == 0 && recorder.counter == 0), "not-blank");
+    must(recorder.number != 0 || (recorder.clock == clock && recorder.counter == counter), "changed");
+    log_kept(recorder.at, room);
+    return recorder;
+}
+
+struct olivastrum_recorder adding_visit(struct olivastrum_recorder recorder, struct olivastrum_visit_record record, size_t room)
+{
+    static uint8_t written[MOST_BYTES];
+    uint64_t was = recorder.at <= room ? recorder.at : room;
+    memcpy(written, lent + GUARD, was);
+    struct olivastrum_recorder next = olivastrum_add_visit(recorder, record, lent + GUARD, room);
+    must(same(written, lent + GUARD, was), "touched");
+    must(next.number == 0 || (next.at == recorder.at && next.clock == recorder.clock && next.counter == recorder.counter), "changed");
+    log_kept(next.at, room);
+    return next;
+}
+
+struct olivastrum_written ending_log(struct olivastrum_recorder recorder, size_t room, const uint8_t **log)
+{
+    static uint8_t written[MOST_BYTES];
+    uint64_t was = recorder.at <= room ? recorder.at : room;
+    memcpy(written, lent + GUARD, was);
+    struct olivastrum_written ended = olivastrum_end_log(recorder, lent + GUARD, room);
+    must(same(written, lent + GUARD, was), "touched");
+    must(ended.number == 0 || ended.length == 0, "not-blank");
+    log_kept(ended.number == 0 ? ended.length : was, room);
+    *log = lent + GUARD;
+    return ended;
+}

@@ -1,8 +1,8 @@
 /*
  * How much stack each function of the library needs. Each call is made on a stack that is painted before it; how far
  * down the paint is gone is what it needed. It must be at most what the header says, and not much less. Every function
- * is called with what it accepts and with what it refuses, in both modes, at 1 and at 128 stations. Prints a line for
- * each function.
+ * is called with what it accepts and with what it refuses, in both modes, with and without frames, at 1 and at 128
+ * stations. Prints a line for each function.
  */
 #include <olivastrum.h>
 #include <stdio.h>
@@ -22,7 +22,10 @@ static struct olivastrum_set set;
 static struct olivastrum_alloc alloc;
 static struct olivastrum_ring ring;
 static struct olivastrum_message message;
-static uint8_t sheet[OLIVASTRUM_PLAN_BYTES(128) + OLIVASTRUM_MODE_BYTES + 1];
+static struct olivastrum_ask ask;
+static struct olivastrum_recorder recorder;
+static struct olivastrum_visit_record record;
+static uint8_t sheet[OLIVASTRUM_PLAN_BYTES(128) + OLIVASTRUM_MODE_BYTES + OLIVASTRUM_FRAME_BYTES + OLIVASTRUM_VISIT_BYTES + 1];
 static size_t length;
 
 /* ---- the calls: what is passed by value is copied to the stack, and the answer goes where `answer` is */
@@ -58,13 +61,37 @@ static struct olivastrum_opened open_it(void)
 
 static struct olivastrum_visit_answer visit(void)
 {
-    struct olivastrum_ask ask = {1000, 1};
     return olivastrum_visit(&ring, ask);
 }
 
 static uint8_t hand_in(void)
 {
     return olivastrum_hand_in(&ring, message);
+}
+
+static struct olivastrum_recorder begin_log(void)
+{
+    return olivastrum_begin_log(set, alloc, 4294967295u, 7, sheet, length);
+}
+
+static struct olivastrum_recorder add_visit(void)
+{
+    return olivastrum_add_visit(recorder, record, sheet, length);
+}
+
+static struct olivastrum_written end_log(void)
+{
+    return olivastrum_end_log(recorder, sheet, length);
+}
+
+static struct olivastrum_read_log read_log(void)
+{
+    return olivastrum_read_log(sheet, length);
+}
+
+static struct olivastrum_next_entry log_entry(void)
+{
+    return olivastrum_log_entry(sheet, length, recorder.at);
 }
 
 typedef void call(void);
@@ -82,6 +109,11 @@ static struct function {
     {"olivastrum_open_ring", (call *)open_it, OLIVASTRUM_STACK_OPEN_RING, 0},
     {"olivastrum_visit", (call *)visit, OLIVASTRUM_STACK_VISIT, 0},
     {"olivastrum_hand_in", (call *)hand_in, OLIVASTRUM_STACK_HAND_IN, 0},
+    {"olivastrum_begin_log", (call *)begin_log, OLIVASTRUM_STACK_BEGIN_LOG, 0},
+    {"olivastrum_add_visit", (call *)add_visit, OLIVASTRUM_STACK_ADD_VISIT, 0},
+    {"olivastrum_end_log", (call *)end_log, OLIVASTRUM_STACK_END_LOG, 0},
+    {"olivastrum_read_log", (call *)read_log, OLIVASTRUM_STACK_READ_LOG, 0},
+    {"olivastrum_log_entry", (call *)log_entry, OLIVASTRUM_STACK_LOG_ENTRY, 0},
 };
 
 #define FUNCTIONS (sizeof functions / sizeof *functions)
@@ -124,9 +156,9 @@ static void measure_all(void)
 }
 
 /* ---- what the calls are made with */
-static struct olivastrum_set stations(uint32_t mode, uint32_t n)
+static struct olivastrum_set stations(uint32_t mode, uint32_t frame, uint32_t n)
 {
-    struct olivastrum_set made = {.head = {100000, mode, 1}, .n = n};
+    struct olivastrum_set made = {.head = {100000, mode, frame}, .n = n};
     for (uint32_t i = 0; i < n && i < 128; i++) {
         made.w[i] = 1;
         made.c[i] = 300;
@@ -135,9 +167,14 @@ static struct olivastrum_set stations(uint32_t mode, uint32_t n)
     return made;
 }
 
-/* A plan sheet or a request sheet; both writers and both readers get both. */
+/* A log of one visit, a plan sheet or a request sheet; all writers and all readers get each of them. */
 static void with_sheets(void)
 {
+    recorder = olivastrum_begin_log(set, alloc, 4294967295u, 7, sheet, sizeof sheet);
+    recorder = olivastrum_add_visit(recorder, record, sheet, sizeof sheet);
+    length = olivastrum_end_log(recorder, sheet, sizeof sheet).length;
+    recorder.at -= recorder.at < OLIVASTRUM_VISIT_BYTES ? 0 : OLIVASTRUM_VISIT_BYTES;
+    measure_all();
     length = olivastrum_write_plan_sheet(set, alloc, sheet, sizeof sheet).length;
     measure_all();
     length = olivastrum_write_request_sheet(set, sheet, sizeof sheet).length;
@@ -150,16 +187,21 @@ static void with_sheets(void)
     measure_all();
 }
 
-static void with_stations(uint32_t mode, uint32_t n)
+static void with_stations(uint32_t mode, uint32_t frame, uint32_t n)
 {
-    set = stations(mode, n);
+    set = stations(mode, frame, n);
+    ask = (struct olivastrum_ask){1000, frame};
     alloc = olivastrum_plan_set(set).alloc;
     ring = olivastrum_open_ring(set, alloc).ring;
     message = (struct olivastrum_message){{0}, {300}, {0}};
+    struct olivastrum_ring moved = ring;
+    record = olivastrum_visit(&moved, ask).record;
     with_sheets();
     olivastrum_hand_in(&ring, message);
     with_sheets();
     message.station.number = 200;
+    ask.length = frame + 1;
+    with_sheets();
     set.c[0] = 100000000; /* no plan */
     alloc.s[0] = 99;      /* a rule broken */
     ring.clock = 1000000000001;
@@ -173,10 +215,11 @@ int main(void)
 {
     int wrong = 0;
     size_t most = 0;
-    with_stations(OLIVASTRUM_TIMELY, 1);
-    with_stations(OLIVASTRUM_FDDI, 1);
-    with_stations(OLIVASTRUM_TIMELY, 128);
-    with_stations(OLIVASTRUM_FDDI, 128);
+    for (uint32_t mode = OLIVASTRUM_TIMELY; mode <= OLIVASTRUM_FDDI; mode++)
+        for (uint32_t frame = 1; frame <= 40; frame += 39) {
+            with_stations(mode, frame, 1);
+            with_stations(mode, frame, 128);
+        }
     for (size_t k = 0; k < FUNCTIONS; k++) {
         struct function *f = &functions[k];
         int holds = f->measured <= f->said && f->said <= f->measured + SLACK;

@@ -19,6 +19,10 @@ use Rattle.rings.proofs.Message.Laws as Message
 use Rattle.rings.proofs.VisitRecord.Laws as VisitRecord
 use Rattle.rings.proofs.VisitAnswer.Laws as VisitAnswer
 use Rattle.rings.proofs.Opened.Laws as Opened
+use Rattle.entries.proofs.Entry.Laws as Entry
+use Rattle.entries.proofs.NextEntry.Laws as NextEntry
+use Rattle.logs.proofs.ReadLog.Laws as ReadLog
+use Rattle.logs.proofs.Recorder.Laws as Recorder
 
 abbrev place : Option (Ty × ℕ) → ℕ
 place none = 0
@@ -71,3 +75,15 @@ visit-answer = refl
 
 opened : layout Opened.mir 2 ≡ 6840 ∷ 0 ∷ 6832 ∷ []
 opened = refl
+
+entry : layout Entry.mir 5 ≡ 20 ∷ 0 ∷ 4 ∷ 8 ∷ 12 ∷ 16 ∷ []
+entry = refl
+
+next-entry : layout NextEntry.mir 2 ≡ 32 ∷ 0 ∷ 24 ∷ []
+next-entry = refl
+
+read-log : layout ReadLog.mir 5 ≡ 2600 ∷ 0 ∷ 2064 ∷ 2576 ∷ 2584 ∷ 2592 ∷ []
+read-log = refl
+
+recorder : layout Recorder.mir 4 ≡ 24 ∷ 0 ∷ 8 ∷ 16 ∷ 20 ∷ []
+recorder = refl

@@ -1,4 +1,4 @@
-// What a host in C calls: sheets on lent bytes, planning and opening by value, and the ring lent by the host, changed where it stands in the host's memory.
+// What a host in C calls: sheets and logs on lent bytes, planning and opening by value, and the ring lent by the host, changed where it stands in the host's memory.
 // All are thin over the layers below; include/olivastrum.h declares them.
 ghost use mathlib.Core.Path.{_≡_};
 ghost use mathlib.Core.Bool.{true, false};
@@ -7,6 +7,12 @@ ghost use Rattle.sheets.specs.Reading.{readRequest, readPlan};
 ghost use Rattle.sheets.specs.Writing.{Wrote};
 ghost use Rattle.rings.specs.Opening.{opening};
 ghost use Rattle.lending.specs.Lent.{VisitLent, HandInLent};
+ghost use Rattle.entries.specs.Entry.{nextEntry};
+ghost use Rattle.logs.specs.Reading.{readLog};
+ghost use Rattle.logs.specs.Writing.{Began, Added, EndedLog};
+use entries::NextEntry;
+use logs::ReadLog;
+use logs::Recorder;
 use plans::Alloc;
 use plans::Planned;
 use rings::Ask;
@@ -14,6 +20,7 @@ use rings::Message;
 use rings::Opened;
 use rings::Ring;
 use rings::VisitAnswer;
+use rings::VisitRecord;
 use sets::Set;
 use sheets::ReadPlan;
 use sheets::ReadRequest;
@@ -85,4 +92,54 @@ pub extern "C" fn olivastrum_hand_in(ring: &mut Ring, message: Message) -> u8
     let taken = Ring::hand_in(*ring, message);
     *ring = taken.ring;
     taken.number
+}
+
+// Begins a log in the first bytes of the lent buffer: the plan's fields, without the end.
+#[no_mangle]
+pub extern "C" fn olivastrum_begin_log(
+    set: Set,
+    alloc: Alloc,
+    counter: u32,
+    clock: u64,
+    out: &mut [u8],
+) -> Recorder
+    ensures { λ r. ⌜ Began set alloc counter clock (now (out .entry)) (now (out .exit)) r ⌝ }
+{
+    logs::begin_log(set, alloc, counter, clock, out)
+}
+
+// Adds a visit to a log in the lent buffer.
+#[no_mangle]
+pub extern "C" fn olivastrum_add_visit(
+    recorder: Recorder,
+    visit: VisitRecord,
+    out: &mut [u8],
+) -> Recorder
+    ensures { λ r. ⌜ Added recorder visit (now (out .entry)) (now (out .exit)) r ⌝ }
+{
+    logs::add_visit(recorder, visit, out)
+}
+
+// Ends a log in the lent buffer.
+#[no_mangle]
+pub extern "C" fn olivastrum_end_log(recorder: Recorder, out: &mut [u8]) -> Written
+    ensures { λ r. ⌜ EndedLog recorder (now (out .entry)) (now (out .exit)) r ⌝ }
+{
+    logs::end_log(recorder, out)
+}
+
+// Reads a log from the lent bytes.
+#[no_mangle]
+pub extern "C" fn olivastrum_read_log(log: &[u8]) -> ReadLog
+    ensures { λ r. ⌜ r ≡ readLog (now (log .entry)) ⌝ }
+{
+    logs::read_log(log)
+}
+
+// Hands out the visit whose field stands at the place of the lent bytes, and the place behind it.
+#[no_mangle]
+pub extern "C" fn olivastrum_log_entry(log: &[u8], at: usize) -> NextEntry
+    ensures { λ r. ⌜ r ≡ nextEntry (now (log .entry)) at ⌝ }
+{
+    logs::log_entry(log, at)
 }

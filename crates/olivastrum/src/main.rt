@@ -62,7 +62,7 @@ fn show() -> Ending {
 
 // `version`: the version, here and nowhere else in the sources.
 fn version() -> Ending {
-    ending::answer(b"0.6.0\n", false)
+    ending::answer(b"0.6.1\n", false)
 }
 
 // `help`.

@@ -11,7 +11,7 @@ use borrow.Author.Count.{below-more}
 use borrow.Author.Tests.{le-leb, ne-eqb}
 use Rattle.units.specs.JudgingLaws.{true-or-false}
 use Rattle.units.specs.SmallLaws.{below-or-not}
-use Rattle.fields.specs.Fields.{modeTag, frameTag, furtherSize, allocationsFor, due, headed, tagAt, sizeAt, behind, allowedAt, FieldWhole}
+use Rattle.fields.specs.Fields.{modeTag, frameTag, endTag, endSize, furtherSize, allocationsFor, due, headed, isAllowed, tagAt, sizeAt, behind, allowedAt, FieldWhole}
 use Rattle.fields.specs.Header.{furtherCount, behindTag, furtherPlace}
 use Rattle.fields.proofs.HeaderLaws.{same-or-not, behind-there, behind-not, place-first, place-next, place-same}
 use Rattle.fields.proofs.FieldLaws.{Whole, allocations-few, Further, Kind, a-head, a-station, an-allocation, an-end, a-further, allowed-kind, kind-allowed}
@@ -232,8 +232,8 @@ header-stands bs head from h station =
     let all = up-to-more bs _ from (headed-up-to bs head from h) furtherCount (omega arith) (λ i l m e. absurd (omega (arith, station, e))) in
     record { ttrt = headed-first bs head from h; further = all .whole; behind = sym (all .behind) }
 
--- behind the header, at least one station and all allocations that belong to them the end field stands, and nothing follows it
-pub record Ended (plan : Bool) (bs : List ℕ) (p : Passed) : Type 0 where
+-- all fields of a sheet but its end have passed: the header, at least one station and all allocations that belong to them
+pub record AllPassed (plan : Bool) (bs : List ℕ) (p : Passed) (a : ℕ) : Type 0 where
   pub kind : p .plan ≡ plan
   pub some : 1 ≤ p .stations
   pub few : p .stations ≤ 128
@@ -241,23 +241,26 @@ pub record Ended (plan : Bool) (bs : List ℕ) (p : Passed) : Type 0 where
   pub header : HeaderStands bs (p .from)
   pub stations : (i : ℕ) → i < p .stations → Whole bs (p .from + 19 * i) 2 16
   pub allocations : (i : ℕ) → i < p .allocations → Whole bs (p .from + 19 * p .stations + 7 * i) 3 4
-  pub end : Whole bs (p .from + 19 * p .stations + 7 * p .allocations) 255 0
-  pub last : length bs ≡ p .from + 19 * p .stations + 7 * p .allocations + 3
+  pub place : a ≡ p .from + 19 * p .stations + 7 * p .allocations
+  pub inside : a ≤ length bs
 
-pub whole-ended : (plan : Bool) (bs : List ℕ) (s : WholeSheet plan bs) → Ended plan bs (s .passed)
-whole-ended plan bs s = go (allowed-kind (s .passed) (tagAt bs (s .place)) (sizeAt bs (s .place)) (s .end-whole .allowed))
+-- fields that are whole lie inside the bytes
+formed-inside : (plan : Bool) (bs : List ℕ) (p : Passed) (a : ℕ) → WellFormed plan bs p a → a ≤ length bs
+formed-inside plan bs _ _ start = omega arith
+formed-inside plan bs _ _ (more before w other) = w .inside
+
+-- they have where the end may stand
+pub all-passed : (plan : Bool) (bs : List ℕ) (p : Passed) (a : ℕ) → WellFormed plan bs p a → isAllowed p endTag endSize ≡ true → AllPassed plan bs p a
+all-passed plan bs p a before may = go (allowed-kind p endTag endSize may)
   where
-    p : Passed
-    p = s .passed
+    t : Through plan bs p a
+    t = through plan bs p a before
 
-    t : Through plan bs (s .passed) (s .place)
-    t = through plan bs (s .passed) (s .place) (s .before)
-
-    go : Kind (s .passed) (tagAt bs (s .place)) (sizeAt bs (s .place)) → Ended plan bs (s .passed)
-    go (a-head e z not-begun) = absurd (omega (arith, s .end-tag))
-    go (a-station e z begun few none) = absurd (omega (arith, s .end-tag))
-    go (an-allocation e z begun room) = absurd (omega (arith, s .end-tag))
-    go (a-further f begun above none) = absurd (omega (arith, s .end-tag, f .high))
+    go : Kind p endTag endSize → AllPassed plan bs p a
+    go (a-head e z not-begun) = absurd (omega arith)
+    go (a-station e z begun few none) = absurd (omega arith)
+    go (an-allocation e z begun room) = absurd (omega arith)
+    go (a-further f begun above none) = absurd (omega (arith, f .high))
     go (an-end e z begun some all) =
         let first : p .from + 19 * 0 ≡ p .from = omega arith in
         record {
@@ -268,9 +271,40 @@ whole-ended plan bs s = go (allowed-kind (s .passed) (tagAt bs (s .place)) (size
           header = header-stands bs (p .head) (p .from) (header-of bs p (t .header) begun) (subst (λ (b : ℕ). tagAt bs b ≡ 2) first (t .stations 0 some .has-tag));
           stations = t .stations;
           allocations = t .allocations;
-          end = subst (λ (b : ℕ). Whole bs b 255 0) (t .place) (record { inside = omega (arith, s .end-whole .inside); has-tag = e; has-size = z });
-          last = omega (arith, s .nothing-follows, t .place);
+          place = t .place;
+          inside = formed-inside plan bs p a before;
         }
+
+-- the end of a whole sheet: its tag and its length are those of the end, and it stands behind all other fields
+pub record Ended (plan : Bool) (bs : List ℕ) (p : Passed) : Type 0 where
+  pub before : AllPassed plan bs p (p .from + 19 * p .stations + 7 * p .allocations)
+  pub end : Whole bs (p .from + 19 * p .stations + 7 * p .allocations) 255 0
+  -- and nothing follows it
+  pub last : length bs ≡ p .from + 19 * p .stations + 7 * p .allocations + 3
+
+-- a field that may stand, with the tag of the end, has the end's length
+pub end-short : (p : Passed) (tag size : ℕ) → isAllowed p tag size ≡ true → tag ≡ endTag → size ≡ endSize
+end-short p tag size may e = go (allowed-kind p tag size may)
+  where
+    go : Kind p tag size → size ≡ endSize
+    go (a-head d z not-begun) = absurd (omega arith)
+    go (a-station d z begun few none) = absurd (omega arith)
+    go (an-allocation d z begun room) = absurd (omega arith)
+    go (a-further f begun above none) = absurd (omega (arith, f .high))
+    go (an-end d z begun some all) = z
+
+pub whole-ended : (plan : Bool) (bs : List ℕ) (s : WholeSheet plan bs) → Ended plan bs (s .passed)
+whole-ended plan bs s =
+    let p = s .passed in
+    let a = s .place in
+    let z : sizeAt bs (s .place) ≡ 0 = end-short p (tagAt bs a) (sizeAt bs a) (s .end-whole .allowed) (s .end-tag) in
+    let may : isAllowed (s .passed) endTag endSize ≡ true = rw (s .end-tag, z) at (s .end-whole .allowed) in
+    let all = all-passed plan bs p a (s .before) may in
+    record {
+      before = subst (AllPassed plan bs p) (all .place) all;
+      end = subst (λ (b : ℕ). Whole bs b 255 0) (all .place) (record { inside = omega (arith, s .end-whole .inside); has-tag = s .end-tag; has-size = z });
+      last = omega (arith, s .nothing-follows, all .place);
+    }
 
 -- the walk over a sheet without a fault has gone by all of it
 pub scanned-ended : (plan : Bool) (bs : List ℕ) → scanned plan bs .number ≡ 0 → Ended plan bs (scanned plan bs .passed)
@@ -408,4 +442,4 @@ module _ (bs : List ℕ) where
   pub plan-no-request : WholeSheet true bs → FirstFault false bs 2
   plan-no-request s =
       let e = whole-ended true bs s in
-      ⊎-elim (λ none. absurd (omega (arith, none .0, e .some, e .all))) (λ f. f) (as-request (s .passed) (s .place) (s .before))
+      ⊎-elim (λ none. absurd (omega (arith, none .0, e .before .some, e .before .all))) (λ f. f) (as-request (s .passed) (s .place) (s .before))

@@ -4,6 +4,7 @@ use mathlib.Core.Path.{_≡_, sym, subst, _∙_}
 use mathlib.Core.Bool.{Bool}
 use mathlib.Core.List.{List}
 use native.Mathlib.Omega.{arith}
+use lib.ListN.{length}
 use Rattle.units.specs.Places.{at}
 use Rattle.units.specs.PlaceLaws.{fill-inside}
 use Rattle.sets.specs.Judged.{zeros}
@@ -13,20 +14,20 @@ use Rattle.fields.specs.Fields.{allocationsFor}
 use Rattle.fields.proofs.FieldLaws.{allocations-few}
 use Rattle.fields.specs.declared.Passed.{Passed}
 use Rattle.scan.specs.Scanned.{scanned}
-use Rattle.scan.proofs.PassedLaws.{Ended, scanned-ended}
+use Rattle.scan.proofs.PassedLaws.{AllPassed, Ended, scanned-ended}
 use Rattle.sheets.specs.Layout.{mark, headNumber, stationBytes, allocationBytes, sheetOf}
 use Rattle.sheets.specs.Reading.{headIn, setOf, allocOf, setIn, allocIn, judgedSheet, readSheet}
 use Rattle.sheets.specs.ReadLaws.{then-none, read-number, judged-kept}
 use Rattle.sheets.proofs.ReadingLaws.{head-ranges}
 use Rattle.sheet_rules.proofs.HeaderLaws.{read-header, read-from}
 use Rattle.sheet_rules.proofs.StandLaws.{mark-stands, StationNumbers, stations-stand, allocations-stand}
-use Rattle.sheet_rules.proofs.BackLaws.{behindHead, behindStations, behindAll, SheetParts, parts-sheet}
+use Rattle.sheet_rules.proofs.BackLaws.{behindHead, behindStations, behindAll, FieldParts, SheetParts, parts-sheet}
 
-module _ (plan : Bool) (bs : List ℕ) (bytes : AllBytes bs) (p : Passed) (ended : Ended plan bs p) where
+module _ (plan : Bool) (bs : List ℕ) (bytes : AllBytes bs) (p : Passed) (a : ℕ) (all : AllPassed plan bs p a) where
   read-numbers : StationNumbers bs (p .from) (setOf bs p) (p .stations)
   read-numbers =
       let n = p .stations in
-      let few = ended .few in
+      let few = all .few in
       record {
         walk = λ i l. sym (fill-inside n (λ k. numberAt bs (p .from + 3 + 19 * k)) zeros i l few);
         longest = λ i l. sym (fill-inside n (λ k. numberAt bs (p .from + 7 + 19 * k)) zeros i l few);
@@ -36,30 +37,46 @@ module _ (plan : Bool) (bs : List ℕ) (bytes : AllBytes bs) (p : Passed) (ended
 
   read-allocations : (i : ℕ) → i < p .allocations → numberAt bs (p .from + 19 * p .stations + 3 + 7 * i) ≡ at (allocOf bs p .s) i
   read-allocations i l =
-      let few : p .allocations ≤ 128 = omega (arith, ended .few, ended .all, allocations-few plan (p .stations)) in
+      let few : p .allocations ≤ 128 = omega (arith, all .few, all .all, allocations-few plan (p .stations)) in
       sym (fill-inside (p .allocations) (λ k. numberAt bs (p .from + 19 * p .stations + 3 + 7 * k)) zeros i l few)
 
-  -- the parts of what was read stand in the bytes, if no number of the header is 0
-  read-parts : ((tag : ℕ) → 1 ≤ headNumber (headIn bs) tag) → SheetParts plan bs (setOf bs p) (allocOf bs p)
-  read-parts some =
-      let n = p .stations in
-      let m = p .allocations in
-      let long = ended .last in
-      let all : p .allocations ≡ allocationsFor plan (p .stations) = ended .all in
-      let from : p .from ≡ behindHead (setOf bs p) = read-from bs bytes (p .from) (ended .header) some in
-      let behind : p .from + 19 * p .stations ≡ behindStations (setOf bs p) = omega arith in
-      let last : p .from + 19 * p .stations + 7 * p .allocations ≡ behindAll plan (setOf bs p) = omega arith in
-      let share = allocationBytes (allocOf bs p) in
-      record {
-        header = read-header bs bytes (p .from) (ended .header) some;
-        stations = subst (λ (b : ℕ). Stands bs b (rows n (stationBytes (setOf bs p)))) from
-            (stations-stand bs (p .from) (setOf bs p) n bytes (omega arith) (ended .stations) read-numbers);
-        allocations = subst (λ (b : ℕ). Stands bs b (rows (allocationsFor plan n) share)) behind
-            (subst (λ (k : ℕ). Stands bs (p .from + 19 * n) (rows k share)) all
-            (allocations-stand bs (p .from + 19 * n) (allocOf bs p) m bytes (omega arith) (ended .allocations) read-allocations));
-        ending = subst (λ (b : ℕ). Stands bs b (mark 255 0)) last (mark-stands bs (p .from + 19 * n + 7 * m) 255 0 bytes (omega arith) (ended .end));
-        long = omega arith;
-      }
+  -- where no number of the header is 0
+  module _ (some : (tag : ℕ) → 1 ≤ headNumber (headIn bs) tag) where
+    -- the place behind the fields of what was read is the place up to which they passed
+    pub read-behind : a ≡ behindAll plan (setOf bs p)
+    read-behind =
+        let from : p .from ≡ behindHead (setOf bs p) = read-from bs bytes (p .from) (all .header) some in
+        omega (arith, all .place, all .all)
+
+    -- and these fields stand in the bytes
+    pub read-fields : FieldParts plan bs (setOf bs p) (allocOf bs p)
+    read-fields =
+        let n = p .stations in
+        let m = p .allocations in
+        let fit : p .from + 19 * p .stations + 7 * p .allocations ≤ length bs = omega (arith, all .place, all .inside) in
+        let each : p .allocations ≡ allocationsFor plan (p .stations) = all .all in
+        let from : p .from ≡ behindHead (setOf bs p) = read-from bs bytes (p .from) (all .header) some in
+        let behind : p .from + 19 * p .stations ≡ behindStations (setOf bs p) = omega arith in
+        let share = allocationBytes (allocOf bs p) in
+        record {
+          header = read-header bs bytes (p .from) (all .header) some;
+          stations = subst (λ (b : ℕ). Stands bs b (rows n (stationBytes (setOf bs p)))) from
+              (stations-stand bs (p .from) (setOf bs p) n bytes (omega arith) (all .stations) read-numbers);
+          allocations = subst (λ (b : ℕ). Stands bs b (rows (allocationsFor plan n) share)) behind
+              (subst (λ (k : ℕ). Stands bs (p .from + 19 * n) (rows k share)) each
+              (allocations-stand bs (p .from + 19 * n) (allocOf bs p) m bytes (omega arith) (all .allocations) read-allocations));
+        }
+
+-- the end too, where nothing follows it
+read-parts : (plan : Bool) (bs : List ℕ) → AllBytes bs → (p : Passed) → Ended plan bs p → ((tag : ℕ) → 1 ≤ headNumber (headIn bs) tag) → SheetParts plan bs (setOf bs p) (allocOf bs p)
+read-parts plan bs bytes p ended some =
+    let a = p .from + 19 * p .stations + 7 * p .allocations in
+    let behind = read-behind plan bs bytes p a (ended .before) some in
+    record {
+      fields = read-fields plan bs bytes p a (ended .before) some;
+      ending = subst (λ (b : ℕ). Stands bs b (mark 255 0)) behind (mark-stands bs a 255 0 bytes (omega arith) (ended .end));
+      long = omega (arith, ended .last, behind);
+    }
 
 -- bytes without a fault, whose header has no number 0, are the sheet of what they hold
 holds-sheet : (plan : Bool) (bs : List ℕ) → AllBytes bs → scanned plan bs .number ≡ 0 → ((tag : ℕ) → 1 ≤ headNumber (headIn bs) tag) → bs ≡ sheetOf plan (setIn plan bs) (allocIn plan bs)

@@ -21,11 +21,11 @@ use Rattle.scan.specs.Scanned.{scanned}
 use Rattle.scan.specs.FirstFault.{WellFormed}
 use Rattle.scan.specs.declared.Scanned.{Scanned}
 use Rattle.scan.proofs.PassedLaws.{passedAll, header-passes, station-passes, allocation-passes, end-passes}
-use Rattle.sheets.specs.Layout.{headNumber, headBytes, headLength, stationBytes, allocationBytes, endBytes, sheetOf}
+use Rattle.sheets.specs.Layout.{headNumber, headBytes, headLength, stationBytes, allocationBytes, endBytes, fieldsOf, sheetOf}
 use Rattle.sheets.specs.Reading.{setOf, allocOf, setIn, allocIn, judgedSheet, readSheet}
 use Rattle.sheets.specs.ReadLaws.{then-rest, read-number, sheet-accepted, Kept, judged-kept}
 use Rattle.sheet_rules.specs.Promised.{firstPlaces, firstAllocations, Numbers32}
-use Rattle.sheets.proofs.WritingLaws.{head-long, stations-length, allocations-length, sheet-long}
+use Rattle.sheets.proofs.WritingLaws.{head-long, stations-length, fields-long, sheet-long}
 use Rattle.sheet_rules.proofs.HeaderLaws.{laid-ttrt, laid-head, laid-header}
 use Rattle.sheet_rules.proofs.StandLaws.{whole-stands, stations-whole, stations-read, allocations-whole, allocations-read}
 
@@ -43,34 +43,62 @@ behindStations t = behindHead t + 19 * t .n
 abbrev pub behindAll : Bool → Set → ℕ
 behindAll plan t = behindStations t + 7 * allocationsFor plan (t .n)
 
-pub record SheetParts (plan : Bool) (bs : List ℕ) (t : Set) (a : Alloc) : Type 0 where
+-- all fields but the end
+pub record FieldParts (plan : Bool) (bs : List ℕ) (t : Set) (a : Alloc) : Type 0 where
   pub header : Stands bs 0 (headBytes (t .head))
   pub stations : Stands bs (behindHead t) (rows (t .n) (stationBytes t))
   pub allocations : Stands bs (behindStations t) (rows (allocationsFor plan (t .n)) (allocationBytes a))
+
+-- and the end, with nothing behind it
+pub record SheetParts (plan : Bool) (bs : List ℕ) (t : Set) (a : Alloc) : Type 0 where
+  pub fields : FieldParts plan bs t a
   pub ending : Stands bs (behindAll plan t) endBytes
   pub long : length bs ≡ behindAll plan t + 3
+
+module _ (plan : Bool) (t : Set) (a : Alloc) (bs : List ℕ) where
+  -- fields that stand at the start, one by one
+  pub fields-apart : Stands bs 0 (fieldsOf plan t a) → FieldParts plan bs t a
+  fields-apart h =
+      let m = allocationsFor plan (t .n) in
+      let hd = headBytes (t .head) in
+      let st = rows (t .n) (stationBytes t) in
+      let al = rows m (allocationBytes a) in
+      let h₁ = stands-left bs 0 (hd ++ st) al h in
+      let l₁ = head-long (t .head) in
+      let l₂ = stations-length t (t .n) in
+      let e₁ : 0 + length hd ≡ behindHead t = omega arith in
+      let e₂ : 0 + length (hd ++ st) ≡ behindStations t = omega (arith, length-append hd st) in
+      record {
+        header = stands-left bs 0 hd st h₁;
+        stations = rw e₁ at (stands-right bs 0 hd st h₁);
+        allocations = rw e₂ at (stands-right bs 0 (hd ++ st) al h);
+      }
+
+  -- and together
+  pub fields-together : FieldParts plan bs t a → Stands bs 0 (fieldsOf plan t a)
+  fields-together p =
+      let m = allocationsFor plan (t .n) in
+      let hd = headBytes (t .head) in
+      let st = rows (t .n) (stationBytes t) in
+      let al = rows m (allocationBytes a) in
+      let l₁ = head-long (t .head) in
+      let l₂ = stations-length t (t .n) in
+      let e₁ : behindHead t ≡ 0 + length hd = omega arith in
+      let e₂ : behindStations t ≡ 0 + length (hd ++ st) = omega (arith, length-append hd st) in
+      let h₁ = stands-join bs 0 hd st (p .header) (rw e₁ at (p .stations)) in
+      stands-join bs 0 (hd ++ st) al h₁ (rw e₂ at (p .allocations))
+
+  -- the place behind them
+  pub fields-behind : 0 + length (fieldsOf plan t a) ≡ behindAll plan t
+  fields-behind = omega (arith, fields-long plan t a)
 
 module _ (plan : Bool) (t : Set) (a : Alloc) where
   sheet-apart : (bs : List ℕ) → Stands bs 0 (sheetOf plan t a) → length bs ≡ behindAll plan t + 3 → SheetParts plan bs t a
   unfolding sheetOf
   sheet-apart bs h long =
-      let m = allocationsFor plan (t .n) in
-      let hd = headBytes (t .head) in
-      let st = rows (t .n) (stationBytes t) in
-      let al = rows m (allocationBytes a) in
-      let h₂ = stands-left bs 0 (hd ++ st ++ al) endBytes h in
-      let h₁ = stands-left bs 0 (hd ++ st) al h₂ in
-      let l₁ = head-long (t .head) in
-      let l₂ = stations-length t (t .n) in
-      let l₃ = allocations-length a m in
-      let e₁ : 0 + length hd ≡ behindHead t = omega arith in
-      let e₂ : 0 + length (hd ++ st) ≡ behindStations t = omega (arith, length-append hd st) in
-      let e₃ : 0 + length (hd ++ st ++ al) ≡ behindAll plan t = omega (arith, length-append (hd ++ st) al, length-append hd st) in
       record {
-        header = stands-left bs 0 hd st h₁;
-        stations = rw e₁ at (stands-right bs 0 hd st h₁);
-        allocations = rw e₂ at (stands-right bs 0 (hd ++ st) al h₂);
-        ending = rw e₃ at (stands-right bs 0 (hd ++ st ++ al) endBytes h);
+        fields = fields-apart plan t a bs (stands-left bs 0 (fieldsOf plan t a) endBytes h);
+        ending = subst (λ (b : ℕ). Stands bs b endBytes) (fields-behind plan t a bs) (stands-right bs 0 (fieldsOf plan t a) endBytes h);
         long = long;
       }
 
@@ -82,24 +110,13 @@ module _ (plan : Bool) (t : Set) (a : Alloc) where
   pub parts-sheet : (bs : List ℕ) → SheetParts plan bs t a → bs ≡ sheetOf plan t a
   unfolding sheetOf
   parts-sheet bs p =
-      let m = allocationsFor plan (t .n) in
-      let hd = headBytes (t .head) in
-      let st = rows (t .n) (stationBytes t) in
-      let al = rows m (allocationBytes a) in
-      let l₁ = head-long (t .head) in
-      let l₂ = stations-length t (t .n) in
-      let l₃ = allocations-length a m in
-      let e₁ : behindHead t ≡ 0 + length hd = omega arith in
-      let e₂ : behindStations t ≡ 0 + length (hd ++ st) = omega (arith, length-append hd st) in
-      let e₃ : behindAll plan t ≡ 0 + length (hd ++ st ++ al) = omega (arith, length-append (hd ++ st) al, length-append hd st) in
-      let h₁ = stands-join bs 0 hd st (p .header) (rw e₁ at (p .stations)) in
-      let h₂ = stands-join bs 0 (hd ++ st) al h₁ (rw e₂ at (p .allocations)) in
-      let h₃ = stands-join bs 0 (hd ++ st ++ al) endBytes h₂ (rw e₃ at (p .ending)) in
-      stands-whole bs (hd ++ st ++ al ++ endBytes) h₃ (omega (arith, sheet-long plan t a, p .long))
+      let end = subst (λ (b : ℕ). Stands bs b endBytes) (sym (fields-behind plan t a bs)) (p .ending) in
+      stands-whole bs (fieldsOf plan t a ++ endBytes) (stands-join bs 0 (fieldsOf plan t a) endBytes (fields-together plan t a bs (p .fields)) end)
+      (omega (arith, sheet-long plan t a, p .long))
 
 -- ---- the walk over bytes with these parts
 
-module _ (plan : Bool) (bs : List ℕ) (t : Set) (a : Alloc) (parts : SheetParts plan bs t a) (some : 1 ≤ t .n) where
+module _ (plan : Bool) (bs : List ℕ) (t : Set) (a : Alloc) (parts : FieldParts plan bs t a) (some : 1 ≤ t .n) where
   -- behind the header a station stands
   first-station : tagAt bs (behindHead t) ≡ 2
   first-station =
@@ -128,21 +145,16 @@ module _ (plan : Bool) (bs : List ℕ) (t : Set) (a : Alloc) (parts : SheetParts
         let e : behindStations t + 7 * j + 3 + 4 ≡ behindStations t + 7 * suc j = omega arith in
         rw (add-one, e) at next
 
-    all-scanned : scanned plan bs ≡ record { number = 0; passed = passedAll plan head (behindHead t) (t .n) (allocationsFor plan (t .n)); at = behindAll plan t }
-    all-scanned =
-        let m = allocationsFor plan (t .n) in
-        let end = whole-stands bs _ 255 0 (parts .ending) (omega (arith, parts .long)) in
-        end-passes plan bs head (behindHead t) begun (t .n) m (behindAll plan t) (allocations-pass m (omega arith)) some refl end (parts .long)
-
-  parts-scanned : t .n ≤ 128
-      → (head : ℕ) × (scanned plan bs ≡ record { number = 0; passed = passedAll plan head (behindHead t) (t .n) (allocationsFor plan (t .n)); at = behindAll plan t })
-  parts-scanned few =
+  -- all fields but the end pass
+  pub fields-pass : t .n ≤ 128
+      → (head : ℕ) × ((1 ≤ head) × WellFormed plan bs (passedAll plan head (behindHead t) (t .n) (allocationsFor plan (t .n))) (behindAll plan t))
+  fields-pass few =
       let h = header-passes plan bs (behindHead t) (laid-header bs (t .head) (parts .header) first-station) in
-      (h .0, all-scanned few (h .0) (h .1 .0) (h .1 .1))
+      (h .0, (h .1 .0, allocations-pass few (h .0) (h .1 .0) (h .1 .1) (allocationsFor plan (t .n)) (omega arith)))
 
   -- ---- and the numbers that are read from them
 
-  parts-set : (head m : ℕ) → Numbers32 t → setOf bs (passedAll plan head (behindHead t) (t .n) m) ≡ firstPlaces t
+  pub parts-set : (head m : ℕ) → Numbers32 t → setOf bs (passedAll plan head (behindHead t) (t .n) m) ≡ firstPlaces t
   unfolding headNumber furtherSize
   parts-set head m small =
       let numbers = stations-read bs (behindHead t) t (t .n) (parts .stations) (omega arith) small in
@@ -155,11 +167,19 @@ module _ (plan : Bool) (bs : List ℕ) (t : Set) (a : Alloc) (parts : SheetParts
       let frame = laid-head bs (t .head) (parts .header) first-station 1 (omega arith) (small .frame) in
       rw (ttrt, mode, frame, w, c, d, p)
 
-  parts-alloc : (head : ℕ) → ((i : ℕ) → i < allocationsFor plan (t .n) → at (a .s) i < 2 ^ 32)
+  pub parts-alloc : (head : ℕ) → ((i : ℕ) → i < allocationsFor plan (t .n) → at (a .s) i < 2 ^ 32)
       → allocOf bs (passedAll plan head (behindHead t) (t .n) (allocationsFor plan (t .n))) ≡ firstAllocations (allocationsFor plan (t .n)) a
   parts-alloc head small =
       let m = allocationsFor plan (t .n) in
       rw (fill-same m _ (at (a .s)) zeros (allocations-read bs (behindStations t) a m (parts .allocations) small))
+
+-- and the walk goes by the end too
+parts-scanned : (plan : Bool) (bs : List ℕ) (t : Set) (a : Alloc) → SheetParts plan bs t a → 1 ≤ t .n → t .n ≤ 128
+    → (head : ℕ) × (scanned plan bs ≡ record { number = 0; passed = passedAll plan head (behindHead t) (t .n) (allocationsFor plan (t .n)); at = behindAll plan t })
+parts-scanned plan bs t a parts some few =
+    let p = fields-pass plan bs t a (parts .fields) some few in
+    let end = whole-stands bs _ 255 0 (parts .ending) (omega (arith, parts .long)) in
+    (p .0, end-passes plan bs (p .0) (behindHead t) (p .1 .0) (t .n) _ (behindAll plan t) (p .1 .1) some refl end (parts .long))
 
 -- ---- the first N places are the set
 
@@ -177,7 +197,7 @@ first-same t few =
 pub first-allocations : (n : ℕ) (a : Alloc) → n ≤ 128 → (i : ℕ) → i < n → at (a .s) i ≡ at (firstAllocations n a .s) i
 first-allocations n a few i l = sym (fill-inside n (at (a .s)) zeros i l few)
 
-judged-first : (plan : Bool) (t : Set) (a : Alloc) → t .n ≤ 128 → judgedSheet plan (firstPlaces t) (firstAllocations (allocationsFor plan (t .n)) a) ≡ judgedSheet plan t a
+pub judged-first : (plan : Bool) (t : Set) (a : Alloc) → t .n ≤ 128 → judgedSheet plan (firstPlaces t) (firstAllocations (allocationsFor plan (t .n)) a) ≡ judgedSheet plan t a
 unfolding judgedSheet
 judged-first true t a few = sym (judged-plan-same t (firstPlaces t) a (firstAllocations (t .n) a) (first-same t few) (first-allocations (t .n) a few))
 judged-first false t a few = sym (judged-same t (firstPlaces t) 0 (first-same t few))
@@ -199,12 +219,12 @@ module _ (plan : Bool) (t : Set) (a : Alloc) (count : CountAllowed t) (small : N
   laid-set : setIn plan (sheetOf plan t a) ≡ firstPlaces t
   laid-set =
       ap (λ (r : Scanned). setOf (sheetOf plan t a) (r .passed)) (laid-scanned .1)
-      ∙ parts-set plan (sheetOf plan t a) t a (sheet-parts plan t a) (count .0) (laid-scanned .0) (allocationsFor plan (t .n)) small
+      ∙ parts-set plan (sheetOf plan t a) t a (sheet-parts plan t a .fields) (count .0) (laid-scanned .0) (allocationsFor plan (t .n)) small
 
   laid-alloc : allocIn plan (sheetOf plan t a) ≡ firstAllocations (allocationsFor plan (t .n)) a
   laid-alloc =
       ap (λ (r : Scanned). allocOf (sheetOf plan t a) (r .passed)) (laid-scanned .1)
-      ∙ parts-alloc plan (sheetOf plan t a) t a (sheet-parts plan t a) (count .0) (laid-scanned .0) shares
+      ∙ parts-alloc plan (sheetOf plan t a) t a (sheet-parts plan t a .fields) (count .0) (laid-scanned .0) shares
 
   laid-judged : judgedSheet plan (setIn plan (sheetOf plan t a)) (allocIn plan (sheetOf plan t a)) ≡ judgedSheet plan t a
   laid-judged = rw (laid-set, laid-alloc) (judged-first plan t a (count .1))
@@ -221,7 +241,7 @@ module _ (plan : Bool) (t : Set) (a : Alloc) (count : CountAllowed t) (small : N
 -- ---- read back as written
 
 -- what is judged 0 fits into four bytes
-kept-small : (plan : Bool) (t : Set) (a : Alloc) → Kept plan t a → Numbers32 t
+pub kept-small : (plan : Bool) (t : Set) (a : Alloc) → Kept plan t a → Numbers32 t
 kept-small plan t a k =
     record {
       header = omega (arith, k .numbers .header .ttrt);
@@ -233,7 +253,7 @@ kept-small plan t a k =
       gap = λ i l. omega (arith, k .numbers .stations i l .gap .1);
     }
 
-kept-allocations : (plan : Bool) (t : Set) (a : Alloc) → Kept plan t a → Shares32 plan t a
+pub kept-allocations : (plan : Bool) (t : Set) (a : Alloc) → Kept plan t a → Shares32 plan t a
 kept-allocations true t a k i l = omega (arith, k .allocations refl i l)
 kept-allocations false t a k i l = absurd (omega arith)
 

@@ -134,7 +134,7 @@ plan-given bs bytes = (
 -- ---- the first fault
 
 -- a judgement is never 1 or 3, and 2 for the count alone
-not-low : (plan : Bool) (t : Set) (a : Alloc) (k : ℕ) → CountAllowed t → 1 ≤ k → k ≤ 3 → judgedSheet plan t a ≢ k
+pub not-low : (plan : Bool) (t : Set) (a : Alloc) (k : ℕ) → CountAllowed t → 1 ≤ k → k ≤ 3 → judgedSheet plan t a ≢ k
 unfolding judgedSheet judgedPlan judgedThen
 not-low true t a k count low high h =
     not-given _ 4 _ k (omega arith) (not-given _ 5 _ k (omega arith) (not-given _ 7 0 k (omega arith) (omega arith)))
@@ -143,7 +143,7 @@ not-low false t a k count low high h =
     not-given _ 4 _ k (omega arith) (not-given _ 5 0 k (omega arith) (omega arith)) (sym (held _ 2 _ (decides-count t .1 count)) ∙ h)
 
 count-read : (plan : Bool) (bs : List ℕ) → scanned plan bs .number ≡ 0 → CountAllowed (setIn plan bs)
-count-read plan bs h = let e = scanned-ended plan bs h in (e .some, e .few)
+count-read plan bs h = let e = scanned-ended plan bs h .before in (e .some, e .few)
 
 -- the number that is read
 number-read : (plan : Bool) (bs : List ℕ) → scanned plan bs .number ≢ 0 → readSheet plan bs .number ≡ scanned plan bs .number
@@ -477,7 +477,7 @@ promised =
       request-whole = whole-exactly false;
       plan-whole = whole-exactly true;
       stations-passed = counted;
-      allocations-passed = λ plan bs w. whole-ended plan bs w .all;
+      allocations-passed = λ plan bs w. whole-ended plan bs w .before .all;
       by-tag = tags;
       header-absent = λ plan bs. reads-absent bs;
       header-there = λ plan bs. reads-number bs;

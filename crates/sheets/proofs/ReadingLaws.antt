@@ -18,21 +18,34 @@ use Rattle.plans.proofs.Promised.{promised}
 use Rattle.fields.specs.Fields.{modeTag}
 use Rattle.fields.proofs.FieldLaws.{allocations-few}
 use Rattle.scan.specs.Scanned.{scanned}
-use Rattle.scan.proofs.PassedLaws.{scanned-ended}
+use Rattle.fields.specs.declared.Passed.{Passed}
+use Rattle.scan.proofs.ScanLaws.{stopped}
+use Rattle.scan.proofs.PassedLaws.{AllPassed, all-passed, scanned-ended}
 use Rattle.sheets.specs.Bounds.{PassedFits}
 use Rattle.sheets.specs.Layout.{headNumber, mostOf}
-use Rattle.sheets.specs.Reading.{setIn, allocIn, judgedSheet, readSheet}
+use Rattle.sheets.specs.Reading.{planPassed, setIn, allocIn, judgedSheet, readSheet}
 use Rattle.sheets.specs.ReadLaws.{then-rest, then-keeps, read-refused}
 
+-- where all fields but the end have passed, there is room for all that is read from them
+pub passed-fits : (plan : Bool) (bs : List ℕ) (p : Passed) (a : ℕ) → AllPassed plan bs p a → PassedFits bs p
+passed-fits plan bs p a e =
+    let few = e .few in
+    record {
+      header = e .header .behind;
+      some = e .some;
+      few = few;
+      fewer = omega (arith, e .all, allocations-few plan (p .stations));
+      inside = omega (arith, e .place, e .inside);
+    }
+
 module _ (plan : Bool) (bs : List ℕ) where
-  -- a sheet without a fault has room for all that is read from it
+  -- so it is with a sheet without a fault
   pub scanned-fits : scanned plan bs .number ≡ 0 → PassedFits bs (scanned plan bs .passed)
-  scanned-fits h =
-      let e = scanned-ended plan bs h in
-      let p = scanned plan bs .passed in
-      let few = e .few in
-      let last = e .last in
-      record { header = e .header .behind; some = e .some; few = few; fewer = omega (arith, e .all, allocations-few plan (p .stations)); inside = omega arith }
+  scanned-fits h = passed-fits plan bs (scanned plan bs .passed) _ (scanned-ended plan bs h .before)
+
+  -- and where the walk stopped behind all fields but the end
+  pub start-fits : planPassed (scanned plan bs .passed) ≡ true → PassedFits bs (scanned plan bs .passed)
+  start-fits may = passed-fits plan bs (scanned plan bs .passed) (scanned plan bs .at) (all-passed plan bs _ _ (stopped plan bs .before) may)
 
   pub sheet-misshapen : scanned plan bs .number ≢ 0 → readSheet plan bs ≡ record { set = blankSet; alloc = blankAlloc; number = scanned plan bs .number }
   unfolding readSheet

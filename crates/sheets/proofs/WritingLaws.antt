@@ -8,8 +8,8 @@ use native.Mathlib.Numerals.{add-one}
 use native.Mathlib.Nat.{mul-zero, mul-suc, mul-le-mul-left}
 use native.Mathlib.Omega.{arith}
 use lib.ListN.{length, drop, length-append}
-use borrow.Author.Tests.{le-leb, lt-leb, ne-eqb}
-use Rattle.units.specs.JudgingLaws.{held, failed}
+use borrow.Author.Tests.{leb-true, le-leb, lt-leb, ne-eqb}
+use Rattle.units.specs.JudgingLaws.{held, failed, passed}
 use Rattle.units.specs.Places.{sumBelow}
 use Rattle.sets.specs.declared.Head.{Head}
 use Rattle.sets.specs.declared.Set.{Set}
@@ -22,10 +22,11 @@ use Rattle.fields.specs.RowLaws.{rows-none, laid-none, laid-first}
 use Rattle.fields.proofs.SegmentLaws.{rows-length, laid-more, rows-then}
 use Rattle.fields.proofs.FieldLaws.{further-small}
 use Rattle.fields.proofs.HeaderLaws.{same-or-not, body-length}
-use Rattle.sheets.specs.Layout.{mark, headNumber, furtherBytes, furtherLength, headUpTo, headBytes, lengthUpTo, headLength, stationWith, allocationWith, stationBytes, allocationBytes, endBytes, sheetOf, sheetLength}
+use Rattle.sheets.specs.Layout.{mark, headNumber, furtherBytes, furtherLength, headUpTo, headBytes, lengthUpTo, headLength, stationWith, allocationWith, stationBytes, allocationBytes, endBytes, fieldsOf, fieldsLength, sheetOf, sheetLength}
 use Rattle.sheets.specs.Reading.{judgedSheet}
-use Rattle.sheets.specs.ReadLaws.{then-rest, then-keeps}
-use Rattle.sheets.specs.Writing.{writeNumber, writeAnswer, bufferAfter, refusedWriting, Wrote}
+use Rattle.sheets.specs.ReadLaws.{then-rest, then-keeps, then-none}
+use Rattle.sheets.specs.Writing.{writeNumber, writeAnswer, bufferAfter, refusedWriting, Wrote, WroteFields, roomNumber, laidAfter, PutAt}
+use Rattle.sheets.specs.declared.Written.{Written}
 
 -- ---- lengths
 
@@ -112,9 +113,8 @@ stations-length t n = rows-length n 19 (stationBytes t) (λ i. station-length _ 
 pub allocations-length : (a : Alloc) (m : ℕ) → length (rows m (allocationBytes a)) ≡ 7 * m
 allocations-length a m = rows-length m 7 (allocationBytes a) (λ i. allocation-length _)
 
-pub sheet-long : (plan : Bool) (t : Set) (a : Alloc) → length (sheetOf plan t a) ≡ sheetLength plan t
-unfolding sheetOf
-sheet-long plan t a =
+pub fields-long : (plan : Bool) (t : Set) (a : Alloc) → length (fieldsOf plan t a) ≡ fieldsLength plan t
+fields-long plan t a =
     let n = t .n in
     let m = allocationsFor plan (t .n) in
     let h = headBytes (t .head) in
@@ -123,7 +123,11 @@ sheet-long plan t a =
     let l₁ = head-long (t .head) in
     let l₂ = stations-length t n in
     let l₃ = allocations-length a m in
-    omega (arith, length-append (h ++ st ++ al) endBytes, length-append (h ++ st) al, length-append h st)
+    omega (arith, length-append (h ++ st) al, length-append h st)
+
+pub sheet-long : (plan : Bool) (t : Set) (a : Alloc) → length (sheetOf plan t a) ≡ sheetLength plan t
+unfolding sheetOf
+sheet-long plan t a = omega (arith, length-append (fieldsOf plan t a) endBytes, fields-long plan t a)
 
 -- ---- like rows laid by a loop
 
@@ -159,17 +163,15 @@ module _ {out₀ : List ℕ} {from step n : ℕ} {row : ℕ → List ℕ} (each 
 
 -- ---- the fields of a sheet, laid one after another
 
--- the buffer behind each of the four parts; the stations begin at the place `from`
-pub record PartsLaid (t : Set) (a : Alloc) (from m : ℕ) (o o₁ o₂ o₃ o₄ : List ℕ) : Type 0 where
+-- the buffer behind each of the three parts; the stations begin at the place `from`
+pub record PartsLaid (t : Set) (a : Alloc) (from m : ℕ) (o o₁ o₂ o₃ : List ℕ) : Type 0 where
   pub head : o₁ ≡ laid o 0 (headBytes (t .head))
   pub stations : o₂ ≡ laid o₁ from (rows (t .n) (stationBytes t))
   pub allocations : o₃ ≡ laid o₂ (from + 19 * t .n) (rows m (allocationBytes a))
-  pub end : o₄ ≡ laid o₃ (from + 19 * t .n + 7 * m) endBytes
 
-pub sheet-laid : (plan : Bool) (t : Set) (a : Alloc) (from m : ℕ) (o o₁ o₂ o₃ o₄ : List ℕ) → PartsLaid t a from m o o₁ o₂ o₃ o₄
-    → from ≡ 7 + headLength (t .head) → m ≡ allocationsFor plan (t .n) → sheetLength plan t ≤ length o → o₄ ≡ laid o 0 (sheetOf plan t a)
-unfolding sheetOf
-sheet-laid plan t a from m o o₁ o₂ o₃ o₄ parts begun e fit =
+pub fields-laid : (plan : Bool) (t : Set) (a : Alloc) (from m : ℕ) (o o₁ o₂ o₃ : List ℕ) → PartsLaid t a from m o o₁ o₂ o₃
+    → from ≡ 7 + headLength (t .head) → m ≡ allocationsFor plan (t .n) → fieldsLength plan t ≤ length o → o₃ ≡ laid o 0 (fieldsOf plan t a)
+fields-laid plan t a from m o o₁ o₂ o₃ parts begun e fit =
     let n = t .n in
     let head = headBytes (t .head) in
     let stations = rows n (stationBytes t) in
@@ -178,11 +180,9 @@ sheet-laid plan t a from m o o₁ o₂ o₃ o₄ parts begun e fit =
     let l₂ : length (rows (t .n) (stationBytes t)) ≡ 19 * t .n = stations-length t n in
     let l₃ : length (rows m (allocationBytes a)) ≡ 7 * m = allocations-length a m in
     let j₁ = length-append head stations in
-    let j₂ = length-append (head ++ stations) allocations in
     let s₂ = laid-more o o₁ o₂ 0 from head stations (parts .head) (omega arith) (parts .stations) (omega arith) in
     let s₃ = laid-more o o₂ o₃ 0 (from + 19 * n) (head ++ stations) allocations s₂ (omega arith) (parts .allocations) (omega arith) in
-    let s₄ = laid-more o o₃ o₄ 0 (from + 19 * n + 7 * m) (head ++ stations ++ allocations) endBytes s₃ (omega arith) (parts .end) (omega arith) in
-    rw (← e) s₄
+    rw (← e) s₃
 
 -- ---- answers
 
@@ -220,19 +220,74 @@ module _ (plan : Bool) (t : Set) (a : Alloc) (out : List ℕ) where
   pub number-none : judgedSheet plan t a ≡ 0 → sheetLength plan t ≤ length out → writeNumber plan t a (length out) ≡ 0
   number-none e h = then-rest _ _ e ∙ held _ _ _ (le-leb _ _ h)
 
-  -- a writing that was refused with the number k
-  pub wrote-refused : (k : ℕ) → k ≢ 0 → writeNumber plan t a (length out) ≡ k → Wrote plan t a out out (refusedWriting k)
-  wrote-refused k h e =
+  -- fields that were not written, with the number k
+  pub fields-refused : (k : ℕ) → k ≢ 0 → writeNumber plan t a (length out) ≡ k → WroteFields plan t a out out (refusedWriting k)
+  fields-refused k h e =
       record {
-        answer = rw e (sym (answer-refused k (sheetLength plan t) h));
-        buffer = rw e (sym (buffer-refused k (sheetOf plan t a) out h));
+        answer = rw e (sym (answer-refused k (fieldsLength plan t) h));
+        buffer = rw e (sym (buffer-refused k (fieldsOf plan t a) out h));
       }
 
-  -- and one that was accepted
-  pub wrote-all : judgedSheet plan t a ≡ 0 → sheetLength plan t ≤ length out
-      → Wrote plan t a out (laid out 0 (sheetOf plan t a)) (record { length = sheetLength plan t; number = 0 })
-  wrote-all e h =
+  -- and fields that were
+  pub fields-all : judgedSheet plan t a ≡ 0 → sheetLength plan t ≤ length out
+      → WroteFields plan t a out (laid out 0 (fieldsOf plan t a)) (record { length = fieldsLength plan t; number = 0 })
+  fields-all e h =
       record {
-        answer = sym (answer-accepted _ (sheetLength plan t) (number-none e h));
-        buffer = laid-first out (sheetOf plan t a) ∙ sym (buffer-accepted _ (sheetOf plan t a) out (number-none e h));
+        answer = sym (answer-accepted _ (fieldsLength plan t) (number-none e h));
+        buffer = laid-first out (fieldsOf plan t a) ∙ sym (buffer-accepted _ (fieldsOf plan t a) out (number-none e h));
       }
+
+  -- a sheet whose fields were not written is not
+  pub wrote-refused : (after : List ℕ) (r : Written) → WroteFields plan t a out after r → r .number ≢ 0 → Wrote plan t a out after r
+  wrote-refused after r w h =
+      let k = writeNumber plan t a (length out) in
+      let some : writeNumber plan t a (length out) ≢ 0 = λ z. h (ap (λ (x : Written). x .number) (w .answer) ∙ answer-number _ _ ∙ z) in
+      record {
+        answer = w .answer ∙ answer-refused k (fieldsLength plan t) some ∙ sym (answer-refused k (sheetLength plan t) some);
+        buffer = w .buffer ∙ buffer-refused k (fieldsOf plan t a) out some ∙ sym (buffer-refused k (sheetOf plan t a) out some);
+      }
+
+  -- where they were: they stand in the first bytes, and the end fits behind them
+  module _ (between : List ℕ) (r : Written) (w : WroteFields plan t a out between r) (z : r .number ≡ 0) where
+    fields-none : writeNumber plan t a (length out) ≡ 0
+    fields-none = sym (answer-number _ (fieldsLength plan t)) ∙ sym (ap (λ (x : Written). x .number) (w .answer)) ∙ z
+
+    pub fields-fit : sheetLength plan t ≤ length out
+    fields-fit = leb-true _ _ (passed _ 14 _ (omega arith) (then-none _ _ fields-none .1) .0)
+
+    pub fields-end : r .length ≡ fieldsLength plan t
+    fields-end = ap (λ (x : Written). x .length) (w .answer ∙ answer-accepted _ (fieldsLength plan t) fields-none)
+
+    pub fields-there : between ≡ laid out 0 (fieldsOf plan t a)
+    fields-there = w .buffer ∙ buffer-accepted _ (fieldsOf plan t a) out fields-none ∙ sym (laid-first out (fieldsOf plan t a))
+
+    -- a sheet is all of them and the end behind them
+    pub wrote-all : (after : List ℕ) → after ≡ laid between (r .length) endBytes → Wrote plan t a out after (record { length = r .length + 3; number = 0 })
+    unfolding sheetOf
+    wrote-all after e =
+        let long = fields-long plan t a in
+        let fit = fields-fit in
+        let all : after ≡ laid out 0 (fieldsOf plan t a ++ endBytes) =
+        laid-more out between after 0 (r .length) (fieldsOf plan t a) endBytes fields-there (omega (arith, fields-end)) e (omega (arith, fields-end)) in
+        let behind : r .length + 3 ≡ sheetLength plan t = omega (arith, fields-end) in
+        record {
+          answer = ap (λ (k : ℕ). record { length = k; number = 0 }) behind ∙ sym (answer-accepted _ (sheetLength plan t) fields-none);
+          buffer = all ∙ laid-first out (sheetOf plan t a) ∙ sym (buffer-accepted _ (sheetOf plan t a) out fields-none);
+        }
+
+-- ---- bytes put at a place
+
+module _ (out : List ℕ) (a : ℕ) (bytes : List ℕ) (more : ℕ) where
+  -- they do not fit
+  pub put-short : length out < a + length bytes + more → PutAt a bytes more out out 14
+  unfolding laidAfter
+  put-short h =
+      let e : roomNumber (a + length bytes + more) (length out) ≡ 14 = failed _ _ _ (lt-leb _ _ h) in
+      record { answer = sym e; buffer = rw e refl }
+
+  -- they do
+  pub put-there : (after : List ℕ) → a + length bytes + more ≤ length out → after ≡ laid out a bytes → PutAt a bytes more out after 0
+  unfolding laidAfter
+  put-there after h d =
+      let e : roomNumber (a + length bytes + more) (length out) ≡ 0 = held _ _ _ (le-leb _ _ h) in
+      record { answer = sym e; buffer = rw e d }

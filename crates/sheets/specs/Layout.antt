@@ -79,6 +79,10 @@ endBytes = mark endTag endSize
 abbrev pub fieldsOf : Bool → Set → Alloc → List ℕ
 fieldsOf plan t a = headBytes (t .head) ++ rows (t .n) (stationBytes t) ++ rows (allocationsFor plan (t .n)) (allocationBytes a)
 
+-- how many bytes these have
+abbrev pub fieldsLength : Bool → Set → ℕ
+fieldsLength plan t = 7 + headLength (t .head) + 19 * t .n + 7 * allocationsFor plan (t .n)
+
 -- the sheet: these, then the end
 unfoldable pub sheetOf : Bool → Set → Alloc → List ℕ
 sheetOf plan t a = fieldsOf plan t a ++ endBytes

@@ -10,12 +10,13 @@ use Rattle.sets.specs.declared.Set.{Set}
 use Rattle.plans.specs.Planned.{judgedPlan, blankAlloc}
 use Rattle.plans.specs.declared.Alloc.{Alloc}
 use Rattle.fields.specs.Bytes.{numberAt}
-use Rattle.fields.specs.Fields.{modeTag, frameTag}
+use Rattle.fields.specs.Fields.{modeTag, frameTag, endTag, endSize, isAllowed}
 use Rattle.fields.specs.Header.{placeOf, givenAt}
 use Rattle.fields.specs.declared.Passed.{Passed}
 use Rattle.scan.specs.Scanned.{scanned}
 use Rattle.sheets.specs.declared.ReadRequest.{ReadRequest}
 use Rattle.sheets.specs.declared.ReadPlan.{ReadPlan}
+use Rattle.sheets.specs.declared.PlanStart.{PlanStart}
 
 -- ---- the numbers that are read
 
@@ -75,6 +76,19 @@ readAnswer (suc k) t a = record { set = blankSet; alloc = blankAlloc; number = s
 
 unfoldable pub readSheet : Bool → List ℕ → ReadPlan
 readSheet plan bs = readAnswer (readNumber plan bs) (setIn plan bs) (allocIn plan bs)
+
+-- ---- a plan at the start of any bytes, whatever stands behind it
+
+-- all fields of a sheet but its end have passed: the end may stand there
+abbrev pub planPassed : Passed → Bool
+planPassed p = isAllowed p endTag endSize
+
+-- where all fields of a plan have passed, the plan, its judgement, and the place behind its fields; else all blank, with the number of the walk and the place where it stopped
+unfoldable pub planStart : List ℕ → PlanStart
+planStart bs =
+    cond (planPassed (scanned true bs .passed))
+    (record { set = setIn true bs; alloc = allocIn true bs; passed = true; number = judgedPlan (setIn true bs) (allocIn true bs); at = scanned true bs .at })
+    (record { set = blankSet; alloc = blankAlloc; passed = false; number = scanned true bs .number; at = scanned true bs .at })
 
 -- reading a plan sheet
 abbrev pub readPlan : List ℕ → ReadPlan

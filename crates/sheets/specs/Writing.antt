@@ -1,5 +1,5 @@
 -- What writing answers, and what the lent buffer then holds, for any set, any allocation and any buffer.
-use Prim.Native.Nat.{ℕ, zero, suc}
+use Prim.Native.Nat.{ℕ, zero, suc, _+_}
 use mathlib.Core.Path.{_≡_}
 use mathlib.Core.Bool.{Bool, true, false}
 use mathlib.Core.List.{List, _++_}
@@ -10,7 +10,8 @@ use Rattle.units.specs.Judging.{orElse}
 use Rattle.sets.specs.declared.Set.{Set}
 use Rattle.plans.specs.Planned.{blankAlloc}
 use Rattle.plans.specs.declared.Alloc.{Alloc}
-use Rattle.sheets.specs.Layout.{sheetOf, sheetLength}
+use Rattle.fields.specs.Rows.{laid}
+use Rattle.sheets.specs.Layout.{fieldsOf, fieldsLength, sheetOf, sheetLength}
 use Rattle.sheets.specs.Reading.{thenNumber, judgedSheet}
 use Rattle.sheets.specs.declared.Written.{Written}
 
@@ -43,6 +44,27 @@ writtenBuffer plan t a out = bufferAfter (writeNumber plan t a (length out)) (sh
 pub record Wrote (plan : Bool) (t : Set) (a : Alloc) (before after : List ℕ) (r : Written) : Type 0 where
   pub answer : r ≡ writtenAnswer plan t a before
   pub buffer : after ≡ writtenBuffer plan t a before
+
+-- writing all fields but the end, where they and the end fit: their length, and they stand in the first bytes
+pub record WroteFields (plan : Bool) (t : Set) (a : Alloc) (before after : List ℕ) (r : Written) : Type 0 where
+  pub answer : r ≡ writeAnswer (writeNumber plan t a (length before)) (fieldsLength plan t)
+  pub buffer : after ≡ bufferAfter (writeNumber plan t a (length before)) (fieldsOf plan t a) before
+
+-- ---- a field of a log, written at a place
+
+-- 14 where these bytes, and so many behind them, do not fit
+abbrev pub roomNumber : ℕ → ℕ → ℕ
+roomNumber end room = orElse (leb end room) bufferTooShort accepted
+
+-- accepted: the bytes stand at the place, all else is as it was; refused: no byte has changed
+unfoldable pub laidAfter : ℕ → List ℕ → ℕ → List ℕ → List ℕ
+laidAfter zero out a bytes = laid out a bytes
+laidAfter (suc k) out a bytes = out
+
+-- writing bytes at a place that leaves room for so many behind them: the number, and what the buffer then holds
+pub record PutAt (a : ℕ) (bytes : List ℕ) (more : ℕ) (before after : List ℕ) (number : ℕ) : Type 0 where
+  pub answer : number ≡ roomNumber (a + length bytes + more) (length before)
+  pub buffer : after ≡ laidAfter (roomNumber (a + length bytes + more) (length before)) before a bytes
 
 -- writing a request, and writing a plan: the answer, and what the buffer then holds
 pub record Writing : Type 0 where

@@ -1,13 +1,14 @@
 // Request and plan sheets: read from lent bytes, and written into them.
 mod bytes;
 mod reading;
+pub mod visits;
 mod writing;
 
 ghost use mathlib.Core.Path.{_≡_};
 ghost use mathlib.Core.Bool.{true, false};
 ghost use Rattle.plans.specs.Planned.{blankAlloc};
-ghost use Rattle.sheets.specs.Reading.{readRequest, readPlan, judgedSheet};
-ghost use Rattle.sheets.specs.Writing.{Wrote};
+ghost use Rattle.sheets.specs.Reading.{readRequest, readPlan, planStart, judgedSheet};
+ghost use Rattle.sheets.specs.Writing.{Wrote, WroteFields};
 use plans::Alloc;
 use sets::Set;
 
@@ -24,6 +25,15 @@ pub struct ReadPlan {
     pub set: Set,
     pub alloc: Alloc,
     pub number: u8,
+}
+
+// A plan at the start of some bytes, whatever stands behind it: where all its fields have passed, the plan, its judgement and the place behind them; else all blank, with 1 or 2 and the place of the fault.
+pub struct PlanStart {
+    pub set: Set,
+    pub alloc: Alloc,
+    pub passed: bool,
+    pub number: u8,
+    pub at: usize,
 }
 
 // What writing answers: the number, 0 with the length of the sheet, or a refusal with length 0.
@@ -63,6 +73,34 @@ pub fn read_plan(sheet: &[u8]) -> ReadPlan
     reading::read_sheet(sheet, true)
 }
 
+// Reads the plan at the start of the lent bytes, whatever stands behind its fields: these, if all have passed, and their judgement.
+pub fn read_start(sheet: &[u8]) -> PlanStart
+    ensures { λ r. ⌜ r ≡ planStart (now (sheet .entry)) ⌝ }
+{
+    let scanned = scan::scan_sheet(sheet, true);
+    if !reading::plan_passed(scanned.passed) {
+        let set = sets::blank_set();
+        let alloc = plans::blank_alloc();
+        return PlanStart {
+            set,
+            alloc,
+            passed: false,
+            number: scanned.number,
+            at: scanned.at,
+        };
+    }
+    let set = reading::read_set(sheet, scanned.passed);
+    let alloc = reading::read_alloc(sheet, scanned.passed);
+    let number = plans::judge_plan(set, alloc);
+    PlanStart {
+        set,
+        alloc,
+        passed: true,
+        number,
+        at: scanned.at,
+    }
+}
+
 // Writes a request sheet into the first bytes of a lent buffer.
 pub fn write_request(t: Set, out: &mut [u8]) -> Written
     ensures { λ r. ⌜ Wrote false t blankAlloc (now (out .entry)) (now (out .exit)) r ⌝ }
@@ -75,4 +113,11 @@ pub fn write_plan(t: Set, a: Alloc, out: &mut [u8]) -> Written
     ensures { λ r. ⌜ Wrote true t a (now (out .entry)) (now (out .exit)) r ⌝ }
 {
     writing::write_sheet(true, t, a, out)
+}
+
+// Writes a plan's fields without the end into the first bytes of a lent buffer that has room for both; the length is theirs.
+pub fn write_plan_fields(t: Set, a: Alloc, out: &mut [u8]) -> Written
+    ensures { λ r. ⌜ WroteFields true t a (now (out .entry)) (now (out .exit)) r ⌝ }
+{
+    writing::write_fields(true, t, a, out)
 }

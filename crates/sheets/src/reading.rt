@@ -8,7 +8,7 @@ ghost use Rattle.sheets.specs.Bounds.{PassedFits, ColumnFits};
 ghost use Rattle.fields.specs.Bytes.{bodyAt};
 ghost use Rattle.fields.specs.Fields.{furtherSize};
 ghost use Rattle.fields.specs.Header.{furtherCount, behindTag, furtherPlace, givenAt};
-ghost use Rattle.sheets.specs.Reading.{column, headIn, setOf, allocOf, readSheet};
+ghost use Rattle.sheets.specs.Reading.{column, headIn, setOf, allocOf, readSheet, planPassed};
 use crate::ReadPlan;
 use crate::bytes;
 use fields::Passed;
@@ -79,7 +79,7 @@ fn read_head(bs: &[u8]) -> Head
 }
 
 // The set that the header and the stations hold.
-fn read_set(bs: &[u8], passed: Passed) -> Set
+pub(crate) fn read_set(bs: &[u8], passed: Passed) -> Set
     requires { ⌜ PassedFits (now bs) passed ⌝ }
     ensures { λ r. ⌜ r ≡ setOf (now (bs .entry)) passed ⌝ }
 {
@@ -102,7 +102,7 @@ fn read_set(bs: &[u8], passed: Passed) -> Set
 }
 
 // The allocation that the fields behind the stations hold.
-fn read_alloc(bs: &[u8], passed: Passed) -> Alloc
+pub(crate) fn read_alloc(bs: &[u8], passed: Passed) -> Alloc
     requires { ⌜ PassedFits (now bs) passed ⌝ }
     ensures { λ r. ⌜ r ≡ allocOf (now (bs .entry)) passed ⌝ }
 {
@@ -135,4 +135,13 @@ pub(crate) fn read_sheet(bs: &[u8], plan: bool) -> ReadPlan
         return refused(number);
     }
     ReadPlan { set, alloc, number }
+}
+
+// All fields of a sheet but its end have passed.
+pub(crate) fn plan_passed(passed: Passed) -> bool
+    ensures { λ r. ⌜ r ≡ planPassed passed ⌝ }
+{
+    let headed = fields::HEAD_TAG <= passed.head;
+    let due = fields::allocations_for(passed.plan, passed.stations);
+    headed & (1 <= passed.stations) & (passed.allocations == due)
 }

@@ -5,8 +5,8 @@ ghost use lib.ListN.{length};
 ghost use Rattle.fields.specs.Rows.{laid, rows};
 ghost use Rattle.fields.specs.Bytes.{bodyOf};
 ghost use Rattle.fields.specs.Fields.{furtherSize};
-ghost use Rattle.sheets.specs.Layout.{furtherBytes, furtherLength, headBytes, headLength, stationWith, allocationWith, stationBytes, allocationBytes, sheetOf, sheetLength};
-ghost use Rattle.sheets.specs.Writing.{Wrote, refusedWriting};
+ghost use Rattle.sheets.specs.Layout.{furtherBytes, furtherLength, headBytes, headLength, stationWith, allocationWith, stationBytes, allocationBytes, fieldsOf, fieldsLength};
+ghost use Rattle.sheets.specs.Writing.{Wrote, WroteFields, refusedWriting};
 use crate::Written;
 use crate::bytes;
 use plans::Alloc;
@@ -117,20 +117,20 @@ fn put_allocations(out: &mut [u8], from: usize, a: Alloc, m: usize)
     }
 }
 
-// How many bytes a sheet has.
-fn sheet_length(plan: bool, t: Set) -> usize
+// How many bytes all fields of a sheet but the end have.
+fn fields_length(plan: bool, t: Set) -> usize
     requires { ⌜ t .n ≤ 128 ⌝ }
-    ensures { λ r. ⌜ r ≡ sheetLength plan t ⌝ }
+    ensures { λ r. ⌜ r ≡ fieldsLength plan t ⌝ }
 {
     let h = t.head;
     let n = t.n as usize;
-    10 + head_length(h) + 19 * n + 7 * fields::allocations_for(plan, n)
+    7 + head_length(h) + 19 * n + 7 * fields::allocations_for(plan, n)
 }
 
-// Writes all fields of a sheet.
-fn put_sheet(plan: bool, t: Set, a: Alloc, out: &mut [u8])
-    requires { ⌜ (t .n ≤ 128) × (sheetLength plan t ≤ length (now out)) ⌝ }
-    ensures { λ _. ⌜ now (out .exit) ≡ laid (now (out .entry)) 0 (sheetOf plan t a) ⌝ }
+// Writes all fields of a sheet but the end.
+fn put_fields(plan: bool, t: Set, a: Alloc, out: &mut [u8])
+    requires { ⌜ (t .n ≤ 128) × (fieldsLength plan t ≤ length (now out)) ⌝ }
+    ensures { λ _. ⌜ now (out .exit) ≡ laid (now (out .entry)) 0 (fieldsOf plan t a) ⌝ }
 {
     let n = t.n as usize;
     let m = fields::allocations_for(plan, n);
@@ -140,7 +140,6 @@ fn put_sheet(plan: bool, t: Set, a: Alloc, out: &mut [u8])
     put_head(out, h);
     put_stations(out, from, t, n);
     put_allocations(out, behind, a, m);
-    bytes::put_mark(out, behind + 7 * m, fields::END_TAG, 0);
 }
 
 // A refused writing.
@@ -150,21 +149,37 @@ fn refused(number: u8) -> Written
     Written { length: 0, number }
 }
 
-// Writes a sheet: N (2), then 4, 5, for plans 7, then 14; then all its bytes.
-pub(crate) fn write_sheet(plan: bool, t: Set, a: Alloc, out: &mut [u8]) -> Written
-    ensures { λ r. ⌜ Wrote plan t a (now (out .entry)) (now (out .exit)) r ⌝ }
+// Writes all fields of a sheet but the end: N (2), then 4, 5, for plans 7, then 14 where they and the end do not fit; then their bytes.
+pub(crate) fn write_fields(plan: bool, t: Set, a: Alloc, out: &mut [u8]) -> Written
+    ensures { λ r. ⌜ WroteFields plan t a (now (out .entry)) (now (out .exit)) r ⌝ }
 {
     let number = crate::judge_sheet(plan, t, a);
     if number != numbers::ACCEPTED {
         return refused(number);
     }
-    let length = sheet_length(plan, t);
-    if out.len() < length {
+    let length = fields_length(plan, t);
+    if out.len() < length + 3 {
         return refused(numbers::BUFFER_TOO_SHORT);
     }
-    put_sheet(plan, t, a, out);
+    put_fields(plan, t, a, out);
     Written {
         length,
+        number: numbers::ACCEPTED,
+    }
+}
+
+// Writes a sheet: all fields but the end; then the end behind them.
+pub(crate) fn write_sheet(plan: bool, t: Set, a: Alloc, out: &mut [u8]) -> Written
+    ensures { λ r. ⌜ Wrote plan t a (now (out .entry)) (now (out .exit)) r ⌝ }
+{
+    let so_far = write_fields(plan, t, a, out);
+    if so_far.number != numbers::ACCEPTED {
+        return so_far;
+    }
+    let at = so_far.length;
+    bytes::put_mark(out, at, fields::END_TAG, 0);
+    Written {
+        length: at + 3,
         number: numbers::ACCEPTED,
     }
 }

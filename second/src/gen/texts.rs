@@ -2,7 +2,7 @@
 
 use super::calls;
 use super::random::Random;
-use super::{sets, Sort};
+use super::{logs, sets, Sort};
 use crate::rules::Plan;
 use crate::text::show_stations;
 
@@ -62,6 +62,48 @@ const STRAY_FRAMES: [&str; 15] = [
     "visit 3 4294967296",
     "visit 3 0",
 ];
+
+/// The same for texts of logs.
+const STRAY_VISITS: [&str; 14] = [
+    "visit 0 0 0 0 0",
+    "visit 255 4294967295 4294967295 4294967295 4294967295",
+    "visit 256 0 0 0 0",
+    "visit 0 4294967296 0 0 0",
+    "visit 0 0 4294967296 0 0",
+    "visit 0 0 0 0 4294967296",
+    "visit 0 0 0 0",
+    "visit 0 0 0 0 0 0",
+    "visit",
+    "visits 0 0 0 0 0",
+    "station 1 20 100 100 20",
+    "station 1 20 100 100",
+    "ttrt 100",
+    "message 0 1 1",
+];
+
+/// The text of a log, most often of a run, at times with stray lines.
+pub fn log_text(random: &mut Random, sort: Sort) -> Vec<u8> {
+    let (run, entries) = logs::run(random, sort, 12);
+    let plan = match random.between(0, 5) {
+        0 => sets::any_plan(random, sort),
+        1 => sets::plan(random, sort),
+        _ => run,
+    };
+    let shown = if random.once_in(12) { &[][..] } else { &plan.allocation };
+    let mut text = show_stations(&plan.request, shown);
+    entries.iter().for_each(|entry| text += &format!("{entry}\n"));
+    let mut lines: Vec<&str> = text.lines().collect();
+    for _ in 0..random.between(0, 2) {
+        let place = random.pick(&[0, 1, lines.len() - 1, lines.len()]);
+        let place = if random.once_in(2) { random.index(lines.len() + 1) } else { place };
+        lines.insert(place, random.pick(&STRAY_VISITS));
+    }
+    let text = lines.join("\n");
+    if random.once_in(2) {
+        return text.into_bytes();
+    }
+    untidy(random, sort, &text)
+}
 
 /// The text of a request or plan, at times with a stray line or a broken byte.
 pub fn sheet_text(random: &mut Random, sort: Sort) -> Vec<u8> {

@@ -1,11 +1,11 @@
 //! The mode on sheets and in texts.
 
-use crate::{fddi, worked_plan, worked_request};
+use crate::{composed, fddi, worked_plan, worked_request};
 use second::frames::{answer, to_hex};
 use second::planted::Planted;
 use second::rules::{Head, Plan, Refusal, Request};
 use second::sheet::*;
-use second::text::{compose, show_sheet, Fault};
+use second::text::{show_sheet, Fault};
 
 const ROOM: usize = 4_000;
 
@@ -45,7 +45,7 @@ fn the_field_stands_behind_ttrt() {
     assert_eq!(read_plan(&plan_sheet()), Ok(older()));
     assert_eq!(write_request(&older().request, 90), Ok(request_sheet()));
     assert_eq!(write_request(&older().request, 89), Err(Refusal::NoRoom));
-    assert_eq!(read_either(&plan_sheet()), Ok(Sheet::Plan(older())));
+    assert_eq!(read_any(&plan_sheet()), Ok((Sheet::Plan(older()), vec![])));
     assert_eq!((REQUEST_READ, PLAN_READ), (2_454, 3_350));
 }
 
@@ -102,10 +102,6 @@ fn other_faults_beside_the_value() {
     assert_eq!(number(&walk), 4);
     walk[10] = 2;
     assert_eq!(number(&walk), 5);
-}
-
-fn composed(text: &str) -> Result<Vec<u8>, Fault> {
-    compose(text.as_bytes()).expect("bytes at hand")
 }
 
 #[test]

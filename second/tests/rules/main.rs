@@ -5,6 +5,8 @@ mod cases;
 mod fddi_plans;
 mod fddi_rings;
 mod fddi_sheets;
+mod log_texts;
+mod logs;
 mod planted;
 mod program;
 mod promises;
@@ -17,7 +19,9 @@ mod ticks;
 mod uncut;
 mod uncut_sheets;
 
+use second::compose::compose;
 use second::rules::{Head, Mode, Plan, Request, Station};
+use second::text::Fault;
 
 pub fn timely(ttrt: u32) -> Head {
     Head::new(ttrt, Mode::Timely)
@@ -39,4 +43,12 @@ pub fn worked_request() -> Request {
 
 pub fn worked_plan() -> Plan {
     Plan { request: worked_request(), allocation: vec![20; 4] }
+}
+
+/// The bytes of a text that has no visits: all of them, or none.
+pub fn composed(text: &str) -> Result<Vec<u8>, Fault> {
+    let mut bytes = vec![];
+    let answer = compose(text.as_bytes(), &mut bytes).expect("bytes at hand");
+    assert!(answer.is_ok() || bytes.is_empty(), "{text}");
+    answer.map(|()| bytes)
 }

@@ -16,9 +16,12 @@ fn second(arguments: &[&str], input: &[u8]) -> Output {
         .stderr(Stdio::piped())
         .spawn()
         .expect("the program starts");
-    // The program may answer without reading all.
-    let _ = child.stdin.take().expect("piped").write_all(input);
-    child.wait_with_output().expect("the program ends")
+    let mut stdin = child.stdin.take().expect("piped");
+    std::thread::scope(|scope| {
+        // The program may answer without reading all, and before it has.
+        scope.spawn(move || stdin.write_all(input));
+        child.wait_with_output().expect("the program ends")
+    })
 }
 
 fn said(arguments: &[&str], input: &[u8]) -> String {
@@ -112,6 +115,30 @@ fn the_worked_run_as_calls() {
 }
 
 #[test]
+fn a_long_log() {
+    let plan = file("logged.plan", &plan_sheet());
+    let calls = "message 0 20 0\n".to_string() + &"visit 3\n".repeat(30_000);
+    let log = second(&["log", &plan], calls.as_bytes()).stdout;
+    assert_eq!(log.len(), 114 + 20 * 30_000);
+    let text = said(&["show"], &log);
+    assert_eq!(text.lines().count(), 5 + 30_000);
+    assert_eq!(second(&["compose"], text.as_bytes()).stdout, log);
+    let cut = said(&["show"], &log[..log.len() - 1]);
+    assert_eq!(cut, text + "refused 1\n");
+    fs::remove_file(&plan).expect("the file is there");
+    assert!(!second(&["log", &plan], b"").status.success());
+}
+
+#[test]
+fn a_refused_plan_is_not_logged() {
+    let plan = file("unlogged.plan", &plan_sheet()[..20]);
+    let output = second(&["log", &plan], b"visit 1\n");
+    assert_eq!((&output.stdout[..], &output.stderr[..]), (&b""[..], &b"refused 1\n"[..]));
+    assert!(!output.status.success());
+    fs::remove_file(&plan).expect("the file is there");
+}
+
+#[test]
 fn a_refused_plan_answers_no_call() {
     let plan = file("broken.plan", &plan_sheet()[..20]);
     assert_eq!(said(&["run", &plan], b"visit 1\nvisit 1\n"), "refused 1\n");
@@ -142,7 +169,9 @@ fn an_answer_does_not_wait_for_the_next_call() {
 #[test]
 fn usage_for_anything_else() {
     let usage = said(&["help"], b"");
-    for name in ["plan", "compose", "show", "plan-sheet", "run PLAN", "generate", "answers"] {
+    for name in
+        ["plan", "compose", "show", "plan-sheet", "run PLAN", "log PLAN", "generate", "answers"]
+    {
         assert!(usage.contains(&format!("  {name}")), "{name}");
     }
     let others: [&[&str]; 7] = [

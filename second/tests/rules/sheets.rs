@@ -106,10 +106,10 @@ fn a_byte_after_the_end() {
 #[test]
 fn the_kinds_are_not_taken_for_each_other() {
     assert_eq!((request_number(&plan_sheet()), plan_number(&request_sheet())), (2, 2));
-    assert_eq!(read_either(&request_sheet()), Ok(Sheet::Request(worked_request())));
-    assert_eq!(read_either(&plan_sheet()), Ok(Sheet::Plan(worked_plan())));
+    assert_eq!(read_any(&request_sheet()), Ok((Sheet::Request(worked_request()), vec![])));
+    assert_eq!(read_any(&plan_sheet()), Ok((Sheet::Plan(worked_plan()), vec![])));
     let cut = &plan_sheet()[..plan_sheet().len() - 1];
-    assert_eq!(read_either(cut), Err(Refusal::EndsEarly));
+    assert_eq!(read_any(cut), Err(Refusal::EndsEarly));
 }
 
 #[test]

@@ -1,12 +1,8 @@
-use crate::{worked_plan, worked_request};
+use crate::{composed, worked_plan, worked_request};
 use second::lines::{Line, Lines};
 use second::rules::Refusal;
 use second::sheet::{write_plan, write_request, Sheet};
-use second::text::{compose, number, read_call, show_sheet, Call, Fault};
-
-fn composed(text: &str) -> Result<Vec<u8>, Fault> {
-    compose(text.as_bytes()).expect("bytes at hand")
-}
+use second::text::{number, read_call, show_sheet, Call, Fault};
 
 fn refused(text: &str) -> u8 {
     match composed(text) {

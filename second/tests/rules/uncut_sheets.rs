@@ -1,11 +1,11 @@
 //! F on sheets, in texts and in cases.
 
-use crate::{fddi, worked_plan, worked_request};
+use crate::{composed, fddi, worked_plan, worked_request};
 use second::frames::{answer, to_hex};
 use second::planted::Planted;
 use second::rules::{Head, Plan, Refusal};
 use second::sheet::*;
-use second::text::{compose, show_sheet, Fault};
+use second::text::{show_sheet, Fault};
 
 const ROOM: usize = 4_000;
 
@@ -54,7 +54,7 @@ fn the_field_stands_behind_ttrt_and_the_mode() {
     assert_eq!(plan_sheet(&older())[7..18], [MODE, FRAME].concat());
     for plan in [uncut(), older()] {
         assert_eq!(read_plan(&plan_sheet(&plan)), Ok(plan.clone()));
-        assert_eq!(read_either(&plan_sheet(&plan)), Ok(Sheet::Plan(plan.clone())));
+        assert_eq!(read_any(&plan_sheet(&plan)), Ok((Sheet::Plan(plan.clone()), vec![])));
         let request = write_request(&plan.request, ROOM).expect("sound");
         assert_eq!(read_request(&request), Ok(plan.request));
     }
@@ -129,10 +129,6 @@ fn other_faults_beside_the_value() {
     assert_eq!(number(&walk), 4);
     walk[13] = 2;
     assert_eq!(number(&walk), 5);
-}
-
-fn composed(text: &str) -> Result<Vec<u8>, Fault> {
-    compose(text.as_bytes()).expect("bytes at hand")
 }
 
 #[test]

@@ -1,85 +1,59 @@
--- `write_sheet` is right because it keeps the number of the judgement, then gives 14, and else lays the sheet from the first byte on.
-use Prim.Native.Nat.{_≤_, _<_}
-use mathlib.Core.Path.{_≡_, sym, _∙_}
-use mathlib.Core.Logic.{_≢_}
+-- `write_sheet` is right because it keeps the answer of a writing that was refused, and else lays the end behind the fields.
 use native.Mathlib.Omega.{arith}
-use lib.ListN.{length}
-use Rattle.sheets.specs.Layout.{sheetLength}
-use Rattle.sheets.specs.Reading.{judgedSheet}
-use Rattle.sheets.proofs.WritingLaws.{number-judged, number-short, wrote-refused, wrote-all}
-use Rattle.sheets.specs.ReadLaws.{judged-kept}
+use Rattle.sheets.proofs.WritingLaws.{wrote-refused, fields-fit, fields-end, wrote-all}
 use borrow.Author.Needs.{needs}
 use Rattle.sheets.proofs.writing.write_sheet.Statement.{statement}
 use Rattle.sheets.proofs.writing.write_sheet.Tie as tie
 
-judged-0 : (c : tie.Else1)
-    → let args = c .before .before .before .args in
-    judgedSheet (args .plan) (args .t) (args .a) ≡ 0
-judged-0 c = sym (c .before .judge-sheet .ensures) ∙ c .if1 .left
-
-few : (c : tie.Else1) → c .before .before .before .args .t .n ≤ 128
-few c =
-    let args = c .before .before .before .args in
-    judged-kept (args .plan) (args .t) (args .a) (judged-0 c) .count .1
-
-judge-sheet-requires : tie.Need-judge-sheet-requires
-judge-sheet-requires c κs = search needs
-
-refused-requires : tie.Need-refused-requires
-refused-requires c κs = search needs
-
-returns : tie.Need-returns
-returns c =
-    let args = c .before .before .before .before .args in
-    let said = c .before .before .judge-sheet .ensures in
-    let refused : judgedSheet (args .plan) (args .t) (args .a) ≢ 0 = λ e. c .before .if1 .taken (said ∙ e) in
-    rw (c .refused .ensures, said)
-    (wrote-refused (args .plan) (args .t) (args .a) (args .out .now) _ refused (number-judged (args .plan) (args .t) (args .a) (args .out .now) refused))
-
-sheet-length-requires : tie.Need-sheet-length-requires
-sheet-length-requires c κs = few c
-
-refused-requires-2 : tie.Need-refused-requires-2
-refused-requires-2 c κs = search needs
-
-returns-2 : tie.Need-returns-2
-returns-2 c =
-    let measured = c .before .before in
-    let args = measured .before .before .before .before .args in
-    let said = measured .sheet-length .ensures in
-    let short : length (args .out .now) < sheetLength (args .plan) (args .t) = omega arith in
-    rw (c .refused2 .ensures)
-    (wrote-refused (args .plan) (args .t) (args .a) (args .out .now) 14 (omega arith) (number-short (args .plan) (args .t) (args .a) (args .out .now) (judged-0 (measured .before)) short))
-
-put-sheet-requires : tie.Need-put-sheet-requires
-put-sheet-requires c κs =
-    let measured = c .before .before in
-    let said = measured .sheet-length .ensures in
-    (few (measured .before), omega arith)
+write-fields-requires : tie.Need-write-fields-requires
+write-fields-requires c κs = search needs
 
 same-length : tie.Need-same-length
 same-length c = search needs
 
-returns-3 : tie.Need-returns-3
-returns-3 c =
+returns : tie.Need-returns
+returns c =
+    let wrote = c .before .before .before .before in
+    let args = wrote .before .before .before .args in
+    wrote-refused (args .plan) (args .t) (args .a) (args .out .now) _ _ (wrote .write-fields .ensures) (c .if1 .taken)
+
+put-mark-requires : tie.Need-put-mark-requires
+put-mark-requires c κs =
+    let else = c .before in
+    let wrote = else .before .before .before .before in
+    let args = wrote .before .before .before .args in
+    let fit = fields-fit (args .plan) (args .t) (args .a) (args .out .now) _ _ (wrote .write-fields .ensures) (else .if1 .left) in
+    let end = fields-end (args .plan) (args .t) (args .a) (args .out .now) _ _ (wrote .write-fields .ensures) (else .if1 .left) in
+    omega arith
+
+add-t13 : tie.Need-add-t13
+add-t13 c =
+    let else = c .before .before .before .before in
+    let wrote = else .before .before .before .before in
+    let args = wrote .before .before .before .args in
+    let fit = fields-fit (args .plan) (args .t) (args .a) (args .out .now) _ _ (wrote .write-fields .ensures) (else .if1 .left) in
+    let end = fields-end (args .plan) (args .t) (args .a) (args .out .now) _ _ (wrote .write-fields .ensures) (else .if1 .left) in
+    omega arith
+
+same-length-2 : tie.Need-same-length-2
+same-length-2 c = search needs
+
+returns-2 : tie.Need-returns-2
+returns-2 c =
     let put = c .before .before in
-    let measured = put .before .before .before in
-    let args = measured .before .before .before .before .args in
-    let said = measured .sheet-length .ensures in
-    let long : sheetLength (args .plan) (args .t) ≤ length (args .out .now) = omega arith in
-    rw (put .put-sheet .ensures, said)
-    (wrote-all (args .plan) (args .t) (args .a) (args .out .now) (judged-0 (measured .before)) long)
+    let else = put .before .before in
+    let wrote = else .before .before .before .before in
+    let args = wrote .before .before .before .args in
+    wrote-all (args .plan) (args .t) (args .a) (args .out .now) _ _ (wrote .write-fields .ensures) (else .if1 .left) _ (put .put-mark .ensures)
 
 pub write-sheet-spec : {M : Type 1} → statement M
 write-sheet-spec =
     tie.close
     (tie.spec
-    judge-sheet-requires
-    refused-requires
-    returns
-    sheet-length-requires
-    refused-requires-2
-    returns-2
-    put-sheet-requires
+    write-fields-requires
     same-length
-    returns-3)
+    returns
+    put-mark-requires
+    add-t13
+    same-length-2
+    returns-2)

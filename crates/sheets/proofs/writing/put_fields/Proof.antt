@@ -1,12 +1,12 @@
--- `put_sheet` is right because header, stations, allocations and end are laid one behind the other.
+-- `put_fields` is right because header, stations and allocations are laid one behind the other.
 use Prim.Native.Nat.{ℕ, _+_}
 use mathlib.Core.Path.{ap}
 use native.Mathlib.Omega.{arith}
 use Rattle.fields.proofs.FieldLaws.{allocations-few}
-use Rattle.sheets.proofs.WritingLaws.{sheet-laid}
+use Rattle.sheets.proofs.WritingLaws.{fields-laid}
 use borrow.Author.Needs.{needs}
-use Rattle.sheets.proofs.writing.put_sheet.Statement.{statement}
-use Rattle.sheets.proofs.writing.put_sheet.Tie as tie
+use Rattle.sheets.proofs.writing.put_fields.Statement.{statement}
+use Rattle.sheets.proofs.writing.put_fields.Tie as tie
 
 cast-n : tie.Need-cast-n
 cast-n c = search needs
@@ -43,38 +43,27 @@ put-allocations-requires c κs =
     let fit = start .pre in
     (omega arith, omega arith)
 
-mul-put-mark : tie.Need-mul-put-mark
-mul-put-mark c = search needs
-
-add-put-mark : tie.Need-add-put-mark
-add-put-mark c = search needs
-
-put-mark-requires : tie.Need-put-mark-requires
-put-mark-requires c κs = search needs
-
 same-length : tie.Need-same-length
 same-length c = search needs
 
 returns : tie.Need-returns
 returns c =
-    let ended = c .before .before in
-    let allocated = ended .before .before .before .before in
+    let allocated = c .before .before in
     let placed = allocated .before .before .before .before in
     let headed = placed .before .before .before .before in
     let measured = headed .before .before in
     let counted = measured .before .before in
     let start = counted .before .before .before in
-    sheet-laid (start .args .plan) (start .args .t) (start .args .a) _ _ _ _ _ _ _
+    fields-laid (start .args .plan) (start .args .t) (start .args .a) _ _ _ _ _ _
     (record {
       head = headed .put-head .ensures;
       stations = placed .put-stations .ensures;
       allocations = allocated .put-allocations .ensures;
-      end = ended .put-mark .ensures;
     })
     (ap (λ (k : ℕ). 7 + k) (measured .head-length .ensures)) (counted .allocations-for .ensures) (start .pre .1)
 
-pub put-sheet-spec : {M : Type 1} → statement M
-put-sheet-spec =
+pub put-fields-spec : {M : Type 1} → statement M
+put-fields-spec =
     tie.close
     (tie.spec
     cast-n
@@ -86,8 +75,5 @@ put-sheet-spec =
     put-head-requires
     put-stations-requires
     put-allocations-requires
-    mul-put-mark
-    add-put-mark
-    put-mark-requires
     same-length
     returns)

@@ -1,10 +1,10 @@
--- `sheet_length` is right because its body is the definition.
+-- `fields_length` is right because its body is the definition.
 use native.Mathlib.Omega.{arith}
 use Rattle.fields.proofs.FieldLaws.{allocations-few}
 use Rattle.sheets.proofs.WritingLaws.{head-small}
 use borrow.Author.Needs.{needs}
-use Rattle.sheets.proofs.writing.sheet_length.Statement.{statement}
-use Rattle.sheets.proofs.writing.sheet_length.Tie as tie
+use Rattle.sheets.proofs.writing.fields_length.Statement.{statement}
+use Rattle.sheets.proofs.writing.fields_length.Tie as tie
 
 cast-n : tie.Need-cast-n
 cast-n c = search needs
@@ -37,8 +37,8 @@ add-result-3 c =
 returns : tie.Need-returns
 returns c = search needs
 
-pub sheet-length-spec : {M : Type 1} → statement M
-sheet-length-spec =
+pub fields-length-spec : {M : Type 1} → statement M
+fields-length-spec =
     tie.close
     (tie.spec
     cast-n

@@ -1,0 +1,2 @@
+-- The laws of a visit's field.
+pub mod EntryLaws

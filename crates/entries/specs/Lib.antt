@@ -1,0 +1,3 @@
+-- One visit as a log has it.
+--     Entry    its five numbers
+pub mod Entry

@@ -1,0 +1,13 @@
+-- `olivastrum_read_log` is right because it is the reading of a log by the layer below.
+use borrow.Author.Needs.{needs}
+use Rattle.lent.proofs.olivastrum_read_log.Statement.{statement}
+use Rattle.lent.proofs.olivastrum_read_log.Tie as tie
+
+read-log-requires : tie.Need-read-log-requires
+read-log-requires c κs = search needs
+
+returns : tie.Need-returns
+returns c = c .read-log .ensures
+
+pub olivastrum-read-log-spec : {M : Type 1} → statement M
+olivastrum-read-log-spec = tie.close (tie.spec read-log-requires returns)

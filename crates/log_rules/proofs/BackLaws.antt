@@ -1,0 +1,181 @@
+-- What was laid out is read back: the plan's fields stand at the start, the visits' behind them and the end behind these, so the walk goes by all of them; and the numbers that are found are those that were laid.
+use Prim.Native.Nat.{ℕ, suc, _+_, _*_, _^_, _≤_, _<_}
+use mathlib.Core.Path.{_≡_, refl, sym, ap, subst, _∙_}
+use mathlib.Core.Bool.{true}
+use mathlib.Core.List.{List, [], _∷_, _++_}
+use native.Mathlib.Nat.{add-zero}
+use native.Mathlib.Omega.{arith}
+use lib.ListN.{length, length-append}
+use borrow.Author.Tests.{eq-eqb, le-leb}
+use Rattle.units.specs.Places.{at}
+use Rattle.units.specs.JudgingLaws.{true-and}
+use Rattle.sets.specs.Rules.{CountAllowed}
+use Rattle.sets.specs.declared.Set.{Set}
+use Rattle.plans.specs.Planned.{judgedPlan}
+use Rattle.plans.specs.declared.Alloc.{Alloc}
+use Rattle.fields.specs.Rows.{Stands}
+use Rattle.fields.specs.Fields.{behind}
+use Rattle.fields.proofs.FieldLaws.{Whole, an-end, kind-allowed}
+use Rattle.fields.proofs.SegmentLaws.{stands-itself, stands-left, stands-right}
+use Rattle.fields.specs.declared.Passed.{Passed}
+use Rattle.scan.specs.Scanned.{scanned}
+use Rattle.scan.specs.FirstFault.{WellFormed}
+use Rattle.scan.proofs.PassedLaws.{passedAll}
+use Rattle.entries.specs.Entry.{entryBytes, nextEntry}
+use Rattle.entries.specs.declared.Entry.{Entry}
+use Rattle.entries.specs.declared.NextEntry.{NextEntry}
+use Rattle.entries.proofs.EntryLaws.{entry-length, there-visit, handed-there, stands-visit, stands-read}
+use Rattle.sheets.specs.Layout.{fieldsOf, endBytes}
+use Rattle.sheets.specs.Reading.{planPassed, setOf, allocOf, setIn, allocIn, judgedSheet}
+use Rattle.sheets.specs.ReadLaws.{judged-kept}
+use Rattle.sheet_rules.specs.Promised.{firstPlaces, firstAllocations, Numbers32}
+use Rattle.sheet_rules.proofs.StandLaws.{whole-stands}
+use Rattle.sheet_rules.proofs.BackLaws.{behindHead, behindAll, FieldParts, fields-apart, fields-behind, fields-pass, parts-set, parts-alloc, judged-first, kept-small, kept-allocations}
+use Rattle.logs.specs.Layout.{visitsBytes, logOf}
+use Rattle.logs.specs.Walked.{logWalked}
+use Rattle.logs.specs.FirstFault.{LogFormed, in-plan, a-visit, WholeLog}
+use Rattle.logs.specs.Reading.{logNumber, readLog, handedFrom, entriesIn}
+use Rattle.logs.specs.declared.ReadLog.{ReadLog}
+use Rattle.logs.specs.declared.Walked.{Walked}
+use Rattle.logs.proofs.WalkLaws.{plan-stops, log-end-there}
+use Rattle.logs.proofs.ReadingLaws.{read-number, read-accepted, number-judged}
+use Rattle.log_rules.specs.Recorded.{AllFit}
+use Rattle.log_rules.proofs.WrittenLaws.{visits-length, log-long}
+
+-- ---- visits that stand one behind the other
+
+module _ (bs : List ℕ) where
+  -- they pass
+  visits-formed : (p : Passed) → planPassed p ≡ true → (es : List Entry) (n a : ℕ) → LogFormed bs p n a → Stands bs a (visitsBytes es) → LogFormed bs p (n + length es) (a + 20 * length es)
+  unfolding visitsBytes
+  visits-formed p all [] n a before s =
+      let e : a ≡ a + 20 * 0 = omega arith in
+      rw add-zero (subst (LogFormed bs p n) e before)
+  visits-formed p all (e ∷ es) n a before s =
+      let first = stands-left bs a (entryBytes e) (visitsBytes es) s in
+      let long = entry-length e in
+      let place : a + length (entryBytes e) ≡ a + 20 = omega arith in
+      let rest = subst (λ (b : ℕ). Stands bs b (visitsBytes es)) place (stands-right bs a (entryBytes e) (visitsBytes es) s) in
+      let v = stands-visit bs a e first in
+      let inside = v .inside in
+      let size = v .has-size in
+      let here : behind bs a ≡ a + 20 = omega arith in
+      let next = a-visit before all (true-and _ _ (eq-eqb _ _ (v .has-tag)) (eq-eqb _ _ size)) (omega arith) in
+      let all-of-them = visits-formed p all es (n + 1) (a + 20) (subst (LogFormed bs p (n + 1)) here next) rest in
+      let count : n + 1 + length es ≡ n + suc (length es) = omega arith in
+      let far : a + 20 + 20 * length es ≡ a + 20 * suc (length es) = omega arith in
+      rw (count, far) at all-of-them
+
+  -- and are handed out
+  handed-back : (es : List Entry) (a : ℕ) → AllFit es → Stands bs a (visitsBytes es) → handedFrom (length es) bs a ≡ es
+  unfolding visitsBytes handedFrom
+  handed-back [] a fit s = refl
+  handed-back (e ∷ es) a fit s =
+      let first = stands-left bs a (entryBytes e) (visitsBytes es) s in
+      let long = entry-length e in
+      let place : a + length (entryBytes e) ≡ a + 20 = omega arith in
+      let rest = subst (λ (b : ℕ). Stands bs b (visitsBytes es)) place (stands-right bs a (entryBytes e) (visitsBytes es) s) in
+      let out = handed-there bs a (there-visit bs a (stands-visit bs a e first)) in
+      let one : nextEntry bs a .entry ≡ e = ap (λ (x : NextEntry). x .entry) out ∙ stands-read bs a e (fit .0) first in
+      let next : nextEntry bs a .next ≡ a + 20 = ap (λ (x : NextEntry). x .next) out in
+      rw (one, next, handed-back es (a + 20) (fit .1) rest) refl
+
+-- ---- a log that was laid out
+
+module _ (t : Set) (a : Alloc) (es : List Entry) (count : CountAllowed t) where
+  abbrev bytes : List ℕ
+  bytes = logOf t a es
+
+  log-parts : Stands bytes 0 (fieldsOf true t a) × (Stands bytes (behindAll true t) (visitsBytes es) × Stands bytes (behindAll true t + 20 * length es) endBytes)
+  unfolding logOf
+  log-parts =
+      let fields = fieldsOf true t a in
+      let visits = visitsBytes es in
+      let all = stands-itself (fields ++ visits ++ endBytes) in
+      let both = stands-left _ 0 (fields ++ visits) endBytes all in
+      let place = fields-behind true t a bytes in
+      let far : 0 + length (fieldsOf true t a ++ visitsBytes es) ≡ behindAll true t + 20 * length es = omega (arith, place, length-append fields visits, visits-length es) in (
+        stands-left _ 0 fields visits both,
+        (subst (λ (b : ℕ). Stands bytes b visits) place (stands-right _ 0 fields visits both), subst (λ (b : ℕ). Stands bytes b endBytes) far (stands-right _ 0 (fields ++ visits) endBytes all)),
+      )
+
+  parts : FieldParts true bytes t a
+  parts = fields-apart true t a bytes (log-parts .0)
+
+  passes : (head : ℕ) × ((1 ≤ head) × WellFormed true bytes (passedAll true head (behindHead t) (t .n) (t .n)) (behindAll true t))
+  passes = fields-pass true bytes t a parts (count .0) (count .1)
+
+  abbrev past : Passed
+  past = passedAll true (passes .0) (behindHead t) (t .n) (t .n)
+
+  all-past : planPassed past ≡ true
+  all-past = kind-allowed past 255 0 (an-end refl refl (le-leb 1 (passes .0) (passes .1 .0)) (count .0) refl)
+
+  end-there : Whole bytes (behindAll true t + 20 * length es) 255 0
+  end-there = whole-stands bytes _ 255 0 (log-parts .1 .1) (omega (arith, log-parts .1 .1 .fits))
+
+  laid-whole : WholeLog bytes
+  laid-whole =
+      let end = end-there in
+      let size = end .has-size in
+      record {
+        passed = past;
+        visits = 0 + length es;
+        place = behindAll true t + 20 * length es;
+        before = visits-formed bytes past all-past es 0 (behindAll true t) (in-plan (passes .1 .1)) (log-parts .1 .0);
+        end-whole = record { inside = omega (arith, end .inside, size); allowed = rw (end .has-tag, size) all-past };
+        end-tag = end .has-tag;
+        nothing-follows = omega (arith, log-long t a es, size);
+      }
+
+  laid-walked : logWalked bytes ≡ record { number = 0; visits = 0 + length es; at = behindAll true t + 20 * length es }
+  unfolding laid-whole
+  laid-walked = log-end-there bytes laid-whole
+
+  stops : (scanned true bytes .passed ≡ past) × (scanned true bytes .at ≡ behindAll true t)
+  stops = plan-stops bytes past all-past (behindAll true t) (passes .1 .1)
+
+  module _ (small : Numbers32 t) (shares : (i : ℕ) → i < t .n → at (a .s) i < 2 ^ 32) where
+    laid-set : setIn true bytes ≡ firstPlaces t
+    laid-set = ap (setOf bytes) (stops .0) ∙ parts-set true bytes t a parts (count .0) (passes .0) (t .n) small
+
+    laid-alloc : allocIn true bytes ≡ firstAllocations (t .n) a
+    laid-alloc = ap (allocOf bytes) (stops .0) ∙ parts-alloc true bytes t a parts (count .0) (passes .0) shares
+
+    laid-judged : judgedPlan (setIn true bytes) (allocIn true bytes) ≡ judgedPlan t a
+    unfolding judgedSheet
+    laid-judged = rw (laid-set, laid-alloc) (judged-first true t a (count .1))
+
+    -- reading what was laid out gives the number of its plan's judgement
+    pub laid-number : readLog bytes .number ≡ judgedPlan t a
+    laid-number = read-number bytes ∙ number-judged bytes (ap (λ (r : Walked). r .number) laid-walked) ∙ laid-judged
+
+    -- and where that is 0, all that was laid out
+    laid-read : judgedPlan t a ≡ 0 → readLog bytes ≡ record { set = firstPlaces t; alloc = firstAllocations (t .n) a; first = behindAll true t; visits = length es; number = 0 }
+    laid-read h =
+        let z : logNumber bytes ≡ 0 = sym (read-number bytes) ∙ laid-number ∙ h in
+        let n : 0 + length es ≡ length es = omega arith in
+        let visits : logWalked bytes .visits ≡ length es = ap (λ (r : Walked). r .visits) laid-walked ∙ n in
+        read-accepted bytes z ∙ rw (laid-set, laid-alloc, stops .1, visits) refl
+
+    laid-entries : judgedPlan t a ≡ 0 → AllFit es → entriesIn bytes ≡ es
+    laid-entries h fit =
+        let e = laid-read h in
+        ap (λ (n : ℕ). handedFrom n bytes (readLog bytes .first)) (ap (λ (r : ReadLog). r .visits) e)
+        ∙ ap (handedFrom (length es) bytes) (ap (λ (r : ReadLog). r .first) e)
+        ∙ handed-back bytes es (behindAll true t) fit (log-parts .1 .0)
+
+-- ---- read back as written
+
+module _ (t : Set) (a : Alloc) (es : List Entry) (h : judgedPlan t a ≡ 0) where
+  pub log-back : readLog (logOf t a es) ≡ record { set = firstPlaces t; alloc = firstAllocations (t .n) a; first = behindAll true t; visits = length es; number = 0 }
+  unfolding judgedSheet
+  log-back =
+      let k = judged-kept true t a h in
+      laid-read t a es (k .count) (kept-small true t a k) (kept-allocations true t a k) h
+
+  pub entries-back : AllFit es → entriesIn (logOf t a es) ≡ es
+  unfolding judgedSheet
+  entries-back fit =
+      let k = judged-kept true t a h in
+      laid-entries t a es (k .count) (kept-small true t a k) (kept-allocations true t a k) h fit

@@ -1,0 +1,401 @@
+-- The promises hold because a recording lays one field behind the other, the walk goes by all of them, and each is read where it was laid.
+use Prim.Native.Nat.{ℕ, zero, suc, _+_, _-_, _*_, _%_, _^_, _≤_, _<_}
+use mathlib.Core.Path.{_≡_, refl, sym, ap, subst, _∙_}
+use mathlib.Core.Bool.{true, false}
+use mathlib.Core.List.{List, [], _∷_, _++_, map, reverse, append-assoc, append-nil}
+use mathlib.Core.Logic.{⊎-elim, _↔_, _≢_}
+use native.Mathlib.Nat.{mod-eq-of-lt}
+use native.Mathlib.Omega.{arith}
+use lib.ListN.{length, drop, length-map, length-reverse}
+use lib.Seq.{take-at}
+use borrow.Author.Tests.{leb-true}
+use Rattle.units.specs.Numbers.{timely}
+use Rattle.units.specs.Places.{fill}
+use Rattle.units.specs.JudgingLaws.{true-or-false, passed}
+use Rattle.units.specs.SmallLaws.{below-or-not}
+use Rattle.sets.specs.Judged.{zeros}
+use Rattle.sets.specs.declared.Set.{Set}
+use Rattle.plans.specs.Planned.{judgedPlan}
+use Rattle.plans.specs.declared.Alloc.{Alloc}
+use Rattle.fields.specs.Rows.{rows}
+use Rattle.fields.specs.Bytes.{bytesOf, bodyOf, AllBytes}
+use Rattle.fields.specs.Fields.{furtherSize, tagAt, sizeAt, allowedAt}
+use Rattle.fields.specs.declared.Passed.{Passed}
+use Rattle.scan.specs.FirstFault.{WellFormed, WholeSheet, not-allowed as not-allowed-in-plan}
+use Rattle.scan.specs.declared.Scanned.{Scanned}
+use Rattle.scan.proofs.ScanLaws.{zero-or-not, end-there}
+use Rattle.scan.proofs.PassedLaws.{through}
+use Rattle.entries.specs.Entry.{entryBytes, entryAt, EntryFits, visitStands, nextEntry}
+use Rattle.entries.specs.declared.Entry.{Entry}
+use Rattle.entries.proofs.EntryLaws.{VisitThere, visit-there, there-visit, handed-there}
+use Rattle.sheets.specs.Layout.{mark, headUpTo, headNumber, furtherBytes, stationWith, allocationWith, fieldsOf, fieldsLength, endBytes, sheetOf, planSheet, sheetLength}
+use Rattle.sheets.specs.Reading.{setIn, allocIn, judgedSheet, readPlan}
+use Rattle.sheets.specs.ReadLaws.{then-none, sheet-accepted}
+use Rattle.sheets.specs.Writing.{writeAnswer, planWritten}
+use Rattle.sheets.specs.declared.Written.{Written}
+use Rattle.sheets.proofs.WritingLaws.{fields-long, answer-number, answer-refused, buffer-refused}
+use Rattle.sheet_rules.specs.Promised.{firstPlaces, firstAllocations, planLength, smallSet}
+use Rattle.sheet_rules.proofs.BackLaws.{behindAll}
+use Rattle.sheet_rules.proofs.Promised.{not-low, promised as sheets-promised}
+use Rattle.rings.specs.declared.VisitRecord.{VisitRecord}
+use Rattle.logs.specs.Layout.{visitsBytes, logOf}
+use Rattle.logs.specs.Walked.{logWalked}
+use Rattle.logs.specs.FirstFault.{LogFault, no-start, not-allowed, cut-body, follows, FirstLogFault, WholeLog}
+use Rattle.logs.specs.Reading.{logNumber, refusedLog, readLog, entriesIn}
+use Rattle.logs.specs.Writing.{begunWith, beginNumber, begun, begunBuffer, entryOf, added, ended, endedBuffer}
+use Rattle.logs.specs.declared.ReadLog.{ReadLog}
+use Rattle.logs.specs.declared.Recorder.{Recorder}
+use Rattle.logs.specs.declared.Walked.{Walked}
+use Rattle.logs.proofs.WalkLaws.{visit-not-allowed, log-fault-there, log-end-there, log-shape-fault, log-shape-whole}
+use Rattle.logs.proofs.ReadingLaws.{read-number, read-refused, number-walk, number-judged}
+use Rattle.logs.proofs.WritingLaws.{begun-refused}
+use Rattle.promises.specs.Run.{Call, recordsOf}
+use Rattle.log_rules.specs.Recorded.{beginning, recorded, keptOf, endAnswer, endBuffer, AllFit, recordFor, entriesOf}
+use Rattle.log_rules.specs.Promised.{GivenLog, Leaves, GivesBack, Promised}
+use Rattle.log_rules.proofs.CounterLaws.{counter-rises, counter-wraps, counter-on, counter-clock}
+use Rattle.log_rules.proofs.WrittenLaws.{log-long, room-short, begins-with, begins-fields, adds-with, adds-field, adds-not, adds-nothing, ends-with, ends-field, laid-fourteen, leaves-log, keeps-all}
+use Rattle.log_rules.proofs.BackLaws.{laid-number, log-back, entries-back}
+use Rattle.log_rules.proofs.AgainLaws.{went, may-end, counted, was-read, was-whole, was-judged, visits-read, log-again, judged-again, entries-fit}
+use Rattle.log_rules.proofs.RunLaws.{visit-small, visit-station, entry-says, run-entries, run-fits}
+
+-- ---- the bytes of a log
+
+none-more : (t : Set) (a : Alloc) → logOf t a [] ≡ planSheet t a
+unfolding logOf visitsBytes sheetOf
+none-more t a = ap (λ (s : List ℕ). s ++ endBytes) (append-nil (fieldsOf true t a))
+
+visits-last : (es : List Entry) (e : Entry) → visitsBytes (es ++ (e ∷ [])) ≡ visitsBytes es ++ entryBytes e
+unfolding visitsBytes
+visits-last [] e = append-nil (entryBytes e)
+visits-last (d ∷ es) e = ap (λ (s : List ℕ). entryBytes d ++ s) (visits-last es e) ∙ sym (append-assoc (entryBytes d) (visitsBytes es) (entryBytes e))
+
+one-more : (t : Set) (a : Alloc) (es : List Entry) (e : Entry) → logOf t a (es ++ (e ∷ [])) ≡ fieldsOf true t a ++ visitsBytes es ++ entryBytes e ++ mark 255 0
+unfolding logOf
+one-more t a es e =
+    ap (λ (s : List ℕ). fieldsOf true t a ++ s ++ endBytes) (visits-last es e)
+    ∙ ap (λ (s : List ℕ). s ++ endBytes) (sym (append-assoc (fieldsOf true t a) (visitsBytes es) (entryBytes e)))
+
+its-field : (e : Entry) → entryBytes e ≡ mark 16 17 ++ (e .station % 256 ∷ []) ++ bytesOf (e .start) ++ bytesOf (e .limit) ++ bytesOf (e .synchronous) ++ bytesOf (e .asynchronous)
+unfolding entryBytes
+its-field e = refl
+
+small-written : logOf (smallSet timely 1) (record { s = zeros }) (record { station = 0; start = 4_294_967_295; limit = 1; synchronous = 2; asynchronous = 259 } ∷ [])
+    ≡ 1 ∷ 0 ∷ 4 ∷ 0 ∷ 0 ∷ 0 ∷ 1
+    ∷ 2 ∷ 0 ∷ 16 ∷ 0 ∷ 0 ∷ 0 ∷ 1 ∷ 0 ∷ 0 ∷ 0 ∷ 0 ∷ 0 ∷ 0 ∷ 0 ∷ 1 ∷ 0 ∷ 0 ∷ 0 ∷ 1
+    ∷ 3 ∷ 0 ∷ 4 ∷ 0 ∷ 0 ∷ 0 ∷ 0
+    ∷ 16 ∷ 0 ∷ 17 ∷ 0 ∷ 255 ∷ 255 ∷ 255 ∷ 255 ∷ 0 ∷ 0 ∷ 0 ∷ 1 ∷ 0 ∷ 0 ∷ 0 ∷ 2 ∷ 0 ∷ 0 ∷ 1 ∷ 3
+    ∷ 255 ∷ 0 ∷ 0 ∷ []
+unfolding logOf visitsBytes entryBytes headUpTo headNumber furtherBytes bodyOf furtherSize stationWith allocationWith rows bytesOf fill
+small-written = refl
+
+-- ---- writing
+
+module _ (t : Set) (a : Alloc) (counter clock : ℕ) (out : List ℕ) where
+  -- a plan that is accepted and fits
+  module _ (judged-0 : judgedPlan t a ≡ 0) (fits : planLength t ≤ length out) where
+    sheet-fits : sheetLength true t ≤ length out
+    sheet-fits = omega arith
+
+    left : (vs : List VisitRecord) → Leaves t a counter clock out (keptOf (beginning t a counter clock out) vs) (recorded (beginning t a counter clock out) vs)
+    left vs =
+        let kept = keptOf (beginning t a counter clock out) vs in
+        let all = leaves-log t a counter clock out judged-0 sheet-fits vs in
+        let long : length (logOf t a (map (entryOf counter clock) (keptOf (beginning t a counter clock out) vs))) ≡ planLength t + 20 * length (keptOf (beginning t a counter clock out) vs) =
+        omega (arith, log-long t a (map (entryOf counter clock) kept), length-map kept (entryOf counter clock)) in
+        record {
+          answer = all .0 ∙ ap (λ (n : ℕ). record { length = n; number = 0 }) long;
+          buffer = all .1 ∙ ap (λ (n : ℕ). logOf t a (map (entryOf counter clock) kept) ++ drop n out) long;
+        }
+
+    fields-laid : (begun t a counter clock out ≡ record { at = planLength t - 3; clock = clock; counter = counter; number = 0 })
+        × (begunBuffer t a out ≡ fieldsOf true t a ++ drop (planLength t - 3) out)
+    fields-laid =
+        let place : length (fieldsOf true t a) ≡ planLength t - 3 = omega (arith, fields-long true t a) in
+        let long = fields-long true t a in (
+          begins-with t a counter clock out judged-0 sheet-fits ∙ ap (λ (n : ℕ). record { at = n; clock = clock; counter = counter; number = 0 }) (sym long ∙ place),
+          begins-fields t a counter clock out judged-0 sheet-fits ∙ ap (λ (n : ℕ). fieldsOf true t a ++ drop n out) place,
+        )
+
+  all-of-them : (vs : List VisitRecord) → judgedPlan t a ≡ 0 → planLength t + 20 * length vs ≤ length out → keptOf (beginning t a counter clock out) vs ≡ vs
+  all-of-them vs judged-0 room = keeps-all t a counter clock out judged-0 (omega arith) vs (omega arith)
+
+  -- the number of a beginning is that of writing the plan
+  begin-number : begun t a counter clock out .number ≡ beginNumber t a (length out)
+  unfolding begunWith
+  begin-number = go (beginNumber t a (length out)) _
+    where
+      go : (k at : ℕ) → begunWith k at clock counter .number ≡ k
+      go zero at = refl
+      go (suc k) at = refl
+
+  as-plan : begun t a counter clock out .number ≡ planWritten t a out .answer .number
+  as-plan = begin-number ∙ sym (answer-number _ (sheetLength true t))
+
+  begin-short : (begun t a counter clock out .number ≡ 14) ↔ ((judgedPlan t a ≡ 0) × (length out < planLength t))
+  begin-short = (λ h. sheets-promised .plan-fourteen t a out .0 (sym as-plan ∙ h), λ h. as-plan ∙ sheets-promised .plan-fourteen t a out .1 h)
+
+  begin-not : begun t a counter clock out .number ≢ 0
+      → (begun t a counter clock out ≡ record { at = 0; clock = 0; counter = 0; number = begun t a counter clock out .number }) × (begunBuffer t a out ≡ out)
+  begin-not h =
+      let some : beginNumber t a (length out) ≢ 0 = λ z. h (begin-number ∙ z) in (
+        begun-refused _ (fieldsLength true t) clock counter some ∙ ap (λ (k : ℕ). record { at = 0; clock = 0; counter = 0; number = k }) (sym begin-number),
+        buffer-refused _ (fieldsOf true t a) out some,
+      )
+
+-- 14 or 0, exactly by the room
+module _ (number end room : ℕ) (short : room < end → number ≡ 14) (fits : end ≤ room → number ≡ 0) where
+  fourteen : (number ≡ 14) ↔ (room < end)
+  fourteen = (λ e. ⊎-elim (λ (l : room < end). l) (λ (l : end ≤ room). absurd (omega (arith, fits l))) (below-or-not room end), short)
+
+  fitted : (number ≡ 0) ↔ (end ≤ room)
+  fitted = (λ e. ⊎-elim (λ (l : room < end). absurd (omega (arith, short l))) (λ (l : end ≤ room). l) (below-or-not room end), fits)
+
+module _ (r : Recorder) (v : VisitRecord) (out : List ℕ) where
+  add-short : length out < r .at + 23 → added r v out .number ≡ 14
+  add-short l = ap (λ (x : Recorder). x .number) (adds-not r v out l)
+
+  add-fits : r .at + 23 ≤ length out → added r v out .number ≡ 0
+  add-fits l = ap (λ (x : Recorder). x .number) (adds-with r v out l)
+
+module _ (r : Recorder) (out : List ℕ) where
+  end-not : length out < r .at + 3 → (ended r out ≡ record { length = 0; number = 14 }) × (endedBuffer r out ≡ out)
+  end-not l =
+      let e = room-short (r .at + 3) (length out) l in
+      (ap (λ (k : ℕ). writeAnswer k (r .at + 3)) e ∙ answer-refused 14 (r .at + 3) (λ z. absurd (omega arith)), laid-fourteen out (r .at) endBytes _ e)
+
+-- ---- reading
+
+module _ (bs : List ℕ) where
+  -- no fault: the judgement, which is never 1, 2 or 3
+  whole-judged : WholeLog bs → readLog bs .number ≡ judgedPlan (setIn true bs) (allocIn true bs)
+  whole-judged w = read-number bs ∙ number-judged bs (ap (λ (r : Walked). r .number) (log-end-there bs w))
+
+  judged-high : WholeLog bs → (k : ℕ) → 1 ≤ k → k ≤ 3 → readLog bs .number ≢ k
+  unfolding judgedSheet
+  judged-high w k low high h = not-low true (setIn true bs) (allocIn true bs) k (counted bs w) low high (sym (whole-judged w) ∙ h)
+
+  fault-exactly : (k : ℕ) → 1 ≤ k → k ≤ 3 → (readLog bs .number ≡ k) ↔ FirstLogFault bs k
+  fault-exactly k low high = (
+    λ h.
+        ⊎-elim (λ (z : logWalked bs .number ≡ 0). absurd (judged-high (log-shape-whole bs z) k low high h))
+        (λ (z : logWalked bs .number ≢ 0). log-shape-fault bs k (omega arith) (sym (number-walk bs z) ∙ sym (read-number bs) ∙ h))
+        (zero-or-not (logWalked bs .number)),
+    λ f.
+        let e : logWalked bs .number ≡ k = ap (λ (r : Walked). r .number) (log-fault-there bs k f) in
+        let some : logWalked bs .number ≢ 0 = λ z. absurd (omega arith) in
+        read-number bs ∙ number-walk bs some ∙ e,
+  )
+
+  -- no fault has a number above 3
+  fault-low : (a : ℕ) (p : Passed) (k : ℕ) → LogFault bs a p k → (1 ≤ k) × (k ≤ 3)
+  fault-low a p _ (no-start short) = (omega arith, omega arith)
+  fault-low a p _ (not-allowed three wrong) = (omega arith, omega arith)
+  fault-low a p _ (cut-body three may cut) = (omega arith, omega arith)
+  fault-low a p _ (follows e w m) = (omega arith, omega arith)
+
+  whole-exactly : ((k : ℕ) → 1 ≤ k → k ≤ 3 → readLog bs .number ≢ k) ↔ WholeLog bs
+  whole-exactly = (
+    λ none.
+        ⊎-elim (λ (z : logWalked bs .number ≡ 0). log-shape-whole bs z)
+        (λ (z : logWalked bs .number ≢ 0).
+        let f = log-shape-fault bs (logWalked bs .number) z refl in
+        let low = fault-low (f .place) (f .passed) (logWalked bs .number) (f .fault) in
+        absurd (none (logWalked bs .number) (low .0) (low .1) (read-number bs ∙ number-walk bs z)))
+        (zero-or-not (logWalked bs .number)),
+    judged-high,
+  )
+
+  is-blank : readLog bs .number ≢ 0 → readLog bs ≡ refusedLog (readLog bs .number)
+  is-blank h =
+      let some : logNumber bs ≢ 0 = λ z. h (read-number bs ∙ z) in
+      read-refused bs (logNumber bs) some refl ∙ ap refusedLog (sym (read-number bs))
+
+module _ (bs : List ℕ) (a : ℕ) where
+  handed-whole : a + 20 ≤ length bs → tagAt bs a ≡ 16 → sizeAt bs a ≡ 17 → nextEntry bs a ≡ record { entry = entryAt bs a; next = a + 20 }
+  handed-whole inside tag size = handed-there bs a (there-visit bs a (record { inside = inside; has-tag = tag; has-size = size }))
+
+  handed-none : ¬ ((a + 20 ≤ length bs) × ((tagAt bs a ≡ 16) × (sizeAt bs a ≡ 17)))
+      → nextEntry bs a ≡ record { entry = record { station = 0; start = 0; limit = 0; synchronous = 0; asynchronous = 0 }; next = 0 }
+  unfolding nextEntry
+  handed-none none =
+      ⊎-elim (λ (h : visitStands bs a ≡ true). let v = visit-there bs a h in absurd (none (v .inside, (v .has-tag, v .has-size))))
+      (λ (h : visitStands bs a ≡ false). rw h refl)
+      (true-or-false (visitStands bs a))
+
+-- ---- read back, and written again
+
+given-back : (t : Set) (a : Alloc) (es : List Entry) → judgedPlan t a ≡ 0 → AllFit es → GivesBack t a es (logOf t a es)
+given-back t a es h fit =
+    let place : behindAll true t ≡ planLength t - 3 = omega arith in
+    record {
+      answer = log-back t a es h ∙ ap (λ (n : ℕ). record { set = firstPlaces t; alloc = firstAllocations (t .n) a; first = n; visits = length es; number = 0 }) place;
+      entries = entries-back t a es h fit;
+    }
+
+-- the record that has an entry's numbers gives the entry again
+record-again : (e : Entry) → EntryFits e → entryOf 0 0 (recordFor e) ≡ e
+record-again e fit =
+    let station : e .station % 256 ≡ e .station = mod-eq-of-lt (fit .station) in
+    let start : e .start % 2 ^ 32 ≡ e .start = mod-eq-of-lt (fit .start) in
+    let limit : e .limit % 2 ^ 32 ≡ e .limit = mod-eq-of-lt (fit .limit) in
+    let synchronous : e .synchronous % 2 ^ 32 ≡ e .synchronous = mod-eq-of-lt (fit .synchronous) in
+    let asynchronous : e .asynchronous % 2 ^ 32 ≡ e .asynchronous = mod-eq-of-lt (fit .asynchronous) in
+    rw (counter-clock (e .start), station, start, limit, synchronous, asynchronous) refl
+
+records-again : (es : List Entry) → AllFit es → map (entryOf 0 0) (map recordFor es) ≡ es
+records-again [] fit = refl
+records-again (e ∷ es) fit = rw (record-again e (fit .0), records-again es (fit .1)) refl
+
+module _ (bs : List ℕ) (bytes : AllBytes bs) (h : readLog bs .number ≡ 0) where
+  same-bytes : (out : List ℕ) → length bs ≤ length out
+      → let s = recorded (beginning (readLog bs .set) (readLog bs .alloc) 0 0 out) (map recordFor (entriesIn bs)) in
+      (endAnswer s ≡ record { length = length bs; number = 0 }) × (endBuffer s ≡ bs ++ drop (length bs) out)
+  same-bytes out fit =
+      let t = readLog bs .set in
+      let a = readLog bs .alloc in
+      let es = entriesIn bs in
+      let vs = map recordFor es in
+      let is : bs ≡ logOf (readLog bs .set) (readLog bs .alloc) (entriesIn bs) = log-again bs bytes h in
+      let long : length bs ≡ planLength (readLog bs .set) + 20 * length (entriesIn bs) = ap length is ∙ omega (arith, log-long t a es) in
+      let many : length (map recordFor (entriesIn bs)) ≡ length (entriesIn bs) = length-map es recordFor in
+      let judged-0 = judged-again bs bytes h in
+      let all = leaves-log t a 0 0 out judged-0 (omega arith) vs in
+      let kept : keptOf (beginning (readLog bs .set) (readLog bs .alloc) 0 0 out) (map recordFor (entriesIn bs)) ≡ map recordFor (entriesIn bs) = all-of-them t a 0 0 out vs judged-0 (omega arith) in
+      let same : logOf t a (map (entryOf 0 0) (keptOf (beginning t a 0 0 out) vs)) ≡ bs =
+      ap (λ (l : List VisitRecord). logOf t a (map (entryOf 0 0) l)) kept ∙ ap (logOf t a) (records-again es (entries-fit bs bytes h)) ∙ sym is in
+      (all .0 ∙ ap (λ (l : List ℕ). record { length = length l; number = 0 }) same, all .1 ∙ ap (λ (l : List ℕ). l ++ drop (length l) out) same)
+
+  given : GivenLog bs
+  given =
+      let t = readLog bs .set in
+      let a = readLog bs .alloc in
+      let again = same-bytes bs (omega arith) in
+      let long : length bs ≡ planLength (readLog bs .set) + 20 * length (entriesIn bs) = ap length (log-again bs bytes h) ∙ omega (arith, log-long t a (entriesIn bs)) in
+      record {
+        set = t;
+        alloc = a;
+        counter = 0;
+        clock = 0;
+        visits = map recordFor (entriesIn bs);
+        out = bs;
+        begins = ap (λ (x : Recorder). x .number) (begins-with t a 0 0 bs (judged-again bs bytes h) (omega arith));
+        gives = sym (rw (again .0, again .1) (take-at bs _ (length bs) refl));
+      }
+
+-- bytes that a recording gave are accepted
+given-read : (bs : List ℕ) → GivenLog bs → readLog bs .number ≡ 0
+unfolding judgedSheet
+given-read bs g =
+    let t = g .set in
+    let a = g .alloc in
+    let zero-then = then-none _ _ (sym (begin-number t a (g .counter) (g .clock) (g .out)) ∙ g .begins) in
+    let fit : sheetLength true (g .set) ≤ length (g .out) = leb-true _ _ (passed _ 14 _ (omega arith) (zero-then .1) .0) in
+    let all = leaves-log t a (g .counter) (g .clock) (g .out) (zero-then .0) fit (g .visits) in
+    let es = map (entryOf (g .counter) (g .clock)) (keptOf (beginning t a (g .counter) (g .clock) (g .out)) (g .visits)) in
+    let is : bs ≡ logOf t a es = g .gives ∙ rw (all .0, all .1) (take-at (logOf t a es) _ (length (logOf t a es)) refl) in
+    ap (λ (l : List ℕ). readLog l .number) is ∙ ap (λ (r : ReadLog). r .number) (log-back t a es (zero-then .0))
+
+-- ---- a log and a plan sheet
+
+module _ (bs : List ℕ) (h : readLog bs .number ≡ 0) where
+  -- the first visit may not stand in a plan sheet
+  no-plan-sheet : readLog bs .visits ≢ 0 → readPlan bs .number ≡ 2
+  no-plan-sheet some =
+      let w = was-whole bs h in
+      let by = went bs w in
+      let p = w .passed in
+      let a = by .first in
+      let many : 0 < was-whole bs h .visits = positive _ (λ z. some (visits-read bs h ∙ z)) in
+      let zeroth : went bs (was-whole bs h) .first + 20 * 0 ≡ went bs (was-whole bs h) .first = omega arith in
+      let v = subst (VisitThere bs) zeroth (by .each 0 many) in
+      let wrong : allowedAt bs (went bs (was-whole bs h) .first) (was-whole bs h .passed) ≡ false = visit-not-allowed bs a p (through true bs p a (by .plan) .kind) (may-end bs w) (v .has-tag) in
+      sheets-promised .plan-fault bs 2 (omega arith) (omega arith) .1 (record { passed = p; place = a; before = by .plan; fault = not-allowed-in-plan (omega (arith, v .inside)) wrong })
+    where
+      positive : (k : ℕ) → k ≢ 0 → 0 < k
+      positive zero z = absurd (z refl)
+      positive (suc k) z = omega arith
+
+  -- without a visit it is one
+  a-plan-sheet : readLog bs .visits ≡ 0 → readPlan bs ≡ record { set = readLog bs .set; alloc = readLog bs .alloc; number = 0 }
+  unfolding judgedSheet
+  a-plan-sheet none =
+      let w = was-whole bs h in
+      let by = went bs w in
+      let here : went bs (was-whole bs h) .first ≡ was-whole bs h .place = omega (arith, by .far, none, visits-read bs h) in
+      let sheet : WholeSheet true bs =
+      record {
+        passed = w .passed;
+        place = w .place;
+        before = subst (WellFormed true bs (w .passed)) here (by .plan);
+        end-whole = w .end-whole;
+        end-tag = w .end-tag;
+        nothing-follows = w .nothing-follows;
+      } in
+      sheet-accepted true bs (ap (λ (r : Scanned). r .number) (end-there true bs sheet)) (was-judged bs h)
+      ∙ ap (λ (r : ReadLog). record { set = r .set; alloc = r .alloc; number = 0 }) (sym (was-read bs h))
+
+-- ---- from the model
+
+module _ (t : Set) (a : Alloc) (calls : List Call) (out : List ℕ) (judged-0 : judgedPlan t a ≡ 0) where
+  run-left : planLength t + 20 * length (recordsOf t a calls) ≤ length out
+      → let s = recorded (beginning t a 0 0 out) (reverse (recordsOf t a calls)) in
+      let long = planLength t + 20 * length (recordsOf t a calls) in
+      (endAnswer s ≡ record { length = long; number = 0 }) × (endBuffer s ≡ logOf t a (entriesOf t a calls) ++ drop long out)
+  run-left room =
+      let vs = reverse (recordsOf t a calls) in
+      let many : length (reverse (recordsOf t a calls)) ≡ length (recordsOf t a calls) = length-reverse (recordsOf t a calls) in
+      let kept : keptOf (beginning t a 0 0 out) (reverse (recordsOf t a calls)) ≡ reverse (recordsOf t a calls) = all-of-them t a 0 0 out vs judged-0 (omega arith) in
+      let all = left t a 0 0 out judged-0 (omega arith) vs in
+      let far : planLength t + 20 * length (keptOf (beginning t a 0 0 out) (reverse (recordsOf t a calls))) ≡ planLength t + 20 * length (recordsOf t a calls) = omega (arith, ap length kept) in
+      let same : map (entryOf 0 0) (keptOf (beginning t a 0 0 out) (reverse (recordsOf t a calls))) ≡ entriesOf t a calls = ap (map (entryOf 0 0)) kept ∙ run-entries t a calls in (
+        all .answer ∙ ap (λ (n : ℕ). record { length = n; number = 0 }) far,
+        all .buffer
+            ∙ ap (λ (l : List Entry). logOf t a l ++ drop (planLength t + 20 * length (keptOf (beginning t a 0 0 out) vs)) out) same
+            ∙ ap (λ (n : ℕ). logOf t a (entriesOf t a calls) ++ drop n out) far,
+      )
+
+pub promised : Promised
+promised =
+    record {
+      no-visit = none-more;
+      a-visit = one-more;
+      field = its-field;
+      long = λ t a es. omega (arith, log-long t a es);
+      written-out = small-written;
+      counter-rises = counter-rises;
+      counter-wraps = counter-wraps;
+      counter-on = counter-on;
+      recorded-log = λ t a counter clock out vs judged-0 fits. left t a counter clock out judged-0 fits vs;
+      all-kept = all-of-them;
+      begin-refused = λ t a counter clock out h. as-plan t a counter clock out ∙ sheets-promised .plan-refused t a out h;
+      begin-fourteen = begin-short;
+      begin-blank = begin-not;
+      begin-fields = fields-laid;
+      add-fourteen = λ r v out. fourteen _ (r .at + 23) (length out) (add-short r v out) (add-fits r v out);
+      add-accepted = λ r v out. fitted _ (r .at + 23) (length out) (add-short r v out) (add-fits r v out);
+      add-unchanged = λ r v out l. (adds-not r v out l, adds-nothing r v out l);
+      add-field = λ r v out l. (adds-with r v out l, adds-field r v out l);
+      end-fourteen = λ r out.
+          fourteen _ (r .at + 3) (length out) (λ l. ap (λ (x : Written). x .number) (end-not r out l .0)) (λ l. ap (λ (x : Written). x .number) (ends-with r out l));
+      end-unchanged = end-not;
+      end-field = λ r out l. (ends-with r out l, ends-field r out l);
+      fault = fault-exactly;
+      one-fault = λ bs j k f g.
+          let e = sym (log-fault-there bs j f) ∙ log-fault-there bs k g in
+          (ap (λ (r : Walked). r .number) e, ap (λ (r : Walked). r .at) e);
+      whole = whole-exactly;
+      judged = whole-judged;
+      blank = is-blank;
+      handed = handed-whole;
+      not-handed = handed-none;
+      back = given-back;
+      laid-out = λ t a es count small shares. laid-number t a es count small shares;
+      again = λ bs bytes h. (log-again bs bytes h, (judged-again bs bytes h, entries-fit bs bytes h));
+      recorded-again = λ bs out bytes h fit. same-bytes bs bytes h out fit;
+      exactly = λ bs bytes. (given bs bytes, given-read bs);
+      no-plan = no-plan-sheet;
+      a-plan = a-plan-sheet;
+      visit-entry = λ r ask counter clock h. (entry-says _ (visit-small r ask h) counter clock, visit-station r ask h);
+      run-recorded = λ t a calls out judged-0 room. run-left t a calls out judged-0 room;
+      run-back = λ t a calls judged-0. given-back t a (entriesOf t a calls) judged-0 (run-fits t a calls);
+    }

@@ -1,0 +1,4 @@
+-- The laws of logs, for the proofs of this layer and those above.
+pub mod WalkLaws
+pub mod ReadingLaws
+pub mod WritingLaws

@@ -1,0 +1,79 @@
+-- `stop_number` is right because it goes by the definition's tests, in their order.
+use Prim.Native.Nat.{_≤_}
+use mathlib.Core.Path.{_≡_, sym, _∙_}
+use mathlib.Core.Bool.{true, false}
+use native.Mathlib.Omega.{arith}
+use borrow.Author.Tests.{not-true, not-false}
+use Rattle.fields.specs.Fields.{left}
+use Rattle.entries.specs.Entry.{isVisit}
+use Rattle.logs.specs.Walked.{isEnd}
+use Rattle.logs.proofs.WalkLaws.{stop-short, stop-cut, stop-wrong, stop-runs, stop-none}
+use borrow.Author.Needs.{needs}
+use Rattle.logs.proofs.reading.stop_number.Statement.{statement}
+use Rattle.logs.proofs.reading.stop_number.Tie as tie
+
+three : (c : tie.Else1) → let args = c .before .before .before .args in 3 ≤ left (args .bs .now) (args .at)
+three c = let some = c .before .left .ensures in omega arith
+
+no-visit : (c : tie.Else2) → let args = c .before .before .before .before .before .args in isVisit (args .bs .now) (args .at) ≡ false
+no-visit c = sym (c .before .begins .ensures) ∙ c .if2 .left
+
+the-end : (c : tie.Else3) → let args = c .before .before .before .before .before .before .before .args in isEnd (args .bs .now) (args .at) ≡ true
+the-end c = sym (c .before .begins2 .ensures) ∙ not-false _ (c .if3 .left)
+
+left-requires : tie.Need-left-requires
+left-requires c κs = search needs
+
+returns : tie.Need-returns
+returns c =
+    let args = c .before .before .before .args in
+    let some = c .before .left .ensures in
+    sym (stop-short (args .bs .now) (args .at) (omega arith))
+
+begins-requires : tie.Need-begins-requires
+begins-requires c κs = search needs
+
+returns-2 : tie.Need-returns-2
+returns-2 c =
+    let args = c .before .before .before .before .before .args in
+    sym (stop-cut (args .bs .now) (args .at) (three (c .before .before)) (sym (c .before .begins .ensures) ∙ c .if2 .taken))
+
+begins-requires-2 : tie.Need-begins-requires-2
+begins-requires-2 c κs = search needs
+
+returns-3 : tie.Need-returns-3
+returns-3 c =
+    let asked = c .before .before in
+    let args = asked .before .before .before .before .before .args in
+    sym (stop-wrong (args .bs .now) (args .at) (three (asked .before .before)) (no-visit asked) (sym (c .before .begins2 .ensures) ∙ not-true _ (c .if3 .taken)))
+
+add-if4 : tie.Need-add-if4
+add-if4 c = search needs
+
+returns-4 : tie.Need-returns-4
+returns-4 c =
+    let ended = c .before in
+    let asked = ended .before .before in
+    let args = asked .before .before .before .before .before .args in
+    sym (stop-runs (args .bs .now) (args .at) (three (asked .before .before)) (the-end ended) (c .if4 .taken))
+
+returns-5 : tie.Need-returns-5
+returns-5 c =
+    let ended = c .before in
+    let asked = ended .before .before in
+    let args = asked .before .before .before .before .before .args in
+    sym (stop-none (args .bs .now) (args .at) (three (asked .before .before)) (the-end ended) (c .if4 .left))
+
+pub stop-number-spec : {M : Type 1} → statement M
+stop-number-spec =
+    tie.close
+    (tie.spec
+    left-requires
+    returns
+    begins-requires
+    returns-2
+    begins-requires-2
+    returns-3
+    add-if4
+    returns-4
+    returns-5)

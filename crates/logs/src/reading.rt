@@ -1,0 +1,85 @@
+// Reading: the visits behind a plan's fields, one after another.
+ghost use mathlib.Core.Path.{_≡_};
+ghost use mathlib.Core.Bool.{_&&_};
+ghost use Prim.Native.Nat.{_+_, _≤_};
+ghost use lib.Dec.{eqb};
+ghost use lib.ListN.{length};
+ghost use Rattle.fields.specs.Fields.{tagAt, sizeAt};
+ghost use Rattle.entries.specs.Entry.{visitStands};
+ghost use Rattle.logs.specs.Walked.{stopNumber, walked};
+ghost use Rattle.logs.specs.Reading.{refusedLog};
+use crate::ReadLog;
+use crate::Walked;
+use fields::bytes::wide;
+use sheets::visits::left;
+use units::numbers;
+
+// A field with this tag and this length begins at the place.
+fn begins(bs: &[u8], at: usize, tag: u8, size: u32) -> bool
+    requires { ⌜ at + 3 ≤ length (now bs) ⌝ }
+    ensures { λ r. ⌜ r ≡ (eqb (tagAt (now (bs .entry)) at) tag && eqb (sizeAt (now (bs .entry)) at) size) ⌝ }
+{
+    let long = wide(bs[at + 1]) * 256 + wide(bs[at + 2]);
+    (bs[at] == tag) & (long == size)
+}
+
+// A whole field of a visit stands at the place.
+pub(crate) fn visit_stands(bs: &[u8], at: usize) -> bool
+    ensures { λ r. ⌜ r ≡ visitStands (now (bs .entry)) at ⌝ }
+{
+    if left(bs.len(), at) < entries::VISIT_LENGTH {
+        return false;
+    }
+    begins(bs, at, entries::VISIT_TAG, entries::VISIT_SIZE)
+}
+
+// Why the walk over the visits stops at a place where no whole visit stands.
+fn stop_number(bs: &[u8], at: usize) -> u8
+    ensures { λ r. ⌜ r ≡ stopNumber (now (bs .entry)) at ⌝ }
+{
+    if left(bs.len(), at) < 3 {
+        return numbers::CUT_SHORT;
+    }
+    if begins(bs, at, entries::VISIT_TAG, entries::VISIT_SIZE) {
+        return numbers::CUT_SHORT;
+    }
+    if !begins(bs, at, fields::END_TAG, 0) {
+        return numbers::WRONG_SHAPE;
+    }
+    if at + 3 < bs.len() {
+        return numbers::RUNS_ON;
+    }
+    numbers::ACCEPTED
+}
+
+// Walks over the visits from a place on, as long as whole ones stand there.
+pub(crate) fn walk_visits(bs: &[u8], first: usize) -> Walked
+    ensures { λ r. ⌜ r ≡ walked (now (bs .entry)) first ⌝ }
+{
+    let mut at = first;
+    let mut visits: usize = 0;
+    while visit_stands(bs, at) {
+        at += entries::VISIT_LENGTH;
+        visits += 1;
+    }
+    Walked {
+        number: stop_number(bs, at),
+        visits,
+        at,
+    }
+}
+
+// A refused reading: the number, with everything blank.
+pub(crate) fn refused(number: u8) -> ReadLog
+    ensures { λ r. ⌜ r ≡ refusedLog number ⌝ }
+{
+    let set = sets::blank_set();
+    let alloc = plans::blank_alloc();
+    ReadLog {
+        set,
+        alloc,
+        first: 0,
+        visits: 0,
+        number,
+    }
+}

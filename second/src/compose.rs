@@ -1,0 +1,160 @@
+//! From text to sheets and logs. A log's bytes go out as its lines are read, in memory that does
+//! not grow with them.
+
+use std::io::{self, Read, Write};
+
+use crate::lines::Lines;
+use crate::log::Entry;
+use crate::rules::MOST_STATIONS;
+use crate::rules::{header_number, require, Head, Plan, Refusal, Request, Station};
+use crate::sheet::{end_field, visit_field, write_plan, write_request};
+use crate::text::{number, Fault};
+
+/// Writes the bytes of the sheet or log that a text describes. A line that cannot be read comes
+/// before every refusal. A fault behind the first visit leaves a log without its end.
+pub fn compose(text: impl Read, out: &mut impl Write) -> io::Result<Result<(), Fault>> {
+    let mut lines = Lines::new(text);
+    let mut draft = Draft::default();
+    while let Some(line) = lines.next_line()? {
+        match draft.take(&line.words()) {
+            None => return Ok(Err(Fault::Unreadable(line.number))),
+            Some(bytes) => out.write_all(&bytes)?,
+        }
+    }
+    match draft.end() {
+        Ok(bytes) => out.write_all(&bytes).map(Ok),
+        Err(refusal) => Ok(Err(Fault::Refused(refusal))),
+    }
+}
+
+/// What the lines so far said. At most one station too many is kept, to be refused.
+#[derive(Default)]
+struct Draft {
+    ttrt: Option<u32>,
+    mode: Option<u32>,
+    frame: Option<u32>,
+    stations: Vec<Station>,
+    allocation: Vec<u32>,
+    misplaced: bool,
+    /// What became of the plan, once a visit stands behind it.
+    plan: Option<Result<(), Refusal>>,
+}
+
+impl Draft {
+    /// Takes one line's words, and gives the bytes that they let out; `None` if they cannot be read.
+    fn take(&mut self, words: &[&[u8]]) -> Option<Vec<u8>> {
+        match *words {
+            [] => (),
+            [b"ttrt", ttrt] => self.take_ttrt(number(ttrt)?),
+            [b"mode", mode] => self.take_mode(number(mode)?),
+            [b"frame", frame] => self.take_frame(number(frame)?),
+            [b"station", ref numbers @ ..] => self.take_station(numbers)?,
+            [b"visit", ref numbers @ ..] => return self.take_visit(numbers),
+            _ => return None,
+        }
+        Some(vec![])
+    }
+
+    /// `ttrt` stands once, before every station.
+    fn take_ttrt(&mut self, ttrt: u32) {
+        self.misplaced |= self.ttrt.is_some() || !self.stations.is_empty() || self.plan.is_some();
+        self.ttrt = Some(ttrt);
+    }
+
+    /// Behind `ttrt` and before every station.
+    fn in_head(&self) -> bool {
+        self.ttrt.is_some() && self.stations.is_empty() && self.plan.is_none()
+    }
+
+    /// `mode` stands at most once, in the head and before `frame`.
+    fn take_mode(&mut self, mode: u32) {
+        self.misplaced |= self.mode.is_some() || self.frame.is_some() || !self.in_head();
+        self.mode = Some(mode);
+    }
+
+    /// `frame` stands at most once, in the head.
+    fn take_frame(&mut self, frame: u32) {
+        self.misplaced |= self.frame.is_some() || !self.in_head();
+        self.frame = Some(frame);
+    }
+
+    fn take_station(&mut self, words: &[&[u8]]) -> Option<()> {
+        let numbers: Option<Vec<u32>> = words.iter().map(|word| number(word)).collect();
+        let (station, s) = match numbers?[..] {
+            [walk, longest, deadline, gap] => (Station { walk, longest, deadline, gap }, None),
+            [walk, longest, deadline, gap, s] => {
+                (Station { walk, longest, deadline, gap }, Some(s))
+            }
+            _ => return None,
+        };
+        self.misplaced |= self.plan.is_some();
+        if self.stations.len() <= MOST_STATIONS {
+            self.stations.push(station);
+            self.allocation.extend(s);
+        }
+        Some(())
+    }
+
+    /// A visit's field; behind the first also the fields of the plan, if it is accepted.
+    fn take_visit(&mut self, words: &[&[u8]]) -> Option<Vec<u8>> {
+        let [station, start, limit, synchronous, asynchronous] = *words else {
+            return None;
+        };
+        let entry = Entry {
+            station: number(station)?,
+            start: number(start)?,
+            limit: number(limit)?,
+            synchronous: number(synchronous)?,
+            asynchronous: number(asynchronous)?,
+        };
+        let mut bytes = vec![];
+        if self.plan.is_none() {
+            let plan = self.plan_before_visits();
+            self.plan = Some(plan.map(|fields| bytes = fields));
+        }
+        if self.goes_out() {
+            bytes.extend(visit_field(&entry));
+        }
+        Some(bytes)
+    }
+
+    /// Whether the bytes of a log still go out.
+    fn goes_out(&self) -> bool {
+        self.plan == Some(Ok(())) && !self.misplaced
+    }
+
+    /// What the lines before the stations say.
+    fn head(&self) -> Result<Head, Refusal> {
+        let ttrt = self.ttrt.ok_or(Refusal::WrongField)?;
+        let [mode, frame] = [self.mode, self.frame].map(header_number);
+        Ok(Head { ttrt, mode, frame })
+    }
+
+    fn request(&self) -> Result<Request, Refusal> {
+        require(!self.misplaced, Refusal::WrongField)?;
+        Ok(Request { head: self.head()?, stations: self.stations.clone() })
+    }
+
+    /// Lines of both kinds leave fewer allocations than stations: they are refused for their count.
+    fn plan_sheet(&self) -> Result<Vec<u8>, Refusal> {
+        let request = self.request()?;
+        write_plan(&Plan { request, allocation: self.allocation.clone() }, usize::MAX)
+    }
+
+    /// Stations without allocations are no plan either, and refused for their count too.
+    fn plan_before_visits(&self) -> Result<Vec<u8>, Refusal> {
+        let mut bytes = self.plan_sheet()?;
+        bytes.truncate(bytes.len() - end_field().len());
+        Ok(bytes)
+    }
+
+    /// The last bytes: the end of a log, or the whole sheet.
+    fn end(self) -> Result<Vec<u8>, Refusal> {
+        require(!self.misplaced, Refusal::WrongField)?;
+        match self.plan {
+            Some(plan) => plan.map(|()| end_field()),
+            None if self.allocation.is_empty() => write_request(&self.request()?, usize::MAX),
+            None => self.plan_sheet(),
+        }
+    }
+}

@@ -1,0 +1,134 @@
+//! Logs: of runs, with any numbers in their visits, and damaged.
+
+use super::random::Random;
+use super::{calls, sets, Sort};
+use crate::log::{log_of, Counter, Entry};
+use crate::planted::Planted;
+use crate::ring::Ring;
+use crate::rules::Plan;
+use crate::sheet::{fields, visit_field};
+use crate::text::Call;
+
+/// The visits of a run, as a recorder notes them.
+pub fn entries(plan: &Plan, calls: &[Call], counter: Counter) -> Vec<Entry> {
+    let mut ring = Ring::open(plan, Planted::Nothing).expect("the plan is sound");
+    let mut entries = vec![];
+    for call in calls {
+        match call {
+            Call::Visit(ask) => entries.extend(ring.visit(*ask).map(|visit| counter.entry(&visit))),
+            Call::HandIn(message) => drop(ring.hand_in(message)),
+        }
+    }
+    entries
+}
+
+/// What a recorder's counter showed at some time, often near its top.
+pub fn counter(random: &mut Random) -> (u32, u64) {
+    let shown = match random.between(0, 3) {
+        0 => 0,
+        1 => u32::MAX - random.between32(0, 1_000),
+        _ => random.between32(0, u32::MAX),
+    };
+    let past = random.between(0, 1 << 40);
+    (shown, random.pick(&[0, 0, 0, 1, past, u64::MAX]))
+}
+
+/// The log's length, a little more or less, the plan's, that of some visits, or none.
+pub fn room(random: &mut Random, plan: &Plan, calls: &[Call]) -> usize {
+    let sheet = fields(&plan.request, &plan.allocation).concat().len();
+    let visits = entries(plan, calls, Counter::ZERO).len();
+    let some = sheet + 20 * random.index(visits + 1);
+    let whole = sheet + 20 * visits;
+    let room =
+        random.pick(&[whole, whole, whole + 1, whole - 1, some, some - 1, some + 19, sheet, 0]);
+    random.pick(&[room, room, room, sheet - 1, 65_535])
+}
+
+/// A run and its visits, at most so many.
+pub fn run(random: &mut Random, sort: Sort, most: usize) -> (Plan, Vec<Entry>) {
+    let (plan, calls) = calls::script(random, sort);
+    let (shown, _) = counter(random);
+    let mut entries = entries(&plan, &calls, Counter { shown, at: 0 });
+    entries.truncate(random.index(most + 1));
+    (plan, entries)
+}
+
+fn any_number(random: &mut Random) -> u32 {
+    let any = random.between32(0, u32::MAX);
+    random.pick(&[0, 1, any, u32::MAX])
+}
+
+fn any_entry(random: &mut Random) -> Entry {
+    Entry {
+        station: random.byte(),
+        start: any_number(random),
+        limit: any_number(random),
+        synchronous: any_number(random),
+        asynchronous: any_number(random),
+    }
+}
+
+/// A log of a run, with some visits of any numbers, or of a plan that is refused, or damaged.
+pub fn log(random: &mut Random, sort: Sort) -> Vec<u8> {
+    let (plan, mut entries) = run(random, sort, 12);
+    if random.once_in(3) {
+        let any = (0..=random.index(4)).map(|_| any_entry(random)).collect::<Vec<_>>();
+        entries.extend(any);
+    }
+    match random.between(0, 9) {
+        0..=3 => log_of(&plan, &entries).expect("the plan is sound"),
+        4 => unjudged(&sets::any_plan(random, sort), &entries).concat(),
+        5 => unjudged(&sets::plan(random, sort), &entries).concat(),
+        6 => {
+            let fields = unjudged(&sets::any_plan(random, sort), &entries);
+            damaged(random, fields)
+        }
+        _ => {
+            let fields = unjudged(&plan, &entries);
+            damaged(random, fields)
+        }
+    }
+}
+
+/// The fields of a log, whatever its plan is.
+fn unjudged(plan: &Plan, entries: &[Entry]) -> Vec<Vec<u8>> {
+    let mut all = fields(&plan.request, &plan.allocation);
+    let end = all.len() - 1;
+    all.splice(end..end, entries.iter().map(visit_field));
+    all
+}
+
+/// Damage near the visits: a field elsewhere, twice, gone, or with another head; or to bytes.
+fn damaged(random: &mut Random, mut fields: Vec<Vec<u8>>) -> Vec<u8> {
+    let (index, other) = (place(random, fields.len()), place(random, fields.len()));
+    let any = any_entry(random);
+    match random.between(0, 9) {
+        0 => fields[index][0] = random.pick(&[0, 1, 2, 3, 4, 5, 15, 16, 17, 255]),
+        1 => fields[index][1] = random.byte(),
+        2 => fields[index][2] = random.pick(&[0, 4, 16, 17, 18, 255]),
+        3 => fields.insert(other, fields[index].clone()),
+        4 => drop(fields.remove(index)),
+        5 => fields.swap(index, other),
+        6 => fields.insert(other, visit_field(&any)),
+        7 => fields[index].push(random.byte()),
+        _ => return cut_or_changed(random, fields.concat()),
+    }
+    fields.concat()
+}
+
+/// A place among so many, most often among the last: there the visits and the end are.
+fn place(random: &mut Random, length: usize) -> usize {
+    let behind = random.index(length);
+    length - 1 - if random.once_in(2) { behind.min(3) } else { behind }
+}
+
+fn cut_or_changed(random: &mut Random, mut bytes: Vec<u8>) -> Vec<u8> {
+    let index = place(random, bytes.len());
+    match random.between(0, 4) {
+        0 | 1 => bytes.truncate(index),
+        2 => bytes[index] = random.byte(),
+        3 => bytes.insert(index, random.byte()),
+        _ => bytes.extend([random.byte(), 0, 17]),
+    }
+    bytes
+}
