@@ -14,16 +14,30 @@
  * What the host owes. A pointer is never null, not even beside a length of 0. It points at as many bytes as its
  * length says, or at a whole ring, aligned for uint64_t. While a call runs nothing else reads or writes what is
  * lent to be written (a ring, an `out` buffer). Nothing more: every bit pattern of a set, an allocation, a
- * message, an ask and a ring is a value, and gets its answer.
+ * message, an ask, a ring, a recorder and a visit's record is a value, and gets its answer.
  *
  * Refusals. `number` is 0 for accepted, or the refusal; the numbers are below, and within one call the lowest
  * that applies is given (1, 2 and 3: the first fault from the left of the sheet). A refused call changes nothing:
  * not a byte of a lent ring, not a byte of a lent buffer. What it returns beside `number` is blank, every number in
- * it 0. On a ring it stores the same bytes again, so a refused call too is one that writes: a ring that two threads
+ * it 0; olivastrum_add_visit alone hands back the recorder as it was, so that the log can be ended. On a ring it stores the same bytes again, so a refused call too is one that writes: a ring that two threads
  * share is locked for it.
  *
- * Padding. What a host lends or passes (olivastrum_set, olivastrum_alloc, olivastrum_ask, olivastrum_message,
- * olivastrum_ring) has none, so two rings can be compared by their bytes. Answers end in a byte, and bytes after it say nothing.
+ * Padding. olivastrum_set, olivastrum_alloc, olivastrum_ask, olivastrum_message, olivastrum_ring and
+ * olivastrum_recorder have none, so two rings can be compared by their bytes. In the others the bytes between and after
+ * what is named say nothing.
+ *
+ * A recorder, with a ring that was just opened and buffers of its own:
+ *
+ *     struct olivastrum_recorder r = olivastrum_begin_log(set, alloc, counter_now, ring.clock, out, sizeof out);
+ *     if (r.number) return r.number;                        (the log was not begun: r is not to be used)
+ *     ... for each visit that olivastrum_visit accepted:
+ *         r = olivastrum_add_visit(r, answer.record, out, sizeof out);
+ *         if (r.number) break;                              (14: no room; r stands where it stood)
+ *     struct olivastrum_written log = olivastrum_end_log(r, out, sizeof out);
+ *
+ * Then the first log.length bytes of out are the log. A recorder that keeps the bytes elsewhere as they come may set
+ * r.at to 0 once it has taken the first r.at bytes of out away: what follows is written from the start of out again, and
+ * 23 bytes are room enough for a visit and the end.
  *
  * Stack. OLIVASTRUM_STACK_.. before each function says how many bytes of the caller's stack a call needs: what is
  * passed by value, and all that the function does. It is measured (tests/host/vendor). The room for the answer is not
@@ -46,9 +60,9 @@
 
 /* The version of the header and the library, as `./olivastrum version` prints it. */
 #define OLIVASTRUM_VERSION_MAJOR 0
-#define OLIVASTRUM_VERSION_MINOR 6
-#define OLIVASTRUM_VERSION_PATCH 1
-#define OLIVASTRUM_VERSION "0.6.1"
+#define OLIVASTRUM_VERSION_MINOR 7
+#define OLIVASTRUM_VERSION_PATCH 0
+#define OLIVASTRUM_VERSION "0.7.0"
 
 #ifdef __cplusplus
 extern "C" {
@@ -89,7 +103,9 @@ enum {
 #define OLIVASTRUM_MODE_BYTES 4u
 #define OLIVASTRUM_FRAME_BYTES 7u
 
-/* The bytes of a log: those of its plan sheet, and these for each visit. */
+/* A log: the fields of its plan sheet but the end; then for each visit tag 16, length 17, the station in one byte, and
+ * start, limit, synchronous and asynchronous in four bytes each, the high byte first; then the end. So it has the bytes
+ * of its plan sheet (with those of its mode and frame, where it has these), and so many for each visit. */
 #define OLIVASTRUM_VISIT_BYTES 20u
 
 /* A count of ticks, and a station's number from 0 in ring order. The one is never the other. */
@@ -304,12 +320,15 @@ struct olivastrum_visit_answer olivastrum_visit(struct olivastrum_ring *ring, st
 uint8_t olivastrum_hand_in(struct olivastrum_ring *ring, struct olivastrum_message message);
 
 /* Begins a log: the plan's fields, without their end, in the first bytes of out. The recorder's counter is what the host
- * says it is at the ring's clock. The rest of out is left as it was; 2, 4, 5, 7 or 14 write nothing. */
+ * says it is at the ring's clock (0 and 0 give the log that the program's `log` writes). The rest of out is left as it
+ * was. 2, 4, 5, 7 or 14 write nothing; the recorder then has only its number, and is not to be used: what is added to it
+ * would be written from place 0 on, and would be no log. */
 #define OLIVASTRUM_STACK_BEGIN_LOG 18944
 struct olivastrum_recorder olivastrum_begin_log(struct olivastrum_set set, struct olivastrum_alloc alloc, uint32_t counter, uint64_t clock, uint8_t *out, size_t length);
 
 /* Adds the record of an accepted visit: the counter moves on by what the clock rose. 14 where its field and the end do
- * not fit: nothing is written, and the log can still be ended. */
+ * not fit: nothing is written, and the log can still be ended. Of a record that no visit gave, the low 8 bits of the
+ * station and the low 32 bits of the other numbers count, and a start before the recorder's clock moves the counter back. */
 #define OLIVASTRUM_STACK_ADD_VISIT 512
 struct olivastrum_recorder olivastrum_add_visit(struct olivastrum_recorder recorder, struct olivastrum_visit_record record, uint8_t *out, size_t length);
 
@@ -321,7 +340,9 @@ struct olivastrum_written olivastrum_end_log(struct olivastrum_recorder recorder
 #define OLIVASTRUM_STACK_READ_LOG 10240
 struct olivastrum_read_log olivastrum_read_log(const uint8_t *log, size_t length);
 
-/* The visit whose field begins at this place of a log, and the place behind it; all blank where none does. */
+/* The visit whose field begins at this place of a log, and the place behind it; all blank where none does. It looks at
+ * the 20 bytes at the place and at nothing else. So begin at `first` of a log that was read, and go on from place to
+ * place, `visits` times: at any other place bytes may look like a visit. */
 #define OLIVASTRUM_STACK_LOG_ENTRY 512
 struct olivastrum_next_entry olivastrum_log_entry(const uint8_t *log, size_t length, uint64_t at);
 

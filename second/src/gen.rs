@@ -216,12 +216,15 @@ fn edge_cases(random: &mut Random, sort: Sort) -> Vec<String> {
 }
 
 fn command_case(random: &mut Random, sort: Sort) -> String {
-    let name = random.pick(&["plan", "plan-sheet", "show", "compose", "run"]);
+    let name = random.pick(&["plan", "plan-sheet", "show", "compose", "run", "log"]);
     let kind = random.pick(&[SheetKind::Request, SheetKind::Plan]);
+    let of_log = random.once_in(3);
     let input = match name {
         "plan" | "plan-sheet" => to_hex(&sheets::sheet(random, SheetKind::Request, sort)),
+        "show" if of_log => to_hex(&logs::log(random, sort)),
         "show" => to_hex(&sheets::sheet(random, kind, sort)),
         "compose" if random.once_in(100) => to_hex(&[]),
+        "compose" if of_log => to_hex(&texts::log_text(random, sort)),
         "compose" => to_hex(&texts::sheet_text(random, sort)),
         _ => run_input(random, sort),
     };

@@ -10,10 +10,8 @@ use lib.Dec.{ltb, eqb}
 use lib.IntN.{ℤ, pos, negsuc}
 use lib.Signed.{ltZ}
 use lib.ListN.{length, take}
-use lib.Seq.{take-all, take-length}
-use Rattle.units.specs.SmallLaws.{below-or-not}
 use Rattle.units.specs.Places.{at}
-use Rattle.units.specs.JudgingLaws.{and-true}
+use Rattle.units.specs.JudgingLaws.{and-true, true-or-false}
 use Rattle.sheets.specs.ReadLaws.{then-rest, then-keeps}
 use Rattle.sheets.specs.declared.ReadPlan.{ReadPlan}
 use Rattle.rings.specs.Opening.{opening}
@@ -24,8 +22,8 @@ use Rattle.rings.specs.declared.Ring.{Ring}
 use Rattle.rings.specs.declared.Visited.{Visited}
 use Rattle.rings.specs.declared.Taken.{Taken}
 use Rattle.text.specs.Text.{line, lineOn, space, newline, decimalOf, pageSize, unreadLine}
-use Rattle.text.specs.TextLaws.{line-first, line-next, printed, not-printed}
-use Rattle.calls.specs.RunText.{dash, isVisit, askIn, isMessage, messageIn, signOf, signedOf, completion, visitText, takenText, answerText, ringAfter, runOn, saidAt, runAfter, saidOver, runFrom, openedRun, pieceSize, pieceOf, RanPiece, RanOn}
+use Rattle.text.specs.TextLaws.{line-first, line-next, take-piece, printed, not-printed}
+use Rattle.calls.specs.RunText.{dash, isVisit, askIn, isMessage, messageIn, signOf, signedOf, completion, visitText, takenText, answerText, ringAfter, noVisit, visitDone, called, runOn, saidAt, runAfter, saidOver, runFrom, openedRun, pieceSize, pieceOf, RanPiece, RanOn}
 use Rattle.lines.specs.ScanLaws.{steppedOver, hasNoEnd, first-and-rest}
 use Rattle.lines.specs.Scan.{isReadable, isEmptyLine, nextLine, freshScan, stepped}
 use Rattle.calls.specs.declared.Run.{Run}
@@ -81,6 +79,37 @@ module _ (ring : Ring) (s : Scan) (n : ℕ) where
   pub answered-unread : isEmptyLine s ≡ false → isVisit s ≡ false → isMessage s ≡ false → (unreadLine n ≡ answerText ring s n) × (ring ≡ ringAfter ring s)
   unfolding answerText ringAfter
   answered-unread e i j = (rw (e, i, j), rw (e, i, j))
+
+-- ---- what one line does
+
+module _ (ring : Ring) (s : Scan) where
+  pub called-empty : isEmptyLine s ≡ true → noVisit ring false ≡ called ring s
+  unfolding called
+  called-empty e = rw e
+
+  pub called-visit : (v : Visited) → isEmptyLine s ≡ false → isVisit s ≡ true → v ≡ visited ring (askIn s) → visitDone v ≡ called ring s
+  unfolding called
+  called-visit v e i m = rw (e, i) (ap visitDone m)
+
+  pub called-message : (t : Taken) → isEmptyLine s ≡ false → isVisit s ≡ false → isMessage s ≡ true → t ≡ handedIn ring (messageIn s) → noVisit (t .ring) false ≡ called ring s
+  unfolding called
+  called-message t e i j m = rw (e, i, j) (ap (λ (x : Taken). noVisit (x .ring) false) m)
+
+  pub called-unread : isEmptyLine s ≡ false → isVisit s ≡ false → isMessage s ≡ false → noVisit ring true ≡ called ring s
+  unfolding called
+  called-unread e i j = rw (e, i, j)
+
+-- the ring is the one behind the answer
+pub called-ring : (ring : Ring) (s : Scan) → called ring s .ring ≡ ringAfter ring s
+unfolding called ringAfter
+called-ring ring s =
+    ⊎-elim (λ (e : isEmptyLine s ≡ true). rw e refl)
+    (λ (e : isEmptyLine s ≡ false).
+    ⊎-elim (λ (i : isVisit s ≡ true). rw (e, i) refl)
+    (λ (i : isVisit s ≡ false).
+    ⊎-elim (λ (j : isMessage s ≡ true). rw (e, i, j) refl) (λ (j : isMessage s ≡ false). rw (e, i, j) refl) (true-or-false (isMessage s)))
+    (true-or-false (isVisit s)))
+    (true-or-false (isEmptyLine s))
 
 -- a visit's frames are a 32-bit number
 numbers-fit : (s : Scan) → isVisit s ≡ true
@@ -152,14 +181,6 @@ said-line u (b ∷ bs) h =
     ∙ said-line (record { ring = u .ring; scan = stepped (u .scan) b; line = u .line }) bs (inside .1)
 
 -- ---- a piece of the text
-
-pub take-piece : (text : List ℕ) (k : ℕ) → take (min (length text) k) text ≡ take k text
-take-piece text k =
-    ⊎-elim (λ (b : length text < k).
-    let e : min (length text) k ≡ length text = omega arith in
-    rw (e, take-length text) (sym (take-all k text (omega arith))))
-    (λ (b : k ≤ length text). let e : min (length text) k ≡ k = omega arith in rw e)
-    (below-or-not (length text) k)
 
 pub ran-none : (u : Run) (text page : List ℕ) → length page < pageSize → RanOn u text page page (record { run = u; length = 0 })
 unfolding pieceOf runAfter

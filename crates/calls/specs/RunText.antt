@@ -1,7 +1,7 @@
 -- What `run` prints: the calls are read line by line, and each is answered by the ring.
 use Prim.Native.Nat.{ℕ, zero, suc, _+_, _*_, _^_, _≤_}
 use mathlib.Core.Path.{_≡_}
-use mathlib.Core.Bool.{Bool, cond, _&&_, _||_}
+use mathlib.Core.Bool.{Bool, true, false, cond, _&&_, _||_}
 use mathlib.Core.List.{List, [], _∷_, _++_}
 use lib.Dec.{ltb, eqb}
 use lib.IntN.{ℤ, pos, negsuc}
@@ -10,17 +10,19 @@ use Rattle.units.specs.Places.{at}
 use Rattle.sheets.specs.Reading.{thenNumber}
 use Rattle.sheets.specs.declared.ReadPlan.{ReadPlan}
 use Rattle.rings.specs.Opening.{opening}
-use Rattle.rings.specs.Steps.{Ask, visited}
+use Rattle.rings.specs.Steps.{Ask, blankRecord, visited}
 use Rattle.rings.specs.HandingIn.{handedIn}
 use Rattle.rings.specs.declared.Ring.{Ring}
 use Rattle.rings.specs.declared.Message.{Message}
 use Rattle.rings.specs.declared.VisitRecord.{VisitRecord}
 use Rattle.rings.specs.declared.VisitAnswer.{VisitAnswer}
+use Rattle.rings.specs.declared.Visited.{Visited}
 use Rattle.text.specs.Text.{newline, space, decimalOf, line, PutShort, Printed, pageSize, textOr, unreadLine}
 use Rattle.lines.specs.Scan.{freshScan, stepped, codeOf, isReadable, isEmptyLine, nextLine}
 use Rattle.lines.specs.declared.Scan.{Scan}
 use Rattle.calls.specs.declared.Run.{Run}
 use Rattle.calls.specs.declared.Answered.{Answered}
+use Rattle.calls.specs.declared.Called.{Called}
 use Rattle.calls.specs.declared.OpenedRun.{OpenedRun}
 use Rattle.calls.specs.declared.Ran.{Ran}
 
@@ -126,6 +128,23 @@ ringAfter ring s =
     cond (isEmptyLine s) ring
     (cond (isVisit s) (visited ring (askIn s) .ring)
     (cond (isMessage s) (handedIn ring (messageIn s) .ring) ring))
+
+-- ---- what a line does, for whoever prints no answers
+
+-- no visit was accepted
+abbrev pub noVisit : Ring → Bool → Called
+noVisit ring unread = record { ring = ring; «record» = blankRecord; visited = false; unread = unread }
+
+-- a visit was asked for: the ring behind it, its record, and whether it was accepted
+abbrev pub visitDone : Visited → Called
+visitDone v = record { ring = v .ring; «record» = v .answer .«record»; visited = eqb (v .answer .number) 0; unread = false }
+
+-- the same calls as those that are answered: an empty line does nothing, and neither does one that cannot be read
+unfoldable pub called : Ring → Scan → Called
+called ring s =
+    cond (isEmptyLine s) (noVisit ring false)
+    (cond (isVisit s) (visitDone (visited ring (askIn s)))
+    (cond (isMessage s) (noVisit (handedIn ring (messageIn s) .ring) false) (noVisit ring true)))
 
 -- ---- the run: byte after byte, a newline ends a line
 

@@ -8,7 +8,7 @@ ghost use Rattle.sheets.specs.Reading.{readPlan};
 ghost use Rattle.rings.specs.Steps.{visited};
 ghost use Rattle.rings.specs.HandingIn.{handedIn};
 ghost use Rattle.text.specs.Text.{PutShort, space, lineOn};
-ghost use Rattle.calls.specs.RunText.{isVisit, askIn, isMessage, messageIn, withoutSign, signedOf, completion, arrivalWords, amountWords, visitLine, visitText, takenText, answerText, ringAfter, runFrom, openedRun, Answers, Piece, RanPiece, RanOn};
+ghost use Rattle.calls.specs.RunText.{isVisit, askIn, isMessage, messageIn, withoutSign, signedOf, completion, arrivalWords, amountWords, visitLine, visitText, takenText, answerText, ringAfter, noVisit, called, runFrom, openedRun, Answers, Piece, RanPiece, RanOn};
 use lines::Scan;
 use rings::Ask;
 use rings::Message;
@@ -41,6 +41,18 @@ pub struct Run {
 pub(crate) struct Answered {
     ring: Ring,
     next: usize,
+}
+
+// What a line does: the ring behind it, the record of a visit that was accepted, and whether the line cannot be read.
+#[repr(C)]
+pub struct Called {
+    pub ring: Ring,
+    // The blank record where no visit was accepted.
+    pub record: VisitRecord,
+    // A visit was accepted.
+    pub visited: bool,
+    // The line is neither empty nor a call.
+    pub unread: bool,
 }
 
 // A run that begins, and 0; or the run of a blank ring, and the refusal.
@@ -249,6 +261,57 @@ fn answer_line(page: &mut [u8], at: usize, ring: Ring, s: Scan, line: u64) -> An
     }
     let next = text::put_unread(page, at, line);
     Answered { ring, next }
+}
+
+// ---- what a line does, for whoever prints no answers
+
+// No visit was accepted.
+fn no_visit(ring: Ring, unread: bool) -> Called
+    ensures { λ r. ⌜ r ≡ noVisit ring unread ⌝ }
+{
+    let record = VisitRecord {
+        station: Station(0),
+        start: Ticks(0),
+        trt: Ticks(0),
+        limit: Ticks(0),
+        synchronous: Ticks(0),
+        asynchronous: Ticks(0),
+        finish: Ticks(0),
+        margin: 0,
+        completed: 0,
+    };
+    Called {
+        ring,
+        record,
+        visited: false,
+        unread,
+    }
+}
+
+// What a line does.
+pub fn call_line(ring: Ring, s: Scan) -> Called
+    ensures { λ r. ⌜ r ≡ called ring s ⌝ }
+{
+    if lines::is_empty_line(s) {
+        return no_visit(ring, false);
+    }
+    if is_visit(s) {
+        let visited = ring.visit(ask_in(s));
+        let behind = visited.ring;
+        let record = visited.answer.record;
+        return Called {
+            ring: behind,
+            record,
+            visited: visited.answer.number == numbers::ACCEPTED,
+            unread: false,
+        };
+    }
+    if is_message(s) {
+        let taken = ring.hand_in(message_in(s));
+        let held = taken.ring;
+        return no_visit(held, false);
+    }
+    no_visit(ring, true)
 }
 
 // ---- the run

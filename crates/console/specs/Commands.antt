@@ -27,11 +27,16 @@ composeWord = 99 ∷ 111 ∷ 109 ∷ 112 ∷ 111 ∷ 115 ∷ 101 ∷ []
 abbrev pub showWord : List ℕ
 showWord = 115 ∷ 104 ∷ 111 ∷ 119 ∷ []
 
--- 1 plan, 2 plan-sheet, 3 run, 4 compose, 5 show; 0 for `help` and anything else
+-- "log"
+abbrev pub logWord : List ℕ
+logWord = 108 ∷ 111 ∷ 103 ∷ []
+
+-- 1 plan, 2 plan-sheet, 3 run, 4 compose, 5 show, 8 log; 0 for `help`, `version` and anything else
 unfoldable pub commandOf : List ℕ → ℕ
 commandOf word =
     cond (sameBytes word planWord) 1
     (cond (sameBytes word planSheetWord) 2
     (cond (sameBytes word runWord) 3
     (cond (sameBytes word composeWord) 4
-    (cond (sameBytes word showWord) 5 0))))
+    (cond (sameBytes word showWord) 5
+    (cond (sameBytes word logWord) 8 0)))))

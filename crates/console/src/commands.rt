@@ -14,6 +14,8 @@ pub const COMPOSE: u8 = 4;
 
 pub const SHOW: u8 = 5;
 
+pub const LOG: u8 = 8;
+
 // Two words are the same.
 pub fn same_bytes(v: &[u8], w: &[u8]) -> bool
     ensures { λ r. ⌜ r ≡ sameBytes (now (v .entry)) (now (w .entry)) ⌝ }
@@ -49,6 +51,9 @@ pub fn command_of(word: &[u8]) -> u8
     }
     if same_bytes(word, b"show") {
         return SHOW;
+    }
+    if same_bytes(word, b"log") {
+        return LOG;
     }
     HELP
 }

@@ -1,2 +1,3 @@
--- The promises of this layer, proved.
+-- The laws of a log's text, and the promises of this layer, proved.
+pub mod SentLaws
 pub mod Promised

@@ -6,6 +6,7 @@ use Rattle.text.specs.Text.{newline}
 use Rattle.drafts.specs.Compose.{lineDrafted, onNextLine, composeStart, composeAfter, draftOf}
 use Rattle.drafts.specs.ComposeLaws.{compose-snoc, compose-append, text-line-ends, newline-more}
 use Rattle.drafts.specs.Promised.{Promised}
+use Rattle.drafts.proofs.SentLaws.{sent-append}
 use Rattle.drafts.specs.declared.Composing.{Composing}
 
 -- so a text may end with its newline or lack it
@@ -20,4 +21,4 @@ one-newline-more text =
     ∙ ap (λ (x : Composing). onNextLine (x .draft)) (sym ended)
 
 pub promised : Promised
-promised = record { compose-pieces = compose-append; last-newline = one-newline-more }
+promised = record { compose-pieces = compose-append; last-newline = one-newline-more; sent-pieces = sent-append }

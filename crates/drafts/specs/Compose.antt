@@ -1,16 +1,16 @@
--- What `compose` makes of a text: a set, for a plan with its allocation, read line by line.
+-- What `compose` makes of a text: a set, for a plan with its allocation, read line by line. `Sent` has what goes out of a log while its text is read.
 use Prim.Native.Nat.{ℕ, _+_, _^_, _≤_, _<_}
 use mathlib.Core.Path.{_≡_}
 use mathlib.Core.Bool.{Bool, true, false, cond, _&&_, _||_}
 use mathlib.Core.List.{List, [], _∷_, _++_}
 use lib.Dec.{leb, ltb, eqb}
-use lib.ListN.{length, take, drop, set}
-use Rattle.units.specs.Numbers.{wrongShape}
+use lib.ListN.{length, take, set}
+use Rattle.units.specs.Numbers.{accepted, wrongShape}
 use Rattle.units.specs.Places.{at}
 use Rattle.sets.specs.Judged.{blankSet}
 use Rattle.sets.specs.declared.Head.{Head}
 use Rattle.sets.specs.declared.Set.{Set}
-use Rattle.plans.specs.Planned.{blankAlloc}
+use Rattle.plans.specs.Planned.{judgedPlan, blankAlloc}
 use Rattle.plans.specs.declared.Alloc.{Alloc}
 use Rattle.fields.specs.Fields.{headTag, modeTag, frameTag}
 use Rattle.fields.specs.Header.{absent, headerNumber}
@@ -69,6 +69,14 @@ isStation s = isLine s (codeOf stationWord) 4
 -- `station W C D P S`
 abbrev pub isPlanStation : Scan → Bool
 isPlanStation s = isLine s (codeOf stationWord) 5
+
+-- "visit"
+abbrev pub visitWord : List ℕ
+visitWord = 118 ∷ 105 ∷ 115 ∷ 105 ∷ 116 ∷ []
+
+-- `visit STATION START LIMIT SYNC ASYNC`, the station a number of one byte
+abbrev pub isVisitLine : Scan → Bool
+isVisitLine s = isLine s (codeOf visitWord) 5 && ltb (at (s .values) 0) 256
 
 -- ---- the draft
 
@@ -148,6 +156,18 @@ withStation d s kind =
     })
     (misplaced d)
 
+-- the kind of a plan's stations behind a visit: 3 where the plan is accepted, 4 where it is refused
+unfoldable pub visitedKind : Set → Alloc → ℕ
+visitedKind t a = cond (eqb (judgedPlan t a) accepted) 3 4
+
+-- the same, with stations of another kind
+abbrev pub ofKind : Draft → ℕ → Draft
+ofKind d kind = record { set = d .set; alloc = d .alloc; line = d .line; unread = d .unread; head = d .head; kind = kind; wrong = d .wrong }
+
+-- a visit stands behind a plan's stations, or behind another visit; at the first one the plan is judged
+unfoldable pub withVisit : Draft → Draft
+withVisit d = cond (eqb (d .kind) 2) (ofKind d (visitedKind (d .set) (d .alloc))) (cond (ltb (d .kind) 3) (misplaced d) d)
+
 -- the first line that cannot be read is named
 unfoldable pub withUnread : Draft → Draft
 withUnread d =
@@ -161,13 +181,17 @@ withUnread d =
       wrong = d .wrong;
     }
 
--- one line
+-- a visit, or a line that cannot be read
+unfoldable pub visitDrafted : Draft → Scan → Draft
+visitDrafted d s = cond (isVisitLine s) (withVisit d) (withUnread d)
+
+-- one line; behind a visit every line but another visit stands out of place, since TTRT is there, stations are, and they are of kind 3 or 4
 unfoldable pub lineDrafted : Draft → Scan → Draft
 lineDrafted d s =
     cond (isEmptyLine s) d
     (cond (isTtrt s) (withTtrt d (at (s .values) 0))
     (cond (leb modeTag (lineTag s)) (withFurther d (lineTag s) (at (s .values) 0))
-    (cond (isStation s) (withStation d s 1) (cond (isPlanStation s) (withStation d s 2) (withUnread d)))))
+    (cond (isStation s) (withStation d s 1) (cond (isPlanStation s) (withStation d s 2) (visitDrafted d s)))))
 
 -- the next line
 abbrev pub onNextLine : Draft → Draft
@@ -199,14 +223,14 @@ isWhole d = eqb (d .unread) 0 && (eqb (d .wrong) 0 && leb headTag (d .head))
 unfoldable pub composedAnswer : Draft → List ℕ → Written
 composedAnswer d out =
     cond (isWhole d)
-    (cond (eqb (d .kind) 2) (writtenAnswer true (d .set) (d .alloc) out) (writtenAnswer false (d .set) blankAlloc out))
+    (cond (leb 2 (d .kind)) (writtenAnswer true (d .set) (d .alloc) out) (writtenAnswer false (d .set) blankAlloc out))
     (refusedWriting wrongShape)
 
 -- the sheet in front, all behind it as it was; refused, no byte has changed
 unfoldable pub composedBuffer : Draft → List ℕ → List ℕ
 composedBuffer d out =
     cond (isWhole d)
-    (cond (eqb (d .kind) 2) (writtenBuffer true (d .set) (d .alloc) out) (writtenBuffer false (d .set) blankAlloc out))
+    (cond (leb 2 (d .kind)) (writtenBuffer true (d .set) (d .alloc) out) (writtenBuffer false (d .set) blankAlloc out))
     out
 
 -- the draft was written
@@ -222,9 +246,3 @@ pub record WroteDraft (d : Draft) (before after : List ℕ) (w : Written) : Type
 -- the draft of a whole text, whose last line may lack its newline
 abbrev pub draftOf : List ℕ → Draft
 draftOf text = composeAfter composeStart (text ++ (newline ∷ [])) .draft
-
--- `compose` makes this sheet of the text: every line can be read, and the sheet stands in front of any buffer with room for it, all behind it as it was
-pub record Composes (text sheet : List ℕ) : Type 0 where
-  pub readable : draftOf text .unread ≡ 0
-  pub answer : (out : List ℕ) → length sheet ≤ length out → composedAnswer (draftOf text) out ≡ record { length = length sheet; number = 0 }
-  pub buffer : (out : List ℕ) → length sheet ≤ length out → composedBuffer (draftOf text) out ≡ sheet ++ drop (length sheet) out

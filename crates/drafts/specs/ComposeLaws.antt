@@ -1,11 +1,11 @@
 -- The laws of what `compose` makes of a text, for the proofs of this layer. No rule stands here.
-use Prim.Native.Nat.{ℕ, _≤_, _^_}
+use Prim.Native.Nat.{ℕ, _≤_, _<_, _^_}
 use mathlib.Core.Path.{_≡_, refl, sym, ap, _∙_}
 use mathlib.Core.Bool.{true, false, false≢true}
 use mathlib.Core.List.{List, [], _∷_, _++_}
 use mathlib.Core.Logic.{⊎-elim, _≢_}
 use native.Mathlib.Omega.{arith}
-use borrow.Author.Tests.{ltb-true, eq-eqb, ne-eqb}
+use borrow.Author.Tests.{ltb-true, le-leb, lt-leb, eq-eqb, ne-eqb}
 use lib.Dec.{leb, ltb, eqb}
 use lib.ListN.{length}
 use lib.Seq.{length-take-le}
@@ -104,16 +104,16 @@ module _ (d : Draft) (before after : List ℕ) (w : Written) where
   unfolding composedAnswer composedBuffer
   wrote-no-draft h e = rw e (record { answer = rw h; buffer = rw h; fits = omega arith; counts = refl })
 
-  pub wrote-plan-draft : isWhole d ≡ true → d .kind ≡ 2 → Wrote true (d .set) (d .alloc) before after w → length after ≡ length before → WroteDraft d before after w
+  pub wrote-plan-draft : isWhole d ≡ true → 2 ≤ d .kind → Wrote true (d .set) (d .alloc) before after w → length after ≡ length before → WroteDraft d before after w
   unfolding composedAnswer composedBuffer
   wrote-plan-draft h k x same =
-      let kind = eq-eqb (d .kind) 2 k in
+      let kind = le-leb 2 (d .kind) k in
       let inside : w .length ≤ length after = omega (arith, written-fits true (d .set) (d .alloc) before, ap (λ (y : Written). y .length) (x .answer)) in
       record { answer = rw (h, kind) (x .answer); buffer = rw (h, kind) (x .buffer); fits = inside; counts = sym (length-take-le (w .length) after inside) }
 
-  pub wrote-request-draft : isWhole d ≡ true → d .kind ≢ 2 → Wrote false (d .set) blankAlloc before after w → length after ≡ length before → WroteDraft d before after w
+  pub wrote-request-draft : isWhole d ≡ true → d .kind < 2 → Wrote false (d .set) blankAlloc before after w → length after ≡ length before → WroteDraft d before after w
   unfolding composedAnswer composedBuffer
   wrote-request-draft h k x same =
-      let kind = ne-eqb (d .kind) 2 k in
+      let kind = lt-leb 2 (d .kind) k in
       let inside : w .length ≤ length after = omega (arith, written-fits false (d .set) blankAlloc before, ap (λ (y : Written). y .length) (x .answer)) in
       record { answer = rw (h, kind) (x .answer); buffer = rw (h, kind) (x .buffer); fits = inside; counts = sym (length-take-le (w .length) after inside) }

@@ -1,15 +1,20 @@
-// What `compose` makes of a text: a set, for a plan with its allocation, read line by line.
+// What `compose` makes of a text: a set, for a plan with its allocation, read line by line; and a log's bytes as its lines are read.
+mod sending;
+
 ghost use mathlib.Core.Path.{_≡_};
-ghost use Prim.Native.Nat.{_<_, _^_};
-ghost use Rattle.drafts.specs.Compose.{allFit, isLine, lineTag, misplaced, withTtrt, headWith, withFurther, NumbersFit, setAnd, allocAnd, withStation, withUnread, lineDrafted, onNextLine, composeStart, composeAfter, WroteDraft};
+ghost use Prim.Native.Nat.{_<_, _^_, min};
+ghost use lib.ListN.{length};
+ghost use Rattle.drafts.specs.Compose.{allFit, isLine, lineTag, misplaced, withTtrt, headWith, withFurther, NumbersFit, setAnd, allocAnd, withStation, isVisitLine, visitedKind, withVisit, withUnread, visitDrafted, lineDrafted, onNextLine, composeStart, isWhole, WroteDraft};
+ghost use Rattle.drafts.specs.Sent.{goesOut, WroteEnd, Piece, ComposedPiece, ComposedOn};
 use lines::Scan;
 use plans::Alloc;
 use sets::Head;
 use sets::Set;
 use sheets::Written;
+use text::PAGE_SIZE;
 use units::numbers;
 
-// The letters of `ttrt`, of `mode`, of `frame` and of `station`, each as one number to base 256.
+// The letters of `ttrt`, of `mode`, of `frame`, of `station` and of `visit`, each as one number to base 256.
 const TTRT: u64 = 1_953_788_532;
 
 const MODE: u64 = 1_836_016_741;
@@ -17,6 +22,11 @@ const MODE: u64 = 1_836_016_741;
 const FRAME: u64 = 440_005_651_813;
 
 const STATION: u64 = 32_497_584_235_442_030;
+
+const VISIT: u64 = 508_575_312_244;
+
+// How many bytes are read at once.
+const PIECE_SIZE: usize = 2_048;
 
 // What was read of a text, line by line.
 #[repr(C)]
@@ -29,7 +39,7 @@ pub struct Draft {
     pub unread: u64,
     // The highest tag of the header's lines that were read, as on a sheet: 0 none, 1 TTRT, 4 the mode, 5 F.
     pub head: u8,
-    // The stations are a request's, 1, or a plan's, 2; 0: none was read.
+    // The stations are a request's, 1, or a plan's, 2; 0: none was read. Behind a visit 3 where the plan was accepted, 4 where it was refused.
     pub kind: u8,
     // 1: a line stood out of place.
     pub wrong: u8,
@@ -40,6 +50,13 @@ pub struct Draft {
 pub struct Composing {
     pub draft: Draft,
     pub scan: Scan,
+}
+
+// The text goes on: where its reading stands, and how many bytes of the page go out.
+#[repr(C)]
+pub struct Composed {
+    pub composing: Composing,
+    pub length: usize,
 }
 
 fn all_fit(s: Scan) -> bool
@@ -150,7 +167,7 @@ fn with_further(d: Draft, tag: u8, number: u32) -> Draft
 }
 
 // A number that fits 32 bits.
-fn narrow(x: u64) -> u32
+pub(crate) fn narrow(x: u64) -> u32
     requires { ⌜ x < 2 ^ 32 ⌝ }
     ensures { λ r. ⌜ r ≡ x ⌝ }
 {
@@ -225,6 +242,49 @@ fn with_station(d: Draft, s: Scan, kind: u8) -> Draft
     }
 }
 
+// `visit STATION START LIMIT SYNC ASYNC`.
+pub(crate) fn is_visit_line(s: Scan) -> bool
+    ensures { λ r. ⌜ r ≡ isVisitLine s ⌝ }
+{
+    let values = s.values;
+    let short = values[0] < 256;
+    is_line(s, VISIT, 5) & short
+}
+
+// The kind of a plan's stations behind a visit.
+fn visited_kind(t: Set, a: Alloc) -> u8
+    ensures { λ r. ⌜ r ≡ visitedKind t a ⌝ }
+{
+    if plans::judge_plan(t, a) == numbers::ACCEPTED {
+        return 3;
+    }
+    4
+}
+
+// A visit behind a plan's stations, or behind another visit.
+pub(crate) fn with_visit(d: Draft) -> Draft
+    ensures { λ r. ⌜ r ≡ withVisit d ⌝ }
+{
+    if d.kind == 2 {
+        let set = d.set;
+        let alloc = d.alloc;
+        let kind = visited_kind(set, alloc);
+        return Draft {
+            set,
+            alloc,
+            line: d.line,
+            unread: d.unread,
+            head: d.head,
+            kind,
+            wrong: d.wrong,
+        };
+    }
+    if d.kind < 3 {
+        return misplaced_in(d);
+    }
+    d
+}
+
 // The first line that cannot be read is named.
 fn with_unread(d: Draft) -> Draft
     ensures { λ r. ⌜ r ≡ withUnread d ⌝ }
@@ -256,6 +316,16 @@ fn line_tag(s: Scan) -> u8
     0
 }
 
+// A visit, or a line that cannot be read.
+fn visit_drafted(d: Draft, s: Scan) -> Draft
+    ensures { λ r. ⌜ r ≡ visitDrafted d s ⌝ }
+{
+    if is_visit_line(s) {
+        return with_visit(d);
+    }
+    with_unread(d)
+}
+
 // One line.
 fn line_drafted(d: Draft, s: Scan) -> Draft
     ensures { λ r. ⌜ r ≡ lineDrafted d s ⌝ }
@@ -280,7 +350,7 @@ fn line_drafted(d: Draft, s: Scan) -> Draft
     if is_line(s, STATION, 5) {
         return with_station(d, s, 2);
     }
-    with_unread(d)
+    visit_drafted(d, s)
 }
 
 // The next line.
@@ -319,16 +389,30 @@ pub fn begin() -> Composing
     Composing { draft, scan: fresh }
 }
 
-// The text goes on.
-pub fn compose_on(c: Composing, text: &[u8]) -> Composing
-    ensures { λ r. ⌜ r ≡ composeAfter c (now (text .entry)) ⌝ }
+// How many of the bytes are read at once.
+fn piece_length(text: &[u8]) -> usize
+    ensures { λ r. ⌜ r ≡ min (length (now (text .entry))) 2_048 ⌝ }
+{
+    if text.len() < PIECE_SIZE {
+        text.len()
+    } else {
+        PIECE_SIZE
+    }
+}
+
+// The first bytes of the text, read line by line; what they let out is put at the start of the page.
+fn compose_piece(c: Composing, text: &[u8], end: usize, page: &mut [u8]) -> Composed
+    requires { ⌜ Piece (now text) end (now page) ⌝ }
+    ensures { λ r. ⌜ ComposedPiece c (now (text .entry)) end (now (page .entry)) (now (page .exit)) r ⌝ }
 {
     let mut draft = c.draft;
     let mut read = c.scan;
+    let mut next: usize = 0;
     let mut i: usize = 0;
-    while i < text.len() {
+    while i < end {
         let byte = text[i];
         if byte == b'\n' {
+            next = sending::put_line(page, next, draft, read);
             let drafted = line_drafted(draft, read);
             draft = on_next_line(drafted);
             read = lines::fresh();
@@ -337,15 +421,48 @@ pub fn compose_on(c: Composing, text: &[u8]) -> Composing
         }
         i += 1;
     }
-    Composing { draft, scan: read }
+    let stands = Composing { draft, scan: read };
+    Composed {
+        composing: stands,
+        length: next,
+    }
+}
+
+// The text goes on over at most 2,048 of its bytes: what they let out is put at the start of the page. A page that is too small leaves all as it was.
+pub fn compose_on(c: Composing, text: &[u8], page: &mut [u8]) -> Composed
+    ensures { λ r. ⌜ ComposedOn c (now (text .entry)) (now (page .entry)) (now (page .exit)) r ⌝ }
+{
+    if page.len() < PAGE_SIZE {
+        return Composed {
+            composing: c,
+            length: 0,
+        };
+    }
+    let end = piece_length(text);
+    compose_piece(c, text, end, page)
+}
+
+// ---- the end of the text
+
+// A sheet can be made.
+fn is_whole(d: Draft) -> bool
+    ensures { λ r. ⌜ r ≡ isWhole d ⌝ }
+{
+    (d.unread == 0) & ((d.wrong == 0) & (fields::HEAD_TAG <= d.head))
+}
+
+// The text is a log's so far.
+pub(crate) fn goes_out(d: Draft) -> bool
+    ensures { λ r. ⌜ r ≡ goesOut d ⌝ }
+{
+    is_whole(d) & (d.kind == 3)
 }
 
 // The sheet of the text that was read, put at the start of the buffer; refused, no byte of it changes.
-pub fn compose_end(d: Draft, out: &mut [u8]) -> Written
+fn write_draft(d: Draft, out: &mut [u8]) -> Written
     ensures { λ r. ⌜ WroteDraft d (now (out .entry)) (now (out .exit)) r ⌝ }
 {
-    let whole = (d.unread == 0) & ((d.wrong == 0) & (fields::HEAD_TAG <= d.head));
-    if !whole {
+    if !is_whole(d) {
         return Written {
             length: 0,
             number: numbers::WRONG_SHAPE,
@@ -353,8 +470,22 @@ pub fn compose_end(d: Draft, out: &mut [u8]) -> Written
     }
     let set = d.set;
     let alloc = d.alloc;
-    if d.kind == 2 {
+    if 2 <= d.kind {
         return sheets::write_plan(set, alloc, out);
     }
     sheets::write_request(set, out)
+}
+
+// The last bytes of the text that was read, put at the start of the buffer: a log's end, or the sheet; refused, no byte of it changes.
+pub fn compose_end(d: Draft, out: &mut [u8]) -> Written
+    ensures { λ r. ⌜ WroteEnd d (now (out .entry)) (now (out .exit)) r ⌝ }
+{
+    if !goes_out(d) {
+        return write_draft(d, out);
+    }
+    let number = sheets::visits::put_end(out, 0);
+    if number != numbers::ACCEPTED {
+        return Written { length: 0, number };
+    }
+    Written { length: 3, number }
 }

@@ -28,7 +28,7 @@ use Rattle.sheets.proofs.ReadingLaws.{head-ranges}
 use Rattle.sheet_rules.proofs.StandLaws.{mark-stands}
 use Rattle.sheet_rules.proofs.BackLaws.{fields-together, fields-behind}
 use Rattle.sheet_rules.proofs.AgainLaws.{read-behind, read-fields}
-use Rattle.logs.specs.Layout.{visitsBytes, logOf}
+use Rattle.logs.specs.Layout.{visitsBytes, logOf, AllFit}
 use Rattle.logs.specs.Walked.{logWalked}
 use Rattle.logs.specs.FirstFault.{LogFormed, in-plan, a-visit, WholeLog}
 use Rattle.logs.specs.Reading.{readLog, handedFrom, entriesIn}
@@ -36,7 +36,6 @@ use Rattle.logs.specs.declared.ReadLog.{ReadLog}
 use Rattle.logs.specs.declared.Walked.{Walked}
 use Rattle.logs.proofs.WalkLaws.{visit-says, plan-stops, end-may, log-shape-whole, log-end-there}
 use Rattle.logs.proofs.ReadingLaws.{read-number, read-accepted}
-use Rattle.log_rules.specs.Recorded.{AllFit}
 use Rattle.log_rules.proofs.WrittenLaws.{visits-length}
 
 -- ---- visits by which the walk went
@@ -109,7 +108,7 @@ module _ (bs : List ℕ) (w : WholeLog bs) where
   pub may-end : planPassed (w .passed) ≡ true
   may-end = end-may _ _ _ (w .end-whole .allowed) (w .end-tag)
 
-  stops : (scanned true bs .passed ≡ w .passed) × (scanned true bs .at ≡ went .first)
+  pub stops : (scanned true bs .passed ≡ w .passed) × (scanned true bs .at ≡ went .first)
   stops = plan-stops bs (w .passed) may-end (went .first) (went .plan)
 
   pub walked : logWalked bs ≡ record { number = 0; visits = w .visits; at = w .place }
@@ -142,6 +141,9 @@ module _ (bs : List ℕ) (h : readLog bs .number ≡ 0) where
 
   pub was-judged : judgedPlan (setIn true bs) (allocIn true bs) ≡ 0
   was-judged = both .1
+
+  pub judged-again : judgedPlan (readLog bs .set) (readLog bs .alloc) ≡ 0
+  judged-again = rw was-read was-judged
 
   pub visits-read : readLog bs .visits ≡ was-whole .visits
   visits-read = ap (λ (r : ReadLog). r .visits) was-read ∙ ap (λ (r : Walked). r .visits) (walked bs was-whole)
@@ -191,6 +193,3 @@ module _ (bs : List ℕ) (bytes : AllBytes bs) (h : readLog bs .number ≡ 0) wh
   log-again =
       is-log
       ∙ sym (ap (λ (r : ReadLog). logOf (r .set) (r .alloc) (entriesIn bs)) (was-read bs h) ∙ ap (logOf (setIn true bs) (allocIn true bs)) entries-are)
-
-  pub judged-again : judgedPlan (readLog bs .set) (readLog bs .alloc) ≡ 0
-  judged-again = rw (was-read bs h) (was-judged bs h)

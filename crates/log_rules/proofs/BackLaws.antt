@@ -1,4 +1,5 @@
--- What was laid out is read back: the plan's fields stand at the start, the visits' behind them and the end behind these, so the walk goes by all of them; and the numbers that are found are those that were laid.
+-- What was laid out is read back: the plan's fields stand at the start, the visits' behind them and the end behind these, so the walk goes by all of them.
+-- And the numbers that are found are those that were laid.
 use Prim.Native.Nat.{ℕ, suc, _+_, _*_, _^_, _≤_, _<_}
 use mathlib.Core.Path.{_≡_, refl, sym, ap, subst, _∙_}
 use mathlib.Core.Bool.{true}
@@ -31,15 +32,14 @@ use Rattle.sheets.specs.ReadLaws.{judged-kept}
 use Rattle.sheet_rules.specs.Promised.{firstPlaces, firstAllocations, Numbers32}
 use Rattle.sheet_rules.proofs.StandLaws.{whole-stands}
 use Rattle.sheet_rules.proofs.BackLaws.{behindHead, behindAll, FieldParts, fields-apart, fields-behind, fields-pass, parts-set, parts-alloc, judged-first, kept-small, kept-allocations}
-use Rattle.logs.specs.Layout.{visitsBytes, logOf}
+use Rattle.logs.specs.Layout.{visitsBytes, logOf, AllFit}
 use Rattle.logs.specs.Walked.{logWalked}
-use Rattle.logs.specs.FirstFault.{LogFormed, in-plan, a-visit, WholeLog}
+use Rattle.logs.specs.FirstFault.{LogFormed, in-plan, a-visit, no-start, FirstLogFault, WholeLog}
 use Rattle.logs.specs.Reading.{logNumber, readLog, handedFrom, entriesIn}
 use Rattle.logs.specs.declared.ReadLog.{ReadLog}
 use Rattle.logs.specs.declared.Walked.{Walked}
 use Rattle.logs.proofs.WalkLaws.{plan-stops, log-end-there}
 use Rattle.logs.proofs.ReadingLaws.{read-number, read-accepted, number-judged}
-use Rattle.log_rules.specs.Recorded.{AllFit}
 use Rattle.log_rules.proofs.WrittenLaws.{visits-length, log-long}
 
 -- ---- visits that stand one behind the other
@@ -80,50 +80,74 @@ module _ (bs : List ℕ) where
       let next : nextEntry bs a .next ≡ a + 20 = ap (λ (x : NextEntry). x .next) out in
       rw (one, next, handed-back es (a + 20) (fit .1) rest) refl
 
--- ---- a log that was laid out
+-- ---- bytes that begin with a plan's fields and its visits'
 
 module _ (t : Set) (a : Alloc) (es : List Entry) (count : CountAllowed t) where
+  abbrev front : List ℕ
+  front = fieldsOf true t a ++ visitsBytes es
+
+  front-long : 0 + length front ≡ behindAll true t + 20 * length es
+  front-long = omega (arith, fields-behind true t a front, length-append (fieldsOf true t a) (visitsBytes es), visits-length es)
+
+  module _ (bs : List ℕ) (laid : Stands bs 0 front) where
+    parts : FieldParts true bs t a
+    parts = fields-apart true t a bs (stands-left bs 0 (fieldsOf true t a) (visitsBytes es) laid)
+
+    visits-there : Stands bs (behindAll true t) (visitsBytes es)
+    visits-there = subst (λ (b : ℕ). Stands bs b (visitsBytes es)) (fields-behind true t a bs) (stands-right bs 0 (fieldsOf true t a) (visitsBytes es) laid)
+
+    passes : (head : ℕ) × ((1 ≤ head) × WellFormed true bs (passedAll true head (behindHead t) (t .n) (t .n)) (behindAll true t))
+    passes = fields-pass true bs t a parts (count .0) (count .1)
+
+    abbrev past : Passed
+    past = passedAll true (passes .0) (behindHead t) (t .n) (t .n)
+
+    all-past : planPassed past ≡ true
+    all-past = kind-allowed past 255 0 (an-end refl refl (le-leb 1 (passes .0) (passes .1 .0)) (count .0) refl)
+
+    all-formed : LogFormed bs past (0 + length es) (behindAll true t + 20 * length es)
+    all-formed = visits-formed bs past all-past es 0 (behindAll true t) (in-plan (passes .1 .1)) visits-there
+
+    stops : (scanned true bs .passed ≡ past) × (scanned true bs .at ≡ behindAll true t)
+    stops = plan-stops bs past all-past (behindAll true t) (passes .1 .1)
+
+  -- without an end the next field has no start
+  pub cut-short : FirstLogFault front 1
+  cut-short =
+      record {
+        passed = past front (stands-itself front);
+        visits = 0 + length es;
+        place = behindAll true t + 20 * length es;
+        before = all-formed front (stands-itself front);
+        fault = no-start (omega (arith, front-long));
+      }
+
+  -- ---- a log that was laid out
+
   abbrev bytes : List ℕ
   bytes = logOf t a es
 
-  log-parts : Stands bytes 0 (fieldsOf true t a) × (Stands bytes (behindAll true t) (visitsBytes es) × Stands bytes (behindAll true t + 20 * length es) endBytes)
+  begins : Stands bytes 0 front
   unfolding logOf
-  log-parts =
-      let fields = fieldsOf true t a in
-      let visits = visitsBytes es in
-      let all = stands-itself (fields ++ visits ++ endBytes) in
-      let both = stands-left _ 0 (fields ++ visits) endBytes all in
-      let place = fields-behind true t a bytes in
-      let far : 0 + length (fieldsOf true t a ++ visitsBytes es) ≡ behindAll true t + 20 * length es = omega (arith, place, length-append fields visits, visits-length es) in (
-        stands-left _ 0 fields visits both,
-        (subst (λ (b : ℕ). Stands bytes b visits) place (stands-right _ 0 fields visits both), subst (λ (b : ℕ). Stands bytes b endBytes) far (stands-right _ 0 (fields ++ visits) endBytes all)),
-      )
+  begins = stands-left (front ++ endBytes) 0 front endBytes (stands-itself (front ++ endBytes))
 
-  parts : FieldParts true bytes t a
-  parts = fields-apart true t a bytes (log-parts .0)
-
-  passes : (head : ℕ) × ((1 ≤ head) × WellFormed true bytes (passedAll true head (behindHead t) (t .n) (t .n)) (behindAll true t))
-  passes = fields-pass true bytes t a parts (count .0) (count .1)
-
-  abbrev past : Passed
-  past = passedAll true (passes .0) (behindHead t) (t .n) (t .n)
-
-  all-past : planPassed past ≡ true
-  all-past = kind-allowed past 255 0 (an-end refl refl (le-leb 1 (passes .0) (passes .1 .0)) (count .0) refl)
+  ends : Stands bytes (behindAll true t + 20 * length es) endBytes
+  unfolding logOf
+  ends = subst (λ (b : ℕ). Stands (front ++ endBytes) b endBytes) front-long (stands-right (front ++ endBytes) 0 front endBytes (stands-itself (front ++ endBytes)))
 
   end-there : Whole bytes (behindAll true t + 20 * length es) 255 0
-  end-there = whole-stands bytes _ 255 0 (log-parts .1 .1) (omega (arith, log-parts .1 .1 .fits))
+  end-there = whole-stands bytes _ 255 0 ends (omega (arith, ends .fits))
 
   laid-whole : WholeLog bytes
   laid-whole =
       let end = end-there in
       let size = end .has-size in
       record {
-        passed = past;
+        passed = past bytes begins;
         visits = 0 + length es;
         place = behindAll true t + 20 * length es;
-        before = visits-formed bytes past all-past es 0 (behindAll true t) (in-plan (passes .1 .1)) (log-parts .1 .0);
-        end-whole = record { inside = omega (arith, end .inside, size); allowed = rw (end .has-tag, size) all-past };
+        before = all-formed bytes begins;
+        end-whole = record { inside = omega (arith, end .inside, size); allowed = rw (end .has-tag, size) (all-past bytes begins) };
         end-tag = end .has-tag;
         nothing-follows = omega (arith, log-long t a es, size);
       }
@@ -132,15 +156,12 @@ module _ (t : Set) (a : Alloc) (es : List Entry) (count : CountAllowed t) where
   unfolding laid-whole
   laid-walked = log-end-there bytes laid-whole
 
-  stops : (scanned true bytes .passed ≡ past) × (scanned true bytes .at ≡ behindAll true t)
-  stops = plan-stops bytes past all-past (behindAll true t) (passes .1 .1)
-
   module _ (small : Numbers32 t) (shares : (i : ℕ) → i < t .n → at (a .s) i < 2 ^ 32) where
     laid-set : setIn true bytes ≡ firstPlaces t
-    laid-set = ap (setOf bytes) (stops .0) ∙ parts-set true bytes t a parts (count .0) (passes .0) (t .n) small
+    laid-set = ap (setOf bytes) (stops bytes begins .0) ∙ parts-set true bytes t a (parts bytes begins) (count .0) (passes bytes begins .0) (t .n) small
 
     laid-alloc : allocIn true bytes ≡ firstAllocations (t .n) a
-    laid-alloc = ap (allocOf bytes) (stops .0) ∙ parts-alloc true bytes t a parts (count .0) (passes .0) shares
+    laid-alloc = ap (allocOf bytes) (stops bytes begins .0) ∙ parts-alloc true bytes t a (parts bytes begins) (count .0) (passes bytes begins .0) shares
 
     laid-judged : judgedPlan (setIn true bytes) (allocIn true bytes) ≡ judgedPlan t a
     unfolding judgedSheet
@@ -156,14 +177,14 @@ module _ (t : Set) (a : Alloc) (es : List Entry) (count : CountAllowed t) where
         let z : logNumber bytes ≡ 0 = sym (read-number bytes) ∙ laid-number ∙ h in
         let n : 0 + length es ≡ length es = omega arith in
         let visits : logWalked bytes .visits ≡ length es = ap (λ (r : Walked). r .visits) laid-walked ∙ n in
-        read-accepted bytes z ∙ rw (laid-set, laid-alloc, stops .1, visits) refl
+        read-accepted bytes z ∙ rw (laid-set, laid-alloc, stops bytes begins .1, visits) refl
 
     laid-entries : judgedPlan t a ≡ 0 → AllFit es → entriesIn bytes ≡ es
     laid-entries h fit =
         let e = laid-read h in
         ap (λ (n : ℕ). handedFrom n bytes (readLog bytes .first)) (ap (λ (r : ReadLog). r .visits) e)
         ∙ ap (handedFrom (length es) bytes) (ap (λ (r : ReadLog). r .first) e)
-        ∙ handed-back bytes es (behindAll true t) fit (log-parts .1 .0)
+        ∙ handed-back bytes es (behindAll true t) fit (visits-there bytes begins)
 
 -- ---- read back as written
 

@@ -39,10 +39,10 @@ counter-on counter clock between later =
     same-low (x % 2 ^ 32 + rise between later) (counter + rise clock later) (x / 2 ^ 32 + c₃ .0) (c₁ .0 + c₂ .0)
     (carried counter (x / 2 ^ 32) (x % 2 ^ 32) (low between) (low clock) (low later) _ _ _ (c₁ .0) (c₂ .0) (c₃ .0) (div-add-mod' x (2 ^ 32)) (c₁ .1) (c₂ .1) (c₃ .1))
 
--- a counter that begins with 0 at 0 shows the low 32 bits of the clock
-pub counter-clock : (clock : ℕ) → counterAt 0 0 clock ≡ clock % 2 ^ 32
+-- a counter from clock 0 on
+pub counter-clock : (counter clock : ℕ) → counterAt counter 0 clock ≡ (counter + clock) % 2 ^ 32
 unfolding counterAt rise
-counter-clock clock = omega arith
+counter-clock counter clock = omega arith
 
 pub counter-small : (counter clock later : ℕ) → counterAt counter clock later < 2 ^ 32
 unfolding counterAt rise

@@ -1,25 +1,30 @@
 -- The promises hold because a recording lays one field behind the other, the walk goes by all of them, and each is read where it was laid.
 use Prim.Native.Nat.{ℕ, zero, suc, _+_, _-_, _*_, _%_, _^_, _≤_, _<_}
 use mathlib.Core.Path.{_≡_, refl, sym, ap, subst, _∙_}
-use mathlib.Core.Bool.{true, false}
+use mathlib.Core.Bool.{true, false, _&&_}
 use mathlib.Core.List.{List, [], _∷_, _++_, map, reverse, append-assoc, append-nil}
-use mathlib.Core.Logic.{⊎-elim, _↔_, _≢_}
+use mathlib.Core.Logic.{_⊎_, inl, inr, ⊎-elim, _↔_, _≢_}
 use native.Mathlib.Nat.{mod-eq-of-lt}
 use native.Mathlib.Omega.{arith}
 use lib.ListN.{length, drop, length-map, length-reverse}
 use lib.Seq.{take-at}
 use borrow.Author.Tests.{leb-true}
 use Rattle.units.specs.Numbers.{timely}
-use Rattle.units.specs.Places.{fill}
+use Rattle.units.specs.Places.{at, fill}
 use Rattle.units.specs.JudgingLaws.{true-or-false, passed}
 use Rattle.units.specs.SmallLaws.{below-or-not}
+use Rattle.sets.specs.Rules.{CountAllowed, numbersAllowed, walkTimeAllowed}
 use Rattle.sets.specs.Judged.{zeros}
+use Rattle.sets.specs.SetLaws.{decides-count}
 use Rattle.sets.specs.declared.Set.{Set}
+use Rattle.plans.specs.Rules.{rulesFit, allocInRange}
 use Rattle.plans.specs.Planned.{judgedPlan}
+use Rattle.plans.specs.PlanLaws.{given-0, given-4, given-5, given-7}
 use Rattle.plans.specs.declared.Alloc.{Alloc}
 use Rattle.fields.specs.Rows.{rows}
 use Rattle.fields.specs.Bytes.{bytesOf, bodyOf, AllBytes}
 use Rattle.fields.specs.Fields.{furtherSize, tagAt, sizeAt, allowedAt}
+use Rattle.fields.proofs.SegmentLaws.{stands-itself}
 use Rattle.fields.specs.declared.Passed.{Passed}
 use Rattle.scan.specs.FirstFault.{WellFormed, WholeSheet, not-allowed as not-allowed-in-plan}
 use Rattle.scan.specs.declared.Scanned.{Scanned}
@@ -27,7 +32,7 @@ use Rattle.scan.proofs.ScanLaws.{zero-or-not, end-there}
 use Rattle.scan.proofs.PassedLaws.{through}
 use Rattle.entries.specs.Entry.{entryBytes, entryAt, EntryFits, visitStands, nextEntry}
 use Rattle.entries.specs.declared.Entry.{Entry}
-use Rattle.entries.proofs.EntryLaws.{VisitThere, visit-there, there-visit, handed-there}
+use Rattle.entries.proofs.EntryLaws.{VisitThere, entry-length, visit-there, there-visit, handed-there, stands-visit, stands-read}
 use Rattle.sheets.specs.Layout.{mark, headUpTo, headNumber, furtherBytes, stationWith, allocationWith, fieldsOf, fieldsLength, endBytes, sheetOf, planSheet, sheetLength}
 use Rattle.sheets.specs.Reading.{setIn, allocIn, judgedSheet, readPlan}
 use Rattle.sheets.specs.ReadLaws.{then-none, sheet-accepted}
@@ -38,7 +43,7 @@ use Rattle.sheet_rules.specs.Promised.{firstPlaces, firstAllocations, planLengt
 use Rattle.sheet_rules.proofs.BackLaws.{behindAll}
 use Rattle.sheet_rules.proofs.Promised.{not-low, promised as sheets-promised}
 use Rattle.rings.specs.declared.VisitRecord.{VisitRecord}
-use Rattle.logs.specs.Layout.{visitsBytes, logOf}
+use Rattle.logs.specs.Layout.{visitsBytes, logOf, AllFit}
 use Rattle.logs.specs.Walked.{logWalked}
 use Rattle.logs.specs.FirstFault.{LogFault, no-start, not-allowed, cut-body, follows, FirstLogFault, WholeLog}
 use Rattle.logs.specs.Reading.{logNumber, refusedLog, readLog, entriesIn}
@@ -50,11 +55,12 @@ use Rattle.logs.proofs.WalkLaws.{visit-not-allowed, log-fault-there, log-end-th
 use Rattle.logs.proofs.ReadingLaws.{read-number, read-refused, number-walk, number-judged}
 use Rattle.logs.proofs.WritingLaws.{begun-refused}
 use Rattle.promises.specs.Run.{Call, recordsOf}
-use Rattle.log_rules.specs.Recorded.{beginning, recorded, keptOf, endAnswer, endBuffer, AllFit, recordFor, entriesOf}
-use Rattle.log_rules.specs.Promised.{GivenLog, Leaves, GivesBack, Promised}
+use Rattle.log_rules.specs.Recorded.{beginning, recorded, keptOf, endAnswer, endBuffer, recordFor, entriesOf}
+use Rattle.log_rules.specs.Promised.{GivenLog, FieldOf, Leaves, GivesBack, Promised}
 use Rattle.log_rules.proofs.CounterLaws.{counter-rises, counter-wraps, counter-on, counter-clock}
-use Rattle.log_rules.proofs.WrittenLaws.{log-long, room-short, begins-with, begins-fields, adds-with, adds-field, adds-not, adds-nothing, ends-with, ends-field, laid-fourteen, leaves-log, keeps-all}
-use Rattle.log_rules.proofs.BackLaws.{laid-number, log-back, entries-back}
+use Rattle.log_rules.proofs.WrittenLaws.{log-long, room-short, begins-with, begins-fields, laid-fourteen, leaves-log, keeps-all}
+use Rattle.log_rules.proofs.WrittenLaws.{adds-with, adds-field, adds-not, adds-nothing, ends-with, ends-field}
+use Rattle.log_rules.proofs.BackLaws.{cut-short, laid-number, log-back, entries-back}
 use Rattle.log_rules.proofs.AgainLaws.{went, may-end, counted, was-read, was-whole, was-judged, visits-read, log-again, judged-again, entries-fit}
 use Rattle.log_rules.proofs.RunLaws.{visit-small, visit-station, entry-says, run-entries, run-fits}
 
@@ -75,9 +81,22 @@ one-more t a es e =
     ap (λ (s : List ℕ). fieldsOf true t a ++ s ++ endBytes) (visits-last es e)
     ∙ ap (λ (s : List ℕ). s ++ endBytes) (sym (append-assoc (fieldsOf true t a) (visitsBytes es) (entryBytes e)))
 
-its-field : (e : Entry) → entryBytes e ≡ mark 16 17 ++ (e .station % 256 ∷ []) ++ bytesOf (e .start) ++ bytesOf (e .limit) ++ bytesOf (e .synchronous) ++ bytesOf (e .asynchronous)
-unfolding entryBytes
-its-field e = refl
+its-field : (e : Entry) → EntryFits e → FieldOf e (entryBytes e)
+its-field e fit =
+    let bs = entryBytes e in
+    let itself = stands-itself bs in
+    let there = stands-visit bs 0 e itself in
+    let reads = stands-read bs 0 e fit itself in
+    record {
+      tag = there .has-tag;
+      size = there .has-size;
+      station = ap (λ (x : Entry). x .station) reads;
+      start = ap (λ (x : Entry). x .start) reads;
+      limit = ap (λ (x : Entry). x .limit) reads;
+      synchronous = ap (λ (x : Entry). x .synchronous) reads;
+      asynchronous = ap (λ (x : Entry). x .asynchronous) reads;
+      long = entry-length e;
+    }
 
 small-written : logOf (smallSet timely 1) (record { s = zeros }) (record { station = 0; start = 4_294_967_295; limit = 1; synchronous = 2; asynchronous = 259 } ∷ [])
     ≡ 1 ∷ 0 ∷ 4 ∷ 0 ∷ 0 ∷ 0 ∷ 1
@@ -165,10 +184,26 @@ module _ (r : Recorder) (out : List ℕ) where
 
 -- ---- reading
 
+-- one of four numbers, by the tests of the judgement
+judged-of : (t : Set) (a : Alloc) → CountAllowed t → let k = judgedPlan t a in (k ≡ 0) ⊎ ((k ≡ 4) ⊎ ((k ≡ 5) ⊎ (k ≡ 7)))
+judged-of t a count =
+    let counts = decides-count t .1 count in
+    ⊎-elim (λ (n : (numbersAllowed t && allocInRange t (at (a .s))) ≡ true).
+    ⊎-elim (λ (w : walkTimeAllowed t ≡ true).
+    ⊎-elim (λ (r : rulesFit t (at (a .s)) ≡ true). inl (given-0 t a counts n w r)) (λ (r : rulesFit t (at (a .s)) ≡ false). inr (inr (inr (given-7 t a counts n w r))))
+    (true-or-false (rulesFit t (at (a .s)))))
+    (λ (w : walkTimeAllowed t ≡ false). inr (inr (inl (given-5 t a counts n w))))
+    (true-or-false (walkTimeAllowed t)))
+    (λ (n : (numbersAllowed t && allocInRange t (at (a .s))) ≡ false). inr (inl (given-4 t a counts n)))
+    (true-or-false (numbersAllowed t && allocInRange t (at (a .s))))
+
 module _ (bs : List ℕ) where
   -- no fault: the judgement, which is never 1, 2 or 3
   whole-judged : WholeLog bs → readLog bs .number ≡ judgedPlan (setIn true bs) (allocIn true bs)
   whole-judged w = read-number bs ∙ number-judged bs (ap (λ (r : Walked). r .number) (log-end-there bs w))
+
+  whole-one : WholeLog bs → let k = readLog bs .number in (k ≡ 0) ⊎ ((k ≡ 4) ⊎ ((k ≡ 5) ⊎ (k ≡ 7)))
+  whole-one w = rw (whole-judged w) (judged-of (setIn true bs) (allocIn true bs) (counted bs w))
 
   judged-high : WholeLog bs → (k : ℕ) → 1 ≤ k → k ≤ 3 → readLog bs .number ≢ k
   unfolding judgedSheet
@@ -236,11 +271,11 @@ given-back t a es h fit =
 record-again : (e : Entry) → EntryFits e → entryOf 0 0 (recordFor e) ≡ e
 record-again e fit =
     let station : e .station % 256 ≡ e .station = mod-eq-of-lt (fit .station) in
-    let start : e .start % 2 ^ 32 ≡ e .start = mod-eq-of-lt (fit .start) in
+    let start : (0 + e .start) % 2 ^ 32 ≡ e .start = omega (arith, fit .start) in
     let limit : e .limit % 2 ^ 32 ≡ e .limit = mod-eq-of-lt (fit .limit) in
     let synchronous : e .synchronous % 2 ^ 32 ≡ e .synchronous = mod-eq-of-lt (fit .synchronous) in
     let asynchronous : e .asynchronous % 2 ^ 32 ≡ e .asynchronous = mod-eq-of-lt (fit .asynchronous) in
-    rw (counter-clock (e .start), station, start, limit, synchronous, asynchronous) refl
+    rw (counter-clock 0 (e .start), station, start, limit, synchronous, asynchronous) refl
 
 records-again : (es : List Entry) → AllFit es → map (entryOf 0 0) (map recordFor es) ≡ es
 records-again [] fit = refl
@@ -258,7 +293,7 @@ module _ (bs : List ℕ) (bytes : AllBytes bs) (h : readLog bs .number ≡ 0) wh
       let is : bs ≡ logOf (readLog bs .set) (readLog bs .alloc) (entriesIn bs) = log-again bs bytes h in
       let long : length bs ≡ planLength (readLog bs .set) + 20 * length (entriesIn bs) = ap length is ∙ omega (arith, log-long t a es) in
       let many : length (map recordFor (entriesIn bs)) ≡ length (entriesIn bs) = length-map es recordFor in
-      let judged-0 = judged-again bs bytes h in
+      let judged-0 = judged-again bs h in
       let all = leaves-log t a 0 0 out judged-0 (omega arith) vs in
       let kept : keptOf (beginning (readLog bs .set) (readLog bs .alloc) 0 0 out) (map recordFor (entriesIn bs)) ≡ map recordFor (entriesIn bs) = all-of-them t a 0 0 out vs judged-0 (omega arith) in
       let same : logOf t a (map (entryOf 0 0) (keptOf (beginning t a 0 0 out) vs)) ≡ bs =
@@ -278,7 +313,7 @@ module _ (bs : List ℕ) (bytes : AllBytes bs) (h : readLog bs .number ≡ 0) wh
         clock = 0;
         visits = map recordFor (entriesIn bs);
         out = bs;
-        begins = ap (λ (x : Recorder). x .number) (begins-with t a 0 0 bs (judged-again bs bytes h) (omega arith));
+        begins = ap (λ (x : Recorder). x .number) (begins-with t a 0 0 bs (judged-again bs h) (omega arith));
         gives = sym (rw (again .0, again .1) (take-at bs _ (length bs) refl));
       }
 
@@ -336,22 +371,23 @@ module _ (bs : List ℕ) (h : readLog bs .number ≡ 0) where
 
 -- ---- from the model
 
-module _ (t : Set) (a : Alloc) (calls : List Call) (out : List ℕ) (judged-0 : judgedPlan t a ≡ 0) where
+module _ (t : Set) (a : Alloc) (counter : ℕ) (calls : List Call) (out : List ℕ) (judged-0 : judgedPlan t a ≡ 0) where
   run-left : planLength t + 20 * length (recordsOf t a calls) ≤ length out
-      → let s = recorded (beginning t a 0 0 out) (reverse (recordsOf t a calls)) in
+      → let s = recorded (beginning t a counter 0 out) (reverse (recordsOf t a calls)) in
       let long = planLength t + 20 * length (recordsOf t a calls) in
-      (endAnswer s ≡ record { length = long; number = 0 }) × (endBuffer s ≡ logOf t a (entriesOf t a calls) ++ drop long out)
+      (endAnswer s ≡ record { length = long; number = 0 }) × (endBuffer s ≡ logOf t a (entriesOf counter t a calls) ++ drop long out)
   run-left room =
       let vs = reverse (recordsOf t a calls) in
       let many : length (reverse (recordsOf t a calls)) ≡ length (recordsOf t a calls) = length-reverse (recordsOf t a calls) in
-      let kept : keptOf (beginning t a 0 0 out) (reverse (recordsOf t a calls)) ≡ reverse (recordsOf t a calls) = all-of-them t a 0 0 out vs judged-0 (omega arith) in
-      let all = left t a 0 0 out judged-0 (omega arith) vs in
-      let far : planLength t + 20 * length (keptOf (beginning t a 0 0 out) (reverse (recordsOf t a calls))) ≡ planLength t + 20 * length (recordsOf t a calls) = omega (arith, ap length kept) in
-      let same : map (entryOf 0 0) (keptOf (beginning t a 0 0 out) (reverse (recordsOf t a calls))) ≡ entriesOf t a calls = ap (map (entryOf 0 0)) kept ∙ run-entries t a calls in (
+      let kept : keptOf (beginning t a counter 0 out) (reverse (recordsOf t a calls)) ≡ reverse (recordsOf t a calls) = all-of-them t a counter 0 out vs judged-0 (omega arith) in
+      let all = left t a counter 0 out judged-0 (omega arith) vs in
+      let far : planLength t + 20 * length (keptOf (beginning t a counter 0 out) (reverse (recordsOf t a calls))) ≡ planLength t + 20 * length (recordsOf t a calls) = omega (arith, ap length kept) in
+      let same : map (entryOf counter 0) (keptOf (beginning t a counter 0 out) (reverse (recordsOf t a calls))) ≡ entriesOf counter t a calls =
+      ap (map (entryOf counter 0)) kept ∙ run-entries t a counter calls in (
         all .answer ∙ ap (λ (n : ℕ). record { length = n; number = 0 }) far,
         all .buffer
-            ∙ ap (λ (l : List Entry). logOf t a l ++ drop (planLength t + 20 * length (keptOf (beginning t a 0 0 out) vs)) out) same
-            ∙ ap (λ (n : ℕ). logOf t a (entriesOf t a calls) ++ drop n out) far,
+            ∙ ap (λ (l : List Entry). logOf t a l ++ drop (planLength t + 20 * length (keptOf (beginning t a counter 0 out) vs)) out) same
+            ∙ ap (λ (n : ℕ). logOf t a (entriesOf counter t a calls) ++ drop n out) far,
       )
 
 pub promised : Promised
@@ -385,17 +421,19 @@ promised =
           (ap (λ (r : Walked). r .number) e, ap (λ (r : Walked). r .at) e);
       whole = whole-exactly;
       judged = whole-judged;
+      judged-one = whole-one;
       blank = is-blank;
       handed = handed-whole;
       not-handed = handed-none;
       back = given-back;
       laid-out = λ t a es count small shares. laid-number t a es count small shares;
-      again = λ bs bytes h. (log-again bs bytes h, (judged-again bs bytes h, entries-fit bs bytes h));
+      no-end = λ t a es count. fault-exactly (fieldsOf true t a ++ visitsBytes es) 1 (omega arith) (omega arith) .1 (cut-short t a es count);
+      again = λ bs bytes h. (log-again bs bytes h, (judged-again bs h, entries-fit bs bytes h));
       recorded-again = λ bs out bytes h fit. same-bytes bs bytes h out fit;
       exactly = λ bs bytes. (given bs bytes, given-read bs);
       no-plan = no-plan-sheet;
       a-plan = a-plan-sheet;
       visit-entry = λ r ask counter clock h. (entry-says _ (visit-small r ask h) counter clock, visit-station r ask h);
-      run-recorded = λ t a calls out judged-0 room. run-left t a calls out judged-0 room;
-      run-back = λ t a calls judged-0. given-back t a (entriesOf t a calls) judged-0 (run-fits t a calls);
+      run-recorded = run-left;
+      run-back = λ t a counter calls judged-0. given-back t a (entriesOf counter t a calls) judged-0 (run-fits t a counter calls);
     }

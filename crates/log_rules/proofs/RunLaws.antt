@@ -21,7 +21,8 @@ use Rattle.rings.specs.declared.VisitRecord.{VisitRecord}
 use Rattle.rings.specs.declared.Visited.{Visited}
 use Rattle.logs.specs.Writing.{counterAt, entryOf}
 use Rattle.promises.specs.Run.{Call, visit, message, Run, noted, after, run, recordsOf}
-use Rattle.log_rules.specs.Recorded.{AllFit, tells, entriesOf}
+use Rattle.logs.specs.Layout.{AllFit}
+use Rattle.log_rules.specs.Recorded.{tells, entriesOf}
 use Rattle.log_rules.proofs.CounterLaws.{counter-clock}
 
 -- ---- an accepted visit
@@ -91,12 +92,12 @@ module _ (v : VisitRecord) (small : Small v) where
       let asynchronous : v .asynchronous .0 % 2 ^ 32 ≡ v .asynchronous .0 = mod-eq-of-lt (small .asynchronous) in
       rw (station, limit, synchronous, asynchronous) refl
 
-  -- begun with 0 at 0
-  entry-tells : entryOf 0 0 v ≡ tells v
-  entry-tells = entry-says 0 0 ∙ rw (counter-clock (v .start .0)) refl
+  -- begun at clock 0
+  entry-tells : (counter : ℕ) → entryOf counter 0 v ≡ tells counter v
+  entry-tells counter = entry-says counter 0 ∙ rw (counter-clock counter (v .start .0)) refl
 
-  tells-fits : EntryFits (tells v)
-  tells-fits =
+  tells-fits : (counter : ℕ) → EntryFits (tells counter v)
+  tells-fits counter =
       record {
         station = omega (arith, small .station);
         start = omega arith;
@@ -130,17 +131,18 @@ turned (v ∷ vs) before all then = turned vs (v ∷ before) (all .1) (all .0, t
 records-small : (t : Set) (a : Alloc) (calls : List Call) → AllSmall (reverse (recordsOf t a calls))
 records-small t a calls = turned (recordsOf t a calls) [] (run-small calls _ tt) tt
 
-entries-tell : (vs : List VisitRecord) → AllSmall vs → map (entryOf 0 0) vs ≡ map tells vs
-entries-tell [] all = refl
-entries-tell (v ∷ vs) all = rw (entry-tells v (all .0), entries-tell vs (all .1)) refl
+module _ (counter : ℕ) where
+  entries-tell : (vs : List VisitRecord) → AllSmall vs → map (entryOf counter 0) vs ≡ map (tells counter) vs
+  entries-tell [] all = refl
+  entries-tell (v ∷ vs) all = rw (entry-tells v (all .0) counter, entries-tell vs (all .1)) refl
 
-tell-fits : (vs : List VisitRecord) → AllSmall vs → AllFit (map tells vs)
-tell-fits [] all = tt
-tell-fits (v ∷ vs) all = (tells-fits v (all .0), tell-fits vs (all .1))
+  tell-fits : (vs : List VisitRecord) → AllSmall vs → AllFit (map (tells counter) vs)
+  tell-fits [] all = tt
+  tell-fits (v ∷ vs) all = (tells-fits v (all .0) counter, tell-fits vs (all .1))
 
-module _ (t : Set) (a : Alloc) (calls : List Call) where
-  pub run-entries : map (entryOf 0 0) (reverse (recordsOf t a calls)) ≡ entriesOf t a calls
-  run-entries = entries-tell (reverse (recordsOf t a calls)) (records-small t a calls)
+module _ (t : Set) (a : Alloc) (counter : ℕ) (calls : List Call) where
+  pub run-entries : map (entryOf counter 0) (reverse (recordsOf t a calls)) ≡ entriesOf counter t a calls
+  run-entries = entries-tell counter (reverse (recordsOf t a calls)) (records-small t a calls)
 
-  pub run-fits : AllFit (entriesOf t a calls)
-  run-fits = tell-fits (reverse (recordsOf t a calls)) (records-small t a calls)
+  pub run-fits : AllFit (entriesOf counter t a calls)
+  run-fits = tell-fits counter (reverse (recordsOf t a calls)) (records-small t a calls)

@@ -3,7 +3,7 @@ use Prim.Native.Nat.{ℕ, _+_, _-_, _*_, _%_, _^_, _≤_, _<_}
 use mathlib.Core.Path.{_≡_}
 use mathlib.Core.Bool.{true}
 use mathlib.Core.List.{List, [], _∷_, _++_, map, reverse}
-use mathlib.Core.Logic.{_↔_, _≢_}
+use mathlib.Core.Logic.{_↔_, _≢_, _⊎_}
 use lib.ListN.{length, take, drop}
 use Rattle.units.specs.Numbers.{timely}
 use Rattle.units.specs.Places.{at}
@@ -13,9 +13,9 @@ use Rattle.sets.specs.declared.Set.{Set}
 use Rattle.plans.specs.Planned.{judgedPlan}
 use Rattle.plans.specs.declared.Alloc.{Alloc}
 use Rattle.fields.specs.Rows.{laid}
-use Rattle.fields.specs.Bytes.{bytesOf, AllBytes}
+use Rattle.fields.specs.Bytes.{numberAt, AllBytes}
 use Rattle.fields.specs.Fields.{tagAt, sizeAt}
-use Rattle.entries.specs.Entry.{entryBytes, entryAt, nextEntry}
+use Rattle.entries.specs.Entry.{entryBytes, entryAt, EntryFits, nextEntry}
 use Rattle.entries.specs.declared.Entry.{Entry}
 use Rattle.sheets.specs.Layout.{mark, fieldsOf, planSheet}
 use Rattle.sheets.specs.Reading.{setIn, allocIn, readPlan}
@@ -24,13 +24,13 @@ use Rattle.rings.specs.State.{count}
 use Rattle.rings.specs.Steps.{Ask, visited}
 use Rattle.rings.specs.declared.Ring.{Ring}
 use Rattle.rings.specs.declared.VisitRecord.{VisitRecord}
-use Rattle.logs.specs.Layout.{visitsBytes, logOf}
+use Rattle.logs.specs.Layout.{visitsBytes, logOf, AllFit}
 use Rattle.logs.specs.FirstFault.{FirstLogFault, WholeLog}
 use Rattle.logs.specs.Reading.{refusedLog, readLog, entriesIn}
 use Rattle.logs.specs.Writing.{counterAt, begun, begunBuffer, entryOf, added, addedBuffer, ended, endedBuffer}
 use Rattle.logs.specs.declared.Recorder.{Recorder}
 use Rattle.promises.specs.Run.{Call, recordsOf}
-use Rattle.log_rules.specs.Recorded.{Recording, beginning, recorded, keptOf, endAnswer, endBuffer, AllFit, recordFor, entriesOf}
+use Rattle.log_rules.specs.Recorded.{Recording, beginning, recorded, keptOf, endAnswer, endBuffer, recordFor, entriesOf}
 
 -- ---- the bytes that writing gives
 
@@ -44,6 +44,19 @@ pub record GivenLog (bs : List ℕ) : Type 0 where
   pub out : List ℕ
   pub begins : begun set alloc counter clock out .number ≡ 0
   pub gives : bs ≡ take (endAnswer (recorded (beginning set alloc counter clock out) visits) .length) (endBuffer (recorded (beginning set alloc counter clock out) visits))
+
+-- ---- a visit's field
+
+-- tag 16, length 17, the station in one byte, the others in four, and nothing behind them
+pub record FieldOf (e : Entry) (bs : List ℕ) : Type 0 where
+  pub tag : tagAt bs 0 ≡ 16
+  pub size : sizeAt bs 0 ≡ 17
+  pub station : at bs 3 ≡ e .station
+  pub start : numberAt bs 4 ≡ e .start
+  pub limit : numberAt bs 8 ≡ e .limit
+  pub synchronous : numberAt bs 12 ≡ e .synchronous
+  pub asynchronous : numberAt bs 16 ≡ e .asynchronous
+  pub long : length bs ≡ 20
 
 -- ---- what a recording leaves in its buffer
 
@@ -64,10 +77,9 @@ pub record GivesBack (t : Set) (a : Alloc) (es : List Entry) (bs : List ℕ) : T
 pub record Promised : Type 0 where
   -- a log without a visit is the plan sheet itself
   pub no-visit : (t : Set) (a : Alloc) → logOf t a [] ≡ planSheet t a
-  -- a visit more is its field more, before the end: tag 16, length 17, the station in one byte, the others in four, highest byte first
+  -- a visit more is its field more, before the end
   pub a-visit : (t : Set) (a : Alloc) (es : List Entry) (e : Entry) → logOf t a (es ++ (e ∷ [])) ≡ fieldsOf true t a ++ visitsBytes es ++ entryBytes e ++ mark 255 0
-  pub field : (e : Entry)
-      → entryBytes e ≡ mark 16 17 ++ (e .station % 256 ∷ []) ++ bytesOf (e .start) ++ bytesOf (e .limit) ++ bytesOf (e .synchronous) ++ bytesOf (e .asynchronous)
+  pub field : (e : Entry) → EntryFits e → FieldOf e (entryBytes e)
   -- a log has its plan's bytes and 20 for each visit
   pub long : (t : Set) (a : Alloc) (es : List Entry) → length (logOf t a es) ≡ planLength t + 20 * length es
   -- one log written out: TTRT 1, one station of w 1, C 0, D 1, P 1, S 0; a visit at counter 4,294,967,295 of limit 1, synchronous 2, asynchronous 259
@@ -123,8 +135,10 @@ pub record Promised : Type 0 where
   pub one-fault : (bs : List ℕ) (j k : ℕ) (f : FirstLogFault bs j) (g : FirstLogFault bs k) → (j ≡ k) × (f .place ≡ g .place)
   -- a log with no fault, and only such a one, gets another number: never 1, 2 or 3
   pub whole : (bs : List ℕ) → ((k : ℕ) → 1 ≤ k → k ≤ 3 → readLog bs .number ≢ k) ↔ WholeLog bs
-  -- its number is the judgement of the plan that its fields hold: 4, 5, 7 or 0; no number of a visit gives any
+  -- its number is the judgement of the plan that its fields hold; no number of a visit gives any
   pub judged : (bs : List ℕ) → WholeLog bs → readLog bs .number ≡ judgedPlan (setIn true bs) (allocIn true bs)
+  -- so it is 0, 4, 5 or 7
+  pub judged-one : (bs : List ℕ) → WholeLog bs → let k = readLog bs .number in (k ≡ 0) ⊎ ((k ≡ 4) ⊎ ((k ≡ 5) ⊎ (k ≡ 7)))
   -- a refused reading is blank
   pub blank : (bs : List ℕ) → readLog bs .number ≢ 0 → readLog bs ≡ refusedLog (readLog bs .number)
   -- an entry is handed out where a whole visit stands, and the blank one and 0 where none does
@@ -135,6 +149,8 @@ pub record Promised : Type 0 where
   pub back : (t : Set) (a : Alloc) (es : List Entry) → judgedPlan t a ≡ 0 → AllFit es → GivesBack t a es (logOf t a es)
   -- reading the bytes of any log that is laid out gives the number of its plan's judgement, whatever that is
   pub laid-out : (t : Set) (a : Alloc) (es : List Entry) → CountAllowed t → Numbers32 t → ((i : ℕ) → i < t .n → at (a .s) i < 2 ^ 32) → readLog (logOf t a es) .number ≡ judgedPlan t a
+  -- a log without its end is cut short, whatever its plan's judgement is
+  pub no-end : (t : Set) (a : Alloc) (es : List Entry) → CountAllowed t → readLog (fieldsOf true t a ++ visitsBytes es) .number ≡ 1
   -- accepted bytes are the log of what was read. `AllBytes` holds of any slice that is lent: `fields::count_bytes` ensures it
   pub again : (bs : List ℕ) → AllBytes bs → readLog bs .number ≡ 0
       → (bs ≡ logOf (readLog bs .set) (readLog bs .alloc) (entriesIn bs)) × ((judgedPlan (readLog bs .set) (readLog bs .alloc) ≡ 0) × AllFit (entriesIn bs))
@@ -159,10 +175,11 @@ pub record Promised : Type 0 where
         asynchronous = v .asynchronous .0;
       })
       × (v .station .0 < count r)
-  -- a run of calls on an opened ring, its accepted visits added one after another, leaves the log of its records; the starts are those of the clock modulo 2^32
-  pub run-recorded : (t : Set) (a : Alloc) (calls : List Call) (out : List ℕ) → judgedPlan t a ≡ 0 → planLength t + 20 * length (recordsOf t a calls) ≤ length out
-      → let s = recorded (beginning t a 0 0 out) (reverse (recordsOf t a calls)) in
+  -- a run of calls on an opened ring, its accepted visits added one after another, leaves the log of its records.
+  -- The starts are those of the clock, counted on from what the counter begins with, modulo 2^32
+  pub run-recorded : (t : Set) (a : Alloc) (counter : ℕ) (calls : List Call) (out : List ℕ) → judgedPlan t a ≡ 0 → planLength t + 20 * length (recordsOf t a calls) ≤ length out
+      → let s = recorded (beginning t a counter 0 out) (reverse (recordsOf t a calls)) in
       let long = planLength t + 20 * length (recordsOf t a calls) in
-      (endAnswer s ≡ record { length = long; number = 0 }) × (endBuffer s ≡ logOf t a (entriesOf t a calls) ++ drop long out)
+      (endAnswer s ≡ record { length = long; number = 0 }) × (endBuffer s ≡ logOf t a (entriesOf counter t a calls) ++ drop long out)
   -- and it is read back
-  pub run-back : (t : Set) (a : Alloc) (calls : List Call) → judgedPlan t a ≡ 0 → GivesBack t a (entriesOf t a calls) (logOf t a (entriesOf t a calls))
+  pub run-back : (t : Set) (a : Alloc) (counter : ℕ) (calls : List Call) → judgedPlan t a ≡ 0 → GivesBack t a (entriesOf counter t a calls) (logOf t a (entriesOf counter t a calls))

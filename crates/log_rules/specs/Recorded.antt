@@ -1,14 +1,13 @@
 -- A log that is written as a recorder does: begun, visit after visit added, ended. And the entries of a run of the ring model.
-use Prim.Native.Nat.{ℕ}
+use Prim.Native.Nat.{ℕ, _+_, _%_, _^_}
 use mathlib.Core.List.{List, [], _∷_, map, reverse}
 use lib.IntN.{pos}
 use Rattle.sets.specs.declared.Set.{Set}
 use Rattle.plans.specs.declared.Alloc.{Alloc}
-use Rattle.entries.specs.Entry.{EntryFits}
 use Rattle.entries.specs.declared.Entry.{Entry}
 use Rattle.sheets.specs.declared.Written.{Written}
 use Rattle.rings.specs.declared.VisitRecord.{VisitRecord}
-use Rattle.logs.specs.Writing.{low, begun, begunBuffer, added, addedBuffer, ended, endedBuffer}
+use Rattle.logs.specs.Writing.{begun, begunBuffer, added, addedBuffer, ended, endedBuffer}
 use Rattle.logs.specs.declared.Recorder.{Recorder}
 use Rattle.promises.specs.Run.{Call, noted, recordsOf}
 
@@ -46,11 +45,6 @@ endBuffer s = endedBuffer (s .recorder) (s .buffer)
 
 -- ---- entries
 
--- the numbers of all entries fit their fields
-abbrev pub AllFit : List Entry → Type 0
-AllFit [] = Unit {0}
-AllFit (e ∷ es) = EntryFits e × AllFit es
-
 -- a visit's record that has an entry's numbers
 abbrev pub recordFor : Entry → VisitRecord
 recordFor e =
@@ -66,17 +60,17 @@ recordFor e =
       completed = 0;
     }
 
--- the entry that says what a visit's record says, its start being the low 32 bits of the clock
-abbrev pub tells : VisitRecord → Entry
-tells v =
+-- the entry that says what a visit's record says, its start by a counter that was this one at clock 0
+abbrev pub tells : ℕ → VisitRecord → Entry
+tells counter v =
     record {
       station = v .station .0;
-      start = low (v .start .0);
+      start = (counter + v .start .0) % 2 ^ 32;
       limit = v .limit .0;
       synchronous = v .synchronous .0;
       asynchronous = v .asynchronous .0;
     }
 
 -- the entries of a run's accepted visits, the first one first
-abbrev pub entriesOf : Set → Alloc → List Call → List Entry
-entriesOf t a calls = map tells (reverse (recordsOf t a calls))
+abbrev pub entriesOf : ℕ → Set → Alloc → List Call → List Entry
+entriesOf counter t a calls = map (tells counter) (reverse (recordsOf t a calls))

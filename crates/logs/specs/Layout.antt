@@ -5,7 +5,7 @@ use Rattle.sets.specs.declared.Set.{Set}
 use Rattle.plans.specs.declared.Alloc.{Alloc}
 use mathlib.Core.Bool.{true}
 use lib.ListN.{length}
-use Rattle.entries.specs.Entry.{visitLength, entryBytes}
+use Rattle.entries.specs.Entry.{visitLength, entryBytes, EntryFits}
 use Rattle.entries.specs.declared.Entry.{Entry}
 use Rattle.sheets.specs.Layout.{fieldsOf, endBytes, sheetLength}
 
@@ -21,3 +21,8 @@ logOf t a es = fieldsOf true t a ++ visitsBytes es ++ endBytes
 -- how many bytes it has: those of the plan sheet, and 20 for each visit
 abbrev pub logLength : Set → List Entry → ℕ
 logLength t es = sheetLength true t + visitLength * length es
+
+-- the numbers of all entries fit their fields
+abbrev pub AllFit : List Entry → Type 0
+AllFit [] = Unit {0}
+AllFit (e ∷ es) = EntryFits e × AllFit es

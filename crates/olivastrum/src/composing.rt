@@ -1,30 +1,53 @@
-// `compose`: the sheet of the text on standard input.
+// `compose`: the sheet of the text on standard input, or the log; a log's bytes go out as its lines come.
 use crate::ending;
 use crate::ending::Ending;
-use crate::reading;
 use drafts::Composing;
 use drafts::Draft;
-use libc::STDERR_FILENO;
 use libc::STDIN_FILENO;
 
-// The text behind one reading, whether the input goes on, and whether it could not be read.
+// The text behind one reading, whether the input goes on, and whether reading or writing failed.
 struct Read {
     composing: Composing,
     more: bool,
     failed: bool,
 }
 
-// Reads once.
-fn piece(c: Composing) -> Read {
-    let mut text = io::buffer();
-    let filled = reading::fill(STDIN_FILENO, &mut text);
-    let length = filled.length;
-    let behind = drafts::compose_on(c, &text[..length]);
+// Takes these bytes of the text, and writes what they let out.
+fn take(c: Composing, text: &[u8]) -> Read {
+    let mut page = io::large_buffer();
+    let composed = drafts::compose_on(c, text, &mut page);
+    let length = composed.length;
+    let wrote = ending::say(&page[..length]);
+    let behind = composed.composing;
     Read {
         composing: behind,
-        more: length == 4096,
-        failed: filled.failed,
+        more: wrote,
+        failed: !wrote,
     }
+}
+
+// The input has ended, or cannot be read.
+fn stopped(c: Composing, failed: bool) -> Read {
+    Read {
+        composing: c,
+        more: false,
+        failed,
+    }
+}
+
+// Reads once: as many bytes as are taken at once.
+fn piece(c: Composing) -> Read {
+    let mut text: [u8; 2_048] = [0; 2_048];
+    let got = libc::read(STDIN_FILENO, &mut text);
+    if got < 0 {
+        ending::unread_input();
+        return stopped(c, true);
+    }
+    let length = io::count(got, &text);
+    if length == 0 {
+        return stopped(c, false);
+    }
+    take(c, &text[..length])
 }
 
 // All the input; the pieces are counted down, from a number that no text uses up.
@@ -40,22 +63,10 @@ fn all(c: Composing) -> Read {
         stands = behind;
         turns -= 1;
     }
-    Read {
-        composing: stands,
-        more: true,
-        failed: true,
-    }
+    stopped(stands, true)
 }
 
-// The line that cannot be read, said on standard error.
-fn name_line(line: u64) -> Ending {
-    let mut page = io::large_buffer();
-    let length = console::unread_text(line, &mut page);
-    io::write_all(STDERR_FILENO, &page[..length]);
-    ending::failed()
-}
-
-// Writes the sheet, or says why there is none.
+// Writes the sheet or the end of the log, or says why there is none.
 fn write(draft: Draft) -> Ending {
     let mut out = io::large_buffer();
     let written = drafts::compose_end(draft, &mut out);
@@ -71,15 +82,19 @@ pub(crate) fn compose() -> Ending {
     let begun = drafts::begin();
     let read = all(begun);
     if read.failed {
-        return ending::unread_input();
+        return ending::failed();
     }
-    let text = read.composing;
     // A last line may lack its newline.
-    let ended = drafts::compose_on(text, b"\n");
+    let text = read.composing;
+    let last = take(text, b"\n");
+    if last.failed {
+        return ending::failed();
+    }
+    let ended = last.composing;
     let draft = ended.draft;
     let line = draft.unread;
     if line != 0 {
-        return name_line(line);
+        return ending::name_line(line);
     }
     write(draft)
 }

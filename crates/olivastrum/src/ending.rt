@@ -69,3 +69,11 @@ pub(crate) fn refuse_sheet(number: u8) -> Ending {
     }
     done(true)
 }
+
+// The line that cannot be read, said on standard error.
+pub(crate) fn name_line(line: u64) -> Ending {
+    let mut page = io::large_buffer();
+    let length = console::unread_text(line, &mut page);
+    io::write_all(STDERR_FILENO, &page[..length]);
+    failed()
+}

@@ -8,7 +8,8 @@ fn more(before: bool, to: i32, text: &[u8]) -> bool {
     io::write_all(to, text)
 }
 
-fn commands(to: i32) -> bool {
+// The commands for sheets.
+fn sheets(to: i32) -> bool {
     let name = more(
         true,
         to,
@@ -27,20 +28,29 @@ fn commands(to: i32) -> bool {
     let compose = more(
         plan_sheet,
         to,
-        b"  olivastrum compose < TEXT         write the request or plan sheet of a text\n",
+        b"  olivastrum compose < TEXT         write the request sheet, plan sheet or log of a text\n",
     );
-    let show = more(
+    more(
         compose,
         to,
-        b"  olivastrum show < SHEET           print a request or plan sheet as text\n",
-    );
+        b"  olivastrum show < SHEET           print a request sheet, plan sheet or log as text\n",
+    )
+}
+
+// The commands for rings, and the rest.
+fn rings(before: bool, to: i32) -> bool {
     let run = more(
-        show,
+        before,
         to,
         b"  olivastrum run PLAN < CALLS       open the ring of the plan sheet in the file PLAN, and answer each call\n",
     );
-    let version = more(
+    let log = more(
         run,
+        to,
+        b"  olivastrum log PLAN < CALLS       write the log of that run: what a recorder would write\n",
+    );
+    let version = more(
+        log,
         to,
         b"  olivastrum version                print the version\n",
     );
@@ -73,24 +83,35 @@ fn examples(before: bool, to: i32) -> bool {
         b"  olivastrum compose < examples/four-stations.txt > four.request\n",
     );
     let show = more(compose, to, b"  olivastrum show < four.plan\n");
-    more(
+    let run = more(
         show,
         to,
-        b"  olivastrum run four.plan < examples/worked-run.calls\n\n",
+        b"  olivastrum run four.plan < examples/worked-run.calls\n",
+    );
+    more(
+        run,
+        to,
+        b"  olivastrum log four.plan < examples/worked-run.calls > worked.log\n\n",
     )
 }
 
 // All of it; false where it could not be written.
 pub(crate) fn print(to: i32) -> bool {
-    let first = commands(to);
-    let second = examples(first, to);
+    let first = sheets(to);
+    let named = rings(first, to);
+    let second = examples(named, to);
     let calls = more(
         second,
         to,
         b"The calls are lines `visit FRAMES`, `visit FRAMES LENGTH` and `message STATION LENGTH ARRIVAL`.\n",
     );
-    more(
+    let lines = more(
         calls,
+        to,
+        b"A text has lines `ttrt TTRT`, `mode M`, `frame F`, `station W C D P` or `station W C D P S`, and `visit STATION START LIMIT SYNC ASYNC`.\n",
+    );
+    more(
+        lines,
         to,
         b"README.md says what the numbers of the refusals and the exit statuses mean.\n",
     )

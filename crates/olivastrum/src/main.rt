@@ -2,8 +2,11 @@
 mod composing;
 mod ending;
 mod help;
+mod logging;
+mod planned;
 mod reading;
 mod running;
+mod showing;
 
 use ending::Ending;
 use libc::STDERR_FILENO;
@@ -46,23 +49,9 @@ fn plan_sheet() -> Ending {
     ending::answer(&out[..length], false)
 }
 
-// `show`: the text of the sheet on standard input, or the refusal. The longest plan sheet has 3,349 bytes; one more tells that a byte follows it.
-fn show() -> Ending {
-    let mut sheet: [u8; 3_350] = [0; 3_350];
-    let filled = reading::fill(STDIN_FILENO, &mut sheet);
-    if filled.failed {
-        return ending::unread_input();
-    }
-    let read = filled.length;
-    let mut page = io::large_buffer();
-    let length = shows::show_text(&sheet[..read], &mut page);
-    let refused = usage::is_refusal(&page[..length]);
-    ending::answer(&page[..length], refused)
-}
-
 // `version`: the version, here and nowhere else in the sources.
 fn version() -> Ending {
-    ending::answer(b"0.6.1\n", false)
+    ending::answer(b"0.7.0\n", false)
 }
 
 // `help`.
@@ -103,11 +92,12 @@ fn obey(first: usize, second: usize) -> Ending {
     match asked {
         1 => plan(),
         2 => plan_sheet(),
-        3 => running::run(second),
+        3 => planned::obey(false, second),
         4 => composing::compose(),
-        5 => show(),
+        5 => showing::show(),
         6 => print_help(),
         7 => version(),
+        8 => planned::obey(true, second),
         _ => none(),
     }
 }

@@ -1,4 +1,6 @@
 // Reading until a buffer is full.
+ghost use Prim.Native.Nat.{_+_, min};
+ghost use mathlib.Core.Path.{_≡_};
 ghost use Rattle.io.specs.Counts.{Counts};
 
 // How many bytes came, and whether a read failed.
@@ -27,4 +29,17 @@ pub(crate) fn fill(from: i32, buffer: &mut [u8]) -> Filled
         length,
         failed: false,
     }
+}
+
+// The place so many bytes further on, or the end.
+pub(crate) fn further(at: usize, by: usize, end: usize) -> usize
+    ensures { λ r. ⌜ r ≡ min (at + by) end ⌝ }
+{
+    if end <= at {
+        return end;
+    }
+    if end - at < by {
+        return end;
+    }
+    at + by
 }

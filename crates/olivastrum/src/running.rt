@@ -1,9 +1,7 @@
 // `run PLAN`: the calls on standard input, answered line by line.
 use crate::ending;
 use crate::ending::Ending;
-use crate::reading;
 use calls::Run;
-use libc::STDERR_FILENO;
 use libc::STDIN_FILENO;
 
 // The run behind one reading: whether the input goes on, whether a line could not be read, and whether reading or writing failed.
@@ -79,7 +77,7 @@ fn hear_all(run: Run) -> Heard {
 }
 
 // Opens the ring of a plan sheet, and answers the calls.
-fn start(sheet: &[u8]) -> Ending {
+pub(crate) fn start(sheet: &[u8]) -> Ending {
     let opened = calls::open_run(sheet);
     let number = opened.number;
     if number != 0 {
@@ -97,46 +95,4 @@ fn start(sheet: &[u8]) -> Ending {
         failed: heard.unread | (last.unread | last.failed),
         refused: false,
     }
-}
-
-// Names the path, and what the system says of it.
-fn fail(path: &[u8]) -> Ending {
-    io::write_all(STDERR_FILENO, b"run: ");
-    os::fail(path);
-    ending::failed()
-}
-
-// Reads the plan sheet in an open file: the longest, of 128 stations with a mode and F, has 3,349 bytes; one more tells that a byte follows it.
-fn read_plan(file: i32, path: &[u8]) -> Ending {
-    let mut sheet: [u8; 3_350] = [0; 3_350];
-    let filled = reading::fill(file, &mut sheet);
-    if filled.failed {
-        return fail(path);
-    }
-    let length = filled.length;
-    start(&sheet[..length])
-}
-
-// Runs the plan whose path is the word at this place.
-pub(crate) fn run(word: usize) -> Ending {
-    let mut path = io::buffer();
-    let length = os::arg(word, &mut path);
-    if os::errno() != 0 {
-        return fail(b"the path of the plan");
-    }
-    let file = os::open_read(&path[..length]);
-    if file < 0 {
-        return fail(&path[..length]);
-    }
-    // A plan that is opened as one of the three would be read as the calls, or written over.
-    if file <= STDERR_FILENO {
-        io::write_all(
-            STDERR_FILENO,
-            b"run: standard input, output or error is closed\n",
-        );
-        return ending::failed();
-    }
-    let ended = read_plan(file, &path[..length]);
-    libc::close(file);
-    ended
 }

@@ -58,7 +58,7 @@ further-word tag =
 
 -- ---- one line
 
-typed-composed : (d : Draft) (word ns : List ℕ) → steppedOver freshScan word ≡ wordScan word → codeOf word ≢ 0 → hasNoEnd word ≡ true → length ns ≤ 5 → AllSmall ns
+pub typed-composed : (d : Draft) (word ns : List ℕ) → steppedOver freshScan word ≡ wordScan word → codeOf word ≢ 0 → hasNoEnd word ≡ true → length ns ≤ 5 → AllSmall ns
     → composeAfter (atRest d) (typed word ns ++ (newline ∷ [])) ≡ atRest (onNextLine (lineDrafted d (withNumbers (wordScan word) ns)))
 typed-composed d word ns e w inside few small =
     compose-line (atRest d) (typed word ns) (no-end-typed word ns inside)

@@ -64,6 +64,6 @@ module _ (d : Draft) (tag : ℕ) (out : List ℕ) (whole : isWhole d ≡ true) (
   pub other-four : composedAnswer d out .number ≡ 4
   unfolding composedAnswer
   other-four =
-      ⊎-elim (λ (e : eqb (d .kind) 2 ≡ true). rw (whole, e) (four true (d .alloc)))
-      (λ (e : eqb (d .kind) 2 ≡ false). rw (whole, e) (four false blankAlloc))
-      (true-or-false (eqb (d .kind) 2))
+      ⊎-elim (λ (e : leb 2 (d .kind) ≡ true). rw (whole, e) (four true (d .alloc)))
+      (λ (e : leb 2 (d .kind) ≡ false). rw (whole, e) (four false blankAlloc))
+      (true-or-false (leb 2 (d .kind)))

@@ -2,11 +2,13 @@
 --     PlanTextLaws, PlanSheetLaws, ShowLaws   what is put out where reading or planning refuses, and where they accept
 --     DraftLaws      the draft of the text that `show` prints
 --     ShownLaws      `show`, then `compose`, is the identity on accepted sheets
+--     LogTextLaws    the text of a log makes its bytes
 --     HeaderLineLaws   a further line of the header in a text
 pub mod PlanTextLaws
 pub mod PlanSheetLaws
 pub mod ShowLaws
 pub mod DraftLaws
 pub mod ShownLaws
+pub mod LogTextLaws
 pub mod HeaderLineLaws
 pub mod Promised

@@ -27,6 +27,7 @@ use Rattle.sheets.specs.declared.ReadRequest.{ReadRequest}
 use Rattle.sheets.specs.declared.Written.{Written}
 use Rattle.text.specs.Text.{decimalWithin, lineOn, line, textOr, refusedLine}
 use Rattle.drafts.specs.Compose.{wordOf}
+use Rattle.drafts.proofs.SentLaws.{broken-text, refused-plan-text, broken-end, no-visit-text, early-visit, late-line}
 use Rattle.outputs.specs.PlanText.{planLines, plannedText, requestText, planPrinted}
 use Rattle.text.specs.TextLaws.{text-accepted, text-refused}
 use Rattle.outputs.specs.PlanSheet.{planningNumber, answerOr, bufferOr}
@@ -34,6 +35,7 @@ use Rattle.outputs.specs.Promised.{Promised, workedSheet, workedText, ol
 use Rattle.outputs.specs.ShowText.{furtherLine, headLines, shareWords, stationLine, sheetText, showPrinted}
 use Rattle.outputs.proofs.ShowLaws.{shown-request}
 use Rattle.outputs.proofs.ShownLaws.{shown-composed}
+use Rattle.outputs.proofs.LogTextLaws.{log-composed, refused-ends}
 use Rattle.outputs.proofs.HeaderLineLaws.{line-given, other-four, second-broken, late-broken}
 
 -- ---- the same plan
@@ -140,6 +142,7 @@ promised =
           );
       same-refusal = λ sheet out k. (refused-text sheet k, (or-refused (planningNumber (readRequest sheet)) _ k, or-kept (planningNumber (readRequest sheet)) _ out k));
       show-compose = shown-composed;
+      log-compose = log-composed;
       older = shown-set olderSheet (olderSet 1) older-read ∙ older-lines;
       framed = shown-set framedSheet (olderSet 40) framed-read ∙ framed-lines;
       header-line = line-given;
@@ -147,4 +150,11 @@ promised =
           other-four d tag out whole count (subst (λ (n : ℕ). ¬ ((1 ≤ n) × (n ≤ mostOf tag))) (sym e) (header-out (mostOf tag) number outside));
       header-twice = second-broken;
       header-late = late-broken;
+      no-visit = no-visit-text;
+      early-visit = early-visit;
+      late-line = late-line;
+      broken-silent = broken-text;
+      broken-refused = broken-end;
+      refused-silent = refused-plan-text;
+      refused-end = refused-ends;
     }

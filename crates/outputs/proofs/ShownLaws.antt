@@ -13,9 +13,10 @@ use Rattle.plans.specs.Planned.{blankAlloc}
 use Rattle.plans.specs.declared.Alloc.{Alloc}
 use Rattle.fields.specs.Bytes.{AllBytes}
 use Rattle.fields.specs.Fields.{modeTag}
-use Rattle.sheets.specs.Layout.{headNumber, mostOf}
+use Rattle.sheets.specs.Layout.{headNumber, mostOf, sheetOf, planSheet, sheetLength}
 use Rattle.sheets.proofs.ReadingLaws.{head-ranges}
-use Rattle.sheets.specs.Reading.{setIn, allocIn, readSheet, readRequest, readPlan}
+use Rattle.sheets.proofs.WritingLaws.{answer-accepted, buffer-accepted, number-none, sheet-long}
+use Rattle.sheets.specs.Reading.{judgedSheet, setIn, allocIn, readSheet, readRequest, readPlan}
 use Rattle.sheets.specs.Writing.{writtenAnswer, writtenBuffer}
 use Rattle.sheet_rules.specs.Promised.{firstPlaces, firstAllocations}
 use Rattle.sheets.specs.ReadLaws.{then-none, read-number, sheet-accepted, Kept, judged-kept}
@@ -23,8 +24,10 @@ use Rattle.sheet_rules.proofs.Promised.{promised}
 use Rattle.text.specs.Text.{newline}
 use Rattle.outputs.specs.ShowText.{sheetText, showPrinted}
 use Rattle.outputs.proofs.ShowLaws.{shown-request, shown-plan, shown-as-plan}
-use Rattle.drafts.specs.Compose.{onNextLine, composeStart, composeAfter, composedAnswer, composedBuffer, draftOf, Composes}
-use Rattle.drafts.specs.ComposeLaws.{compose-append, newline-more}
+use Rattle.drafts.specs.Compose.{onNextLine, composeStart, composeAfter, composedAnswer, composedBuffer, draftOf}
+use Rattle.drafts.specs.ComposeLaws.{compose-append, newline-more, atRest}
+use Rattle.drafts.specs.Sent.{sentOver, sentOf, endAnswer, endBuffer, Composes}
+use Rattle.drafts.proofs.SentLaws.{sent-append, sent-newline, text-silent, end-of-sheet, not-a-log}
 use Rattle.drafts.specs.declared.Draft.{Draft}
 use Rattle.drafts.specs.declared.Composing.{Composing}
 use Rattle.outputs.proofs.DraftLaws.{SmallAt, head-some, kindOf, shareOf, kindBehind, draftBehind, text-drafted}
@@ -44,6 +47,12 @@ unfolding readSheet
 read-kept plan sheet h =
     let both = then-none _ _ (sym (read-number _ _ _) ∙ h) in
     rw (sheet-accepted plan sheet (both .0) (both .1)) (judged-kept plan (setIn plan sheet) (allocIn plan sheet) (both .1))
+
+kind-few : (plan : Bool) (n : ℕ) → kindBehind plan n ≤ 2
+unfolding kindBehind
+kind-few plan zero = omega arith
+kind-few true (suc n) = omega arith
+kind-few false (suc n) = omega arith
 
 most-small : (tag : ℕ) → mostOf tag < 2 ^ 32
 unfolding mostOf
@@ -65,18 +74,37 @@ module _ (plan : Bool) (t : Set) (a : Alloc) (k : Kept plan t a) where
   head-number-small tag = omega (arith, head-ranges (t .head) (k .numbers .header) tag, most-small tag)
 
   -- the draft of its text
+  pub kept-drafted : composeAfter composeStart (sheetText plan t a) ≡ atRest (draftBehind plan t a (t .n))
+  kept-drafted = text-drafted t a plan (omega (arith, k .numbers .header .ttrt)) head-number-small (omega (arith, k .count)) small-at
+
   shown-draft : (text : List ℕ) → text ≡ sheetText plan t a → draftOf text ≡ onNextLine (draftBehind plan t a (t .n))
   shown-draft text e =
-      let drafted = text-drafted t a plan (omega (arith, k .numbers .header .ttrt)) head-number-small (omega (arith, k .count)) small-at in
       ap (λ (c : Composing). c .draft)
       (ap (λ (x : List ℕ). composeAfter composeStart (x ++ (newline ∷ []))) e
       ∙ compose-append composeStart (sheetText plan t a) (newline ∷ [])
-      ∙ ap (λ (c : Composing). composeAfter c (newline ∷ [])) drafted
+      ∙ ap (λ (c : Composing). composeAfter c (newline ∷ [])) kept-drafted
       ∙ newline-more (draftBehind plan t a (t .n)))
+
+  -- while it is read nothing goes out
+  no-visits : draftBehind plan t a (t .n) .kind ≤ 2
+  unfolding draftBehind
+  no-visits = kind-few plan (t .n)
+
+  pub kept-silent : sentOver composeStart (sheetText plan t a) ≡ []
+  kept-silent =
+      text-silent composeStart (sheetText plan t a) (omega (arith, no-visits, ap (λ (c : Composing). c .draft .kind) kept-drafted)) .1
+
+  shown-silent : (text : List ℕ) → text ≡ sheetText plan t a → sentOf text ≡ []
+  shown-silent text e =
+      ap sentOf e
+      ∙ sent-append composeStart (sheetText plan t a) (newline ∷ [])
+      ∙ ap (λ (x : List ℕ). x ++ sentOver (composeAfter composeStart (sheetText plan t a)) (newline ∷ [])) kept-silent
+      ∙ ap (λ (c : Composing). sentOver c (newline ∷ [])) kept-drafted
+      ∙ sent-newline (draftBehind plan t a (t .n))
 
 -- ---- and the sheet that is written of that draft
 
-kind-some : (plan : Bool) (n : ℕ) → 1 ≤ n → kindBehind plan n ≡ kindOf plan
+pub kind-some : (plan : Bool) (n : ℕ) → 1 ≤ n → kindBehind plan n ≡ kindOf plan
 unfolding kindBehind
 kind-some plan zero l = absurd (omega arith)
 kind-some plan (suc n) l = refl
@@ -96,46 +124,68 @@ module _ (t : Set) (a : Alloc) (some : 1 ≤ t .n) (out : List ℕ) where
       let head = head-some (t .head) in
       (rw (head, kind-some true (t .n) some), rw (head, kind-some true (t .n) some))
 
+-- the sheet of a plan that is accepted
+plan-first : (t : Set) (a : Alloc) (some : 1 ≤ t .n) (few : t .n ≤ 128) (out : List ℕ)
+    → (composedAnswer (onNextLine (draftBehind true t a (t .n))) out ≡ writtenAnswer true t a out)
+    × (composedBuffer (onNextLine (draftBehind true t a (t .n))) out ≡ writtenBuffer true t a out)
+plan-first t a some few out =
+    let written = plan-written t a some out in
+    let first = promised .plan-first-places t (firstPlaces t) a (firstAllocations (t .n) a) out (promised .back-same t few) (promised .back-allocations (t .n) a few) in
+    (written .0 ∙ sym (first .0), written .1 ∙ sym (first .1))
+
+pub plan-again : (t : Set) (a : Alloc) → judgedSheet true t a ≡ 0 → (out : List ℕ) → length (planSheet t a) ≤ length out
+    → (composedAnswer (onNextLine (draftBehind true t a (t .n))) out ≡ record { length = length (planSheet t a); number = 0 })
+    × (composedBuffer (onNextLine (draftBehind true t a (t .n))) out ≡ planSheet t a ++ drop (length (planSheet t a)) out)
+plan-again t a judged out fits =
+    let kept = judged-kept true t a judged in
+    let first = plan-first t a (kept .count .0) (kept .count .1) out in
+    let none = number-none true t a out judged (omega (arith, sheet-long true t a)) in (
+      first .0 ∙ answer-accepted _ (sheetLength true t) none ∙ ap (λ (n : ℕ). record { length = n; number = 0 }) (sym (sheet-long true t a)),
+      first .1 ∙ buffer-accepted _ (sheetOf true t a) out none,
+    )
+
 -- ---- the same bytes again
 
-composed-again : (plan : Bool) (t : Set) (a : Alloc) (sheet : List ℕ) → Kept plan t a → showPrinted sheet ≡ sheetText plan t a
+pub kept-composes : (plan : Bool) (t : Set) (a : Alloc) (sheet text : List ℕ) → Kept plan t a → text ≡ sheetText plan t a
     → ((out : List ℕ) → length sheet ≤ length out
     → (composedAnswer (onNextLine (draftBehind plan t a (t .n))) out ≡ record { length = length sheet; number = 0 })
     × (composedBuffer (onNextLine (draftBehind plan t a (t .n))) out ≡ sheet ++ drop (length sheet) out))
-    → Composes (showPrinted sheet) sheet
+    → Composes text [] sheet
 unfolding draftBehind
-composed-again plan t a sheet kept shown written =
-    let drafted = shown-draft plan t a kept (showPrinted sheet) shown in
+kept-composes plan t a sheet text kept shown written =
+    let drafted = shown-draft plan t a kept text shown in
+    let d = onNextLine (draftBehind plan t a (t .n)) in
+    let sheet-only = not-a-log (onNextLine (draftBehind plan t a (t .n))) (kind-few plan (t .n)) in
     record {
       readable = ap (λ (d : Draft). d .unread) drafted;
-      answer = λ out fits. ap (λ (d : Draft). composedAnswer d out) drafted ∙ written out fits .0;
-      buffer = λ out fits. ap (λ (d : Draft). composedBuffer d out) drafted ∙ written out fits .1;
+      sent = shown-silent plan t a kept text shown;
+      answer = λ out fits. ap (λ (d : Draft). endAnswer d out) drafted ∙ end-of-sheet d out sheet-only .0 ∙ written out fits .0;
+      buffer = λ out fits. ap (λ (d : Draft). endBuffer d out) drafted ∙ end-of-sheet d out sheet-only .1 ∙ written out fits .1;
     }
 
-request-composed : (sheet : List ℕ) → AllBytes sheet → readRequest sheet .number ≡ 0 → Composes (showPrinted sheet) sheet
+request-composed : (sheet : List ℕ) → AllBytes sheet → readRequest sheet .number ≡ 0 → Composes (showPrinted sheet) [] sheet
 request-composed sheet bytes h =
     let t = readRequest sheet .set in
     let kept = read-kept false sheet h in
-    composed-again false (readRequest sheet .set) blankAlloc sheet (record { count = kept .count; numbers = kept .numbers; allocations = λ e. absurd (false≢true e) }) (request-shown sheet h)
+    let alone : Kept false (readRequest sheet .set) blankAlloc = record { count = kept .count; numbers = kept .numbers; allocations = λ e. absurd (false≢true e) } in
+    kept-composes false (readRequest sheet .set) blankAlloc sheet (showPrinted sheet) alone (request-shown sheet h)
     (λ out fits.
     let written = request-written t blankAlloc (kept .count .0) out in
     let first = promised .request-first-places t (firstPlaces t) out (promised .back-same t (kept .count .1)) in
     let again = promised .request-again sheet out bytes h fits in
     (written .0 ∙ sym (first .0) ∙ again .0, written .1 ∙ sym (first .1) ∙ again .1))
 
-plan-composed : (sheet : List ℕ) → AllBytes sheet → readPlan sheet .number ≡ 0 → Composes (showPrinted sheet) sheet
+plan-composed : (sheet : List ℕ) → AllBytes sheet → readPlan sheet .number ≡ 0 → Composes (showPrinted sheet) [] sheet
 plan-composed sheet bytes h =
     let t = readPlan sheet .set in
     let a = readPlan sheet .alloc in
     let kept = read-kept true sheet h in
-    composed-again true (readPlan sheet .set) (readPlan sheet .alloc) sheet kept (plan-shown sheet h)
+    kept-composes true (readPlan sheet .set) (readPlan sheet .alloc) sheet (showPrinted sheet) kept (plan-shown sheet h)
     (λ out fits.
-    let few = kept .count .1 in
-    let written = plan-written t a (kept .count .0) out in
-    let first = promised .plan-first-places t (firstPlaces t) a (firstAllocations (t .n) a) out (promised .back-same t few) (promised .back-allocations (t .n) a few) in
+    let first = plan-first t a (kept .count .0) (kept .count .1) out in
     let again = promised .plan-again sheet out bytes h fits in
-    (written .0 ∙ sym (first .0) ∙ again .0, written .1 ∙ sym (first .1) ∙ again .1))
+    (first .0 ∙ again .0, first .1 ∙ again .1))
 
-pub shown-composed : (plan : Bool) (sheet : List ℕ) → AllBytes sheet → readSheet plan sheet .number ≡ 0 → Composes (showPrinted sheet) sheet
+pub shown-composed : (plan : Bool) (sheet : List ℕ) → AllBytes sheet → readSheet plan sheet .number ≡ 0 → Composes (showPrinted sheet) [] sheet
 shown-composed true = plan-composed
 shown-composed false = request-composed

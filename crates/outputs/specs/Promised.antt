@@ -6,17 +6,27 @@ use mathlib.Core.List.{List, [], _∷_, _++_}
 use mathlib.Core.Logic.{_≢_}
 use lib.ListN.{length, drop}
 use Rattle.sets.specs.Rules.{CountAllowed}
-use Rattle.plans.specs.Planned.{planned}
+use Rattle.sets.specs.declared.Set.{Set}
+use Rattle.plans.specs.Planned.{judgedPlan, planned}
+use Rattle.plans.specs.declared.Alloc.{Alloc}
+use Rattle.entries.specs.declared.Entry.{Entry}
+use Rattle.logs.specs.Layout.{logOf, AllFit}
 use Rattle.fields.specs.Bytes.{AllBytes}
 use Rattle.fields.specs.Header.{headerNumber}
 use Rattle.sheets.specs.Layout.{headNumber, mostOf, planSheet}
 use Rattle.sheets.specs.Reading.{readSheet, readRequest}
-use Rattle.text.specs.Text.{refusedLine}
-use Rattle.drafts.specs.Compose.{withFurther, isWhole, composedAnswer, Composes}
+use Rattle.sheets.specs.Writing.{refusedWriting}
+use Rattle.text.specs.Text.{newline, refusedLine}
+use Rattle.lines.specs.Scan.{isEmptyLine}
+use Rattle.lines.specs.declared.Scan.{Scan}
+use Rattle.drafts.specs.Compose.{isVisitLine, withFurther, withVisit, lineDrafted, composeStart, composeAfter, isWhole, composedAnswer, composedBuffer, draftOf}
+use Rattle.drafts.specs.Sent.{sentOver, endAnswer, endBuffer, sentOf, Composes, Makes, noVisit, Broken}
 use Rattle.drafts.specs.declared.Draft.{Draft}
+use Rattle.drafts.specs.declared.Composing.{Composing}
 use Rattle.outputs.specs.PlanText.{planLines, planPrinted}
 use Rattle.outputs.specs.PlanSheet.{planningNumber, planSheetAnswer, planSheetBuffer}
 use Rattle.outputs.specs.ShowText.{showPrinted}
+use Rattle.outputs.specs.LogText.{logText}
 
 -- ★ the request sheet of the worked ring, and what 01 prints for it
 abbrev pub workedSheet : List ℕ
@@ -67,8 +77,10 @@ pub record Promised : Type 0 where
   pub same-refusal : (sheet out : List ℕ) → planningNumber (readRequest sheet) ≢ 0
       → (planPrinted sheet ≡ refusedLine (planningNumber (readRequest sheet)))
       × ((planSheetAnswer (readRequest sheet) out .number ≡ planningNumber (readRequest sheet)) × (planSheetBuffer (readRequest sheet) out ≡ out))
-  -- `show`, then `compose`, is the identity on accepted sheets: of the text that is shown of a request or a plan, its very bytes are made again
-  pub show-compose : (plan : Bool) (sheet : List ℕ) → AllBytes sheet → readSheet plan sheet .number ≡ 0 → Composes (showPrinted sheet) sheet
+  -- `show`, then `compose`, is the identity on accepted sheets: of the text that is shown of a request or a plan, its very bytes are made again, all of them at its end
+  pub show-compose : (plan : Bool) (sheet : List ℕ) → AllBytes sheet → readSheet plan sheet .number ≡ 0 → Composes (showPrinted sheet) [] sheet
+  -- and of the text of a log, the lines of an accepted plan and then those of its visits, the bytes of that log
+  pub log-compose : (t : Set) (a : Alloc) (es : List Entry) → judgedPlan t a ≡ 0 → AllFit es → Makes (logText t a es) (logOf t a es)
   -- `show` prints `mode 2` behind `ttrt` for an older set, to the byte
   pub older : showPrinted olderSheet ≡ olderText
   -- and `frame 40` behind that
@@ -81,3 +93,19 @@ pub record Promised : Type 0 where
   -- a second one, one behind a line with a higher tag, and one behind a station stand out of place, and then no sheet is made
   pub header-twice : (d : Draft) (tag number : ℕ) → tag ≤ d .head → isWhole (withFurther d tag number) ≡ false
   pub header-late : (d : Draft) (tag number : ℕ) → d .set .n ≢ 0 → isWhole (withFurther d tag number) ≡ false
+  -- a text without a visit lets out nothing while it is read, and its last bytes are its sheet, or why there is none
+  pub no-visit : (text out : List ℕ) → noVisit composeStart (text ++ (newline ∷ [])) ≡ true
+      → (sentOf text ≡ []) × (endAnswer (draftOf text) out ≡ composedAnswer (draftOf text) out) × (endBuffer (draftOf text) out ≡ composedBuffer (draftOf text) out)
+  -- a visit before a plan's stations stands out of place
+  pub early-visit : (d : Draft) → d .kind < 2 → Broken (withVisit d)
+  -- behind a visit every line but an empty one and another visit cannot be read or stands out of place
+  pub late-line : (d : Draft) (s : Scan) → 3 ≤ d .kind → 1 ≤ d .head → d .set .n ≢ 0 → d .line ≢ 0 → isEmptyLine s ≡ false → isVisitLine s ≡ false → Broken (lineDrafted d s)
+  -- behind such a line nothing goes out
+  pub broken-silent : (c : Composing) (bs : List ℕ) → Broken (c .draft) → (sentOver c bs ≡ []) × Broken (composeAfter c bs .draft)
+  -- and no end is written: the answer is 2
+  pub broken-refused : (d : Draft) (out : List ℕ) → Broken d → (endAnswer d out ≡ refusedWriting 2) × (endBuffer d out ≡ out)
+  -- behind the first visit of a plan that is refused nothing goes out
+  pub refused-silent : (c : Composing) (bs : List ℕ) → c .draft .kind ≡ 4 → (sentOver c bs ≡ []) × (composeAfter c bs .draft .kind ≡ 4)
+  -- and where no line stands out of place, the answer at the end is the plan's number, and no byte is written
+  pub refused-end : (d : Draft) (out : List ℕ) → d .kind ≡ 4 → isWhole d ≡ true → judgedPlan (d .set) (d .alloc) ≢ 0
+      → (endAnswer d out ≡ refusedWriting (judgedPlan (d .set) (d .alloc))) × (endBuffer d out ≡ out)

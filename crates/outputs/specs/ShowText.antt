@@ -2,7 +2,7 @@
 use Prim.Native.Nat.{ℕ, zero, suc, _+_}
 use mathlib.Core.Bool.{Bool, true, false, cond}
 use mathlib.Core.List.{List, [], _∷_, _++_}
-use lib.Dec.{eqb}
+use lib.Dec.{leb, eqb}
 use Rattle.units.specs.Numbers.{wrongShape}
 use Rattle.units.specs.Places.{at}
 use Rattle.sets.specs.declared.Head.{Head}
@@ -47,6 +47,10 @@ stationLine plan t a i =
 -- the header's lines, then a line for each station in ring order
 unfoldable pub sheetText : Bool → Set → Alloc → List ℕ
 sheetText plan t a = headLines (t .head) furtherCount ++ rows (t .n) (stationLine plan t a)
+
+-- the text of a plan, if it has no more stations than a plan may have
+unfoldable pub planLinesOf : Set → Alloc → List ℕ
+planLinesOf t a = cond (leb (t .n) 128) (sheetText true t a) []
 
 -- the plan that was read, or the refusal
 abbrev pub planReadText : ReadPlan → List ℕ

@@ -34,7 +34,7 @@ use Rattle.scan.specs.FirstFault.{Fault, no-start, not-allowed, cut-body, follo
 use Rattle.scan.specs.declared.Scanned.{Scanned}
 use Rattle.scan.proofs.ScanLaws.{zero-or-not, fault-there, end-there, stopped, shape-fault, shape-whole}
 use Rattle.scan.proofs.PassedLaws.{whole-ended, scanned-ended, through, plan-no-request}
-use Rattle.sheets.specs.Layout.{mark, headNumber, mostOf, furtherBytes, furtherLength, headUpTo, headBytes, headLength, stationWith, stationBytes, allocationBytes, sheetOf, requestSheet, planSheet, sheetLength}
+use Rattle.sheets.specs.Layout.{mark, headNumber, mostOf, furtherBytes, furtherLength, headUpTo, headBytes, headLength, stationWith, stationBytes, allocationBytes, endBytes, fieldsOf, sheetOf, requestSheet, planSheet, sheetLength}
 use Rattle.sheets.specs.Reading.{thenNumber, setIn, allocIn, judgedSheet, readSheet, readRequest, readPlan}
 use Rattle.sheets.specs.Writing.{writtenAnswer, writtenBuffer, requestWritten, planWritten}
 use Rattle.sheet_rules.specs.Promised.{Promised, ZeroPast, GivenRequest, GivenPlan, firstPlaces, firstAllocations, requestLength, planLength, ByTag, There, said, smallSet, Numbers32}
@@ -276,14 +276,17 @@ past-allocations bs i l =
 
 -- ---- the first N places alone are written
 
-sheet-same : (plan : Bool) (t u : Set) (a b : Alloc) → SameSet t u → ((i : ℕ) → i < allocationsFor plan (t .n) → at (a .s) i ≡ at (b .s) i) → sheetOf plan t a ≡ sheetOf plan u b
-unfolding sheetOf
-sheet-same plan t u a b same each =
+pub fields-same : (plan : Bool) (t u : Set) (a b : Alloc) → SameSet t u → ((i : ℕ) → i < allocationsFor plan (t .n) → at (a .s) i ≡ at (b .s) i) → fieldsOf plan t a ≡ fieldsOf plan u b
+fields-same plan t u a b same each =
     let stations : rows (t .n) (stationBytes t) ≡ rows (t .n) (stationBytes u) =
     rows-same (t .n) (stationBytes t) (stationBytes u) (λ i l. rw (same .walk i l, same .longest i l, same .deadline i l, same .gap i l)) in
     let allocations : rows (allocationsFor plan (t .n)) (allocationBytes a) ≡ rows (allocationsFor plan (t .n)) (allocationBytes b) =
     rows-same (allocationsFor plan (t .n)) (allocationBytes a) (allocationBytes b) (λ i l. rw (each i l)) in
     rw (stations, allocations, same .header, same .count)
+
+sheet-same : (plan : Bool) (t u : Set) (a b : Alloc) → SameSet t u → ((i : ℕ) → i < allocationsFor plan (t .n) → at (a .s) i ≡ at (b .s) i) → sheetOf plan t a ≡ sheetOf plan u b
+unfolding sheetOf
+sheet-same plan t u a b same each = ap (λ (fields : List ℕ). fields ++ endBytes) (fields-same plan t u a b same each)
 
 written-same : (plan : Bool) (t u : Set) (a b : Alloc) (out : List ℕ) → SameSet t u
     → ((i : ℕ) → i < allocationsFor plan (t .n) → at (a .s) i ≡ at (b .s) i) → judgedSheet plan t a ≡ judgedSheet plan u b

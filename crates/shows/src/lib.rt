@@ -4,7 +4,9 @@ mod showing;
 ghost use Prim.Native.Nat.{_≤_};
 ghost use lib.ListN.{length};
 ghost use Rattle.text.specs.Text.{PutShort, Printed, pageSize};
-ghost use Rattle.outputs.specs.ShowText.{planShown, showPrinted};
+ghost use Rattle.outputs.specs.ShowText.{planShown, planLinesOf, showPrinted};
+use plans::Alloc;
+use sets::Set;
 use text::PAGE_SIZE;
 use units::numbers;
 
@@ -38,4 +40,17 @@ pub fn show_text(sheet: &[u8], page: &mut [u8]) -> usize
     }
     let set = request.set;
     showing::put_sheet(page, false, set, plans::blank_alloc())
+}
+
+// The text of a plan, put at the start of the page; nothing for one of more than 128 stations.
+pub fn plan_text(set: Set, alloc: Alloc, page: &mut [u8]) -> usize
+    ensures { λ r. ⌜ Printed (planLinesOf set alloc) (now (page .entry)) (now (page .exit)) r ⌝ }
+{
+    if page.len() < PAGE_SIZE {
+        return 0;
+    }
+    if 128 < set.n {
+        return 0;
+    }
+    showing::put_sheet(page, true, set, alloc)
 }

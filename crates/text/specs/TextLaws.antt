@@ -1,5 +1,5 @@
 -- The laws of decimal numbers, lines and text put into a page, for the proofs of this layer. No rule stands here.
-use Prim.Native.Nat.{ℕ, zero, suc, _+_, _*_, _^_, _/_, _%_, _≤_, _<_}
+use Prim.Native.Nat.{ℕ, zero, suc, _+_, _*_, _^_, _/_, _%_, _≤_, _<_, min}
 use mathlib.Core.Path.{_≡_, refl, sym, ap, _∙_}
 use mathlib.Core.Bool.{cond}
 use mathlib.Core.List.{List, [], _∷_, _++_, append-assoc}
@@ -8,8 +8,8 @@ use native.Mathlib.Nat.{mul-zero, mul-suc, pow-suc, div-lt-iff-lt-mul}
 use native.Mathlib.Omega.{arith}
 use lib.Dec.{ltb}
 use borrow.Author.Tests.{lt-ltb, le-ltb}
-use lib.ListN.{length, set, length-append}
-use lib.Seq.{sets-eq, length-take-le}
+use lib.ListN.{length, take, set, length-append}
+use lib.Seq.{sets-eq, take-all, take-length, length-take-le}
 use Rattle.units.specs.SmallLaws.{below-or-not}
 use Rattle.fields.specs.Rows.{laid, rows}
 use Rattle.fields.specs.RowLaws.{laid-none, laid-length, laid-then, laid-first}
@@ -96,6 +96,16 @@ unfolding pageWith lengthOn
 not-printed {text} {before} small =
     let e = lt-ltb (length before) pageSize small in
     record { page = rw e; size = rw e; fits = omega arith; counts = refl }
+
+-- ---- a piece of a text: its first bytes, or all if they are fewer
+
+pub take-piece : (text : List ℕ) (k : ℕ) → take (min (length text) k) text ≡ take k text
+take-piece text k =
+    ⊎-elim (λ (b : length text < k).
+    let e : min (length text) k ≡ length text = omega arith in
+    rw (e, take-length text) (sym (take-all k text (omega arith))))
+    (λ (b : k ≤ length text). let e : min (length text) k ≡ k = omega arith in rw e)
+    (below-or-not (length text) k)
 
 -- ---- rows of lines
 

@@ -1,6 +1,6 @@
 -- What the program's words ask for.
 use Prim.Native.Nat.{ℕ}
-use mathlib.Core.Bool.{cond}
+use mathlib.Core.Bool.{cond, _||_}
 use mathlib.Core.List.{List, [], _∷_}
 use lib.Dec.{eqb}
 use Rattle.console.specs.Commands.{sameBytes, commandOf}
@@ -17,13 +17,13 @@ helpWord = 104 ∷ 101 ∷ 108 ∷ 112 ∷ []
 abbrev pub versionWord : List ℕ
 versionWord = 118 ∷ 101 ∷ 114 ∷ 115 ∷ 105 ∷ 111 ∷ 110 ∷ []
 
--- 6 help, 7 version, 1 to 5 the commands that `commandOf` knows; 0 for any other word
+-- 6 help, 7 version, 1 to 5 and 8 the commands that `commandOf` knows; 0 for any other word
 unfoldable pub named : List ℕ → ℕ
 named word = cond (sameBytes word helpWord) 6 (cond (sameBytes word versionWord) 7 (commandOf word))
 
--- how many words a command has: `run` (3) has the path of its plan beside its name
+-- how many words a command has: `run` (3) and `log` (8) have the path of their plan beside their name
 unfoldable pub wordsOf : ℕ → ℕ
-wordsOf command = cond (eqb command 3) 2 1
+wordsOf command = cond (eqb command 3 || eqb command 8) 2 1
 
 -- the command of so many words, the first of which is this one; no word at all is `plan`, and a word too many or too few is no command
 unfoldable pub askedFor : List ℕ → ℕ → ℕ

@@ -35,7 +35,8 @@ fn command_named(word: &[u8]) -> u8
 fn words_of(command: u8) -> usize
     ensures { λ r. ⌜ r ≡ wordsOf command ⌝ }
 {
-    if command == commands::RUN {
+    let planned = (command == commands::RUN) | (command == commands::LOG);
+    if planned {
         return 2;
     }
     1

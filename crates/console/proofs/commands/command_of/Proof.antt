@@ -3,7 +3,7 @@ use Prim.Native.Nat.{ℕ}
 use mathlib.Core.Path.{_≡_, sym, _∙_}
 use mathlib.Core.Bool.{Bool, true, false, cond}
 use mathlib.Core.List.{List}
-use Rattle.console.specs.Commands.{sameBytes, planSheetWord, runWord, composeWord, showWord, commandOf}
+use Rattle.console.specs.Commands.{sameBytes, planSheetWord, runWord, composeWord, showWord, logWord, commandOf}
 use borrow.Author.Needs.{needs}
 use Rattle.console.proofs.commands.command_of.Statement.{statement}
 use Rattle.console.proofs.commands.command_of.Tie as tie
@@ -18,8 +18,11 @@ passed x y e f = rw (sym e ∙ f)
 
 -- ---- what is left of the definition
 
+abbrev fromLog : List ℕ → ℕ
+fromLog w = cond (sameBytes w logWord) 8 0
+
 abbrev fromShow : List ℕ → ℕ
-fromShow w = cond (sameBytes w showWord) 5 0
+fromShow w = cond (sameBytes w showWord) 5 (fromLog w)
 
 abbrev fromCompose : List ℕ → ℕ
 fromCompose w = cond (sameBytes w composeWord) 4 (fromShow w)
@@ -44,6 +47,9 @@ word3 c = word2 (c .before .before .before)
 abbrev word4 : tie.Else4 → List ℕ
 word4 c = word3 (c .before .before .before)
 
+abbrev word5 : tie.Else5 → List ℕ
+word5 c = word4 (c .before .before .before)
+
 past-plan : (c : tie.Else1) → fromPlanSheet (word1 c) ≡ commandOf (word1 c)
 unfolding commandOf
 past-plan c = passed 1 _ (c .before .same-bytes .ensures) (c .if1 .left)
@@ -56,6 +62,9 @@ past-run c = passed 3 _ (c .before .same-bytes3 .ensures) (c .if3 .left) ∙ pas
 
 past-compose : (c : tie.Else4) → fromShow (word4 c) ≡ commandOf (word4 c)
 past-compose c = passed 4 _ (c .before .same-bytes4 .ensures) (c .if4 .left) ∙ past-run (c .before .before .before)
+
+past-show : (c : tie.Else5) → fromLog (word5 c) ≡ commandOf (word5 c)
+past-show c = passed 5 _ (c .before .same-bytes5 .ensures) (c .if5 .left) ∙ past-compose (c .before .before .before)
 
 -- ---- the answers
 
@@ -76,7 +85,10 @@ returns-5 : tie.Need-returns-5
 returns-5 c = named 5 _ (c .before .same-bytes5 .ensures) (c .if5 .taken) ∙ past-compose (c .before .before .before)
 
 returns-6 : tie.Need-returns-6
-returns-6 c = passed 5 0 (c .before .same-bytes5 .ensures) (c .if5 .left) ∙ past-compose (c .before .before .before)
+returns-6 c = named 8 _ (c .before .same-bytes6 .ensures) (c .if6 .taken) ∙ past-show (c .before .before .before)
+
+returns-7 : tie.Need-returns-7
+returns-7 c = passed 8 0 (c .before .same-bytes6 .ensures) (c .if6 .left) ∙ past-show (c .before .before .before)
 
 pub command-of-spec : {M : Type 1} → statement M
 command-of-spec =
@@ -97,4 +109,7 @@ command-of-spec =
     (λ c. search needs)
     (λ c κs. search needs)
     returns-5
-    returns-6)
+    (λ c. search needs)
+    (λ c κs. search needs)
+    returns-6
+    returns-7)

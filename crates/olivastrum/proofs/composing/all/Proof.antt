@@ -7,4 +7,4 @@ pub all-spec : {M : Type 1} → statement M
 all-spec =
     tie.close
     (tie.spec (λ stands₀ turns₀ stands turns. Unit {0}) (λ stands₀ turns₀ stands turns. turns) (λ c. tt) (λ c κs. search needs)
-    (λ c. search needs) (λ c. search needs) (λ c. search needs) (λ c. tt) (λ c. search needs))
+    (λ c. search needs) (λ c. search needs) (λ c. search needs) (λ c. tt) (λ c κs. search needs) (λ c. search needs))

@@ -1,0 +1,279 @@
+-- Everything that `specs/Promised.antt` lists, proved.
+use Prim.Native.Nat.{ℕ, _+_, _-_, _≤_, _<_}
+use mathlib.Core.Path.{_≡_, refl, sym, ap, _∙_}
+use mathlib.Core.Bool.{true, false}
+use mathlib.Core.List.{List, [], _++_, append-nil}
+use mathlib.Core.Logic.{⊎-elim, _≢_}
+use native.Mathlib.Omega.{arith}
+use borrow.Author.Tests.{eq-eqb}
+use lib.ListN.{length, drop, take-append-drop}
+use lib.Seq.{length-take-le, take-all, drop-nil, drop-append-le, drop-append-add, getD-take}
+use Rattle.units.specs.SmallLaws.{below-or-not}
+use Rattle.units.specs.JudgingLaws.{true-or-false, and-true}
+use Rattle.plans.specs.Planned.{judgedPlan}
+use Rattle.fields.specs.Fields.{tagAt}
+use Rattle.scan.specs.Scanned.{scanned}
+use Rattle.scan.specs.FirstFault.{WholeSheet}
+use Rattle.scan.specs.declared.Scanned.{Scanned}
+use Rattle.scan.proofs.ScanLaws.{end-there, shape-whole}
+use Rattle.sheets.specs.Reading.{thenNumber, judgedSheet, setIn, allocIn, planPassed, planStart, readSheet, readPlan}
+use Rattle.sheets.specs.ReadLaws.{then-none, sheet-accepted, read-number as sheet-number}
+use Rattle.sheets.specs.declared.ReadPlan.{ReadPlan}
+use Rattle.sheets.specs.declared.PlanStart.{PlanStart}
+use Rattle.sheet_rules.proofs.Promised.{promised as sheet-rules}
+use Rattle.entries.proofs.EntryLaws.{visit-there}
+use Rattle.logs.specs.Walked.{walked, logWalked}
+use Rattle.logs.specs.FirstFault.{in-plan, WholeLog}
+use Rattle.logs.specs.Reading.{logNumber, readLog, handedFrom, entriesIn}
+use Rattle.logs.specs.declared.Walked.{Walked}
+use Rattle.logs.specs.declared.ReadLog.{ReadLog}
+use Rattle.logs.proofs.WalkLaws.{not-all-fault, log-end-there}
+use Rattle.logs.proofs.ReadingLaws.{read-number, read-accepted, number-judged, start-says, log-whole}
+use Rattle.pieces.specs.Pieces.{nothingRead, numberOf, readOver, handedOver}
+use Rattle.pieces.specs.declared.Visits.{Visits}
+use Rattle.pieces.proofs.FieldLaws.{read-append, handed-append}
+use Rattle.pieces.proofs.WholeLaws.{whole-read}
+use Rattle.text.specs.Text.{refusedLine, textOr}
+use Rattle.text.specs.TextLaws.{text-accepted, text-refused}
+use Rattle.outputs.specs.ShowText.{sheetText, planLinesOf, showPrinted}
+use Rattle.outputs.specs.LogText.{visitLines, logText}
+use Rattle.log_shows.specs.LogShown.{isLog, planText, plainText, headText, showFrom, linesFor, showAfter, shownOver, lastNumber, endText, visitsPart, shownOf}
+use Rattle.log_shows.specs.LogShown.{shownWith, firstSize, firstPart, visitsRead}
+use Rattle.log_shows.specs.Promised.{Promised}
+use Rattle.log_shows.specs.declared.Showing.{Showing}
+use Rattle.log_shows.proofs.ShowLaws.{lines-append, lines-accepted, plan-lines, plain-ever, plain-read, head-plain, head-log}
+use Rattle.log_shows.proofs.FirstLaws.{start-at, Begins, start-same, start-inside, log-same, text-same}
+
+-- ---- pieces
+
+behind : (k : Showing) (first rest : List ℕ) → showAfter k (first ++ rest) ≡ showAfter (showAfter k first) rest
+behind k first rest = ap (λ (v : Visits). record { visits = v; number = k .number }) (read-append (k .visits) first rest)
+
+shown : (k : Showing) (first rest : List ℕ) → shownOver k (first ++ rest) ≡ shownOver k first ++ shownOver (showAfter k first) rest
+shown k first rest = ap (linesFor (k .number)) (handed-append (k .visits) first rest) ∙ lines-append (k .number) (handedOver (k .visits) first) (handedOver (readOver (k .visits) first) rest)
+
+-- ---- a log with a visit
+
+module _ (bs : List ℕ) (log : isLog bs ≡ true) where
+  all-passed : planPassed (scanned true bs .passed) ≡ true
+  all-passed = sym (start-says bs) ∙ and-true (planStart bs .passed) _ log .0
+
+  start-number : planStart bs .number ≡ judgedPlan (setIn true bs) (allocIn true bs)
+  unfolding planStart
+  start-number = rw all-passed refl
+
+  inside : planStart bs .at ≤ length bs
+  inside = omega (arith, visit-there bs (planStart bs .at) (and-true (planStart bs .passed) _ log .1) .inside)
+
+  -- the walk over the log is the walk over its visits
+  walk-same : logWalked bs .number ≡ walked bs (planStart bs .at) .number
+  unfolding logWalked
+  walk-same = rw (all-passed, start-at bs) refl
+
+  visits-same : logWalked bs .visits ≡ walked bs (planStart bs .at) .visits
+  unfolding logWalked
+  visits-same = rw (all-passed, start-at bs) refl
+
+  last : lastNumber (showAfter (showFrom bs) (visitsPart bs)) ≡ logNumber bs
+  last =
+      ap (λ (n : ℕ). thenNumber n (planStart bs .number)) (whole-read bs (planStart bs .at) inside .ends ∙ sym walk-same)
+      ∙ ap (thenNumber (logWalked bs .number)) start-number
+
+  lines : shownOver (showFrom bs) (visitsPart bs) ≡ linesFor (planStart bs .number) (handedFrom (walked bs (planStart bs .at) .visits) bs (planStart bs .at))
+  lines = ap (linesFor (planStart bs .number)) (whole-read bs (planStart bs .at) inside .hands)
+
+  log-said : shownOf bs ≡ planText (planStart bs .number) (planStart bs .set) (planStart bs .alloc)
+      ++ linesFor (planStart bs .number) (handedFrom (walked bs (planStart bs .at) .visits) bs (planStart bs .at)) ++ textOr (logNumber bs) []
+  unfolding shownOf
+  log-said =
+      rw log
+      (ap (λ (x : List ℕ). x ++ shownOver (showFrom bs) (visitsPart bs) ++ endText (showAfter (showFrom bs) (visitsPart bs))) (sym (head-log bs (planStart bs) log refl))
+      ∙ ap (λ (x : List ℕ). planText (planStart bs .number) (planStart bs .set) (planStart bs .alloc) ++ x ++ endText (showAfter (showFrom bs) (visitsPart bs))) lines
+      ∙ ap (λ (n : ℕ). planText (planStart bs .number) (planStart bs .set) (planStart bs .alloc)
+      ++ linesFor (planStart bs .number) (handedFrom (walked bs (planStart bs .at) .visits) bs (planStart bs .at)) ++ textOr n []) last)
+
+  start-set : planStart bs .set ≡ setIn true bs
+  unfolding planStart
+  start-set = rw all-passed refl
+
+  start-alloc : planStart bs .alloc ≡ allocIn true bs
+  unfolding planStart
+  start-alloc = rw all-passed refl
+
+  text-lines : planStart bs .number ≡ 0 → planText (planStart bs .number) (planStart bs .set) (planStart bs .alloc) ≡ sheetText true (planStart bs .set) (planStart bs .alloc)
+  text-lines z =
+      let judged : judgedPlan (planStart bs .set) (planStart bs .alloc) ≡ 0 = rw (start-set, start-alloc) (sym start-number ∙ z) in
+      rw (eq-eqb (planStart bs .number) 0 z) (plan-lines _ _ judged)
+
+  accepted-said : readLog bs .number ≡ 0 → shownOf bs ≡ logText (readLog bs .set) (readLog bs .alloc) (entriesIn bs)
+  unfolding logText
+  accepted-said z =
+      let none : logNumber bs ≡ 0 = sym (read-number bs) ∙ z in
+      let both = then-none (logWalked bs .number) (judgedPlan (setIn true bs) (allocIn true bs)) none in
+      let accepted : planStart bs .number ≡ 0 = start-number ∙ both .1 in
+      let t = planStart bs .set in
+      let a = planStart bs .alloc in
+      let w = walked bs (planStart bs .at) in
+      let es = handedFrom (w .visits) bs (planStart bs .at) in
+      let whole = log-whole bs (planStart bs) refl (and-true (planStart bs .passed) _ log .0) w refl (sym walk-same ∙ both .0) accepted in
+      log-said
+      ∙ ap (λ (x : List ℕ). x ++ linesFor (planStart bs .number) es ++ textOr (logNumber bs) []) (text-lines accepted)
+      ∙ ap (λ (x : List ℕ). sheetText true t a ++ x ++ textOr (logNumber bs) []) (lines-accepted (planStart bs .number) es accepted)
+      ∙ ap (λ (x : List ℕ). sheetText true t a ++ visitLines es ++ x) (text-accepted (logNumber bs) [] none)
+      ∙ append-nil (sheetText true t a ++ visitLines es)
+      ∙ ap (λ (r : ReadLog). sheetText true (r .set) (r .alloc) ++ visitLines (handedFrom (r .visits) bs (r .first))) whole
+
+-- ---- no whole visit
+
+plain-said : (bs : List ℕ) → isLog bs ≡ false → shownOf bs ≡ plainText bs
+unfolding shownOf
+plain-said bs none = rw none (sym (head-plain bs none))
+
+ever : (bs : List ℕ) → planStart bs .passed ≡ false → shownOf bs ≡ showPrinted bs
+ever bs e =
+    let none : isLog bs ≡ false = rw e refl in
+    plain-said bs none ∙ sym (plain-ever bs e)
+
+-- behind the fields of a plan: the answer of a log that has no visit
+plain-log : (bs : List ℕ) → planStart bs .passed ≡ true → isLog bs ≡ false → shownOf bs ≡ textOr (readLog bs .number) (planLinesOf (readLog bs .set) (readLog bs .alloc))
+plain-log bs all none = plain-said bs none ∙ sym (plain-read bs (readLog bs) all refl)
+
+refused-said : (bs : List ℕ) → planStart bs .passed ≡ true → isLog bs ≡ false → logNumber bs ≢ 0 → shownOf bs ≡ refusedLine (logNumber bs)
+refused-said bs all none some =
+    plain-log bs all none
+    ∙ ap (λ (n : ℕ). textOr n (planLinesOf (readLog bs .set) (readLog bs .alloc))) (read-number bs)
+    ∙ text-refused (logNumber bs) (planLinesOf (readLog bs .set) (readLog bs .alloc)) some
+
+-- ---- an accepted plan
+
+module _ (bs : List ℕ) (accepted : readPlan bs .number ≡ 0) where
+  both : (scanned true bs .number ≡ 0) × (judgedSheet true (setIn true bs) (allocIn true bs) ≡ 0)
+  unfolding readSheet
+  both = then-none _ _ (sym (sheet-number _ _ _) ∙ accepted)
+
+  sheet : WholeSheet true bs
+  sheet = shape-whole true bs (both .0)
+
+  -- a log without a visit
+  log : WholeLog bs
+  log =
+      record {
+        passed = sheet .passed;
+        visits = 0;
+        place = sheet .place;
+        before = in-plan (sheet .before);
+        end-whole = sheet .end-whole;
+        end-tag = sheet .end-tag;
+        nothing-follows = sheet .nothing-follows;
+      }
+
+  judged : judgedPlan (setIn true bs) (allocIn true bs) ≡ 0
+  unfolding judgedSheet
+  judged = both .1
+
+  as-log : readLog bs ≡ record { set = setIn true bs; alloc = allocIn true bs; first = scanned true bs .at; visits = logWalked bs .visits; number = 0 }
+  as-log = read-accepted bs (number-judged bs (ap (λ (w : Walked). w .number) (log-end-there bs log)) ∙ judged)
+
+  as-plan : readPlan bs ≡ record { set = setIn true bs; alloc = allocIn true bs; number = 0 }
+  as-plan = sheet-accepted true bs (both .0) (both .1)
+
+  fields-passed : planStart bs .passed ≡ true
+  fields-passed =
+      start-says bs
+      ∙ ⊎-elim (λ (e : planPassed (scanned true bs .passed) ≡ true). e)
+      (λ (e : planPassed (scanned true bs .passed) ≡ false). absurd (not-all-fault bs e (both .0)))
+      (true-or-false (planPassed (scanned true bs .passed)))
+
+  -- the end stands where a visit would
+  no-visit : isLog bs ≡ false
+  no-visit =
+      ⊎-elim (λ (e : isLog bs ≡ true).
+      let here : planStart bs .at ≡ sheet .place = start-at bs ∙ ap (λ (r : Scanned). r .at) (end-there true bs sheet) in
+      let visit : tagAt bs (sheet .place) ≡ 16 = ap (tagAt bs) (sym here) ∙ visit-there bs (planStart bs .at) (and-true (planStart bs .passed) _ e .1) .has-tag in
+      absurd (omega (arith, visit, sheet .end-tag)))
+      (λ (e : isLog bs ≡ false). e)
+      (true-or-false (isLog bs))
+
+  sheet-printed : showPrinted bs ≡ sheetText true (setIn true bs) (allocIn true bs)
+  unfolding showPrinted textOr
+  sheet-printed =
+      rw (sheet-rules .plan-no-request bs accepted)
+      (ap (λ (r : ReadPlan). textOr (r .number) (sheetText true (r .set) (r .alloc))) as-plan)
+
+  plan-ever : shownOf bs ≡ showPrinted bs
+  unfolding textOr
+  plan-ever =
+      plain-log bs fields-passed no-visit
+      ∙ ap (λ (r : ReadLog). textOr (r .number) (planLinesOf (r .set) (r .alloc))) as-log
+      ∙ plan-lines _ _ judged
+      ∙ sym sheet-printed
+
+-- ---- the first bytes are enough
+
+record FirstEnough (bs : List ℕ) : Type 0 where
+  start : planStart (firstPart bs) ≡ planStart bs
+  log : isLog (firstPart bs) ≡ isLog bs
+  text : headText (firstPart bs) ≡ headText bs
+  visits : visitsRead bs ≡ visitsPart bs
+
+module _ (bs : List ℕ) where
+  -- more bytes follow
+  enough-of-more : firstSize ≤ length bs → FirstEnough bs
+  enough-of-more large =
+      let first = firstPart bs in
+      let long : length (firstPart bs) ≡ firstSize = length-take-le firstSize bs large in
+      let b : Begins (firstPart bs) bs = record { same = λ i l. getD-take firstSize bs i 0 (omega arith); within = omega arith; enough = omega arith } in
+      record {
+        start = start-same first bs b;
+        log = log-same first bs b;
+        text = text-same first bs b;
+        visits = ap (λ (s : PlanStart). drop (s .at) first ++ drop firstSize bs) (start-same first bs b)
+            ∙ sym (drop-append-le (planStart bs .at) first (drop firstSize bs) (start-inside first bs b))
+            ∙ ap (drop (planStart bs .at)) (take-append-drop firstSize bs);
+      }
+
+  -- they are all
+  enough-of-all : length bs ≤ firstSize → FirstEnough bs
+  enough-of-all small =
+      let all : firstPart bs ≡ bs = take-all firstSize bs small in
+      let size : firstSize ≡ length bs + (firstSize - length bs) = omega arith in
+      let none : drop firstSize bs ≡ [] =
+      ap (λ (n : ℕ). drop n bs) size ∙ ap (drop (length bs + (firstSize - length bs))) (sym (append-nil bs)) ∙ drop-append-add bs [] (firstSize - length bs) ∙ drop-nil (firstSize - length bs) in
+      record {
+        start = ap planStart all;
+        log = ap (λ (x : List ℕ). isLog x) all;
+        text = ap headText all;
+        visits = ap (λ (x : List ℕ). visitsPart x ++ drop firstSize bs) all ∙ ap (λ (x : List ℕ). visitsPart bs ++ x) none ∙ append-nil (visitsPart bs);
+      }
+
+  enough : FirstEnough bs
+  enough = ⊎-elim (λ (l : length bs < firstSize). enough-of-all (omega arith)) (λ (l : firstSize ≤ length bs). enough-of-more l) (below-or-not (length bs) firstSize)
+
+  shown-in-pieces : shownWith (firstPart bs) (visitsRead bs) ≡ shownOf bs
+  unfolding shownOf
+  shown-in-pieces =
+      let e = enough in
+      rw (e .log, e .text, e .visits, e .start) refl
+
+  last-in-pieces : isLog (firstPart bs) ≡ true → lastNumber (showAfter (showFrom (firstPart bs)) (visitsRead bs)) ≡ logNumber bs
+  last-in-pieces log =
+      let e = enough in
+      ap (λ (v : List ℕ). lastNumber (showAfter (showFrom (firstPart bs)) v)) (e .visits)
+      ∙ ap (λ (s : PlanStart). thenNumber (numberOf (readOver nothingRead (visitsPart bs))) (s .number)) (e .start)
+      ∙ last bs (sym (e .log) ∙ log)
+
+pub promised : Promised
+promised =
+    record {
+      pieces-behind = behind;
+      pieces-shown = shown;
+      log-shown = log-said;
+      same-number = last;
+      accepted-shown = accepted-said;
+      as-ever = ever;
+      plan-as-ever = plan-ever;
+      plain-refused = refused-said;
+      first-log = λ bs. enough bs .log;
+      in-pieces = shown-in-pieces;
+      number-in-pieces = last-in-pieces;
+    }

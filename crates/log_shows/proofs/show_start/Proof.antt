@@ -1,0 +1,95 @@
+-- `show_start` is right because it reads the plan at the start, and looks for a whole visit behind it.
+use mathlib.Core.Path.{_≡_, sym, ap, _∙_}
+use borrow.Author.Tests.{not-true, not-false}
+use Rattle.pieces.specs.declared.Visits.{Visits}
+use Rattle.sheets.specs.declared.PlanStart.{PlanStart}
+use Rattle.text.specs.TextLaws.{not-printed}
+use Rattle.log_shows.specs.LogShown.{showFrom}
+use Rattle.log_shows.specs.declared.Showing.{Showing}
+use Rattle.log_shows.proofs.ShowLaws.{printed-as, log-same, head-plain, head-log}
+use borrow.Author.Needs.{needs}
+use Rattle.log_shows.proofs.show_start.Statement.{statement}
+use Rattle.log_shows.proofs.show_start.Tie as tie
+
+-- what is kept for the visits
+kept : (c : tie.After-begin)
+    → let start = c .before .before .before .before in
+    let made : Showing = record { visits = c .begin .result; number = start .read-start .result .number } in
+    made ≡ showFrom (start .before .before .before .args .head .now)
+kept c =
+    let start = c .before .before .before .before in
+    ap (λ (v : Visits). record { visits = v; number = start .read-start .result .number }) (c .begin .ensures)
+    ∙ ap (λ (p : PlanStart). record { visits = _; number = p .number }) (start .read-start .ensures)
+
+read-start-requires : tie.Need-read-start-requires
+read-start-requires c κs = search needs
+
+log-entry-requires : tie.Need-log-entry-requires
+log-entry-requires c κs = search needs
+
+begin-requires : tie.Need-begin-requires
+begin-requires c κs = search needs
+
+returns : tie.Need-returns
+returns c =
+    let begun = c .before in
+    let entered = begun .before .before .before in
+    let start = entered .before in
+    let log = log-same _ _ _ (start .read-start .ensures) (entered .log-entry .ensures) in
+    let place = ap (λ (p : PlanStart). p .at) (start .read-start .ensures) in
+    record { log = log; at = place; showing = kept begun; shown = not-printed (c .if1 .taken) }
+
+show-plain-requires : tie.Need-show-plain-requires
+show-plain-requires c κs =
+    let here = c .before in
+    let begun = here .before .before in
+    let start = begun .before .before .before .before in
+    (here .before .if1 .left, ap (λ (p : PlanStart). p .passed) (start .read-start .ensures))
+
+same-length : tie.Need-same-length
+same-length c = search needs
+
+returns-2 : tie.Need-returns-2
+returns-2 c =
+    let called = c .before .before in
+    let here = called .before .before in
+    let begun = here .before .before in
+    let entered = begun .before .before .before in
+    let start = entered .before in
+    let log = log-same _ _ _ (start .read-start .ensures) (entered .log-entry .ensures) in
+    let place = ap (λ (p : PlanStart). p .at) (start .read-start .ensures) in
+    record { log = log; at = place; showing = kept begun; shown = printed-as (called .show-plain .ensures) (head-plain _ (sym log ∙ not-true _ (here .if2 .taken))) }
+
+show-plan-requires : tie.Need-show-plan-requires
+show-plan-requires c κs =
+    let here = c .before .before .before in
+    here .before .if1 .left
+
+same-length-2 : tie.Need-same-length-2
+same-length-2 c = search needs
+
+returns-3 : tie.Need-returns-3
+returns-3 c =
+    let called = c .before .before in
+    let here = called .before .before .before .before in
+    let begun = here .before .before in
+    let entered = begun .before .before .before in
+    let start = entered .before in
+    let log = log-same _ _ _ (start .read-start .ensures) (entered .log-entry .ensures) in
+    let place = ap (λ (p : PlanStart). p .at) (start .read-start .ensures) in
+    record { log = log; at = place; showing = kept begun; shown = printed-as (called .show-plan .ensures) (head-log _ _ (sym log ∙ not-false _ (here .if2 .left)) (start .read-start .ensures)) }
+
+pub show-start-spec : {M : Type 1} → statement M
+show-start-spec =
+    tie.close
+    (tie.spec
+    read-start-requires
+    log-entry-requires
+    begin-requires
+    returns
+    show-plain-requires
+    same-length
+    returns-2
+    show-plan-requires
+    same-length-2
+    returns-3)

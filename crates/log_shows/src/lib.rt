@@ -1,0 +1,216 @@
+// What `show` prints of a log: the plan's text, then a line for each visit as it is read. Requests and plans are answered as ever.
+ghost use mathlib.Core.Path.{_≡_};
+ghost use Rattle.sheets.specs.Reading.{planStart};
+ghost use Prim.Native.Nat.{_+_, _≤_, min};
+ghost use lib.ListN.{length};
+ghost use Rattle.text.specs.Text.{PutShort, Printed, pageSize};
+ghost use Rattle.outputs.specs.LogText.{visitLine};
+ghost use Rattle.log_shows.specs.LogShown.{planText, plainText, linesFor, endText, lastNumber, VisitsPiece, ShownPiece, ShownOn, BegunOn};
+ghost use Rattle.pieces.specs.Pieces.{entriesOf};
+use entries::Entry;
+use entries::NextEntry;
+use pieces::Visits;
+use plans::Alloc;
+use sets::Set;
+use text::PAGE_SIZE;
+use units::numbers;
+
+// How many bytes are read at once.
+const PIECE_SIZE: usize = 512;
+
+// A log that is being shown: what is kept of its visits, and the refusal of its plan.
+#[repr(C)]
+pub struct Showing {
+    pub visits: Visits,
+    pub number: u8,
+}
+
+// The log goes on: where it stands, and how many bytes of the page are its lines.
+#[repr(C)]
+pub struct Shown {
+    pub showing: Showing,
+    pub length: usize,
+}
+
+// The first bytes were shown: what is kept for the visits, whether there are some, where they begin, and how many bytes of the page are the answer.
+#[repr(C)]
+pub struct Begun {
+    pub showing: Showing,
+    pub log: bool,
+    pub at: usize,
+    pub length: usize,
+}
+
+// ---- the lines
+
+// The line of a visit.
+fn put_visit_line(page: &mut [u8], at: usize, e: Entry) -> usize
+    requires { ⌜ at + 126 ≤ length (now page) ⌝ }
+    ensures { λ r. ⌜ PutShort 126 (now (page .entry)) at (visitLine e) (now (page .exit)) r ⌝ }
+{
+    let named = text::put_short(page, at, b"visit");
+    let station = text::put_field(page, named, units::wide(e.station));
+    let start = text::put_field(page, station, units::wide(e.start));
+    let limit = text::put_field(page, start, units::wide(e.limit));
+    let synchronous = text::put_field(page, limit, units::wide(e.synchronous));
+    let asynchronous = text::put_field(page, synchronous, units::wide(e.asynchronous));
+    text::put_end(page, asynchronous)
+}
+
+// The line of the visit that was handed out, if there is one and its plan was accepted.
+fn put_visit(page: &mut [u8], at: usize, number: u8, got: NextEntry) -> usize
+    requires { ⌜ at + 126 ≤ length (now page) ⌝ }
+    ensures { λ r. ⌜ PutShort 126 (now (page .entry)) at (linesFor number (entriesOf got)) (now (page .exit)) r ⌝ }
+{
+    if number != numbers::ACCEPTED {
+        return at;
+    }
+    if got.next == 0 {
+        return at;
+    }
+    let e = got.entry;
+    put_visit_line(page, at, e)
+}
+
+// ---- the visits
+
+// How many of the bytes are read at once.
+fn piece_length(bytes: &[u8]) -> usize
+    ensures { λ r. ⌜ r ≡ min (length (now (bytes .entry))) 512 ⌝ }
+{
+    if bytes.len() < PIECE_SIZE {
+        bytes.len()
+    } else {
+        PIECE_SIZE
+    }
+}
+
+// The first of the bytes.
+fn show_piece(showing: Showing, bytes: &[u8], end: usize, page: &mut [u8]) -> Shown
+    requires { ⌜ VisitsPiece (now bytes) end (now page) ⌝ }
+    ensures { λ r. ⌜ ShownPiece showing (now (bytes .entry)) end (now (page .entry)) (now (page .exit)) r ⌝ }
+{
+    let number = showing.number;
+    let mut visits = showing.visits;
+    let mut next: usize = 0;
+    let mut i: usize = 0;
+    while i < end {
+        let byte = bytes[i];
+        visits = pieces::step(visits, byte);
+        let got = pieces::visit_in(visits);
+        next = put_visit(page, next, number, got);
+        i += 1;
+    }
+    let stands = Showing { visits, number };
+    Shown {
+        showing: stands,
+        length: next,
+    }
+}
+
+// The visits go on over at most 512 bytes: their lines are put at the start of the page. A page that is too small leaves all as it was.
+pub fn show_on(showing: Showing, bytes: &[u8], page: &mut [u8]) -> Shown
+    ensures { λ r. ⌜ ShownOn showing (now (bytes .entry)) (now (page .entry)) (now (page .exit)) r ⌝ }
+{
+    if page.len() < PAGE_SIZE {
+        return Shown { showing, length: 0 };
+    }
+    let end = piece_length(bytes);
+    show_piece(showing, bytes, end, page)
+}
+
+// The number when all was read.
+pub fn number_of(showing: Showing) -> u8
+    ensures { λ r. ⌜ r ≡ lastNumber showing ⌝ }
+{
+    let visits = showing.visits;
+    let number = pieces::number_of(visits);
+    if number != numbers::ACCEPTED {
+        return number;
+    }
+    showing.number
+}
+
+// What is printed when all was read: nothing, or the refusal.
+pub fn show_end(showing: Showing, page: &mut [u8]) -> usize
+    ensures { λ r. ⌜ Printed (endText showing) (now (page .entry)) (now (page .exit)) r ⌝ }
+{
+    if page.len() < PAGE_SIZE {
+        return 0;
+    }
+    let number = number_of(showing);
+    if number == numbers::ACCEPTED {
+        return 0;
+    }
+    text::put_refused(page, 0, number)
+}
+
+// ---- the first bytes
+
+// The answer to bytes without a whole visit: behind a plan's fields those of a log that has none, else a request or plan as ever.
+fn show_plain(passed: bool, head: &[u8], page: &mut [u8]) -> usize
+    requires { ⌜ (pageSize ≤ length (now page)) × (passed ≡ planStart (now head) .passed) ⌝ }
+    ensures { λ r. ⌜ Printed (plainText (now (head .entry))) (now (page .entry)) (now (page .exit)) r ⌝ }
+{
+    if !passed {
+        return shows::show_text(head, page);
+    }
+    let log = logs::read_log(head);
+    if log.number != numbers::ACCEPTED {
+        return text::put_refused(page, 0, log.number);
+    }
+    let set = log.set;
+    let alloc = log.alloc;
+    shows::plan_text(set, alloc, page)
+}
+
+// The text of a log's plan; nothing where it is refused.
+fn show_plan(number: u8, set: Set, alloc: Alloc, page: &mut [u8]) -> usize
+    requires { ⌜ pageSize ≤ length (now page) ⌝ }
+    ensures { λ r. ⌜ Printed (planText number set alloc) (now (page .entry)) (now (page .exit)) r ⌝ }
+{
+    if number != numbers::ACCEPTED {
+        return 0;
+    }
+    shows::plan_text(set, alloc, page)
+}
+
+// Shows the first bytes: of a log the plan's text, of anything else the whole answer.
+// They hold a plan's fields and the first visit behind them, if the input has these. A page that is too small gets nothing.
+pub fn show_start(head: &[u8], page: &mut [u8]) -> Begun
+    ensures { λ r. ⌜ BegunOn (now (head .entry)) (now (page .entry)) (now (page .exit)) r ⌝ }
+{
+    let start = sheets::read_start(head);
+    let first = logs::log_entry(head, start.at);
+    let log = start.passed & (first.next != 0);
+    let showing = Showing {
+        visits: pieces::begin(),
+        number: start.number,
+    };
+    if page.len() < PAGE_SIZE {
+        return Begun {
+            showing,
+            log,
+            at: start.at,
+            length: 0,
+        };
+    }
+    if !log {
+        let plain = show_plain(start.passed, head, page);
+        return Begun {
+            showing,
+            log,
+            at: start.at,
+            length: plain,
+        };
+    }
+    let set = start.set;
+    let alloc = start.alloc;
+    let length = show_plan(start.number, set, alloc, page);
+    Begun {
+        showing,
+        log,
+        at: start.at,
+        length,
+    }
+}

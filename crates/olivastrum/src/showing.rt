@@ -1,0 +1,131 @@
+// `show`: the text of the sheet or log on standard input, or the refusal.
+use crate::ending;
+use crate::ending::Ending;
+use crate::reading;
+use libc::STDIN_FILENO;
+use log_shows::Showing;
+
+// The log behind one reading, whether the input goes on, and whether reading or writing failed.
+struct Seen {
+    showing: Showing,
+    more: bool,
+    failed: bool,
+}
+
+// Writes the lines of the visits that end in these bytes.
+fn see(showing: Showing, bytes: &[u8], more: bool) -> Seen {
+    let mut page = io::large_buffer();
+    let shown = log_shows::show_on(showing, bytes, &mut page);
+    let length = shown.length;
+    let wrote = ending::say(&page[..length]);
+    let behind = shown.showing;
+    Seen {
+        showing: behind,
+        more: more & wrote,
+        failed: !wrote,
+    }
+}
+
+// Reads once.
+fn turn(showing: Showing) -> Seen {
+    let mut bytes: [u8; 512] = [0; 512];
+    let filled = reading::fill(STDIN_FILENO, &mut bytes);
+    if filled.failed {
+        ending::unread_input();
+        return Seen {
+            showing,
+            more: false,
+            failed: true,
+        };
+    }
+    let length = filled.length;
+    see(showing, &bytes[..length], length == 512)
+}
+
+// All the input; the turns are counted down, from a number that no log uses up.
+fn see_all(showing: Showing) -> Seen {
+    let mut stands = showing;
+    let mut turns = u64::MAX;
+    while turns > 0 {
+        let seen = turn(stands);
+        if !seen.more {
+            return seen;
+        }
+        let behind = seen.showing;
+        stands = behind;
+        turns -= 1;
+    }
+    Seen {
+        showing: stands,
+        more: false,
+        failed: true,
+    }
+}
+
+// The visits among the first bytes, 512 of them at a time.
+fn see_head(showing: Showing, head: &[u8], from: usize) -> Seen {
+    let mut stands = showing;
+    let mut at = from;
+    while at < head.len() {
+        let seen = see(stands, &head[at..], true);
+        if seen.failed {
+            return seen;
+        }
+        let behind = seen.showing;
+        stands = behind;
+        at = reading::further(at, 512, head.len());
+    }
+    Seen {
+        showing: stands,
+        more: true,
+        failed: false,
+    }
+}
+
+// The refusal, if there is one.
+fn finish(showing: Showing) -> Ending {
+    let mut page = io::large_buffer();
+    let length = log_shows::show_end(showing, &mut page);
+    let refused = log_shows::number_of(showing) != 0;
+    ending::answer(&page[..length], refused)
+}
+
+// The rest of a log whose first bytes are these.
+fn show_log(showing: Showing, head: &[u8], from: usize, more: bool) -> Ending {
+    let first = see_head(showing, head, from);
+    if first.failed {
+        return ending::failed();
+    }
+    let behind = first.showing;
+    if !more {
+        return finish(behind);
+    }
+    let all = see_all(behind);
+    if all.failed {
+        return ending::failed();
+    }
+    let last = all.showing;
+    finish(last)
+}
+
+// The longest plan has 3,346 bytes without its end, and a visit 20: both lie in the first 3,400, if the input has them.
+pub(crate) fn show() -> Ending {
+    let mut head: [u8; 3_400] = [0; 3_400];
+    let filled = reading::fill(STDIN_FILENO, &mut head);
+    if filled.failed {
+        return ending::unread_input();
+    }
+    let read = filled.length;
+    let mut page = io::large_buffer();
+    let begun = log_shows::show_start(&head[..read], &mut page);
+    let length = begun.length;
+    if !begun.log {
+        let refused = usage::is_refusal(&page[..length]);
+        return ending::answer(&page[..length], refused);
+    }
+    if !ending::say(&page[..length]) {
+        return ending::failed();
+    }
+    let showing = begun.showing;
+    show_log(showing, &head[..read], begun.at, read == 3_400)
+}

@@ -1,0 +1,9 @@
+-- The proofs of what `specs/Promised.antt` promises.
+--     LoggedLaws   what goes out, byte after byte
+--     CallLaws     the calls of a text are a run
+--     PlanLaws     what was read of a sheet has 0 past its places
+--     Promised     the promises
+pub mod LoggedLaws
+pub mod CallLaws
+pub mod PlanLaws
+pub mod Promised

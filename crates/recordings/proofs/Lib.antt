@@ -1,0 +1,2 @@
+-- The laws of a run that is recorded.
+pub mod RecordLaws
