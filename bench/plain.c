@@ -3,6 +3,7 @@
  * to the proved library's before it measures.
  */
 #include "plain.h"
+#include "quotient.h"
 #include <string.h>
 
 #define MOST_TTRT 1000000u
@@ -76,38 +77,14 @@ static uint32_t sum(const uint32_t *xs, uint32_t n)
     return all;
 }
 
-/* The whole quotient by a number above 0, and the quotient rounded up: with the machine's divide, as one writes it; or, with
- * -DBY_SHIFTING, by shifting and subtracting, as the proved library has to. */
+/* The quotient rounded up, by a number above 0. */
 #ifdef BY_SHIFTING
-static uint32_t quotient(uint32_t a, uint32_t b)
-{
-    if (a < b)
-        return 0;
-    uint32_t part = b, q = 1;
-    while (part <= a - part)
-        part += part;
-    for (a -= part; part > b;) {
-        part >>= 1;
-        q += q;
-        if (part <= a) {
-            a -= part;
-            q++;
-        }
-    }
-    return q;
-}
-
 static uint32_t rounded_up(uint32_t a, uint32_t b)
 {
     uint32_t q = quotient(a, b);
     return q * b < a ? q + 1 : q;
 }
 #else
-static uint32_t quotient(uint32_t a, uint32_t b)
-{
-    return a / b;
-}
-
 static uint32_t rounded_up(uint32_t a, uint32_t b)
 {
     return (a + b - 1) / b;

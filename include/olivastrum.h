@@ -6,6 +6,7 @@
  *     set and allocation --olivastrum_open_ring--> ring --olivastrum_visit, olivastrum_hand_in--> the same ring, moved on
  *     set and allocation --olivastrum_begin_log, olivastrum_add_visit, olivastrum_end_log--> log bytes
  *     log bytes --olivastrum_read_log, olivastrum_log_entry--> set, allocation and visits
+ *     log bytes --olivastrum_inspect_log--> the first record that no run could have given, if there is one
  *
  * Who owns what. The host owns all memory. A function looks at what it is handed while the call runs, keeps no
  * pointer, takes nothing from the heap, prints nothing and has no state of its own. So every function is reentrant:
@@ -60,9 +61,9 @@
 
 /* The version of the header and the library, as `./olivastrum version` prints it. */
 #define OLIVASTRUM_VERSION_MAJOR 0
-#define OLIVASTRUM_VERSION_MINOR 7
+#define OLIVASTRUM_VERSION_MINOR 8
 #define OLIVASTRUM_VERSION_PATCH 0
-#define OLIVASTRUM_VERSION "0.7.0"
+#define OLIVASTRUM_VERSION "0.8.0"
 
 #ifdef __cplusplus
 extern "C" {
@@ -237,6 +238,15 @@ struct olivastrum_next_entry {
     uint64_t next;
 };
 
+/* How many visits a log has, the first record that breaks a rule, from 1, and the first rule that it breaks: 1 station,
+ * 2 start, 3 limit, 4 synchronous, 5 asynchronous. Record and rule are 0 where the log is accepted. */
+struct olivastrum_finding {
+    uint64_t visits;
+    uint64_t record;
+    uint8_t rule;
+    uint8_t number;
+};
+
 struct olivastrum_planned {
     struct olivastrum_alloc alloc;
     uint8_t number;
@@ -280,6 +290,7 @@ OLIVASTRUM_SIZE(struct olivastrum_recorder, 24);
 OLIVASTRUM_SIZE(struct olivastrum_entry, 20);
 OLIVASTRUM_SIZE(struct olivastrum_read_log, 2600);
 OLIVASTRUM_SIZE(struct olivastrum_next_entry, 32);
+OLIVASTRUM_SIZE(struct olivastrum_finding, 24);
 
 #undef OLIVASTRUM_SIZE
 
@@ -337,7 +348,7 @@ struct olivastrum_recorder olivastrum_add_visit(struct olivastrum_recorder recor
 struct olivastrum_written olivastrum_end_log(struct olivastrum_recorder recorder, uint8_t *out, size_t length);
 
 /* Reads a log: its plan and where its visits are, or 1 to 5 or 7 with all blank. A plan sheet is a log without visits. */
-#define OLIVASTRUM_STACK_READ_LOG 10240
+#define OLIVASTRUM_STACK_READ_LOG 14848
 struct olivastrum_read_log olivastrum_read_log(const uint8_t *log, size_t length);
 
 /* The visit whose field begins at this place of a log, and the place behind it; all blank where none does. It looks at
@@ -345,6 +356,12 @@ struct olivastrum_read_log olivastrum_read_log(const uint8_t *log, size_t length
  * place, `visits` times: at any other place bytes may look like a visit. */
 #define OLIVASTRUM_STACK_LOG_ENTRY 512
 struct olivastrum_next_entry olivastrum_log_entry(const uint8_t *log, size_t length, uint64_t at);
+
+/* Inspects a log: whether a run of the published steps from an opened ring could have given its records, with any
+ * synchronous amount up to S at each visit and some request in frames; else the first record that breaks a rule, and the
+ * first rule that it breaks. Or 1 to 5 or 7, with the rest 0. */
+#define OLIVASTRUM_STACK_INSPECT_LOG 19456
+struct olivastrum_finding olivastrum_inspect_log(const uint8_t *log, size_t length);
 
 /* The most that a call of any of them needs. */
 #define OLIVASTRUM_STACK_MOST 31744

@@ -8,6 +8,7 @@ use crate::check::WatchedRing;
 use crate::compose::compose;
 use crate::frames::{self, from_hex, to_hex};
 use crate::gen::{self, Kind};
+use crate::inspect::Inspector;
 use crate::lines::Lines;
 use crate::log::{plan_fields, Counter, Passed, Stream};
 use crate::planner;
@@ -15,7 +16,7 @@ use crate::planted::Planted;
 use crate::ring::Ring;
 use crate::rules::{Plan, Refusal};
 use crate::sheet::{end_field, read_plan, read_request, visit_field, write_plan};
-use crate::sheet::{Sheet, ANY_TABLE, PLAN_READ, REQUEST_READ};
+use crate::sheet::{Sheet, ANY_TABLE, LOG_TABLE, PLAN_READ, REQUEST_READ};
 use crate::text::{self, answer_line, number, read_call, Answer, Fault};
 use crate::waits;
 
@@ -33,6 +34,8 @@ usage: second [--planted K] [COMMAND]
                 second run ring.plan < calls.txt
   log PLAN    calls as text in, the log of their run out
                 second log ring.plan < calls.txt > ring.log
+  inspect     a log in, whether a run could have given it, or its first fault, out
+                second inspect < ring.log
   generate KIND SEED COUNT [DIR]
               framed cases out, or into a file in DIR; fddi-KIND for sets that run FDDI,
               uncut-KIND and fddi-uncut-KIND for such with a longest frame F
@@ -80,6 +83,7 @@ impl<O: Write, E: Write> Streams<O, E> {
                 self.sheet(plan.and_then(|plan| write_plan(&plan, PLAN_READ)))?;
             }
             "show" => self.show(input)?,
+            "inspect" => self.inspect(input, planted)?,
             "compose" => {
                 if let Err(fault) = compose(input, &mut self.out)? {
                     self.fault(fault)?;
@@ -115,6 +119,31 @@ impl<O: Write, E: Write> Streams<O, E> {
                         Some(shown) => shown,
                     };
                     return shown.or_else(|refusal| self.text(&refused(refusal)));
+                }
+            }
+        }
+    }
+
+    /// What is found in a log of any length. The finding is kept until the log is read whole.
+    fn inspect(&mut self, input: impl Read, planted: Planted) -> io::Result<()> {
+        let mut stream = Stream::new(input, LOG_TABLE);
+        let mut inspector: Option<Result<Inspector, Refusal>> = None;
+        loop {
+            let passed = stream.pass()?;
+            let opened = || stream.passage().contents.judged_plan();
+            let opened = || opened().map(|plan| Inspector::new(&plan, planted));
+            match passed {
+                Err(refusal) => return self.text(&refused(refusal)),
+                Ok(Passed::Visit(entry)) => {
+                    if let Ok(inspector) = inspector.get_or_insert_with(opened) {
+                        inspector.take(&entry);
+                    }
+                }
+                Ok(Passed::End) => {
+                    return match inspector.unwrap_or_else(opened) {
+                        Ok(inspector) => self.text(&inspected_text(&inspector)),
+                        Err(refusal) => self.text(&refused(refusal)),
+                    }
                 }
             }
         }
@@ -173,6 +202,14 @@ impl<O: Write, E: Write> Streams<O, E> {
         }
         self.out.write_all(&end_field())?;
         unread.map_or(Ok(()), |fault| self.fault(fault))
+    }
+}
+
+/// What was found, and what was expected there.
+fn inspected_text(inspector: &Inspector) -> String {
+    match inspector.finding() {
+        None => format!("accepted {}\n", inspector.records()),
+        Some(finding) => format!("{finding}\n{}\n", finding.words),
     }
 }
 

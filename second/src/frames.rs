@@ -2,6 +2,7 @@
 
 use crate::check::WatchedRing;
 use crate::commands::framed_command;
+use crate::inspect::inspected;
 use crate::log::{Counter, Entry, Recorder};
 use crate::planner;
 use crate::planted::Planted;
@@ -46,6 +47,12 @@ fn try_answer(case: &str, planted: Planted) -> Option<String> {
             Some(line(read_log(&from_hex(rest)?), |(plan, entries)| show_log(&plan, &entries)))
         }
         "record" => recording(rest, planted),
+        "inspect" => Some(line(read_log(&from_hex(rest)?), |(plan, entries)| {
+            match inspected(&plan, &entries, planted) {
+                (visits, None) => format!("accepted {visits}"),
+                (_, Some(finding)) => finding.to_string(),
+            }
+        })),
         "command" => framed_command(rest, planted),
         _ => None,
     }

@@ -63,10 +63,11 @@ pub enum Kind {
     Commands,
     Logs,
     Records,
+    Inspections,
 }
 
 impl Kind {
-    pub const ALL: [Kind; 14] = [
+    pub const ALL: [Kind; 15] = [
         Kind::Requests,
         Kind::Plans,
         Kind::Planning,
@@ -81,6 +82,7 @@ impl Kind {
         Kind::Commands,
         Kind::Logs,
         Kind::Records,
+        Kind::Inspections,
     ];
 
     pub fn name(self) -> &'static str {
@@ -99,6 +101,7 @@ impl Kind {
             Kind::Commands => "commands",
             Kind::Logs => "logs",
             Kind::Records => "records",
+            Kind::Inspections => "inspections",
         }
     }
 
@@ -128,6 +131,9 @@ impl Kind {
             Kind::Commands => vec![command_case(random, sort)],
             Kind::Logs => vec![format!("log {}", to_hex(&logs::log(random, sort)))],
             Kind::Records => vec![record_case(random, sort)],
+            Kind::Inspections => {
+                vec![format!("inspect {}", to_hex(&logs::to_inspect(random, sort)))]
+            }
         }
     }
 }
@@ -216,11 +222,12 @@ fn edge_cases(random: &mut Random, sort: Sort) -> Vec<String> {
 }
 
 fn command_case(random: &mut Random, sort: Sort) -> String {
-    let name = random.pick(&["plan", "plan-sheet", "show", "compose", "run", "log"]);
+    let name = random.pick(&["plan", "plan-sheet", "show", "compose", "run", "log", "inspect"]);
     let kind = random.pick(&[SheetKind::Request, SheetKind::Plan]);
     let of_log = random.once_in(3);
     let input = match name {
         "plan" | "plan-sheet" => to_hex(&sheets::sheet(random, SheetKind::Request, sort)),
+        "inspect" => to_hex(&logs::to_inspect(random, sort)),
         "show" if of_log => to_hex(&logs::log(random, sort)),
         "show" => to_hex(&sheets::sheet(random, kind, sort)),
         "compose" if random.once_in(100) => to_hex(&[]),

@@ -5,6 +5,7 @@ pub mod commands;
 pub mod compose;
 pub mod frames;
 pub mod gen;
+pub mod inspect;
 pub mod lines;
 pub mod log;
 pub mod planner;

@@ -35,10 +35,18 @@ pub enum Planted {
     WholeFrameKept,
     /// 16: the token rule without F − 1.
     OverrunLeftOut,
+    /// 17: a log's start that ran past the counter's top is refused.
+    WrappedStartRefused,
+    /// 18: a log's synchronous amount is compared with C.
+    SynchronousUpToC,
+    /// 19: a log's limit is not compared.
+    LimitNotCompared,
+    /// 20: a log's first start is compared, with 0.
+    FirstStartCompared,
 }
 
 impl Planted {
-    pub const ALL: [Planted; 16] = [
+    pub const ALL: [Planted; 20] = [
         Planted::TimeForNobody,
         Planted::RoundedDown,
         Planted::LimitWithoutUnused,
@@ -55,6 +63,10 @@ impl Planted {
         Planted::FrameAtLimit,
         Planted::WholeFrameKept,
         Planted::OverrunLeftOut,
+        Planted::WrappedStartRefused,
+        Planted::SynchronousUpToC,
+        Planted::LimitNotCompared,
+        Planted::FirstStartCompared,
     ];
 
     /// The error of a number, from 1 on.

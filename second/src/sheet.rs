@@ -66,6 +66,13 @@ impl Contents {
         self.allocation.len() == self.stations.len()
     }
 
+    /// The plan before any visit, judged.
+    pub fn judged_plan(&self) -> Result<Plan, Refusal> {
+        let plan = self.plan();
+        plan.judge()?;
+        Ok(plan)
+    }
+
     /// The sheet before any visit, judged: a request where it has no allocations.
     pub fn judged(&self) -> Result<Sheet, Refusal> {
         if self.allocation.is_empty() {
@@ -73,9 +80,7 @@ impl Contents {
             request.judge()?;
             return Ok(Sheet::Request(request));
         }
-        let plan = self.plan();
-        plan.judge()?;
-        Ok(Sheet::Plan(plan))
+        self.judged_plan().map(Sheet::Plan)
     }
 }
 
@@ -306,17 +311,13 @@ pub fn read_request(sheet: &[u8]) -> Result<Request, Refusal> {
 
 /// The plan of a plan sheet, or number 1 to 5 or 7.
 pub fn read_plan(sheet: &[u8]) -> Result<Plan, Refusal> {
-    let plan = contents(sheet, PLAN_TABLE)?.plan();
-    plan.judge()?;
-    Ok(plan)
+    contents(sheet, PLAN_TABLE)?.judged_plan()
 }
 
 /// The plan of a log and its visits, or number 1 to 5 or 7.
 pub fn read_log(log: &[u8]) -> Result<(Plan, Vec<Entry>), Refusal> {
     let contents = contents(log, LOG_TABLE)?;
-    let plan = contents.plan();
-    plan.judge()?;
-    Ok((plan, contents.entries))
+    Ok((contents.judged_plan()?, contents.entries))
 }
 
 /// A sheet of either kind and the visits behind a plan, or number 1 to 5 or 7.

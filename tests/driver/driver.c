@@ -456,6 +456,27 @@ static void record_case(void)
     put_hex(log, ended.length);
 }
 
+/* `inspect HEX` */
+static void inspect_case(void)
+{
+    static const char *const rules[] = {"", " station", " start", " limit", " synchronous", " asynchronous"};
+    size_t length = hex(bytes, MOST_BYTES);
+    if (!ended())
+        no_case();
+    struct olivastrum_finding found = inspecting(bytes, length);
+    put_number(found.number);
+    if (found.number != 0)
+        return;
+    if (found.rule == 0) {
+        put(" accepted");
+        put_after(' ', found.visits);
+    } else {
+        put(" record");
+        put_after(' ', found.record);
+        put(found.rule <= 5 ? rules[found.rule] : " unknown");
+    }
+}
+
 static void answer(void)
 {
     if (passed("request "))
@@ -480,6 +501,8 @@ static void answer(void)
         log_case();
     else if (passed("record "))
         record_case();
+    else if (passed("inspect "))
+        inspect_case();
     else
         no_case();
 }

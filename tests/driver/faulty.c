@@ -21,6 +21,7 @@ struct olivastrum_recorder __real_olivastrum_begin_log(set_t set, alloc_t alloc,
 struct olivastrum_recorder __real_olivastrum_add_visit(struct olivastrum_recorder recorder, struct olivastrum_visit_record record, uint8_t *out,
                                                        size_t length);
 struct olivastrum_written __real_olivastrum_end_log(struct olivastrum_recorder recorder, uint8_t *out, size_t length);
+struct olivastrum_finding __real_olivastrum_inspect_log(const uint8_t *log, size_t length);
 
 /* What is changed where the fault of that name is asked for and the condition holds. */
 #define FAULT(name, condition, place)            \
@@ -218,4 +219,16 @@ struct olivastrum_written __wrap_olivastrum_end_log(struct olivastrum_recorder r
     FAULT("ended-before", 1, out[0]);
     FAULT("ended-left", ended.number == 0 && ended.length < length, out[ended.length]);
     return ended;
+}
+
+/* ---- inspecting */
+struct olivastrum_finding __wrap_olivastrum_inspect_log(const uint8_t *log, size_t length)
+{
+    struct olivastrum_finding found = __real_olivastrum_inspect_log(log, length);
+    spoil_sheet(log, length);
+    FAULT("found-refused", found.number != 0, found.visits);
+    FAULT("found-none", found.number == 0 && found.rule == 0, found.record);
+    if (is_fault("found-far") && found.rule != 0)
+        found.record = found.visits + 1;
+    return found;
 }

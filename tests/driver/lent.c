@@ -255,6 +255,16 @@ struct olivastrum_next_entry entry_at(size_t length, uint64_t at)
     return next;
 }
 
+struct olivastrum_finding inspecting(const uint8_t *log, size_t length)
+{
+    struct olivastrum_finding found = olivastrum_inspect_log(lend_sheet(log, length), length);
+    sheet_unchanged(log, length);
+    must(found.number == 0 || (found.visits == 0 && found.record == 0 && found.rule == 0), "not-blank");
+    must((found.record == 0) == (found.rule == 0), "not-blank");
+    must(found.record <= found.visits && found.rule <= 5, "too-long");
+    return found;
+}
+
 /* Nothing is written from `at` on, nor before the room. */
 static void log_kept(uint64_t at, size_t room)
 {

@@ -1,6 +1,7 @@
 /*
  * A host in C that does the whole job with the worked run of the build definition: it reads a request, plans, writes
- * and reads the plan sheet, opens the ring, hands in messages and visits, and holds each number to the definition's.
+ * and reads the plan sheet, opens the ring, hands in messages and visits, and holds each number to the definition's; it
+ * writes the log of the run, reads it back and inspects it.
  * Refused calls must leave every byte of the ring and of the buffers as they were, and any bytes at all in place of a
  * ring must get an answer. The header's structs and constants are held to the Rattle sources (tests/host/run says how).
  * Prints `ok`, or the first line that failed.
@@ -53,6 +54,15 @@ static int layouts(void)
          AT(olivastrum_visit_record, completed));
     SAME(FIELDS_VISIT_ANSWER, sizeof(struct olivastrum_visit_answer), AT(olivastrum_visit_answer, record), AT(olivastrum_visit_answer, number));
     SAME(FIELDS_OPENED, sizeof(struct olivastrum_opened), AT(olivastrum_opened, ring), AT(olivastrum_opened, number));
+    SAME(FIELDS_ENTRY, sizeof(struct olivastrum_entry), AT(olivastrum_entry, station), AT(olivastrum_entry, start), AT(olivastrum_entry, limit),
+         AT(olivastrum_entry, synchronous), AT(olivastrum_entry, asynchronous));
+    SAME(FIELDS_NEXT_ENTRY, sizeof(struct olivastrum_next_entry), AT(olivastrum_next_entry, entry), AT(olivastrum_next_entry, next));
+    SAME(FIELDS_READ_LOG, sizeof(struct olivastrum_read_log), AT(olivastrum_read_log, set), AT(olivastrum_read_log, alloc),
+         AT(olivastrum_read_log, first), AT(olivastrum_read_log, visits), AT(olivastrum_read_log, number));
+    SAME(FIELDS_RECORDER, sizeof(struct olivastrum_recorder), AT(olivastrum_recorder, at), AT(olivastrum_recorder, clock),
+         AT(olivastrum_recorder, counter), AT(olivastrum_recorder, number));
+    SAME(FIELDS_FINDING, sizeof(struct olivastrum_finding), AT(olivastrum_finding, visits), AT(olivastrum_finding, record),
+         AT(olivastrum_finding, rule), AT(olivastrum_finding, number));
 
     CHECK(sizeof(struct olivastrum_set) == 4 * 4 + 4 * 128 * 4);
     CHECK(sizeof(struct olivastrum_alloc) == 128 * 4);
@@ -331,6 +341,93 @@ static int worked_run(ring_t *ring)
     return 1;
 }
 
+/* ---- the log of the worked run */
+#define VISITS (sizeof rows / sizeof rows[0])
+#define LOG_BYTES (OLIVASTRUM_PLAN_BYTES(STATIONS) + VISITS * OLIVASTRUM_VISIT_BYTES)
+
+/* The counter shows this at the opening, so that it runs past its top between the second visit and the third. */
+#define COUNTER 4294967246u
+
+/* Runs the ring and records it; a buffer that is a byte too short takes all but the last visit, and can still be ended. */
+static int recording(struct olivastrum_set set, struct olivastrum_alloc alloc, uint8_t *log)
+{
+    uint8_t shorter[LOG_BYTES - 1];
+    ring_t ring = olivastrum_open_ring(set, alloc).ring;
+    struct olivastrum_recorder whole = olivastrum_begin_log(set, alloc, COUNTER, 0, log, LOG_BYTES);
+    struct olivastrum_recorder part = olivastrum_begin_log(set, alloc, COUNTER, 0, shorter, sizeof shorter);
+    for (uint64_t i = 0; i < STATIONS; i++)
+        CHECK(olivastrum_hand_in(&ring, message(i, 20, 0)) == 0);
+    for (size_t k = 0; k < VISITS; k++) {
+        struct olivastrum_visit_record record = olivastrum_visit(&ring, ticks(1000)).record;
+        whole = olivastrum_add_visit(whole, record, log, LOG_BYTES);
+        CHECK(whole.number == 0);
+        part = olivastrum_add_visit(part, record, shorter, sizeof shorter);
+        CHECK(part.number == (k + 1 < VISITS ? 0 : OLIVASTRUM_BUFFER_TOO_SHORT));
+        if (k < STATIONS)
+            CHECK(olivastrum_hand_in(&ring, message(k, 20, 100)) == 0);
+    }
+    struct olivastrum_written ended = olivastrum_end_log(whole, log, LOG_BYTES);
+    CHECK(ended.number == 0 && ended.length == LOG_BYTES);
+    ended = olivastrum_end_log(part, shorter, sizeof shorter);
+    CHECK(ended.number == 0 && ended.length == LOG_BYTES - OLIVASTRUM_VISIT_BYTES);
+    CHECK(memcmp(log, shorter, ended.length - 3) == 0);
+    return 1;
+}
+
+/* What was written is read back: the plan, and each visit by the numbers of the worked run. */
+static int read_back(const struct olivastrum_set *set, const struct olivastrum_alloc *alloc, const uint8_t *log)
+{
+    struct olivastrum_read_log read = olivastrum_read_log(log, LOG_BYTES);
+    CHECK(read.number == 0 && read.first == OLIVASTRUM_PLAN_BYTES(STATIONS) - 3 && read.visits == VISITS);
+    CHECK(memcmp(&read.set, set, sizeof *set) == 0 && memcmp(&read.alloc, alloc, sizeof *alloc) == 0);
+    uint64_t at = read.first;
+    for (size_t k = 0; k < VISITS; k++) {
+        struct olivastrum_next_entry next = olivastrum_log_entry(log, LOG_BYTES, at);
+        const int64_t *row = rows[k];
+        CHECK(next.next == at + OLIVASTRUM_VISIT_BYTES);
+        CHECK(next.entry.station == row[0] && next.entry.start == (uint32_t)(COUNTER + (uint64_t)row[1]) && next.entry.limit == row[3]);
+        CHECK(next.entry.synchronous == row[4] && next.entry.asynchronous == row[5]);
+        at = next.next;
+    }
+    CHECK(olivastrum_log_entry(log, LOG_BYTES, at).next == 0);
+    return 1;
+}
+
+static int is_finding(struct olivastrum_finding found, uint64_t visits, uint64_t record, uint8_t rule, uint8_t number)
+{
+    return found.visits == visits && found.record == record && found.rule == rule && found.number == number;
+}
+
+/* The log that the ring wrote is accepted, and so is its plan alone. A number that is one higher is found, and the log as it
+ * is read no more is refused. */
+static int inspecting(uint8_t *log)
+{
+    const size_t first = OLIVASTRUM_PLAN_BYTES(STATIONS) - 3;
+    CHECK(is_finding(olivastrum_inspect_log(log, LOG_BYTES), VISITS, 0, 0, 0));
+    for (uint64_t k = 0; k < VISITS; k++)
+        for (uint8_t rule = 1; rule <= 5; rule++) {
+            /* behind tag and length the station's byte, then the last byte of each number */
+            uint8_t *byte = log + first + k * OLIVASTRUM_VISIT_BYTES + (rule == 1 ? 3u : 4u * rule - 1u);
+            *byte += 1;
+            int free_start = rule == 2 && k == 0; /* then the second record's is wrong */
+            CHECK(is_finding(olivastrum_inspect_log(log, LOG_BYTES), VISITS, free_start ? 2 : k + 1, rule, 0));
+            *byte -= 1;
+        }
+    CHECK(is_finding(olivastrum_inspect_log(log, LOG_BYTES - 1), 0, 0, 0, OLIVASTRUM_SHEET_ENDS));
+    memcpy(log + first, log + LOG_BYTES - 3, 3);
+    CHECK(is_finding(olivastrum_inspect_log(log, first + 3), 0, 0, 0, 0));
+    CHECK(is_finding(olivastrum_inspect_log(log, first + 4), 0, 0, 0, OLIVASTRUM_SHEET_GOES_ON));
+    log[first - 1] = 99;
+    CHECK(is_finding(olivastrum_inspect_log(log, first + 3), 0, 0, 0, OLIVASTRUM_RULE_BROKEN));
+    return 1;
+}
+
+static int logs(struct olivastrum_set set, struct olivastrum_alloc alloc)
+{
+    uint8_t log[LOG_BYTES];
+    return recording(set, alloc, log) && read_back(&set, &alloc, log) && inspecting(log);
+}
+
 /* ---- rings that no opening gives */
 static uint64_t dice = 88172645463325252u;
 
@@ -495,7 +592,7 @@ int main(void)
     struct olivastrum_alloc alloc;
     if (!layouts() || !constants() || !places() || !planning(&set, &alloc) || !opening(&ring, set, alloc))
         return 1;
-    if (!asked_less(ring) || !worked_run(&ring) || !any_bytes(&ring) || !older_ring() || !uncut_ring())
+    if (!asked_less(ring) || !worked_run(&ring) || !logs(set, alloc) || !any_bytes(&ring) || !older_ring() || !uncut_ring())
         return 1;
     puts("ok");
     return 0;

@@ -94,6 +94,11 @@ static struct olivastrum_next_entry log_entry(void)
     return olivastrum_log_entry(sheet, length, recorder.at);
 }
 
+static struct olivastrum_finding inspect_log(void)
+{
+    return olivastrum_inspect_log(sheet, length);
+}
+
 typedef void call(void);
 
 static struct function {
@@ -114,6 +119,7 @@ static struct function {
     {"olivastrum_end_log", (call *)end_log, OLIVASTRUM_STACK_END_LOG, 0},
     {"olivastrum_read_log", (call *)read_log, OLIVASTRUM_STACK_READ_LOG, 0},
     {"olivastrum_log_entry", (call *)log_entry, OLIVASTRUM_STACK_LOG_ENTRY, 0},
+    {"olivastrum_inspect_log", (call *)inspect_log, OLIVASTRUM_STACK_INSPECT_LOG, 0},
 };
 
 #define FUNCTIONS (sizeof functions / sizeof *functions)
@@ -190,7 +196,7 @@ static void with_sheets(void)
 static void with_stations(uint32_t mode, uint32_t frame, uint32_t n)
 {
     set = stations(mode, frame, n);
-    ask = (struct olivastrum_ask){1000, frame};
+    ask = (struct olivastrum_ask){100000, frame}; /* frames run past the limit, which an inspection looks into */
     alloc = olivastrum_plan_set(set).alloc;
     ring = olivastrum_open_ring(set, alloc).ring;
     message = (struct olivastrum_message){{0}, {300}, {0}};

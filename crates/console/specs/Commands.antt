@@ -31,12 +31,19 @@ showWord = 115 ∷ 104 ∷ 111 ∷ 119 ∷ []
 abbrev pub logWord : List ℕ
 logWord = 108 ∷ 111 ∷ 103 ∷ []
 
--- 1 plan, 2 plan-sheet, 3 run, 4 compose, 5 show, 8 log; 0 for `help`, `version` and anything else
+-- "inspect"
+abbrev pub inspectWord : List ℕ
+inspectWord = 105 ∷ 110 ∷ 115 ∷ 112 ∷ 101 ∷ 99 ∷ 116 ∷ []
+
+-- of the commands on logs: 8 log, 9 inspect
+unfoldable pub logCommandOf : List ℕ → ℕ
+logCommandOf word = cond (sameBytes word logWord) 8 (cond (sameBytes word inspectWord) 9 0)
+
+-- 1 plan, 2 plan-sheet, 3 run, 4 compose, 5 show, 8 log, 9 inspect; 0 for `help`, `version` and anything else
 unfoldable pub commandOf : List ℕ → ℕ
 commandOf word =
     cond (sameBytes word planWord) 1
     (cond (sameBytes word planSheetWord) 2
     (cond (sameBytes word runWord) 3
     (cond (sameBytes word composeWord) 4
-    (cond (sameBytes word showWord) 5
-    (cond (sameBytes word logWord) 8 0)))))
+    (cond (sameBytes word showWord) 5 (logCommandOf word)))))

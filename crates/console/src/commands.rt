@@ -1,6 +1,6 @@
 // The commands, by the bytes of the first argument.
 ghost use mathlib.Core.Path.{_≡_};
-ghost use Rattle.console.specs.Commands.{sameBytes, commandOf};
+ghost use Rattle.console.specs.Commands.{sameBytes, logCommandOf, commandOf};
 
 pub const HELP: u8 = 0;
 
@@ -15,6 +15,8 @@ pub const COMPOSE: u8 = 4;
 pub const SHOW: u8 = 5;
 
 pub const LOG: u8 = 8;
+
+pub const INSPECT: u8 = 9;
 
 // Two words are the same.
 pub fn same_bytes(v: &[u8], w: &[u8]) -> bool
@@ -31,6 +33,19 @@ pub fn same_bytes(v: &[u8], w: &[u8]) -> bool
         i += 1;
     }
     same
+}
+
+// The command on logs that a word names.
+fn log_command_of(word: &[u8]) -> u8
+    ensures { λ r. ⌜ r ≡ logCommandOf (now (word .entry)) ⌝ }
+{
+    if same_bytes(word, b"log") {
+        return LOG;
+    }
+    if same_bytes(word, b"inspect") {
+        return INSPECT;
+    }
+    HELP
 }
 
 // The command that a word names.
@@ -52,8 +67,5 @@ pub fn command_of(word: &[u8]) -> u8
     if same_bytes(word, b"show") {
         return SHOW;
     }
-    if same_bytes(word, b"log") {
-        return LOG;
-    }
-    HELP
+    log_command_of(word)
 }

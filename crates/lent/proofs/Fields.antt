@@ -23,6 +23,7 @@ use Rattle.entries.proofs.Entry.Laws as Entry
 use Rattle.entries.proofs.NextEntry.Laws as NextEntry
 use Rattle.logs.proofs.ReadLog.Laws as ReadLog
 use Rattle.logs.proofs.Recorder.Laws as Recorder
+use Rattle.inspection.proofs.Finding.Laws as Finding
 
 abbrev place : Option (Ty × ℕ) → ℕ
 place none = 0
@@ -87,3 +88,6 @@ read-log = refl
 
 recorder : layout Recorder.mir 4 ≡ 24 ∷ 0 ∷ 8 ∷ 16 ∷ 20 ∷ []
 recorder = refl
+
+finding : layout Finding.mir 4 ≡ 24 ∷ 0 ∷ 8 ∷ 16 ∷ 17 ∷ []
+finding = refl

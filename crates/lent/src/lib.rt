@@ -10,7 +10,9 @@ ghost use Rattle.lending.specs.Lent.{VisitLent, HandInLent};
 ghost use Rattle.entries.specs.Entry.{nextEntry};
 ghost use Rattle.logs.specs.Reading.{readLog};
 ghost use Rattle.logs.specs.Writing.{Began, Added, EndedLog};
+ghost use Rattle.inspection.specs.Findings.{findingIn};
 use entries::NextEntry;
+use inspection::Finding;
 use logs::ReadLog;
 use logs::Recorder;
 use plans::Alloc;
@@ -142,4 +144,12 @@ pub extern "C" fn olivastrum_log_entry(log: &[u8], at: usize) -> NextEntry
     ensures { λ r. ⌜ r ≡ nextEntry (now (log .entry)) at ⌝ }
 {
     logs::log_entry(log, at)
+}
+
+// Inspects a log on the lent bytes: whether a run could have given its records, or the first record and rule broken.
+#[no_mangle]
+pub extern "C" fn olivastrum_inspect_log(log: &[u8]) -> Finding
+    ensures { λ r. ⌜ r ≡ findingIn (now (log .entry)) ⌝ }
+{
+    inspection::inspect_log(log)
 }

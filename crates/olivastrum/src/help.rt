@@ -49,8 +49,13 @@ fn rings(before: bool, to: i32) -> bool {
         to,
         b"  olivastrum log PLAN < CALLS       write the log of that run: what a recorder would write\n",
     );
-    let version = more(
+    let inspect = more(
         log,
+        to,
+        b"  olivastrum inspect < LOG          say whether a run could have given the log's records, or the first that breaks a rule\n",
+    );
+    let version = more(
+        inspect,
         to,
         b"  olivastrum version                print the version\n",
     );
@@ -88,11 +93,12 @@ fn examples(before: bool, to: i32) -> bool {
         to,
         b"  olivastrum run four.plan < examples/worked-run.calls\n",
     );
-    more(
+    let log = more(
         run,
         to,
-        b"  olivastrum log four.plan < examples/worked-run.calls > worked.log\n\n",
-    )
+        b"  olivastrum log four.plan < examples/worked-run.calls > worked.log\n",
+    );
+    more(log, to, b"  olivastrum inspect < worked.log\n\n")
 }
 
 // All of it; false where it could not be written.

@@ -2,6 +2,7 @@
 mod composing;
 mod ending;
 mod help;
+mod inspecting;
 mod logging;
 mod planned;
 mod reading;
@@ -51,7 +52,7 @@ fn plan_sheet() -> Ending {
 
 // `version`: the version, here and nowhere else in the sources.
 fn version() -> Ending {
-    ending::answer(b"0.7.0\n", false)
+    ending::answer(b"0.8.0\n", false)
 }
 
 // `help`.
@@ -98,6 +99,7 @@ fn obey(first: usize, second: usize) -> Ending {
         6 => print_help(),
         7 => version(),
         8 => planned::obey(true, second),
+        9 => inspecting::inspect(),
         _ => none(),
     }
 }

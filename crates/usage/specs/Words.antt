@@ -17,7 +17,7 @@ helpWord = 104 ∷ 101 ∷ 108 ∷ 112 ∷ []
 abbrev pub versionWord : List ℕ
 versionWord = 118 ∷ 101 ∷ 114 ∷ 115 ∷ 105 ∷ 111 ∷ 110 ∷ []
 
--- 6 help, 7 version, 1 to 5 and 8 the commands that `commandOf` knows; 0 for any other word
+-- 6 help, 7 version, 1 to 5, 8 and 9 the commands that `commandOf` knows; 0 for any other word
 unfoldable pub named : List ℕ → ℕ
 named word = cond (sameBytes word helpWord) 6 (cond (sameBytes word versionWord) 7 (commandOf word))
 

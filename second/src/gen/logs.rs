@@ -1,11 +1,13 @@
-//! Logs: of runs, with any numbers in their visits, and damaged.
+//! Logs: of runs, with any numbers in their visits, and damaged; and logs to inspect, of which one
+//! number is wrong, or that are cut and joined.
 
 use super::random::Random;
 use super::{calls, sets, Sort};
+use crate::inspect::Inspector;
 use crate::log::{log_of, Counter, Entry};
 use crate::planted::Planted;
 use crate::ring::Ring;
-use crate::rules::Plan;
+use crate::rules::{Ask, Plan};
 use crate::sheet::{fields, visit_field};
 use crate::text::Call;
 
@@ -131,4 +133,116 @@ fn cut_or_changed(random: &mut Random, mut bytes: Vec<u8>) -> Vec<u8> {
         _ => bytes.extend([random.byte(), 0, 17]),
     }
     bytes
+}
+
+/// A log that a run with any synchronous amounts gives: they need not come from messages.
+pub fn free_run(random: &mut Random, plan: &Plan, most: usize) -> Vec<Entry> {
+    let mut inspector = Inspector::new(plan, Planted::Nothing);
+    let (shown, _) = counter(random);
+    let mut entries: Vec<Entry> = vec![];
+    for _ in 0..random.index(most + 1) {
+        let s = plan.allocation[inspector.station()];
+        let some = random.between32(0, s);
+        let limit = inspector.limit();
+        let entry = Entry {
+            station: inspector.station() as u8,
+            start: if entries.is_empty() { shown } else { inspector.counter() },
+            limit,
+            synchronous: random.pick(&[0, s, some]),
+            asynchronous: some_frames(random, plan, limit),
+        };
+        inspector.take(&entry);
+        entries.push(entry);
+    }
+    entries
+}
+
+fn some_frames(random: &mut Random, plan: &Plan, limit: u32) -> u32 {
+    let frame = plan.request.head.frame;
+    let some = random.between32(1, frame);
+    let length = random.pick(&[1, frame, some, some]);
+    let few = random.between32(0, limit / length + 1);
+    let frames = random.pick(&[0, few, few, u32::MAX]);
+    Ask { frames, length }.sent(limit.into()) as u32
+}
+
+/// A log to inspect: of a run, or of one with any synchronous amounts, and half of them not quite.
+pub fn to_inspect(random: &mut Random, sort: Sort) -> Vec<u8> {
+    if random.once_in(8) {
+        return log(random, sort);
+    }
+    let (plan, mut entries) = match random.once_in(2) {
+        true => run(random, sort, 40),
+        false => {
+            let plan = sets::plan_to_run(random, sort);
+            let entries = free_run(random, &plan, 40);
+            (plan, entries)
+        }
+    };
+    match random.between(0, 5) {
+        0..=2 => (),
+        3 if !entries.is_empty() => {
+            let index = random.index(entries.len());
+            spoil(random, &plan, &mut entries[index]);
+        }
+        4 => cut_and_joined(random, &plan, &mut entries),
+        _ => {
+            for _ in 0..random.between(0, 3).min(entries.len() as u64) {
+                let index = random.index(entries.len());
+                spoil(random, &plan, &mut entries[index]);
+            }
+        }
+    }
+    log_of(&plan, &entries).expect("the plan is sound")
+}
+
+/// One number changed: by one, to an edge of what its rule allows, or to any.
+fn spoil(random: &mut Random, plan: &Plan, entry: &mut Entry) {
+    let index = usize::from(entry.station).min(plan.allocation.len() - 1);
+    let count = plan.allocation.len() as u8;
+    let frame = plan.request.head.frame;
+    let any = any_number(random);
+    let near = |number: u32| [number.wrapping_add(1), number.wrapping_sub(1), any];
+    match random.between(0, 7) {
+        0 => {
+            let station = entry.station;
+            let others = [station.wrapping_add(1), station.wrapping_sub(1), count, 128, 255];
+            entry.station = random.pick(&others);
+        }
+        1 => entry.start = random.pick(&near(entry.start)),
+        2 => entry.start ^= 1 << random.index(32),
+        3 => entry.limit = random.pick(&near(entry.limit)),
+        4 => entry.synchronous = random.pick(&near(entry.synchronous)),
+        5 => {
+            let (s, longest) = (plan.allocation[index], plan.request.stations[index].longest);
+            entry.synchronous = random.pick(&[s, s + 1, longest, s.saturating_sub(1)]);
+        }
+        6 => entry.asynchronous = random.pick(&near(entry.asynchronous)),
+        _ => {
+            let past = random.between32(0, frame);
+            entry.asynchronous =
+                entry.limit.saturating_add(random.pick(&[past, past, frame, frame - 1]));
+        }
+    }
+}
+
+/// Records dropped at the front or among the others, doubled or swapped, or those of another run
+/// put behind.
+fn cut_and_joined(random: &mut Random, plan: &Plan, entries: &mut Vec<Entry>) {
+    let from = random.index(entries.len() + 1);
+    let to = from + random.index(entries.len() - from + 1);
+    match random.between(0, 4) {
+        0 => drop(entries.drain(..to)),
+        1 => drop(entries.drain(from..to)),
+        2 => {
+            let doubled = entries[from..to].to_vec();
+            entries.splice(from..from, doubled);
+        }
+        3 => entries.extend(free_run(random, plan, 8)),
+        _ if entries.len() > 1 => {
+            let [one, other] = [0, 0].map(|_: usize| random.index(entries.len()));
+            entries.swap(one, other);
+        }
+        _ => (),
+    }
 }

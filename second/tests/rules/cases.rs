@@ -170,6 +170,8 @@ fn every_number_of_a_kind_is_reached() {
         assert_eq!(numbers((Kind::Writing, sort), 600), [0, 2, 4, 5, 7, 14]);
         assert_eq!(numbers((Kind::Openings, sort), 600), [0, 2, 4, 5, 7]);
         assert_eq!(numbers((Kind::Logs, sort), 1_500), [0, 1, 2, 3, 4, 5, 7]);
+        let inspected = numbers((Kind::Inspections, sort), 1_500);
+        assert!([0, 1, 2, 3, 4, 7].iter().all(|number| inspected.contains(number)));
         let recorded = numbers((Kind::Records, sort), 400);
         assert!([0, 1, 2, 7, 14].iter().all(|number| recorded.contains(number)), "{recorded:?}");
         for kind in [Kind::States, Kind::Steps] {

@@ -5,6 +5,7 @@ mod cases;
 mod fddi_plans;
 mod fddi_rings;
 mod fddi_sheets;
+mod inspections;
 mod log_texts;
 mod logs;
 mod planted;

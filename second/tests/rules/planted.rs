@@ -30,15 +30,18 @@ fn shown_by(planted: Planted) -> (Kind, &'static [Sort]) {
             (Kind::Runs, FDDI)
         }
         Planted::FrameCut => (Kind::Runs, UNCUT),
+        Planted::WrappedStartRefused
+        | Planted::SynchronousUpToC
+        | Planted::LimitNotCompared
+        | Planted::FirstStartCompared => (Kind::Inspections, &Sort::ALL),
         _ => (Kind::Runs, TIMELY),
     }
 }
 
 #[test]
 fn comparing_finds_every_planted_error() {
-    for (kind, sort) in
-        [Kind::Planning, Kind::Runs].map(|kind| Sort::ALL.map(|s| (kind, s))).concat()
-    {
+    let kinds = [Kind::Planning, Kind::Runs, Kind::Inspections];
+    for (kind, sort) in kinds.map(|kind| Sort::ALL.map(|sort| (kind, sort))).concat() {
         let answered = answered(kind, sort);
         for planted in Planted::ALL {
             let differs = |(case, right): &&(String, String)| answer(case, planted) != *right;
@@ -50,8 +53,8 @@ fn comparing_finds_every_planted_error() {
             assert!(as_expected, "{planted:?}: {found} in {kind:?} of {sort:?}");
         }
     }
-    assert_eq!([0, 17].map(Planted::from_number), [None, None]);
-    assert_eq!(Planted::from_number(16), Some(Planted::OverrunLeftOut));
+    assert_eq!([0, 21].map(Planted::from_number), [None, None]);
+    assert_eq!(Planted::from_number(20), Some(Planted::FirstStartCompared));
 }
 
 /// Every promise that the runs with the error break.

@@ -122,6 +122,7 @@ fn a_long_log() {
     assert_eq!(log.len(), 114 + 20 * 30_000);
     let text = said(&["show"], &log);
     assert_eq!(text.lines().count(), 5 + 30_000);
+    assert_eq!(said(&["inspect"], &log), "accepted 30000\n");
     assert_eq!(second(&["compose"], text.as_bytes()).stdout, log);
     let cut = said(&["show"], &log[..log.len() - 1]);
     assert_eq!(cut, text + "refused 1\n");
@@ -169,16 +170,24 @@ fn an_answer_does_not_wait_for_the_next_call() {
 #[test]
 fn usage_for_anything_else() {
     let usage = said(&["help"], b"");
-    for name in
-        ["plan", "compose", "show", "plan-sheet", "run PLAN", "log PLAN", "generate", "answers"]
-    {
+    for name in [
+        "plan",
+        "compose",
+        "show",
+        "plan-sheet",
+        "run PLAN",
+        "log PLAN",
+        "inspect",
+        "generate",
+        "answers",
+    ] {
         assert!(usage.contains(&format!("  {name}")), "{name}");
     }
     let others: [&[&str]; 7] = [
         &["else"],
         &["plan", "more"],
         &["run"],
-        &["--planted", "17", "plan"],
+        &["--planted", "21", "plan"],
         &["--planted"],
         &["generate", "runs", "1"],
         &["generate", "runs", "1", "1", "-", "more"],

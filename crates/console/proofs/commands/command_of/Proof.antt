@@ -1,28 +1,18 @@
 -- `command_of` is right because it compares the word with each command in turn: behind a comparison that failed, the rest of the definition is what is left.
 use Prim.Native.Nat.{ℕ}
-use mathlib.Core.Path.{_≡_, sym, _∙_}
-use mathlib.Core.Bool.{Bool, true, false, cond}
+use mathlib.Core.Path.{_≡_, _∙_}
+use mathlib.Core.Bool.{cond}
 use mathlib.Core.List.{List}
-use Rattle.console.specs.Commands.{sameBytes, planSheetWord, runWord, composeWord, showWord, logWord, commandOf}
+use Rattle.console.proofs.Comparing.{named, passed}
+use Rattle.console.specs.Commands.{sameBytes, planSheetWord, runWord, composeWord, showWord, logCommandOf, commandOf}
 use borrow.Author.Needs.{needs}
 use Rattle.console.proofs.commands.command_of.Statement.{statement}
 use Rattle.console.proofs.commands.command_of.Tie as tie
 
--- ---- one comparison, as it was made and as the definition has it
-
-named : {made b : Bool} (x y : ℕ) → made ≡ b → made ≡ true → x ≡ cond b x y
-named x y e t = rw (sym e ∙ t)
-
-passed : {made b : Bool} (x y : ℕ) → made ≡ b → made ≡ false → y ≡ cond b x y
-passed x y e f = rw (sym e ∙ f)
-
 -- ---- what is left of the definition
 
-abbrev fromLog : List ℕ → ℕ
-fromLog w = cond (sameBytes w logWord) 8 0
-
 abbrev fromShow : List ℕ → ℕ
-fromShow w = cond (sameBytes w showWord) 5 (fromLog w)
+fromShow w = cond (sameBytes w showWord) 5 (logCommandOf w)
 
 abbrev fromCompose : List ℕ → ℕ
 fromCompose w = cond (sameBytes w composeWord) 4 (fromShow w)
@@ -63,7 +53,7 @@ past-run c = passed 3 _ (c .before .same-bytes3 .ensures) (c .if3 .left) ∙ pas
 past-compose : (c : tie.Else4) → fromShow (word4 c) ≡ commandOf (word4 c)
 past-compose c = passed 4 _ (c .before .same-bytes4 .ensures) (c .if4 .left) ∙ past-run (c .before .before .before)
 
-past-show : (c : tie.Else5) → fromLog (word5 c) ≡ commandOf (word5 c)
+past-show : (c : tie.Else5) → logCommandOf (word5 c) ≡ commandOf (word5 c)
 past-show c = passed 5 _ (c .before .same-bytes5 .ensures) (c .if5 .left) ∙ past-compose (c .before .before .before)
 
 -- ---- the answers
@@ -85,10 +75,7 @@ returns-5 : tie.Need-returns-5
 returns-5 c = named 5 _ (c .before .same-bytes5 .ensures) (c .if5 .taken) ∙ past-compose (c .before .before .before)
 
 returns-6 : tie.Need-returns-6
-returns-6 c = named 8 _ (c .before .same-bytes6 .ensures) (c .if6 .taken) ∙ past-show (c .before .before .before)
-
-returns-7 : tie.Need-returns-7
-returns-7 c = passed 8 0 (c .before .same-bytes6 .ensures) (c .if6 .left) ∙ past-show (c .before .before .before)
+returns-6 c = c .log-command-of .ensures ∙ past-show (c .before)
 
 pub command-of-spec : {M : Type 1} → statement M
 command-of-spec =
@@ -109,7 +96,5 @@ command-of-spec =
     (λ c. search needs)
     (λ c κs. search needs)
     returns-5
-    (λ c. search needs)
     (λ c κs. search needs)
-    returns-6
-    returns-7)
+    returns-6)

@@ -1,0 +1,82 @@
+-- Everything that `specs/Promised.antt` lists, proved.
+use Prim.Native.Nat.{ℕ, _^_, _<_}
+use mathlib.Core.Path.{_≡_, sym, ap, _∙_}
+use mathlib.Core.Bool.{true}
+use mathlib.Core.List.{List, _++_}
+use mathlib.Core.Logic.{_≢_, _↔_, ⊎-elim}
+use borrow.Author.Tests.{eqb-true, eq-eqb}
+use Rattle.units.specs.JudgingLaws.{and-true, true-and}
+use Rattle.sets.specs.declared.Set.{Set}
+use Rattle.plans.specs.declared.Alloc.{Alloc}
+use Rattle.scan.proofs.ScanLaws.{zero-or-not}
+use Rattle.logs.specs.Reading.{readLog, entriesIn}
+use Rattle.inspection.specs.Records.{inspectionOf}
+use Rattle.inspection.specs.Findings.{compared, foundIn, findingIn}
+use Rattle.inspection.specs.declared.Inspection.{Inspection}
+use Rattle.inspection.specs.declared.Finding.{Finding}
+use Rattle.inspection.proofs.FindingLaws.{finding-refused, finding-read}
+use Rattle.text.specs.Text.{refusedLine}
+use Rattle.piece_inspections.specs.Inspecting.{inspectStart, inspectNumber}
+use Rattle.piece_inspections.proofs.Promised.{promised as pieces}
+use Rattle.finding_texts.specs.FindingText.{acceptedLine, recordLine, comparedLine, brokenText, findingText, isAccepted}
+use Rattle.finding_texts.specs.Promised.{Names, Promised}
+use Rattle.finding_texts.proofs.LineLaws.{refused-text, accepted-text, broken-text}
+
+module _ (bs : List ℕ) where
+  -- the number of the finding is that of reading the log
+  number-is : findingIn bs .number ≡ readLog bs .number
+  number-is =
+      let k = readLog bs .number in
+      ⊎-elim (λ (z : readLog bs .number ≡ 0). ap (λ (f : Finding). f .number) (finding-read k (foundIn bs) z) ∙ sym z)
+      (λ (some : readLog bs .number ≢ 0). ap (λ (f : Finding). f .number) (finding-refused k (foundIn bs) some))
+      (zero-or-not (readLog bs .number))
+
+  kept-is : inspectNumber (inspectStart bs) ≡ findingIn bs .number
+  kept-is = pieces .same-number bs ∙ sym number-is
+
+  refused-said : findingIn bs .number ≢ 0 → findingText (inspectStart bs) ≡ refusedLine (findingIn bs .number)
+  refused-said some = sym (refused-text (inspectStart bs) (λ z. some (sym kept-is ∙ z))) ∙ ap (λ (n : ℕ). refusedLine n) kept-is
+
+  module _ (z : findingIn bs .number ≡ 0) where
+    read : readLog bs .number ≡ 0
+    read = sym number-is ∙ z
+
+    rule-is : inspectStart bs .looked .inspection .rule ≡ findingIn bs .rule
+    rule-is = pieces .same-rule bs read
+
+    accepted-said : findingIn bs .visits < 2 ^ 64 → findingIn bs .rule ≡ 0 → findingText (inspectStart bs) ≡ acceptedLine (findingIn bs .visits)
+    accepted-said few none =
+        sym (accepted-text (inspectStart bs) (kept-is ∙ z) (rule-is ∙ none)) ∙ ap (λ (n : ℕ). acceptedLine n) (pieces .same-visits bs read few none)
+
+    broken-said : findingIn bs .visits < 2 ^ 64 → findingIn bs .rule ≢ 0 → Names bs (findingText (inspectStart bs))
+    unfolding brokenText
+    broken-said few some =
+        let k = inspectStart bs in
+        let e = k .looked .last in
+        let state = k .looked .inspection in
+        let found = findingIn bs in
+        let both : ℕ → ℕ → Inspection → Set → Alloc → List ℕ = λ number rule s t a. recordLine number rule ++ comparedLine rule (t .head .frame) (compared s t a e) in
+        let plan = pieces .same-plan-read bs read in
+        record {
+          entry = e;
+          breaks = pieces .same-broken bs read few some;
+          lines =
+              sym (broken-text k (kept-is ∙ z) (λ y. some (sym rule-is ∙ y)))
+              ∙ ap (λ (n : ℕ). both n (state .rule) state (k .start .set) (k .start .alloc)) (pieces .same-record bs read)
+              ∙ ap (λ (n : ℕ). both (found .«record») n state (k .start .set) (k .start .alloc)) rule-is
+              ∙ ap (λ (s : Inspection). both (found .«record») (found .rule) s (k .start .set) (k .start .alloc)) (pieces .same-inspection bs read)
+              ∙ ap (λ (t : Set). both (found .«record») (found .rule) (inspectionOf (readLog bs .set) (readLog bs .alloc) (entriesIn bs)) t (k .start .alloc)) (plan .0)
+              ∙ ap (λ (a : Alloc). both (found .«record») (found .rule) (inspectionOf (readLog bs .set) (readLog bs .alloc) (entriesIn bs)) (readLog bs .set) a) (plan .1);
+        }
+
+  told : (isAccepted (inspectStart bs) ≡ true) ↔ ((findingIn bs .number ≡ 0) × (findingIn bs .rule ≡ 0))
+  told = (
+    λ yes.
+        let both = and-true _ _ yes in
+        let z : findingIn bs .number ≡ 0 = sym kept-is ∙ eqb-true _ _ (both .0) in
+        (z, sym (rule-is z) ∙ eqb-true _ _ (both .1)),
+    λ both. true-and _ _ (eq-eqb _ _ (kept-is ∙ both .0)) (eq-eqb _ _ (rule-is (both .0) ∙ both .1)),
+  )
+
+pub promised : Promised
+promised = record { refused = refused-said; accepted = accepted-said; broken = broken-said; status = told }

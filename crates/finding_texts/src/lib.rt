@@ -1,0 +1,154 @@
+// What `inspect` prints of a log that was read whole: `accepted N`; `record K RULE` and a line for people; or `refused N`.
+ghost use mathlib.Core.Path.{_≡_};
+ghost use mathlib.Core.List.{_∷_};
+ghost use Prim.Native.Nat.{_+_, _≤_};
+ghost use lib.ListN.{length};
+ghost use Rattle.text.specs.Text.{space, PutShort, Printed, pageSize};
+ghost use Rattle.finding_texts.specs.FindingText.{acceptedLine, ruleWord, recordLine, framesAim, aimOf, unitOf, comparedLine, brokenText, findingText, isAccepted};
+use inspection::Compared;
+use piece_inspections::Inspecting;
+use text::PAGE_SIZE;
+use units::numbers;
+
+// `accepted N`.
+fn put_accepted(page: &mut [u8], at: usize, visits: u64) -> usize
+    requires { ⌜ at + 42 ≤ length (now page) ⌝ }
+    ensures { λ r. ⌜ PutShort 42 (now (page .entry)) at (acceptedLine visits) (now (page .exit)) r ⌝ }
+{
+    let named = text::put_short(page, at, b"accepted");
+    let counted = text::put_field(page, named, visits);
+    text::put_end(page, counted)
+}
+
+// A space, and the word of a rule.
+fn put_rule(page: &mut [u8], at: usize, rule: u8) -> usize
+    requires { ⌜ at + 20 ≤ length (now page) ⌝ }
+    ensures { λ r. ⌜ PutShort 20 (now (page .entry)) at (space ∷ ruleWord rule) (now (page .exit)) r ⌝ }
+{
+    if rule == 1 {
+        return text::put_short(page, at, b" station");
+    }
+    if rule == 2 {
+        return text::put_short(page, at, b" start");
+    }
+    if rule == 3 {
+        return text::put_short(page, at, b" limit");
+    }
+    if rule == 4 {
+        return text::put_short(page, at, b" synchronous");
+    }
+    text::put_short(page, at, b" asynchronous")
+}
+
+// `record K RULE`.
+fn put_record(page: &mut [u8], at: usize, number: u64, rule: u8) -> usize
+    requires { ⌜ at + 62 ≤ length (now page) ⌝ }
+    ensures { λ r. ⌜ PutShort 62 (now (page .entry)) at (recordLine number rule) (now (page .exit)) r ⌝ }
+{
+    let named = text::put_short(page, at, b"record");
+    let counted = text::put_field(page, named, number);
+    let ruled = put_rule(page, counted, rule);
+    text::put_end(page, ruled)
+}
+
+// ---- the line for people
+
+// What frames are expected: ` whole frames of one length up to F, begun below`.
+fn put_frames(page: &mut [u8], at: usize, longest: u32) -> usize
+    requires { ⌜ at + 81 ≤ length (now page) ⌝ }
+    ensures { λ r. ⌜ PutShort 81 (now (page .entry)) at (framesAim longest) (now (page .exit)) r ⌝ }
+{
+    let whole = text::put_short(page, at, b" whole frames of one");
+    let long = text::put_short(page, whole, b" length up to");
+    let numbered = text::put_field(page, long, units::wide(longest));
+    text::put_short(page, numbered, b", begun below")
+}
+
+// What the expected number is, by the rule.
+fn put_aim(page: &mut [u8], at: usize, rule: u8, longest: u32) -> usize
+    requires { ⌜ at + 81 ≤ length (now page) ⌝ }
+    ensures { λ r. ⌜ PutShort 81 (now (page .entry)) at (aimOf rule longest) (now (page .exit)) r ⌝ }
+{
+    if rule == 1 {
+        return text::put_short(page, at, b" station");
+    }
+    if rule == 2 {
+        return at;
+    }
+    if rule == 3 {
+        return text::put_short(page, at, b" limit");
+    }
+    if rule == 4 {
+        return text::put_short(page, at, b" at most");
+    }
+    put_frames(page, at, longest)
+}
+
+// What it is counted in: of a start ` ticks after the record before`.
+fn put_unit(page: &mut [u8], at: usize, rule: u8) -> usize
+    requires { ⌜ at + 40 ≤ length (now page) ⌝ }
+    ensures { λ r. ⌜ PutShort 40 (now (page .entry)) at (unitOf rule) (now (page .exit)) r ⌝ }
+{
+    if rule != 2 {
+        return at;
+    }
+    let ticks = text::put_short(page, at, b" ticks after the");
+    text::put_short(page, ticks, b" record before")
+}
+
+// The number that was expected, and the one that was found.
+fn put_compared(page: &mut [u8], at: usize, rule: u8, longest: u32, compared: Compared) -> usize
+    requires { ⌜ at + 204 ≤ length (now page) ⌝ }
+    ensures { λ r. ⌜ PutShort 204 (now (page .entry)) at (comparedLine rule longest compared) (now (page .exit)) r ⌝ }
+{
+    let named = text::put_short(page, at, b"expected");
+    let aimed = put_aim(page, named, rule, longest);
+    let expected = text::put_field(page, aimed, units::wide(compared.expected));
+    let counted = put_unit(page, expected, rule);
+    let came = text::put_short(page, counted, b", found");
+    let found = text::put_field(page, came, units::wide(compared.found));
+    text::put_end(page, found)
+}
+
+// ---- all of it
+
+// Both lines of a log with a record that breaks a rule.
+fn put_broken(page: &mut [u8], inspecting: Inspecting) -> usize
+    requires { ⌜ pageSize ≤ length (now page) ⌝ }
+    ensures { λ r. ⌜ PutShort 266 (now (page .entry)) 0 (brokenText inspecting) (now (page .exit)) r ⌝ }
+{
+    let set = inspecting.start.set;
+    let alloc = inspecting.start.alloc;
+    let state = inspecting.looked.inspection;
+    let finding = inspection::found(state, 0);
+    let named = put_record(page, 0, finding.record, state.rule);
+    let compared = inspection::compare(state, set, alloc, inspecting.looked.last);
+    put_compared(page, named, state.rule, set.head.frame, compared)
+}
+
+// What is printed when all was read. A page that is too small gets nothing.
+pub fn put_finding(inspecting: Inspecting, page: &mut [u8]) -> usize
+    ensures { λ r. ⌜ Printed (findingText inspecting) (now (page .entry)) (now (page .exit)) r ⌝ }
+{
+    if page.len() < PAGE_SIZE {
+        return 0;
+    }
+    let number = piece_inspections::number_of(inspecting);
+    if number != numbers::ACCEPTED {
+        return text::put_refused(page, 0, number);
+    }
+    let state = inspecting.looked.inspection;
+    if state.rule == 0 {
+        return put_accepted(page, 0, state.visits);
+    }
+    put_broken(page, inspecting)
+}
+
+// The log was read, and none of its records breaks a rule.
+pub fn is_accepted(inspecting: Inspecting) -> bool
+    ensures { λ r. ⌜ r ≡ isAccepted inspecting ⌝ }
+{
+    let number = piece_inspections::number_of(inspecting);
+    let state = inspecting.looked.inspection;
+    (number == numbers::ACCEPTED) & (state.rule == 0)
+}

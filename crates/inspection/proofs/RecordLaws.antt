@@ -1,0 +1,113 @@
+-- Where the token station's timer began; one record more, and the three ways that it can go; and the records of a log, handed out one after another.
+use Prim.Native.Nat.{ℕ, zero, suc, _-_, _≤_, _<_}
+use mathlib.Core.Path.{_≡_, refl, sym, ap, _∙_}
+use mathlib.Core.List.{List, [], _∷_}
+use mathlib.Core.Logic.{_≢_}
+use native.Mathlib.Omega.{arith}
+use borrow.Author.Tests.{eq-eqb, ne-eqb, le-leb, lt-leb}
+use Rattle.units.specs.Numbers.{fddi}
+use Rattle.sets.specs.declared.Head.{Head}
+use Rattle.sets.specs.declared.Set.{Set}
+use Rattle.plans.specs.declared.Alloc.{Alloc}
+use Rattle.entries.specs.declared.Entry.{Entry}
+use Rattle.entries.specs.Entry.{nextEntry}
+use Rattle.entries.specs.declared.NextEntry.{NextEntry}
+use Rattle.logs.specs.Reading.{handedFrom}
+use Rattle.inspection.specs.Counter.{ticksLater, ticksBetween}
+use Rattle.inspection.specs.Opening.{begun}
+use Rattle.inspection.specs.Rules.{expected, brokenRule}
+use Rattle.inspection.specs.Records.{baseWith, movedOn, stoppedAt, judged, inspected, inspectedAll, inspectionOf}
+use Rattle.inspection.specs.declared.Inspection.{Inspection}
+use Rattle.inspection.specs.declared.Expected.{Expected}
+
+-- ---- where the clock stood when the token station's timer was at 0
+
+module _ (h : Head) (clock base : ℕ) where
+  -- an FDDI timer that has run for TTRT or longer loses TTRT
+  pub base-late : h .mode ≡ fddi → h .ttrt ≤ ticksBetween base clock → baseWith h clock base ≡ ticksLater base (h .ttrt)
+  unfolding baseWith
+  base-late e l = rw (eq-eqb (h .mode) fddi e, le-leb (h .ttrt) (ticksBetween base clock) l)
+
+  -- any other goes to 0
+  pub base-early : h .mode ≡ fddi → ticksBetween base clock < h .ttrt → baseWith h clock base ≡ clock
+  unfolding baseWith
+  base-early e l = rw (eq-eqb (h .mode) fddi e, lt-leb (h .ttrt) (ticksBetween base clock) l)
+
+  pub base-timely : h .mode ≢ fddi → baseWith h clock base ≡ clock
+  unfolding baseWith
+  base-timely n = rw (ne-eqb (h .mode) fddi n)
+
+-- ---- one record more
+
+judged-broken : (k : ℕ) (s : Inspection) (t : Set) (a : Alloc) (e : Entry) → k ≢ 0 → judged k s t a e ≡ stoppedAt s k
+unfolding judged
+judged-broken zero s t a e n = absurd (n refl)
+judged-broken (suc k) s t a e n = refl
+
+module _ (s : Inspection) (t : Set) (a : Alloc) (e : Entry) where
+  -- a rule was broken before
+  pub inspected-stays : s .rule ≢ 0 → inspected s t a e ≡ s
+  unfolding inspected
+  inspected-stays n = rw (ne-eqb (s .rule) 0 n) refl
+
+  -- this record breaks one
+  pub inspected-stops : s .rule ≡ 0 → (k : ℕ) → k ≡ brokenRule (expected s t a (e .start)) e → k ≢ 0 → inspected s t a e ≡ stoppedAt s k
+  unfolding inspected
+  inspected-stops z k is n = rw (eq-eqb (s .rule) 0 z, ← is) (judged-broken k s t a e n)
+
+  -- it keeps them all
+  pub inspected-moves : s .rule ≡ 0 → brokenRule (expected s t a (e .start)) e ≡ 0 → inspected s t a e ≡ movedOn s t a e
+  unfolding inspected judged
+  inspected-moves z none = rw (eq-eqb (s .rule) 0 z, none) refl
+
+-- ---- one record after another
+
+-- behind a broken rule nothing changes
+pub all-stays : (s : Inspection) (t : Set) (a : Alloc) (es : List Entry) → s .rule ≢ 0 → inspectedAll s t a es ≡ s
+unfolding inspectedAll
+all-stays s t a [] n = refl
+all-stays s t a (e ∷ es) n = ap (λ (x : Inspection). inspectedAll x t a es) (inspected-stays s t a e n) ∙ all-stays s t a es n
+
+module _ (t : Set) (a : Alloc) (bs : List ℕ) (whole : Inspection) where
+  -- no rule is broken yet, and the records that are left, from this place on, lead to the whole inspection
+  pub record Going (s : Inspection) (at left : ℕ) : Type 0 where
+    pub rule : s .rule ≡ 0
+    pub rest : inspectedAll s t a (handedFrom left bs at) ≡ whole
+
+  pub going-first : (s : Inspection) (at left : ℕ) → s ≡ begun t a → whole ≡ inspectionOf t a (handedFrom left bs at) → Going s at left
+  unfolding begun
+  going-first s at left is all = record { rule = ap (λ (x : Inspection). x .rule) is; rest = ap (λ (x : Inspection). inspectedAll x t a (handedFrom left bs at)) is ∙ sym all }
+
+  module _ (s : Inspection) (at : ℕ) where
+    -- the first of the records that are left
+    split : (left : ℕ) → 0 < left → inspectedAll s t a (handedFrom left bs at) ≡ inspectedAll (inspected s t a (nextEntry bs at .entry)) t a (handedFrom (left - 1) bs (nextEntry bs at .next))
+    unfolding inspectedAll handedFrom
+    split zero l = absurd (omega arith)
+    split (suc left) l = let d : suc left - 1 ≡ left = omega arith in rw d refl
+
+    module _ (left : ℕ) (l : 0 < left) (G : Going s at left) (handed : NextEntry) (is : handed ≡ nextEntry bs at) (due : Expected) (asks : due ≡ expected s t a (handed .entry .start)) where
+      first-left : inspectedAll (inspected s t a (handed .entry)) t a (handedFrom (left - 1) bs (handed .next)) ≡ whole
+      first-left = rw is (sym (split left l) ∙ G .rest)
+
+      -- it keeps every rule
+      pub going-next : (next : Inspection) → next ≡ movedOn s t a (handed .entry) → brokenRule due (handed .entry) ≡ 0 → Going next (handed .next) (left - 1)
+      unfolding movedOn
+      going-next next on none =
+          let none-asked : brokenRule (expected s t a (handed .entry .start)) (handed .entry) ≡ 0 = rw asks at none in
+          rw on
+          (record {
+            rule = G .rule;
+            rest = ap (λ (x : Inspection). inspectedAll x t a (handedFrom (left - 1) bs (handed .next))) (sym (inspected-moves s t a (handed .entry) (G .rule) none-asked)) ∙ first-left;
+          })
+
+      -- it breaks one
+      pub going-stops : (k : ℕ) → k ≡ brokenRule due (handed .entry) → k ≢ 0 → stoppedAt s k ≡ whole
+      going-stops k breaks n =
+          let es = handedFrom (left - 1) bs (handed .next) in
+          let breaks-asked : k ≡ brokenRule (expected s t a (handed .entry .start)) (handed .entry) = rw asks at breaks in
+          sym (all-stays (stoppedAt s k) t a es n) ∙ ap (λ (x : Inspection). inspectedAll x t a es) (sym (inspected-stops s t a (handed .entry) (G .rule) k breaks-asked n)) ∙ first-left
+
+    -- none is left
+    pub going-ends : Going s at 0 → s ≡ whole
+    unfolding inspectedAll handedFrom
+    going-ends G = G .rest

@@ -1,0 +1,35 @@
+-- `begin` is right because each of its numbers is the definition's.
+use Rattle.inspection.specs.Opening.{begun}
+use borrow.Author.Needs.{needs}
+use Rattle.inspection.proofs.begin.Statement.{statement}
+use Rattle.inspection.proofs.begin.Tie as tie
+
+passing-times-requires : tie.Need-passing-times-requires
+passing-times-requires c κs = search needs
+
+walk-time-requires : tie.Need-walk-time-requires
+walk-time-requires c κs = search needs
+
+shown-requires : tie.Need-shown-requires
+shown-requires c κs = search needs
+
+sum-first-requires : tie.Need-sum-first-requires
+sum-first-requires c κs = search needs
+
+shown-requires-2 : tie.Need-shown-requires-2
+shown-requires-2 c κs = search needs
+
+returns : tie.Need-returns
+unfolding begun
+returns c = (cc)
+
+pub begin-spec : {M : Type 1} → statement M
+begin-spec =
+    tie.close
+    (tie.spec
+    passing-times-requires
+    walk-time-requires
+    shown-requires
+    sum-first-requires
+    shown-requires-2
+    returns)

@@ -1,0 +1,36 @@
+-- `inspect_log` is right because it is refused as its reading is, and else inspects the records that are handed out.
+use mathlib.Core.Path.{_∙_}
+use Rattle.inspection.proofs.FindingLaws.{refused-in, found-in}
+use borrow.Author.Needs.{needs}
+use Rattle.inspection.proofs.inspect_log.Statement.{statement}
+use Rattle.inspection.proofs.inspect_log.Tie as tie
+
+read-log-requires : tie.Need-read-log-requires
+read-log-requires c κs = search needs
+
+refused-requires : tie.Need-refused-requires
+refused-requires c κs = search needs
+
+returns : tie.Need-returns
+returns c = c .refused .ensures ∙ refused-in _ _ (c .before .before .before .read-log .ensures) (c .before .if1 .taken)
+
+inspect-records-requires : tie.Need-inspect-records-requires
+inspect-records-requires c κs = search needs
+
+found-requires : tie.Need-found-requires
+found-requires c κs = search needs
+
+returns-2 : tie.Need-returns-2
+returns-2 c =
+    c .found .ensures ∙ found-in _ _ (c .before .before .before .before .before .before .read-log .ensures) _ (c .before .before .before .before .if1 .left) (c .before .inspect-records .ensures)
+
+pub inspect-log-spec : {M : Type 1} → statement M
+inspect-log-spec =
+    tie.close
+    (tie.spec
+    read-log-requires
+    refused-requires
+    returns
+    inspect-records-requires
+    found-requires
+    returns-2)

@@ -1,0 +1,28 @@
+-- An inspection before its first record: the silent first rotation has ended, and the token is at station 0.
+use Prim.Native.Nat.{ℕ, _%_, _^_}
+use mathlib.Core.List.{List}
+use Rattle.units.specs.Places.{at, sumBelow, fill}
+use Rattle.sets.specs.Rules.{tau}
+use Rattle.sets.specs.Judged.{zeros}
+use Rattle.sets.specs.declared.Set.{Set}
+use Rattle.plans.specs.declared.Alloc.{Alloc}
+use Rattle.inspection.specs.declared.Inspection.{Inspection}
+
+-- when the silent first rotation passed each of n stations, counted from its beginning: at the sum of w before the station
+unfoldable pub passingTimes : ℕ → List ℕ → List ℕ
+passingTimes n w = fill n (λ i. sumBelow i (at w) % 2 ^ 32) zeros
+
+-- τ has passed, nothing was sent, and u is the sum of S
+unfoldable pub begun : Set → Alloc → Inspection
+begun t a =
+    record {
+      base = passingTimes (t .n) (t .w);
+      sent = zeros;
+      token = 0;
+      clock = tau t % 2 ^ 32;
+      unused = sumBelow (t .n) (at (a .s)) % 2 ^ 32;
+      start = 0;
+      span = 0;
+      visits = 0;
+      rule = 0;
+    }

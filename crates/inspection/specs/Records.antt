@@ -1,0 +1,85 @@
+-- What becomes of an inspection with a record, and with one record after another.
+use Prim.Native.Nat.{ℕ, zero, suc, _+_, _-_, _%_, _^_}
+use mathlib.Core.Bool.{cond}
+use mathlib.Core.List.{List, [], _∷_}
+use lib.Dec.{leb, eqb}
+use lib.ListN.{set}
+use Rattle.units.specs.Numbers.{fddi}
+use Rattle.units.specs.Places.{at}
+use Rattle.sets.specs.declared.Head.{Head}
+use Rattle.sets.specs.declared.Set.{Set}
+use Rattle.plans.specs.declared.Alloc.{Alloc}
+use Rattle.entries.specs.declared.Entry.{Entry}
+use Rattle.rings.specs.State.{following}
+use Rattle.inspection.specs.Counter.{ticksLater, ticksBetween}
+use Rattle.inspection.specs.Opening.{begun}
+use Rattle.inspection.specs.Rules.{place, expected, brokenRule}
+use Rattle.inspection.specs.declared.Inspection.{Inspection}
+
+-- ---- a record that keeps every rule moves the inspection on
+
+-- where the clock stood when the token station's timer was at 0, now that the token has come: now, but an FDDI timer that has run for TTRT or longer loses just that
+unfoldable pub baseWith : Head → ℕ → ℕ → ℕ
+baseWith h clock base =
+    cond (eqb (h .mode) fddi) (cond (leb (h .ttrt) (ticksBetween base clock)) (ticksLater base (h .ttrt)) clock) clock
+
+-- u falls by S − s of before and rises by S − s of now
+abbrev pub unusedWith : ℕ → ℕ → ℕ → ℕ → ℕ
+unusedWith unused share before now = ticksLater (unused - (share - before)) (share - now)
+
+-- the ticks that the visit takes: synchronous, asynchronous, and the walk to the next station
+abbrev pub spanWith : ℕ → ℕ → ℕ → ℕ
+spanWith synchronous asynchronous walk = ticksLater (ticksLater synchronous asynchronous) walk
+
+abbrev pub spanOf : Inspection → Set → Entry → ℕ
+spanOf s t e = spanWith (e .synchronous) (e .asynchronous) (at (t .w) (place s))
+
+unfoldable pub movedOn : Inspection → Set → Alloc → Entry → Inspection
+movedOn s t a e =
+    record {
+      base = set (s .base) (place s) (baseWith (t .head) (s .clock) (at (s .base) (place s)));
+      sent = set (s .sent) (place s) (e .synchronous);
+      token = following (t .n) (place s);
+      clock = ticksLater (s .clock) (spanOf s t e);
+      unused = unusedWith (s .unused) (at (a .s) (place s)) (at (s .sent) (place s)) (e .synchronous);
+      start = e .start;
+      span = spanOf s t e;
+      visits = (s .visits + 1) % 2 ^ 64;
+      rule = s .rule;
+    }
+
+-- ---- one that breaks a rule stops it
+
+abbrev pub stoppedAt : Inspection → ℕ → Inspection
+stoppedAt s rule =
+    record {
+      base = s .base;
+      sent = s .sent;
+      token = s .token;
+      clock = s .clock;
+      unused = s .unused;
+      start = s .start;
+      span = s .span;
+      visits = s .visits;
+      rule = rule;
+    }
+
+-- ---- either way
+
+-- with the first rule that the record breaks, 0 for none
+unfoldable pub judged : ℕ → Inspection → Set → Alloc → Entry → Inspection
+judged zero s t a e = movedOn s t a e
+judged (suc k) s t a e = stoppedAt s (suc k)
+
+-- one record more; behind a broken rule nothing further is looked at
+unfoldable pub inspected : Inspection → Set → Alloc → Entry → Inspection
+inspected s t a e = cond (eqb (s .rule) 0) (judged (brokenRule (expected s t a (e .start)) e) s t a e) s
+
+-- one record after another
+unfoldable pub inspectedAll : Inspection → Set → Alloc → List Entry → Inspection
+inspectedAll s t a [] = s
+inspectedAll s t a (e ∷ es) = inspectedAll (inspected s t a e) t a es
+
+-- all records of a log with this plan
+abbrev pub inspectionOf : Set → Alloc → List Entry → Inspection
+inspectionOf t a es = inspectedAll (begun t a) t a es

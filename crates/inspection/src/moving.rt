@@ -1,0 +1,87 @@
+// What becomes of an inspection with a record: it stops at a broken rule, or the record's visit moves it on.
+use super::Inspection;
+use super::counter;
+use super::rules;
+use entries::Entry;
+use plans::Alloc;
+use sets::Head;
+use sets::Set;
+use units::numbers;
+ghost use mathlib.Core.Path.{_≡_};
+ghost use Prim.Native.Nat.{_<_};
+ghost use Rattle.rings.specs.State.{following};
+ghost use Rattle.inspection.specs.Records.{baseWith, unusedWith, spanWith, stoppedAt, movedOn};
+
+// Where the clock stood when the token station's timer was at 0, now that the token has come: now, but an FDDI timer that has run for TTRT or longer loses just that.
+fn base_after(head: Head, clock: u32, base: u32) -> u32
+    ensures { λ r. ⌜ r ≡ baseWith head clock base ⌝ }
+{
+    if head.mode == numbers::FDDI {
+        if head.ttrt <= counter::between(base, clock) {
+            return counter::later(base, head.ttrt);
+        }
+    }
+    clock
+}
+
+// u falls by S − s of before and rises by S − s of now.
+fn unused_after(unused: u32, share: u32, before: u32, now: u32) -> u32
+    ensures { λ r. ⌜ r ≡ unusedWith unused share before now ⌝ }
+{
+    let fallen = rules::less(unused, rules::less(share, before));
+    counter::later(fallen, rules::less(share, now))
+}
+
+// The ticks that a visit takes: synchronous, asynchronous, and the walk to the next station.
+fn span_of(synchronous: u32, asynchronous: u32, walk: u32) -> u32
+    ensures { λ r. ⌜ r ≡ spanWith synchronous asynchronous walk ⌝ }
+{
+    let sent = counter::later(synchronous, asynchronous);
+    counter::later(sent, walk)
+}
+
+// The station after this one, after the last one station 0.
+fn next_station(n: u32, station: u32) -> u32
+    requires { ⌜ station < 128 ⌝ }
+    ensures { λ r. ⌜ r ≡ following n station ⌝ }
+{
+    let next = station + 1;
+    if next < n { next } else { 0 }
+}
+
+// The record behind these visits breaks this rule.
+pub(crate) fn stopped(state: Inspection, rule: u8) -> Inspection
+    ensures { λ r. ⌜ r ≡ stoppedAt state rule ⌝ }
+{
+    let mut next = state;
+    next.rule = rule;
+    next
+}
+
+// The visit of a record that keeps every rule.
+pub(crate) fn moved_on(state: Inspection, set: Set, alloc: Alloc, entry: Entry) -> Inspection
+    ensures { λ r. ⌜ r ≡ movedOn state set alloc entry ⌝ }
+{
+    let station = state.token % 128;
+    let p = station as usize;
+    let bases = state.base;
+    let amounts = state.sent;
+    let shares = alloc.s;
+    let walks = set.w;
+    let base = base_after(set.head, state.clock, bases[p]);
+    let unused = unused_after(state.unused, shares[p], amounts[p], entry.synchronous);
+    let span = span_of(entry.synchronous, entry.asynchronous, walks[p]);
+    let token = next_station(set.n, station);
+    let clock = counter::later(state.clock, span);
+    let visits = std::num::wrapping_add_u64(state.visits, 1);
+    let mut next = state;
+    next.base[p] = base;
+    next.sent[p] = entry.synchronous;
+    next.token = token;
+    next.clock = clock;
+    next.unused = unused;
+    next.start = entry.start;
+    next.span = span;
+    next.visits = visits;
+    next
+}

@@ -1,0 +1,278 @@
+-- An inspection stands for the ring that the records so far lead to: its clock less a base is how long that station's timer has run.
+use Prim.Native.Nat.{ℕ, _+_, _-_, _%_, _^_, _≤_, _<_}
+use mathlib.Core.Path.{_≡_, refl, sym, ap, _∙_}
+use mathlib.Core.Bool.{cond}
+use mathlib.Core.Logic.{_≢_, ⊎-elim}
+use native.Mathlib.Nat.{mod-eq-of-lt, mod-add-mod}
+use native.Mathlib.Omega.{arith}
+use borrow.Author.Tests.{le-leb, lt-leb}
+use lib.ListN.{length, length-set}
+use lib.Seq.{getD-set-same, getD-set-other}
+use Rattle.units.specs.Places.{at, sumBelow}
+use Rattle.units.specs.PlaceLaws.{sum-split, sum-mono, fill-inside, fill-length}
+use Rattle.units.specs.SmallLaws.{below-or-not}
+use Rattle.sets.specs.Rules.{tau}
+use Rattle.sets.specs.Judged.{zeros}
+use Rattle.sets.specs.declared.Set.{Set}
+use Rattle.plans.specs.Rules.{isFddi}
+use Rattle.plans.specs.Planned.{judgedPlan}
+use Rattle.plans.specs.declared.Alloc.{Alloc}
+use Rattle.entries.specs.declared.Entry.{Entry}
+use Rattle.timers.proofs.Promised.{promised as timers-promised}
+use Rattle.rings.specs.State.{count, ttrt, unusedAt}
+use Rattle.rings.specs.Timers.{Fddi, timersOf, hasRun, limit, rise}
+use Rattle.rings.specs.TimerLaws.{fddi-or-not, fddi-true, fddi-false, limit-timely}
+use Rattle.rings.specs.Opening.{openedRing}
+use Rattle.rings.specs.Steps.{moved}
+use Rattle.rings.specs.declared.Ring.{Ring}
+use Rattle.rings.proofs.StationLaws.{opened-ran}
+use Rattle.ring_rules.proofs.OpenedLaws.{fresh}
+use Rattle.promises.specs.Facts.{timerPlan}
+use Rattle.promises.proofs.Course.{Plan, same-or-not}
+use Rattle.promises.proofs.Opening.{plan-of}
+use Rattle.inspection.specs.Counter.{ticksLater, ticksBetween}
+use Rattle.inspection.specs.Opening.{passingTimes, begun}
+use Rattle.inspection.specs.Rules.{place, timerRun, limitWith}
+use Rattle.inspection.specs.Records.{baseWith, spanOf, movedOn}
+use Rattle.inspection.specs.declared.Inspection.{Inspection}
+use Rattle.inspection_rules.specs.Gives.{Could}
+use Rattle.inspection_rules.proofs.Reaching.{Reached, plan, limit-lapped, passes-short, early-here, early-there, early-unused, lapped-here, lapped-there, reached-next}
+
+-- how long station i's timer has run: TRT, or an FDDI timer with TTRT for each time that it is late
+unfoldable pub runOf : Ring → ℕ → ℕ
+runOf r i = cond (isFddi (r .set)) (hasRun (r .set) (timersOf r) i) (at (r .trt) i)
+
+run-fddi : (r : Ring) → Fddi (r .set) → (i : ℕ) → runOf r i ≡ hasRun (r .set) (timersOf r) i
+unfolding runOf
+run-fddi r e i = rw (fddi-true (r .set) e)
+
+run-timely : (r : Ring) → ¬ Fddi (r .set) → (i : ℕ) → runOf r i ≡ at (r .trt) i
+unfolding runOf
+run-timely r n i = rw (fddi-false (r .set) n)
+
+-- ---- on a 32-bit counter
+
+-- the clock less the base is what has passed since
+pub between-is : (base run clock : ℕ) → base < 2 ^ 32 → run < 2 ^ 32 → (base + run) % 2 ^ 32 ≡ clock → ticksBetween base clock ≡ run
+between-is base run clock b r e =
+    ⊎-elim (λ (l : base + run < 2 ^ 32). omega arith) (λ (l : 2 ^ 32 ≤ base + run). omega arith) (below-or-not (base + run) (2 ^ 32))
+
+-- ticks pass
+later-run : (base run clock x : ℕ) → (base + run) % 2 ^ 32 ≡ clock → (base + (run + x)) % 2 ^ 32 ≡ ticksLater clock x
+later-run base run clock x e = omega arith
+
+-- a base moves up, and what has run since falls by as much
+moved-base : (base run clock top x : ℕ) → top ≤ run → (base + run) % 2 ^ 32 ≡ clock → (ticksLater base top + (run - top + x)) % 2 ^ 32 ≡ ticksLater clock x
+moved-base base run clock top x l e =
+    let all : base + top + (run - top + x) ≡ base + run + x = omega arith in
+    mod-add-mod (base + top) (2 ^ 32) (run - top + x) ∙ ap (λ (y : ℕ). y % 2 ^ 32) all ∙ sym (mod-add-mod (base + run) (2 ^ 32) x) ∙ ap (λ (y : ℕ). (y + x) % 2 ^ 32) e
+
+-- ---- what stands for what
+
+pub record Stands (counter : ℕ) (r : Ring) (s : Inspection) : Type 0 where
+  pub token : s .token ≡ r .token
+  pub clock : s .clock ≡ (tau (r .set) + r .clock) % 2 ^ 32
+  pub long : length (s .base) ≡ 128
+  pub small : (i : ℕ) → i < count r → at (s .base) i < 2 ^ 32
+  pub base : (i : ℕ) → i < count r → (at (s .base) i + runOf r i) % 2 ^ 32 ≡ s .clock
+  pub sent : s .sent ≡ r .sent
+  pub unused : ¬ Fddi (r .set) → s .unused ≡ r .unused
+  pub visits : s .visits ≡ r .visits
+  pub rule : s .rule ≡ 0
+  -- the record before led to this start
+  pub due : 0 < r .visits → ticksLater (s .start) (s .span) ≡ (counter + r .clock) % 2 ^ 32
+
+module _ (r : Ring) (K : Reached r) where
+  -- no timer has run as long as the counter goes round
+  pub run-small : (i : ℕ) → i < count r → runOf r i < 2 ^ 32
+  run-small i l =
+      ⊎-elim (λ (e : Fddi (r .set)).
+      let L = K .fddi e in
+      let first = timers-promised .first (timerPlan (r .set) (r .alloc)) (hasRun (r .set) (timersOf r)) (r .token) (L .kept) (K .token) i l in
+      let most = timers-promised .arrival (timerPlan (r .set) (r .alloc)) (hasRun (r .set) (timersOf r)) (r .token) (L .kept) (K .token) in
+      omega (arith, run-fddi r e i, plan r K .token, plan r K .rotation .1))
+      (λ (n : ¬ Fddi (r .set)).
+      let E = K .timely n in
+      ⊎-elim (λ (b : i < r .token). omega (arith, run-timely r n i, E .past i b, K .token, plan r K .few))
+      (λ (b : r .token ≤ i). omega (arith, run-timely r n i, E .coming i b l, K .token, plan r K .few))
+      (below-or-not i (r .token)))
+      (fddi-or-not (r .set))
+
+  module _ (counter : ℕ) (s : Inspection) (S : Stands counter r s) where
+    pub place-is : place s ≡ r .token
+    place-is = omega (arith, S .token, K .token, plan r K .few)
+
+    pub run-is : timerRun s ≡ runOf r (r .token)
+    run-is =
+        rw place-is
+        (between-is (at (s .base) (r .token)) (runOf r (r .token)) (s .clock) (S .small (r .token) (K .token)) (run-small (r .token) (K .token)) (S .base (r .token) (K .token)))
+
+    pub limit-is : limitWith (r .set .head) (s .unused) (timerRun s) ≡ limit r
+    unfolding limitWith
+    limit-is =
+        rw run-is
+        (⊎-elim (λ (e : Fddi (r .set)). rw (fddi-true (r .set) e, run-fddi r e (r .token)) (sym (limit-lapped r K e)))
+        (λ (n : ¬ Fddi (r .set)). rw (fddi-false (r .set) n, run-timely r n (r .token), S .unused n) (sym (limit-timely r n)))
+        (fddi-or-not (r .set)))
+
+    clock-small : s .clock < 2 ^ 32
+    clock-small = omega (arith, S .clock)
+
+    -- ---- one visit more
+
+    module _ (e : Entry) (C : Could counter r e) where
+      abbrev after : Ring
+      after = moved r (e .synchronous) (e .asynchronous)
+
+      abbrev ticks : ℕ
+      ticks = rise r (e .synchronous) (e .asynchronous)
+
+      N : Reached (moved r (e .synchronous) (e .asynchronous))
+      N = reached-next counter r K e C
+
+      span-is : spanOf s (r .set) e ≡ ticks
+      span-is = rw place-is (omega (arith, passes-short counter r K e C))
+
+      -- ---- the timers
+
+      run-there : (i : ℕ) → i < count r → i ≢ r .token → runOf after i ≡ runOf r i + ticks
+      unfolding moved
+      run-there i l d =
+          ⊎-elim (λ (f : Fddi (r .set)). rw (run-fddi r f i) (run-fddi after f i ∙ lapped-there counter r K e C f i l d))
+          (λ (n : ¬ Fddi (r .set)). rw (run-timely r n i) (run-timely after n i ∙ early-there counter r K e C n i l d))
+          (fddi-or-not (r .set))
+
+      base-there : (i : ℕ) → i < count r → i ≢ r .token → at (movedOn s (r .set) (r .alloc) e .base) i ≡ at (s .base) i
+      unfolding movedOn
+      base-there i l d = getD-set-other (s .base) (place s) i _ 0 (λ q. d (q ∙ place-is))
+
+      base-here : at (movedOn s (r .set) (r .alloc) e .base) (r .token) ≡ baseWith (r .set .head) (s .clock) (at (s .base) (r .token))
+      unfolding movedOn
+      base-here = rw place-is (getD-set-same (s .base) (r .token) _ 0 (omega (arith, S .long, K .token, plan r K .few)))
+
+      -- the token's station: its timer is at 0 now, or has lost TTRT
+      based : (baseWith (r .set .head) (s .clock) (at (s .base) (r .token)) + runOf after (r .token)) % 2 ^ 32 ≡ ticksLater (s .clock) ticks
+      unfolding moved baseWith
+      based =
+          let p = r .token in
+          let was = S .base p (K .token) in
+          ⊎-elim (λ (f : Fddi (r .set)).
+          let run = run-fddi r f p in
+          let goes : runOf after p ≡ runOf r p - ttrt r + ticks = run-fddi after f p ∙ lapped-here counter r K e C f ∙ ap (λ (x : ℕ). x - ttrt r + ticks) (sym run) in
+          let told : ticksBetween (at (s .base) p) (s .clock) ≡ runOf r p = between-is (at (s .base) p) (runOf r p) (s .clock) (S .small p (K .token)) (run-small p (K .token)) was in
+          rw (fddi-true (r .set) f, told)
+          (⊎-elim (λ (l : runOf r p < ttrt r). rw (lt-leb (ttrt r) (runOf r p) l) (omega (arith, goes)))
+          (λ (l : ttrt r ≤ runOf r p). rw (le-leb (ttrt r) (runOf r p) l, goes) (moved-base (at (s .base) p) (runOf r p) (s .clock) (ttrt r) ticks l was))
+          (below-or-not (runOf r p) (ttrt r))))
+          (λ (n : ¬ Fddi (r .set)).
+          let goes : runOf after p ≡ ticks = run-timely after n p ∙ early-here counter r K e C n in
+          rw (fddi-false (r .set) n) (omega (arith, goes)))
+          (fddi-or-not (r .set))
+
+      based-small : baseWith (r .set .head) (s .clock) (at (s .base) (r .token)) < 2 ^ 32
+      unfolding baseWith
+      based-small =
+          let p = r .token in
+          ⊎-elim (λ (f : Fddi (r .set)).
+          rw (fddi-true (r .set) f)
+          (⊎-elim (λ (l : ticksBetween (at (s .base) p) (s .clock) < ttrt r). rw (lt-leb (ttrt r) (ticksBetween (at (s .base) p) (s .clock)) l) clock-small)
+          (λ (l : ttrt r ≤ ticksBetween (at (s .base) p) (s .clock)). rw (le-leb (ttrt r) (ticksBetween (at (s .base) p) (s .clock)) l) (omega arith))
+          (below-or-not (ticksBetween (at (s .base) p) (s .clock)) (ttrt r))))
+          (λ (n : ¬ Fddi (r .set)). rw (fddi-false (r .set) n) clock-small)
+          (fddi-or-not (r .set))
+
+      clock-next : movedOn s (r .set) (r .alloc) e .clock ≡ ticksLater (s .clock) ticks
+      unfolding movedOn
+      clock-next = rw span-is
+
+      base-next : (i : ℕ) → i < count r → (at (movedOn s (r .set) (r .alloc) e .base) i + runOf after i) % 2 ^ 32 ≡ movedOn s (r .set) (r .alloc) e .clock
+      base-next i l =
+          ⊎-elim (λ (q : i ≡ r .token). rw (q, base-here) (based ∙ sym clock-next))
+          (λ (d : i ≢ r .token). rw (base-there i l d, run-there i l d) (later-run (at (s .base) i) (runOf r i) (s .clock) ticks (S .base i l) ∙ sym clock-next))
+          (same-or-not i (r .token))
+
+      small-next : (i : ℕ) → i < count r → at (movedOn s (r .set) (r .alloc) e .base) i < 2 ^ 32
+      small-next i l =
+          ⊎-elim (λ (q : i ≡ r .token). rw (q, base-here) based-small) (λ (d : i ≢ r .token). rw (base-there i l d) (S .small i l)) (same-or-not i (r .token))
+
+      -- ---- u
+
+      unused-small : ¬ Fddi (r .set) → after .unused < 2 ^ 32
+      unfolding moved
+      unused-small n =
+          let is = N .timely n .unused in
+          let less = sum-mono (count r) (unusedAt after) (at (r .alloc .s)) (λ i l. omega arith) in
+          omega (arith, plan r K .token, plan r K .rotation .1)
+
+      unused-next : ¬ Fddi (r .set) → movedOn s (r .set) (r .alloc) e .unused ≡ after .unused
+      unfolding movedOn
+      unused-next n =
+          let is = early-unused counter r K e C n in
+          let small = unused-small n in
+          rw (place-is, S .unused n, S .sent, is) (mod-eq-of-lt (rw is at small))
+
+      pub stands-next : r .visits + 1 < 2 ^ 64 → Stands counter after (movedOn s (r .set) (r .alloc) e)
+      unfolding moved movedOn
+      stands-next many =
+          record {
+            token = rw place-is;
+            clock = clock-next ∙ omega (arith, S .clock);
+            long = length-set (s .base) (place s) _ ∙ S .long;
+            small = small-next;
+            base = base-next;
+            sent = rw (place-is, S .sent) refl;
+            unused = unused-next;
+            visits = omega (arith, S .visits);
+            rule = S .rule;
+            due = λ _. rw span-is (omega (arith, C .start));
+          }
+
+-- the counter of a recorder that has written nothing yet may show anything
+pub recounted : (counter other : ℕ) (r : Ring) (s : Inspection) → Stands counter r s → r .visits ≡ 0 → Stands other r s
+recounted counter other r s S none =
+    record {
+      token = S .token;
+      clock = S .clock;
+      long = S .long;
+      small = S .small;
+      base = S .base;
+      sent = S .sent;
+      unused = S .unused;
+      visits = S .visits;
+      rule = S .rule;
+      due = λ some. absurd (omega arith);
+    }
+
+-- ---- the opened ring
+
+module _ (t : Set) (a : Alloc) (h : judgedPlan t a ≡ 0) where
+  P : Plan t a
+  P = plan-of t a h
+
+  silent-run : (i : ℕ) → i < t .n → sumBelow i (at (t .w)) + runOf (openedRing t a) i ≡ tau t
+  unfolding openedRing
+  silent-run i l =
+      let split = sum-split (t .n) (at (t .w)) i (omega arith) in
+      ⊎-elim (λ (e : Fddi t). omega (arith, run-fddi (openedRing t a) e i, opened-ran t a h e i l))
+      (λ (n : ¬ Fddi t). omega (arith, run-timely (openedRing t a) n i, fresh t a h .trts n i l))
+      (fddi-or-not t)
+
+  passing : (i : ℕ) → i < t .n → at (begun t a .base) i ≡ sumBelow i (at (t .w)) % 2 ^ 32
+  unfolding begun passingTimes
+  passing i l = fill-inside (t .n) (λ j. sumBelow j (at (t .w)) % 2 ^ 32) zeros i l (P .few)
+
+  pub stands-opened : (counter : ℕ) → Stands counter (openedRing t a) (begun t a)
+  unfolding openedRing begun passingTimes
+  stands-opened counter =
+      record {
+        token = refl;
+        clock = omega arith;
+        long = fill-length (t .n) (λ i. sumBelow i (at (t .w)) % 2 ^ 32) zeros;
+        small = λ i l. omega (arith, passing i l);
+        base = λ i l. rw (passing i l) (mod-add-mod (sumBelow i (at (t .w))) (2 ^ 32) (runOf (openedRing t a) i) ∙ ap (λ (x : ℕ). x % 2 ^ 32) (silent-run i l));
+        sent = refl;
+        unused = λ n. rw (fresh t a h .unused) (mod-eq-of-lt (omega (arith, P .token, P .rotation .1)));
+        visits = refl;
+        rule = refl;
+        due = λ some. absurd (omega arith);
+      }

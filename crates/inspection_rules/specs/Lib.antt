@@ -1,0 +1,11 @@
+-- What an inspection finds (02, No. 6), over lists of records.
+--     Gives       the records that a run of the published steps could give
+--     Broken      the five rules as sentences, and the first record that breaks one
+--     Model       the record of a visit of the model, as our recorder writes it down
+--     Witness     an FDDI log with a late token
+--     Promised    an inspection accepts just the first, and else names the second
+pub mod Gives
+pub mod Broken
+pub mod Model
+pub mod Witness
+pub mod Promised

@@ -1,0 +1,13 @@
+-- `olivastrum_inspect_log` is right because it is the inspection of a log by the layer below.
+use borrow.Author.Needs.{needs}
+use Rattle.lent.proofs.olivastrum_inspect_log.Statement.{statement}
+use Rattle.lent.proofs.olivastrum_inspect_log.Tie as tie
+
+inspect-log-requires : tie.Need-inspect-log-requires
+inspect-log-requires c κs = search needs
+
+returns : tie.Need-returns
+returns c = c .inspect-log .ensures
+
+pub olivastrum-inspect-log-spec : {M : Type 1} → statement M
+olivastrum-inspect-log-spec = tie.close (tie.spec inspect-log-requires returns)

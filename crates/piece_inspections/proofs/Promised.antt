@@ -1,0 +1,19 @@
+-- Everything that `specs/Promised.antt` lists, proved.
+use Rattle.piece_inspections.specs.Promised.{Promised}
+use Rattle.piece_inspections.proofs.HeadLaws.{start-stays}
+use Rattle.piece_inspections.proofs.WholeLaws.{over-append, first-then, number-whole, plan-read, inspection-read, rule-read, record-read, visits-read, broken-read}
+
+pub promised : Promised
+promised =
+    record {
+      pieces = over-append;
+      first-piece = first-then;
+      same-plan = start-stays;
+      same-number = number-whole;
+      same-plan-read = plan-read;
+      same-inspection = inspection-read;
+      same-rule = rule-read;
+      same-record = record-read;
+      same-visits = visits-read;
+      same-broken = broken-read;
+    }

@@ -1,0 +1,11 @@
+-- `look_first` is right because it begins the inspection with the blank entry.
+use Rattle.piece_inspections.proofs.LookLaws.{looked-as}
+use borrow.Author.Needs.{needs}
+use Rattle.piece_inspections.proofs.look_first.Statement.{statement}
+use Rattle.piece_inspections.proofs.look_first.Tie as tie
+
+returns : tie.Need-returns
+returns c = looked-as (c .before .begin .ensures) (c .blank-entry .ensures)
+
+pub look-first-spec : {M : Type 1} → statement M
+look-first-spec = tie.close (tie.spec (λ c κs. search needs) (λ c κs. search needs) returns)

@@ -1,0 +1,60 @@
+-- The inspection of a log that is read in pieces: its plan stands in the first of them, and a piece may end anywhere.
+use Prim.Native.Nat.{ℕ}
+use mathlib.Core.Bool.{Bool, cond}
+use mathlib.Core.List.{List, [], _∷_}
+use lib.Dec.{eqb}
+use lib.ListN.{drop}
+use Rattle.sets.specs.declared.Set.{Set}
+use Rattle.plans.specs.declared.Alloc.{Alloc}
+use Rattle.sheets.specs.Reading.{thenNumber, planStart}
+use Rattle.sheets.specs.declared.PlanStart.{PlanStart}
+use Rattle.entries.specs.Entry.{blankEntry}
+use Rattle.entries.specs.declared.Entry.{Entry}
+use Rattle.pieces.specs.Pieces.{nothingRead, faulty, numberOf, readOver, handedOver}
+use Rattle.pieces.specs.declared.Visits.{Visits}
+use Rattle.inspection.specs.Opening.{begun}
+use Rattle.inspection.specs.Records.{inspected}
+use Rattle.piece_inspections.specs.declared.Looked.{Looked}
+use Rattle.piece_inspections.specs.declared.Inspecting.{Inspecting}
+
+-- ---- the records
+
+-- none was looked at yet
+abbrev pub noneLooked : Set → Alloc → Looked
+noneLooked t a = record { inspection = begun t a; last = blankEntry }
+
+-- one record more; behind a broken rule nothing is looked at
+unfoldable pub lookedAt : Set → Alloc → Looked → Entry → Looked
+lookedAt t a l e = cond (eqb (l .inspection .rule) 0) (record { inspection = inspected (l .inspection) t a e; last = e }) l
+
+-- one after another
+unfoldable pub lookedAll : Set → Alloc → Looked → List Entry → Looked
+lookedAll t a l [] = l
+lookedAll t a l (e ∷ es) = lookedAll t a (lookedAt t a l e) es
+
+-- ---- the bytes
+
+-- before the first byte of the visits: a plan whose fields have not all passed is a fault, and no visit is read
+unfoldable pub visitsFrom : Bool → ℕ → Visits
+visitsFrom passed number = cond passed nothingRead (faulty nothingRead number)
+
+-- the plan was read, and no byte of the visits
+abbrev pub inspectFrom : PlanStart → Inspecting
+inspectFrom s = record { start = s; visits = visitsFrom (s .passed) (s .number); looked = noneLooked (s .set) (s .alloc) }
+
+-- what is kept behind more bytes of the visits
+abbrev pub inspectOver : Inspecting → List ℕ → Inspecting
+inspectOver k bs =
+    record {
+      start = k .start;
+      visits = readOver (k .visits) bs;
+      looked = lookedAll (k .start .set) (k .start .alloc) (k .looked) (handedOver (k .visits) bs);
+    }
+
+-- the first bytes: the plan, and the visits among them
+abbrev pub inspectStart : List ℕ → Inspecting
+inspectStart bs = inspectOver (inspectFrom (planStart bs)) (drop (planStart bs .at) bs)
+
+-- the number when all was read: 1, 2, 3 of the whole log, then its plan's
+abbrev pub inspectNumber : Inspecting → ℕ
+inspectNumber k = thenNumber (numberOf (k .visits)) (k .start .number)

@@ -1,0 +1,232 @@
+//! The checker of other makers' logs: which records a run of the published steps from an opened
+//! ring could give. Times are absolute, from the first visit on; what the stations' timers show is
+//! derived from when they began.
+
+use std::fmt;
+use std::ops::ControlFlow;
+
+use crate::log::Entry;
+use crate::planted::Planted;
+use crate::ring::Ticks;
+use crate::rules::{Ask, Mode, Plan};
+
+/// The rules of a record, in the order in which they are looked at.
+#[derive(Clone, Copy, Debug, PartialEq, Eq, PartialOrd, Ord, Hash)]
+pub enum Rule {
+    Station,
+    Start,
+    Limit,
+    Synchronous,
+    Asynchronous,
+}
+
+impl Rule {
+    pub const ALL: [Rule; 5] =
+        [Rule::Station, Rule::Start, Rule::Limit, Rule::Synchronous, Rule::Asynchronous];
+}
+
+impl fmt::Display for Rule {
+    fn fmt(&self, f: &mut fmt::Formatter) -> fmt::Result {
+        f.write_str(match self {
+            Rule::Station => "station",
+            Rule::Start => "start",
+            Rule::Limit => "limit",
+            Rule::Synchronous => "synchronous",
+            Rule::Asynchronous => "asynchronous",
+        })
+    }
+}
+
+/// The first record that breaks a rule, counted from 1, the first rule that it breaks, and that in
+/// words.
+#[derive(Clone, Debug, PartialEq, Eq)]
+pub struct Finding {
+    pub record: u64,
+    pub rule: Rule,
+    pub words: String,
+}
+
+impl fmt::Display for Finding {
+    fn fmt(&self, f: &mut fmt::Formatter) -> fmt::Result {
+        write!(f, "record {} {}", self.record, self.rule)
+    }
+}
+
+/// What is known of a station: when its timer began, and what it last sent.
+#[derive(Clone, Copy, Debug)]
+struct Memory {
+    timer_began: Ticks,
+    sent: u32,
+}
+
+/// Follows the records of a log.
+pub struct Inspector {
+    plan: Plan,
+    planted: Planted,
+    now: Ticks,
+    records: u64,
+    /// What the counter showed at time 0, and then.
+    first: u32,
+    last: u32,
+    memories: Vec<Memory>,
+    finding: Option<Finding>,
+}
+
+impl Inspector {
+    /// The ring of a sound plan is opened; the silent rotation began at −τ.
+    pub fn new(plan: &Plan, planted: Planted) -> Inspector {
+        let mut came = -(plan.request.walk_sum() as Ticks);
+        let mut memories = vec![];
+        for station in &plan.request.stations {
+            memories.push(Memory { timer_began: came, sent: 0 });
+            came += Ticks::from(station.walk);
+        }
+        let (plan, finding) = (plan.clone(), None);
+        Inspector { plan, planted, now: 0, records: 0, first: 0, last: 0, memories, finding }
+    }
+
+    pub fn records(&self) -> u64 {
+        self.records
+    }
+
+    /// The first broken rule so far.
+    pub fn finding(&self) -> Option<&Finding> {
+        self.finding.as_ref()
+    }
+
+    /// The station that the token is at.
+    pub fn station(&self) -> usize {
+        (self.records % self.memories.len() as u64) as usize
+    }
+
+    /// What the recorder's counter shows now; at the first record it may show anything.
+    pub fn counter(&self) -> u32 {
+        (i64::from(self.first) + self.now).rem_euclid(1 << 32) as u32
+    }
+
+    fn ttrt(&self) -> Ticks {
+        Ticks::from(self.plan.request.head.ttrt)
+    }
+
+    fn since(&self, index: usize) -> Ticks {
+        self.now - self.memories[index].timer_began
+    }
+
+    /// The limit of the visit that is next.
+    pub fn limit(&self) -> u32 {
+        let here = self.station();
+        let kept = match self.plan.request.mode() {
+            Mode::Timely => self.unused() + self.plan.request.head.overrun() as Ticks,
+            Mode::Fddi => 0,
+        };
+        (self.ttrt() - kept - self.since(here)).max(0) as u32
+    }
+
+    fn unused(&self) -> Ticks {
+        let sent: Ticks = self.memories.iter().map(|memory| Ticks::from(memory.sent)).sum();
+        self.plan.allocated() as Ticks - sent
+    }
+
+    /// Takes the next record. Behind the first broken rule none is looked at any more.
+    pub fn take(&mut self, entry: &Entry) {
+        if self.finding.is_none() {
+            match self.judge(entry) {
+                ControlFlow::Break((rule, words)) => {
+                    self.finding = Some(Finding { record: self.records + 1, rule, words });
+                }
+                ControlFlow::Continue(()) => self.follow(entry),
+            }
+        }
+        self.records += 1;
+    }
+
+    /// The first rule that a record breaks, with what was expected.
+    fn judge(&self, entry: &Entry) -> ControlFlow<(Rule, String)> {
+        let here = self.station();
+        let Entry { station, start, limit, synchronous, asynchronous } = *entry;
+        unless(usize::from(station) == here, Rule::Station, || {
+            format!("expected station {here}, found {station}")
+        })?;
+        unless(self.starts_at(start), Rule::Start, || {
+            let [expected, found] = [self.counter(), start].map(|it| it.wrapping_sub(self.last));
+            format!("expected {expected} ticks after the record before, found {found}")
+        })?;
+        let expected = self.limit();
+        let compared = self.planted != Planted::LimitNotCompared;
+        unless(limit == expected || !compared, Rule::Limit, || {
+            format!("expected limit {expected}, found {limit}")
+        })?;
+        let most = match self.planted {
+            Planted::SynchronousUpToC => self.plan.request.stations[here].longest,
+            _ => self.plan.allocation[here],
+        };
+        unless(synchronous <= most, Rule::Synchronous, || {
+            format!("expected at most {most}, found {synchronous}")
+        })?;
+        let frame = self.plan.request.head.frame;
+        unless(in_frames(asynchronous, limit, frame), Rule::Asynchronous, || {
+            let frames = format!("whole frames of one length up to {frame}, begun below {limit}");
+            format!("expected {frames}, found {asynchronous}")
+        })
+    }
+
+    fn starts_at(&self, start: u32) -> bool {
+        match (self.records, self.planted) {
+            (0, Planted::FirstStartCompared) => start == 0,
+            (0, _) => true,
+            (_, Planted::WrappedStartRefused) => {
+                i64::from(start) == i64::from(self.first) + self.now
+            }
+            _ => start == self.counter(),
+        }
+    }
+
+    /// The visit of an accepted record happens.
+    fn follow(&mut self, entry: &Entry) {
+        let here = self.station();
+        if self.records == 0 {
+            self.first = entry.start;
+        }
+        self.last = entry.start;
+        let late = self.plan.request.mode() == Mode::Fddi && self.since(here) >= self.ttrt();
+        let memory = &mut self.memories[here];
+        memory.timer_began = if late {
+            memory.timer_began + Ticks::from(self.plan.request.head.ttrt)
+        } else {
+            self.now
+        };
+        memory.sent = entry.synchronous;
+        let walk = self.plan.request.stations[here].walk;
+        self.now +=
+            [entry.synchronous, entry.asynchronous, walk].map(Ticks::from).iter().sum::<Ticks>();
+    }
+}
+
+/// Goes on if the rule holds, and else breaks off with its words.
+fn unless(holds: bool, rule: Rule, words: impl FnOnce() -> String) -> ControlFlow<(Rule, String)> {
+    match holds {
+        true => ControlFlow::Continue(()),
+        false => ControlFlow::Break((rule, words())),
+    }
+}
+
+/// Whether some number of frames of some one length sends just this under a limit. Every length is
+/// tried, and as many frames of it as would make the amount.
+pub fn in_frames(amount: u32, limit: u32, frame: u32) -> bool {
+    // The last frame begins below the limit, and is no longer than the longest.
+    if u64::from(amount) >= u64::from(limit) + u64::from(frame) {
+        return false;
+    }
+    let fits = |length: u32| {
+        let ask = Ask { frames: amount / length, length };
+        amount % length == 0 && ask.sent(limit.into()) == u64::from(amount)
+    };
+    (1..=frame).rev().any(fits)
+}
+
+/// What is found in a log of a sound plan, and how many records it has.
+pub fn inspected(plan: &Plan, entries: &[Entry], planted: Planted) -> (u64, Option<Finding>) {
+    let mut inspector = Inspector::new(plan, planted);
+    entries.iter().for_each(|entry| inspector.take(entry));
+    (inspector.records, inspector.finding)
+}
