@@ -69,8 +69,8 @@ static int same_sheets(uint32_t n, uint32_t mode, uint32_t frame)
     static uint8_t sheet[MOST_PLAN_BYTES + 1];
     set_t set = stations(n, mode, frame);
     size_t length = olivastrum_write_plan_sheet(set, olivastrum_plan_set(set).alloc, sheet, sizeof sheet).length;
-    SAME(length == OLIVASTRUM_PLAN_BYTES(n) + (mode == OLIVASTRUM_FDDI ? OLIVASTRUM_MODE_BYTES : 0) + (frame > 1 ? OLIVASTRUM_FRAME_BYTES : 0));
-    for (uint8_t number = 0; number <= 3; number++) {
+    SAME(length == OLIVASTRUM_PLAN_BYTES(n) + (mode != OLIVASTRUM_TIMELY ? OLIVASTRUM_MODE_BYTES : 0) + (frame > 1 ? OLIVASTRUM_FRAME_BYTES : 0));
+    for (uint8_t number = 0; number <= 4; number++) {
         const uint8_t modes[OLIVASTRUM_MODE_BYTES] = {4, 0, 1, number};
         const uint8_t frames[OLIVASTRUM_FRAME_BYTES] = {5, 0, 4, 0, number / 3, 0, number};
         if (!same_with(sheet, length, modes, sizeof modes) || !same_with(sheet, length, frames, sizeof frames))
@@ -233,7 +233,7 @@ static int agree(void)
     static const uint32_t counts[] = {1, 2, 3, 8, 128};
     for (size_t k = 0; k < sizeof counts / sizeof *counts; k++) {
         uint32_t n = counts[k];
-        for (uint32_t mode = OLIVASTRUM_TIMELY; mode <= OLIVASTRUM_FDDI; mode++)
+        for (uint32_t mode = OLIVASTRUM_TIMELY; mode <= OLIVASTRUM_EARLIER; mode++)
             for (uint32_t frame = 1; frame <= FRAME; frame += FRAME - 1)
                 if (!same_sheets(n, mode, frame) || !same_plans(n, mode, frame) || !same_runs(n, mode, frame))
                     return 0;
@@ -407,6 +407,9 @@ static const struct job older[] = {
 /* On a set whose frames are not cut. */
 static const struct job uncut = {"a lent visit, frames", visit_proved, visit_plain, "2.5"};
 
+/* On a set of the 2002 edition. */
+static const struct job earlier = {"a lent visit, 2002", visit_proved, visit_plain, "2.5"};
+
 /* ---- timing */
 
 #define TURNS 31
@@ -504,6 +507,8 @@ int main(void)
         fddi[j] = measure(&older[j]);
     prepare(stations(counts[LAST], OLIVASTRUM_TIMELY, FRAME));
     struct measured frames = measure(&uncut);
+    prepare(stations(counts[LAST], OLIVASTRUM_EARLIER, 1));
+    struct measured first = measure(&earlier);
     if (!none_refused())
         return 1;
 
@@ -513,6 +518,7 @@ int main(void)
     for (size_t j = 0; j < OLDER; j++)
         show(older[j].name, fddi[j], older[j].aim);
     show(uncut.name, frames, uncut.aim);
+    show(earlier.name, first, earlier.aim);
     printf("\nproved ns at N =    ");
     for (int k = 0; k < COUNTS; k++)
         printf("%8u", counts[k]);

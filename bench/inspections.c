@@ -127,7 +127,8 @@ static void move_on(struct inspection *it, const entry_t *entry)
     const struct olivastrum_head *head = &it->plan.set.head;
     uint32_t p = it->token;
     int late = head->mode == OLIVASTRUM_FDDI && it->clock - it->base[p] >= head->ttrt;
-    it->base[p] = late ? it->base[p] + head->ttrt : it->clock;
+    uint32_t lead = head->mode == OLIVASTRUM_EARLIER ? entry->asynchronous : 0; /* sent before the synchronous part */
+    it->base[p] = late ? it->base[p] + head->ttrt : it->clock + lead;
     it->unused += it->sent[p] - entry->synchronous;
     it->sent[p] = entry->synchronous;
     it->start = entry->start;
@@ -290,7 +291,8 @@ int main(void)
     for (uint32_t n = 8; n <= 128; n *= 16)
         if (!show("timely-token", stations(n, OLIVASTRUM_TIMELY, 1), 100) || !show("timely-token, frames", stations(n, OLIVASTRUM_TIMELY, 40), 100) ||
             !show("timely-token, F 5,000", stations(n, OLIVASTRUM_TIMELY, 5000), 100) || !show("FDDI", stations(n, OLIVASTRUM_FDDI, 1), 100) ||
-            !show("FDDI, frames", stations(n, OLIVASTRUM_FDDI, 40), 100))
+            !show("FDDI, frames", stations(n, OLIVASTRUM_FDDI, 40), 100) || !show("2002 edition", stations(n, OLIVASTRUM_EARLIER, 1), 100) ||
+            !show("2002 edition, frames", stations(n, OLIVASTRUM_EARLIER, 40), 100))
             return 1;
     printf("%lu findings compared: %lu station, %lu start, %lu limit, %lu synchronous, %lu asynchronous, %lu refused\n", compared, broken[STATION],
            broken[START], broken[LIMIT], broken[SYNCHRONOUS], broken[ASYNCHRONOUS], refusals);

@@ -46,7 +46,7 @@ static int numbers_fit(const set_t *set)
     uint32_t fault = 0;
     if (set->head.ttrt < 1 || set->head.ttrt > MOST_TTRT)
         return 0;
-    if (set->head.mode != OLIVASTRUM_TIMELY && set->head.mode != OLIVASTRUM_FDDI)
+    if (set->head.mode < OLIVASTRUM_TIMELY || set->head.mode > OLIVASTRUM_EARLIER)
         return 0;
     if (set->head.frame < 1 || set->head.frame > MOST_FRAME)
         return 0;
@@ -443,8 +443,9 @@ static uint32_t sent_in_frames(struct olivastrum_ask ask, uint32_t limit)
     return (ask.frames < most ? ask.frames : most) * ask.length;
 }
 
-/* The timers after a visit at p that sent sync, and in which the clock rose. */
-static void move_timers(ring_t *ring, uint32_t p, uint32_t sync, uint32_t rise)
+/* The timers after a visit at p that sent sync, and in which the clock rose, from the start of its synchronous part on by
+ * `since`. */
+static void move_timers(ring_t *ring, uint32_t p, uint32_t sync, uint32_t rise, uint32_t since)
 {
     if (ring->set.head.mode == OLIVASTRUM_FDDI) {
         if (ring->late[p] > 0)
@@ -456,9 +457,9 @@ static void move_timers(ring_t *ring, uint32_t p, uint32_t sync, uint32_t rise)
     }
     uint32_t share = ring->alloc.s[p];
     ring->unused = ring->unused - (share - ring->sent[p]) + (share - sync);
-    ring->trt[p] = 0;
     for (uint32_t i = 0; i < ring->set.n; i++)
         ring->trt[i] += rise;
+    ring->trt[p] = since;
 }
 
 void plain_visit(ring_t *ring, struct olivastrum_ask ask, struct olivastrum_visit_answer *answer)
@@ -478,10 +479,12 @@ void plain_visit(ring_t *ring, struct olivastrum_ask ask, struct olivastrum_visi
     }
     uint32_t p = ring->token, share = ring->alloc.s[p];
     uint32_t limit = limit_of(ring, p);
-    uint32_t sync = 0;
-    if (ring->rest[p] > 0 && ring->arrival[p] <= ring->clock)
-        sync = share < ring->rest[p] ? share : ring->rest[p];
     uint32_t async = sent_in_frames(ask, limit);
+    uint32_t lead = ring->set.head.mode == OLIVASTRUM_EARLIER ? async : 0; /* sent before the synchronous part */
+    uint64_t served = ring->clock + lead;
+    uint32_t sync = 0;
+    if (ring->rest[p] > 0 && ring->arrival[p] <= served)
+        sync = share < ring->rest[p] ? share : ring->rest[p];
 
     struct olivastrum_visit_record *record = &answer->record;
     record->station.number = p;
@@ -491,16 +494,16 @@ void plain_visit(ring_t *ring, struct olivastrum_ask ask, struct olivastrum_visi
     record->synchronous.ticks = sync;
     record->asynchronous.ticks = async;
     if (ring->rest[p] > 0 && ring->rest[p] == sync) {
-        record->finish.ticks = ring->clock + sync;
+        record->finish.ticks = served + sync;
         record->margin = (int64_t)(ring->arrival[p] + ring->set.d[p]) - (int64_t)record->finish.ticks;
         record->completed = 1;
     }
 
     uint32_t rise = sync + async + ring->set.w[p];
-    move_timers(ring, p, sync, rise);
+    move_timers(ring, p, sync, rise, rise - lead);
     ring->sent[p] = sync;
     ring->rest[p] -= sync;
-    ring->last[p] = ring->clock;
+    ring->last[p] = served;
     ring->clock += rise;
     ring->visits++;
     ring->token = p + 1 < ring->set.n ? p + 1 : 0;

@@ -7,10 +7,10 @@
 /* A number below 2^32, the same ones in every run. */
 uint32_t random_number(void);
 
-/* Stations of all kinds in a ring of TTRT 100,000 with frames up to `frame`, planned and run in either mode. */
+/* Stations of all kinds in a ring of TTRT 100,000 with frames up to `frame`, planned and run in any mode. */
 struct olivastrum_set stations(uint32_t n, uint32_t mode, uint32_t frame);
 
-/* 128 stations whose deadlines are q whole rotations and a part of one, for either mode. */
+/* 128 stations whose deadlines are q whole rotations and a part of one, for any mode. */
 struct olivastrum_set rotations(uint32_t q, uint32_t mode);
 
 /* A random FDDI set of n stations. Its deadlines ask at most for `load` hundredths of the room that the token rule leaves, so

@@ -20,8 +20,9 @@
  * Refusals. `number` is 0 for accepted, or the refusal; the numbers are below, and within one call the lowest
  * that applies is given (1, 2 and 3: the first fault from the left of the sheet). A refused call changes nothing:
  * not a byte of a lent ring, not a byte of a lent buffer. What it returns beside `number` is blank, every number in
- * it 0; olivastrum_add_visit alone hands back the recorder as it was, so that the log can be ended. On a ring it stores the same bytes again, so a refused call too is one that writes: a ring that two threads
- * share is locked for it.
+ * it 0; olivastrum_add_visit alone hands back the recorder as it was, so that the log can be ended. On a ring it stores
+ * the same bytes again, so a refused call too is one that writes: a ring that two threads share is locked for it. An
+ * inspected log is accepted only if its rule is 0 too.
  *
  * Padding. olivastrum_set, olivastrum_alloc, olivastrum_ask, olivastrum_message, olivastrum_ring and
  * olivastrum_recorder have none, so two rings can be compared by their bytes. In the others the bytes between and after
@@ -61,9 +62,9 @@
 
 /* The version of the header and the library, as `./olivastrum version` prints it. */
 #define OLIVASTRUM_VERSION_MAJOR 0
-#define OLIVASTRUM_VERSION_MINOR 8
+#define OLIVASTRUM_VERSION_MINOR 9
 #define OLIVASTRUM_VERSION_PATCH 0
-#define OLIVASTRUM_VERSION "0.8.0"
+#define OLIVASTRUM_VERSION "0.9.0"
 
 #ifdef __cplusplus
 extern "C" {
@@ -75,8 +76,8 @@ enum {
     OLIVASTRUM_SHEET_ENDS = 1,        /* the sheet ends inside a field, or before the end field */
     OLIVASTRUM_SHEET_WRONG = 2,       /* wrong tag, wrong length, wrong count of stations or allocations */
     OLIVASTRUM_SHEET_GOES_ON = 3,     /* a byte follows the end field */
-    OLIVASTRUM_OUT_OF_RANGE = 4,      /* w, C, D, P, TTRT, F or S outside its range, or a mode that is not 1 or 2; on a
-                                         sheet or in a text a mode that is named and is not 2, or
+    OLIVASTRUM_OUT_OF_RANGE = 4,      /* w, C, D, P, TTRT, F or S outside its range, or a mode that is not 1, 2 or 3; on
+                                         a sheet or in a text a mode that is named and is not 2 or 3, or
                                          an F that is named and is 1 */
     OLIVASTRUM_WALK_TIME = 5,         /* the sum of all w is 0 or above TTRT */
     OLIVASTRUM_NO_ALLOCATION = 6,     /* planning: no allocation exists */
@@ -93,9 +94,10 @@ enum {
 /* The most stations that a ring has, and so the places of each array. Places from N on are never looked at. */
 #define OLIVASTRUM_MOST_STATIONS 128
 
-/* The modes of a ring. */
+/* The modes of a ring: timely-token, FDDI, and the 2002 edition of timely-token, which sends asynchronous traffic first. */
 #define OLIVASTRUM_TIMELY 1u
 #define OLIVASTRUM_FDDI 2u
+#define OLIVASTRUM_EARLIER 3u
 
 /* The bytes of a request sheet and of a plan sheet of n stations; and what a mode other than timely-token, and a longest
  * frame F other than 1, take beside. */
@@ -145,7 +147,8 @@ struct olivastrum_alloc {
 struct olivastrum_ring {
     struct olivastrum_set set;
     struct olivastrum_alloc alloc;
-    uint32_t trt[OLIVASTRUM_MOST_STATIONS];     /* time since the station's last token arrival; in FDDI its timer */
+    uint32_t trt[OLIVASTRUM_MOST_STATIONS];     /* time since the station's last token arrival, in the 2002 edition since
+                                                   its last synchronous part began; in FDDI its timer */
     uint32_t late[OLIVASTRUM_MOST_STATIONS];    /* FDDI's late count; a timely-token ring leaves it alone */
     uint32_t sent[OLIVASTRUM_MOST_STATIONS];    /* synchronous ticks sent at its last visit */
     uint32_t rest[OLIVASTRUM_MOST_STATIONS];    /* what remains of the held message; 0: none is held */
@@ -153,7 +156,8 @@ struct olivastrum_ring {
     uint32_t filler;                            /* nothing looks at it and nothing changes it */
     uint64_t arrival[OLIVASTRUM_MOST_STATIONS]; /* the held message's arrival, and after it the last accepted one */
     uint8_t had[OLIVASTRUM_MOST_STATIONS];      /* a message was ever accepted: 0 is no, anything else yes */
-    uint64_t last[OLIVASTRUM_MOST_STATIONS];    /* the start of the last visit, where the station is below visits */
+    uint64_t last[OLIVASTRUM_MOST_STATIONS];    /* the start of the last visit, where the station is below visits; in the
+                                                   2002 edition of that visit's synchronous part */
     uint64_t clock;
     uint64_t visits;
     uint64_t unused;                            /* u, the sum of S - s; FDDI leaves it as opening set it */
@@ -174,6 +178,7 @@ struct olivastrum_message {
 };
 
 /* What happened at a visit. finish and margin (deadline less finish, negative when late) are 0 unless completed is 1.
+ * The synchronous part begins at start, in the 2002 edition at start + asynchronous; finish is that moment + synchronous.
  * In FDDI trt is the timer as the token finds it, and a limit of 0 says that the token was late; a plan of mode 2 does not
  * promise a margin of 0 or more. */
 struct olivastrum_visit_record {
@@ -239,7 +244,8 @@ struct olivastrum_next_entry {
 };
 
 /* How many visits a log has, the first record that breaks a rule, from 1, and the first rule that it breaks: 1 station,
- * 2 start, 3 limit, 4 synchronous, 5 asynchronous. Record and rule are 0 where the log is accepted. */
+ * 2 start, 3 limit, 4 synchronous, 5 asynchronous. A log is accepted where number, record and rule are all 0; where
+ * number is not 0 it was not read, and all else is 0 too. */
 struct olivastrum_finding {
     uint64_t visits;
     uint64_t record;

@@ -1,5 +1,6 @@
 //! The promises of every run from an opening, checked call by call on this program itself. FDDI
-//! has fewer of them: exact limits, deadlines and "never 11" are timely-token's.
+//! has fewer of them: exact limits, deadlines and "never 11" are timely-token's. The limit of the
+//! 2002 edition looks back on one visit less.
 
 use std::collections::VecDeque;
 
@@ -17,7 +18,8 @@ pub enum Broken {
     TokenLate,
     /// A visit sent more synchronous time than S.
     TooMuchSynchronous,
-    /// The limit is not A* less the asynchronous time of the N visits before, held at 0.
+    /// The limit is not A* less the asynchronous time of the N visits before, in the 2002 edition
+    /// of the N − 1 before, held at 0.
     LimitNotExact,
     /// A visit did not send whole frames, not all that it might, or one that may not begin.
     FramesNotExact,
@@ -40,7 +42,8 @@ struct Watch {
     spare: Ticks,
     /// The asynchronous time of the N visits before; the silent rotation counts as nothing.
     before: VecDeque<Ticks>,
-    last_starts: Vec<Option<Ticks>>,
+    /// The start of each station's last visit, and of that visit's synchronous part.
+    last_starts: Vec<Option<(Ticks, Ticks)>>,
 }
 
 impl Watch {
@@ -54,7 +57,12 @@ impl Watch {
 
     fn visited(&mut self, ring: &Ring, ask: Ask, visit: &Visit) -> Vec<Broken> {
         let index = visit.station.index();
-        let apart = self.last_starts[index].replace(visit.start).map(|last| visit.start - last);
+        let served = match ring.mode() {
+            Mode::Timely | Mode::Fddi => visit.start,
+            Mode::Earlier => visit.start + visit.asynchronous,
+        };
+        let before = self.last_starts[index].replace((visit.start, served));
+        let apart = before.map(|(start, served)| (visit.start - start, visit.start - served));
         let synchronous = visit.synchronous <= ring.allocation(index);
         let most = if visit.limit == 0 { 0 } else { visit.limit + ring.overrun() };
         let mut broken = broken(&[
@@ -64,14 +72,15 @@ impl Watch {
             (visit.asynchronous <= most, Broken::TooMuchAsynchronous),
             (sound(ring), Broken::Unsound),
         ]);
-        if ring.mode() == Mode::Timely {
+        if ring.mode() != Mode::Fddi {
             broken.extend(self.timely_visited(ring, visit));
         }
         broken
     }
 
     fn timely_visited(&mut self, ring: &Ring, visit: &Visit) -> Vec<Broken> {
-        let limit = (self.spare - self.before.iter().sum::<Ticks>()).max(0);
+        let left_out = usize::from(ring.mode() == Mode::Earlier);
+        let limit = (self.spare - self.before.iter().skip(left_out).sum::<Ticks>()).max(0);
         self.before.pop_front();
         self.before.push_back(visit.asynchronous);
         let rotation = self.before.iter().sum::<Ticks>();
@@ -97,15 +106,19 @@ fn whole_frames(ask: Ask, visit: &Visit) -> bool {
     whole && began && all
 }
 
-/// Whether the token came in time, so long after it last came; before the first visit that is TRT.
-fn in_time(ring: &Ring, visit: &Visit, apart: Option<Ticks>) -> bool {
+/// Whether the token came in time, so long after it last came; and whether TRT is the time since
+/// the station's last synchronous part began. Before the first visit both are TRT.
+fn in_time(ring: &Ring, visit: &Visit, apart: Option<(Ticks, Ticks)>) -> bool {
     let request = &ring.plan().request;
     let ttrt = Ticks::from(request.head.ttrt);
     match ring.mode() {
-        Mode::Timely => apart.unwrap_or(visit.trt) == visit.trt && visit.trt <= ttrt,
+        Mode::Timely | Mode::Earlier => {
+            let (came, served) = apart.unwrap_or((visit.trt, visit.trt));
+            served == visit.trt && came <= ttrt
+        }
         Mode::Fddi => {
             let most = ttrt + ring.plan().allocated() as Ticks + ring.overrun();
-            apart.is_none_or(|apart| apart <= most)
+            apart.is_none_or(|(came, _)| came <= most)
         }
     }
 }
@@ -126,7 +139,7 @@ fn unsent_in_time(ring: &Ring, index: usize) -> bool {
 fn sound(ring: &Ring) -> bool {
     let ttrt = Ticks::from(ring.plan().request.head.ttrt);
     let timer = |index: usize| match ring.mode() {
-        Mode::Timely => (0..=ttrt).contains(&ring.trt(index)),
+        Mode::Timely | Mode::Earlier => (0..=ttrt).contains(&ring.trt(index)),
         Mode::Fddi => {
             let late = (0..=Ticks::from(MOST_LATE)).contains(&ring.late(index));
             late && (0..ttrt).contains(&ring.trt(index))
@@ -154,7 +167,7 @@ fn due(ring: &Ring, message: &Message) -> bool {
 }
 
 fn handed_in(ring: &Ring, message: &Message, answer: Result<(), Refusal>) -> Vec<Broken> {
-    let deadlines = ring.mode() == Mode::Timely;
+    let deadlines = ring.mode() != Mode::Fddi;
     match answer {
         Ok(()) if !deadlines => broken(&[(sound(ring), Broken::Unsound)]),
         Ok(()) => {

@@ -30,10 +30,24 @@ impl Sort {
     pub const FDDI: Sort = Sort { mode: Mode::Fddi, uncut: false };
     pub const UNCUT: Sort = Sort { mode: Mode::Timely, uncut: true };
     pub const FDDI_UNCUT: Sort = Sort { mode: Mode::Fddi, uncut: true };
-    pub const ALL: [Sort; 4] = [Sort::TIMELY, Sort::FDDI, Sort::UNCUT, Sort::FDDI_UNCUT];
+    pub const EARLIER: Sort = Sort { mode: Mode::Earlier, uncut: false };
+    pub const EARLIER_UNCUT: Sort = Sort { mode: Mode::Earlier, uncut: true };
+    pub const ALL: [Sort; 6] = [
+        Sort::TIMELY,
+        Sort::FDDI,
+        Sort::UNCUT,
+        Sort::FDDI_UNCUT,
+        Sort::EARLIER,
+        Sort::EARLIER_UNCUT,
+    ];
 
     pub fn is_fddi(self) -> bool {
         self.mode == Mode::Fddi
+    }
+
+    /// Whether a sheet of such a set names its mode.
+    pub fn has_mode(self) -> bool {
+        self.mode != Mode::Timely
     }
 
     /// What stands before the name of a kind of such sets.
@@ -43,6 +57,8 @@ impl Sort {
             (Mode::Fddi, false) => "fddi-",
             (Mode::Timely, true) => "uncut-",
             (Mode::Fddi, true) => "fddi-uncut-",
+            (Mode::Earlier, false) => "earlier-",
+            (Mode::Earlier, true) => "earlier-uncut-",
         }
     }
 }
@@ -106,7 +122,8 @@ impl Kind {
     }
 
     /// A kind and the sort of its sets: `KIND` is timely-token and has no F, `fddi-KIND` is FDDI,
-    /// `uncut-KIND` and `fddi-uncut-KIND` have an F.
+    /// `earlier-KIND` is the 2002 edition; `uncut-KIND`, `fddi-uncut-KIND` and `earlier-uncut-KIND`
+    /// have an F.
     pub fn from_name(name: &str) -> Option<(Kind, Sort)> {
         let names = |kind: Kind| Sort::ALL.map(|sort| (kind, sort));
         let mut every = Kind::ALL.into_iter().flat_map(names);

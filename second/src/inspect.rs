@@ -116,7 +116,7 @@ impl Inspector {
     pub fn limit(&self) -> u32 {
         let here = self.station();
         let kept = match self.plan.request.mode() {
-            Mode::Timely => self.unused() + self.plan.request.head.overrun() as Ticks,
+            Mode::Timely | Mode::Earlier => self.unused() + self.plan.request.head.overrun() as Ticks,
             Mode::Fddi => 0,
         };
         (self.ttrt() - kept - self.since(here)).max(0) as u32
@@ -181,6 +181,20 @@ impl Inspector {
         }
     }
 
+    /// When the timer of the token's station begins anew: in the 2002 edition behind the visit's
+    /// asynchronous part. A late token of FDDI takes one TTRT off the timer.
+    fn timer_begins(&self, here: usize, entry: &Entry) -> Ticks {
+        match self.plan.request.mode() {
+            Mode::Fddi if self.since(here) >= self.ttrt() => {
+                self.memories[here].timer_began + self.ttrt()
+            }
+            Mode::Earlier if self.planted != Planted::LogByTheLaterEdition => {
+                self.now + Ticks::from(entry.asynchronous)
+            }
+            _ => self.now,
+        }
+    }
+
     /// The visit of an accepted record happens.
     fn follow(&mut self, entry: &Entry) {
         let here = self.station();
@@ -188,14 +202,8 @@ impl Inspector {
             self.first = entry.start;
         }
         self.last = entry.start;
-        let late = self.plan.request.mode() == Mode::Fddi && self.since(here) >= self.ttrt();
-        let memory = &mut self.memories[here];
-        memory.timer_began = if late {
-            memory.timer_began + Ticks::from(self.plan.request.head.ttrt)
-        } else {
-            self.now
-        };
-        memory.sent = entry.synchronous;
+        self.memories[here] =
+            Memory { timer_began: self.timer_begins(here, entry), sent: entry.synchronous };
         let walk = self.plan.request.stations[here].walk;
         self.now +=
             [entry.synchronous, entry.asynchronous, walk].map(Ticks::from).iter().sum::<Ticks>();

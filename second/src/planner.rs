@@ -8,7 +8,7 @@ use crate::rules::{least_time, require, rotations, Mode, Plan, Refusal, Request,
 pub fn plan(request: &Request, planted: Planted) -> Result<Plan, Refusal> {
     request.judge()?;
     let allocation = match request.mode() {
-        Mode::Timely => each_smallest(request, planted),
+        Mode::Timely | Mode::Earlier => each_smallest(request, planted),
         Mode::Fddi => raised(request, planted)?,
     };
     let plan = Plan { request: request.clone(), allocation };

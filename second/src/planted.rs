@@ -43,10 +43,18 @@ pub enum Planted {
     LimitNotCompared,
     /// 20: a log's first start is compared, with 0.
     FirstStartCompared,
+    /// 21: in the 2002 edition TRT becomes 0 before the asynchronous part.
+    TrtResetFirst,
+    /// 22: in the 2002 edition a message is looked at when the visit starts.
+    LookedAtFirst,
+    /// 23: in the 2002 edition the limit is taken after the synchronous part.
+    LimitAfterSending,
+    /// 24: a log of the 2002 edition is judged by the order of the 2003 edition.
+    LogByTheLaterEdition,
 }
 
 impl Planted {
-    pub const ALL: [Planted; 20] = [
+    pub const ALL: [Planted; 24] = [
         Planted::TimeForNobody,
         Planted::RoundedDown,
         Planted::LimitWithoutUnused,
@@ -67,6 +75,10 @@ impl Planted {
         Planted::SynchronousUpToC,
         Planted::LimitNotCompared,
         Planted::FirstStartCompared,
+        Planted::TrtResetFirst,
+        Planted::LookedAtFirst,
+        Planted::LimitAfterSending,
+        Planted::LogByTheLaterEdition,
     ];
 
     /// The error of a number, from 1 on.

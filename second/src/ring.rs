@@ -1,7 +1,8 @@
 //! The ring on one absolute time line. Its clock 0 is the end of the silent first rotation,
 //! which began at −τ; the ring remembers when the token last came to each station, and derives
 //! every TRT and u from what it remembers. Of an FDDI station it remembers one moment too: the
-//! timer runs from there, and its late count is how many whole TTRTs it has run.
+//! timer runs from there, and its late count is how many whole TTRTs it has run. In the 2002
+//! edition TRT runs from the end of the visit's asynchronous part, which comes first.
 
 use crate::planted::Planted;
 use crate::rules::{require, Ask, Mode, Plan, Refusal, Station, LAST_TIME};
@@ -60,10 +61,11 @@ pub struct Held {
 /// What the ring remembers of a station.
 #[derive(Clone, Debug, PartialEq, Eq)]
 struct Memory {
-    /// When the token last came, the silent rotation included.
-    token_came: Ticks,
-    /// When TRT was last 0: when the token came, but for a planted error. In FDDI a token that
-    /// comes in time sets it to the present, and one that comes late moves it on by TTRT.
+    /// When the station's synchronous part last began.
+    served: Ticks,
+    /// When TRT was last 0: when the synchronous part began, but for a planted error. In FDDI a
+    /// token that comes in time sets it to the present, and one that comes late moves it on by
+    /// TTRT.
     timer_began: Ticks,
     /// The synchronous time used then.
     sent: Ticks,
@@ -130,7 +132,7 @@ impl Ring {
     /// The time since a station's last token arrival; in FDDI the station's timer.
     pub fn trt(&self, index: usize) -> Ticks {
         match self.mode() {
-            Mode::Timely => self.since(index),
+            Mode::Timely | Mode::Earlier => self.since(index),
             Mode::Fddi => self.since(index) % self.ttrt(),
         }
     }
@@ -138,7 +140,7 @@ impl Ring {
     /// An FDDI station's late count.
     pub fn late(&self, index: usize) -> Ticks {
         match self.mode() {
-            Mode::Timely => 0,
+            Mode::Timely | Mode::Earlier => 0,
             Mode::Fddi => self.since(index) / self.ttrt(),
         }
     }
@@ -156,9 +158,9 @@ impl Ring {
         self.memories[index].last_accepted
     }
 
-    /// The start of a station's last visit; the silent rotation is none.
+    /// When a station's synchronous part last began; the silent rotation has none.
     pub fn last_start(&self, index: usize) -> Option<Ticks> {
-        self.visited(index).then_some(self.memories[index].token_came)
+        self.visited(index).then_some(self.memories[index].served)
     }
 
     fn visited(&self, index: usize) -> bool {
@@ -173,7 +175,9 @@ impl Ring {
     /// there it stays as the opening has it.
     pub fn unused(&self) -> Ticks {
         match self.mode() {
-            Mode::Timely => (0..self.size()).map(|index| self.unused_at(index)).sum(),
+            Mode::Timely | Mode::Earlier => {
+                (0..self.size()).map(|index| self.unused_at(index)).sum()
+            }
             Mode::Fddi => self.plan.allocated() as Ticks,
         }
     }
@@ -198,12 +202,16 @@ impl Ring {
         let here = self.token();
         let start = self.clock;
         let trt = self.trt(here);
-        let (synchronous, completed) = self.serve(here);
-        let limit = self.limit(here, synchronous);
+        let limit = self.limit(here);
         let asynchronous = self.sent_in_frames(ask, limit);
-        self.memories[here].token_came = start;
+        let served = match self.mode() {
+            Mode::Timely | Mode::Fddi => start,
+            Mode::Earlier => start + asynchronous,
+        };
+        let (synchronous, completed) = self.serve(here, served);
+        self.memories[here].served = served;
         self.memories[here].timer_began = match self.mode() {
-            Mode::Timely => self.trt_began(synchronous + asynchronous),
+            Mode::Timely | Mode::Earlier => self.trt_began(served, synchronous + asynchronous),
             Mode::Fddi => self.fddi_timer_began(here),
         };
         self.memories[here].sent = synchronous;
@@ -215,15 +223,16 @@ impl Ring {
     }
 
     /// The time before which the station may begin to send beside its synchronous part.
-    fn limit(&self, here: usize, synchronous: Ticks) -> Ticks {
+    fn limit(&self, here: usize) -> Ticks {
         let kept = match (self.mode(), self.planted) {
             (Mode::Fddi, _) => 0,
-            (Mode::Timely, Planted::LimitWithoutUnused) => self.overrun(),
-            (Mode::Timely, Planted::WholeFrameKept) => self.unused() + self.overrun() + 1,
-            (Mode::Timely, _) => self.unused() + self.overrun(),
+            (_, Planted::LimitWithoutUnused) => self.overrun(),
+            (_, Planted::WholeFrameKept) => self.unused() + self.overrun() + 1,
+            _ => self.unused() + self.overrun(),
         };
         let sent = match (self.mode(), self.planted) {
-            (Mode::Fddi, Planted::HoldingAfterSending) => synchronous,
+            (Mode::Fddi, Planted::HoldingAfterSending)
+            | (Mode::Earlier, Planted::LimitAfterSending) => self.to_send(here, self.clock),
             _ => 0,
         };
         (self.ttrt() - kept - sent - self.since(here)).max(0)
@@ -244,10 +253,11 @@ impl Ring {
         sent as Ticks
     }
 
-    fn trt_began(&self, sent: Ticks) -> Ticks {
+    fn trt_began(&self, served: Ticks, sent: Ticks) -> Ticks {
         match self.planted {
             Planted::TrtResetLate => self.clock + sent,
-            _ => self.clock,
+            Planted::TrtResetFirst => self.clock,
+            _ => served,
         }
     }
 
@@ -261,25 +271,33 @@ impl Ring {
         }
     }
 
-    /// Sends of the station's message what it may; gives the amount, and the completion if any.
-    fn serve(&mut self, here: usize) -> (Ticks, Option<Completed>) {
-        let Some(held) = self.held(here).filter(|held| self.has_arrived(held)) else {
+    /// What a station may send of its message, looked at at this time.
+    fn to_send(&self, here: usize, now: Ticks) -> Ticks {
+        let arrived = self.held(here).filter(|held| self.has_arrived(held, now));
+        arrived.map_or(0, |held| held.remaining.min(self.allocation(here)))
+    }
+
+    /// Sends of the station's message what it may from this time on; gives the amount, and the
+    /// completion if any.
+    fn serve(&mut self, here: usize, now: Ticks) -> (Ticks, Option<Completed>) {
+        let Some(held) = self.held(here).filter(|held| self.has_arrived(held, now)) else {
             return (0, None);
         };
-        let sent = held.remaining.min(self.allocation(here));
+        let sent = self.to_send(here, now);
         let remaining = held.remaining - sent;
         if remaining > 0 {
             self.memories[here].held = Some(Held { remaining, ..held });
             return (sent, None);
         }
         self.memories[here].held = None;
-        let finish = self.clock + sent;
+        let finish = now + sent;
         let deadline = held.arrival + Ticks::from(self.plan.request.stations[here].deadline);
         (sent, Some(Completed { finish, margin: deadline - finish }))
     }
 
-    fn has_arrived(&self, held: &Held) -> bool {
-        held.arrival <= self.clock || self.planted == Planted::ServedAhead
+    fn has_arrived(&self, held: &Held, now: Ticks) -> bool {
+        let looked_at = if self.planted == Planted::LookedAtFirst { self.clock } else { now };
+        held.arrival <= looked_at || self.planted == Planted::ServedAhead
     }
 
     /// Hands in a message, or gives number 9, 10, 11 or 12.
@@ -314,7 +332,7 @@ fn silent_rotation(stations: &[Station]) -> Vec<Memory> {
     let mut memories = Vec::new();
     for station in stations {
         memories.push(Memory {
-            token_came: now,
+            served: now,
             timer_began: now,
             sent: 0,
             held: None,

@@ -20,15 +20,18 @@ pub const LAST_TIME: u64 = 1_000_000_000_000;
 pub enum Mode {
     Timely,
     Fddi,
+    /// The 2002 edition of timely-token: asynchronous traffic first.
+    Earlier,
 }
 
 impl Mode {
-    pub const ALL: [Mode; 2] = [Mode::Timely, Mode::Fddi];
+    pub const ALL: [Mode; 3] = [Mode::Timely, Mode::Fddi, Mode::Earlier];
 
     pub fn number(self) -> u32 {
         match self {
             Mode::Timely => 1,
             Mode::Fddi => 2,
+            Mode::Earlier => 3,
         }
     }
 
@@ -254,7 +257,7 @@ impl Plan {
         let (ttrt, deadline) = (self.request.head.ttrt, self.request.stations[index].deadline);
         let s = u64::from(self.allocation[index]);
         match self.request.mode() {
-            Mode::Timely => least_time(ttrt, deadline, s),
+            Mode::Timely | Mode::Earlier => least_time(ttrt, deadline, s),
             Mode::Fddi => {
                 let others = self.allocated() - s;
                 fddi_least_time(ttrt, deadline, s, self.request.lost() + others)

@@ -28,7 +28,7 @@ pub struct Place {
     pub had: u8,
     /// The arrival of the last accepted message.
     pub arrival: u64,
-    /// The start of the last visit, where there was one.
+    /// The start of the last synchronous part, where there was a visit.
     pub last: u64,
 }
 
@@ -86,7 +86,7 @@ impl State {
     fn unsound_timers(&self) -> bool {
         let ttrt = self.plan.request.head.ttrt;
         match self.plan.request.mode() {
-            Mode::Timely => {
+            Mode::Timely | Mode::Earlier => {
                 self.places.iter().any(|place| place.trt > ttrt) || self.unused != self.unsent()
             }
             Mode::Fddi => {
@@ -116,22 +116,33 @@ impl State {
         require(self.clock <= LAST_TIME, Refusal::ClockPast)?;
         let here = self.token as usize;
         let (start, trt) = (self.clock, self.places[here].trt);
-        // 1 and 2: the limit and the timer; in timely-token u falls by the old unused time.
-        let limit = match self.plan.request.mode() {
-            Mode::Timely => self.timely_limit(here),
+        let mode = self.plan.request.mode();
+        // 1: the limit; an FDDI timer goes to 0 or runs on.
+        let limit = match mode {
+            Mode::Timely | Mode::Earlier => self.timely_limit(here),
             Mode::Fddi => self.fddi_limit(here),
         };
-        // 3: the synchronous part; in timely-token u rises by the new unused time.
+        // 4: the asynchronous part, in whole frames; in the 2002 edition it comes before all else.
+        let asynchronous = ask.sent(limit.into()) as u32;
+        if mode == Mode::Earlier {
+            self.pass(asynchronous);
+        }
+        // 2 and 3: TRT becomes 0, and u falls by the old unused time; the synchronous part; u rises
+        // by the new unused time.
+        let served = self.clock;
+        if mode != Mode::Fddi {
+            self.places[here].trt = 0;
+            self.unused -= self.unused_at(here);
+        }
         let (synchronous, completed) = self.serve(here);
         self.places[here].sent = synchronous;
-        if self.plan.request.mode() == Mode::Timely {
+        if mode != Mode::Fddi {
             self.unused += self.unused_at(here);
         }
-        // 4: the asynchronous part, in whole frames.
-        let asynchronous = ask.sent(limit.into()) as u32;
-        // 5: time passes, and the token moves on.
-        self.pass(synchronous + asynchronous + self.plan.request.stations[here].walk);
-        self.places[here].last = start;
+        // 5: the rest of the time passes, and the token moves on.
+        let behind = if mode == Mode::Earlier { 0 } else { asynchronous };
+        self.pass(synchronous + behind + self.plan.request.stations[here].walk);
+        self.places[here].last = served;
         self.token = if here + 1 < self.places.len() { self.token + 1 } else { 0 };
         self.visits += 1;
         Ok(Visit {
@@ -150,13 +161,11 @@ impl State {
         u64::from(self.plan.allocation[index] - self.places[index].sent)
     }
 
-    /// TTRT − (F − 1) − u − TRT, held at 0; TRT becomes 0, and u falls by the old unused time.
-    fn timely_limit(&mut self, here: usize) -> u32 {
+    /// TTRT − (F − 1) − u − TRT, held at 0.
+    fn timely_limit(&self, here: usize) -> u32 {
         let head = &self.plan.request.head;
         let (ttrt, overrun) = (u64::from(head.ttrt), head.overrun());
         let spent = overrun + self.unused + u64::from(self.places[here].trt);
-        self.places[here].trt = 0;
-        self.unused -= self.unused_at(here);
         ttrt.saturating_sub(spent) as u32
     }
 

@@ -153,7 +153,7 @@ struct olivastrum_opened opening(const set_t *set, const alloc_t *alloc)
     }
     must(same(&ring->set, set, sizeof *set) && same(&ring->alloc, alloc, sizeof *alloc), "changed");
     must(zero_past(set->n, ring->trt) && zero_past(set->n, ring->late), "not-blank");
-    must(set->head.mode != OLIVASTRUM_TIMELY || all_zero(ring->late, sizeof ring->late), "not-blank");
+    must(set->head.mode == OLIVASTRUM_FDDI || all_zero(ring->late, sizeof ring->late), "not-blank");
     must(all_zero(ring->sent, sizeof ring->sent), "not-blank");
     must(all_zero(ring->rest, sizeof ring->rest) && all_zero(ring->arrival, sizeof ring->arrival), "not-blank");
     must(all_zero(ring->had, sizeof ring->had) && all_zero(ring->last, sizeof ring->last), "not-blank");

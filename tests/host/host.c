@@ -535,7 +535,7 @@ static int older_ring(void)
     CHECK(unsound(&other));
     other = ring, other.late[1] = 3, other.unused = 12345;
     CHECK(olivastrum_visit(&other, ticks(0)).number == 0 && other.unused == 12345);
-    other = ring, other.set.head.mode = 3;
+    other = ring, other.set.head.mode = 4;
     CHECK(unsound(&other));
     return 1;
 }
@@ -585,6 +585,60 @@ static int uncut_ring(void)
     return 1;
 }
 
+/* Two visits of a ring of the 2002 edition, recorded and inspected: 88 ticks are offered each time. Read as a log of the 2003
+ * edition, its second record breaks the limit rule. */
+static int earlier_log(struct olivastrum_set set, struct olivastrum_alloc alloc)
+{
+    enum { LENGTH = OLIVASTRUM_PLAN_BYTES(1) + OLIVASTRUM_MODE_BYTES + 2 * OLIVASTRUM_VISIT_BYTES };
+    uint8_t log[LENGTH];
+    ring_t ring = olivastrum_open_ring(set, alloc).ring;
+    struct olivastrum_recorder recorder = olivastrum_begin_log(set, alloc, 0, ring.clock, log, sizeof log);
+    for (int k = 0; k < 2; k++)
+        recorder = olivastrum_add_visit(recorder, olivastrum_visit(&ring, ticks(1000)).record, log, sizeof log);
+    struct olivastrum_written written = olivastrum_end_log(recorder, log, sizeof log);
+    CHECK(written.number == 0 && written.length == LENGTH);
+    struct olivastrum_finding found = olivastrum_inspect_log(log, LENGTH);
+    CHECK(found.number == 0 && found.visits == 2 && found.record == 0 && found.rule == 0);
+    memmove(log + 7, log + 7 + OLIVASTRUM_MODE_BYTES, LENGTH - 7 - OLIVASTRUM_MODE_BYTES);
+    found = olivastrum_inspect_log(log, LENGTH - OLIVASTRUM_MODE_BYTES);
+    CHECK(found.number == 0 && found.visits == 2 && found.record == 2 && found.rule == 3);
+    return 1;
+}
+
+/* ---- a ring of the 2002 edition: TTRT 100, w 2, S 10; the asynchronous part comes first */
+static int earlier_ring(void)
+{
+    struct olivastrum_set set;
+    memset(&set, 0, sizeof set);
+    set.head.ttrt = 100, set.head.mode = OLIVASTRUM_EARLIER, set.head.frame = 1, set.n = 1;
+    set.w[0] = 2, set.c[0] = 20, set.d[0] = set.p[0] = 250;
+    uint8_t sheet[OLIVASTRUM_REQUEST_BYTES(1) + OLIVASTRUM_MODE_BYTES];
+    struct olivastrum_written written = olivastrum_write_request_sheet(set, sheet, sizeof sheet);
+    CHECK(written.number == 0 && written.length == sizeof sheet && sheet[7] == 4 && sheet[10] == OLIVASTRUM_EARLIER);
+    struct olivastrum_read_request read = olivastrum_read_request_sheet(sheet, sizeof sheet);
+    CHECK(read.number == 0 && memcmp(&read.set, &set, sizeof set) == 0);
+    struct olivastrum_planned planned = olivastrum_plan_set(set);
+    CHECK(planned.number == 0 && planned.alloc.s[0] == 10);
+    ring_t ring = olivastrum_open_ring(set, planned.alloc).ring;
+
+    /* 88 ticks, and then the timer goes to 0: the synchronous part begins at 88 */
+    struct olivastrum_visit_answer answer = olivastrum_visit(&ring, ticks(1000));
+    CHECK(answer.number == 0 && answer.record.limit.ticks == 88 && answer.record.asynchronous.ticks == 88);
+    CHECK(ring.clock == 90 && ring.trt[0] == 2 && ring.last[0] == 88);
+    /* a message must arrive after that */
+    struct olivastrum_message message = {{0}, {20}, {88}};
+    CHECK(olivastrum_hand_in(&ring, message) == OLIVASTRUM_BAD_ARRIVAL);
+    message.arrival.ticks = 89;
+    CHECK(olivastrum_hand_in(&ring, message) == 0);
+    /* half of it is sent behind 88 ticks more, the rest at once */
+    answer = olivastrum_visit(&ring, ticks(1000));
+    CHECK(answer.number == 0 && answer.record.start.ticks == 90 && answer.record.synchronous.ticks == 10 && answer.record.completed == 0);
+    CHECK(ring.clock == 190 && ring.trt[0] == 12 && ring.last[0] == 178 && ring.rest[0] == 10);
+    answer = olivastrum_visit(&ring, ticks(5));
+    CHECK(answer.number == 0 && answer.record.completed == 1 && answer.record.finish.ticks == 205 && answer.record.margin == 134);
+    return earlier_log(set, planned.alloc);
+}
+
 int main(void)
 {
     static ring_t ring;
@@ -592,7 +646,7 @@ int main(void)
     struct olivastrum_alloc alloc;
     if (!layouts() || !constants() || !places() || !planning(&set, &alloc) || !opening(&ring, set, alloc))
         return 1;
-    if (!asked_less(ring) || !worked_run(&ring) || !logs(set, alloc) || !any_bytes(&ring) || !older_ring() || !uncut_ring())
+    if (!asked_less(ring) || !worked_run(&ring) || !logs(set, alloc) || !any_bytes(&ring) || !older_ring() || !uncut_ring() || !earlier_ring())
         return 1;
     puts("ok");
     return 0;

@@ -1,7 +1,7 @@
 /*
  * How much stack each function of the library needs. Each call is made on a stack that is painted before it; how far
  * down the paint is gone is what it needed. It must be at most what the header says, and not much less. Every function
- * is called with what it accepts and with what it refuses, in both modes, with and without frames, at 1 and at 128
+ * is called with what it accepts and with what it refuses, in every mode, with and without frames, at 1 and at 128
  * stations. Prints a line for each function.
  */
 #include <olivastrum.h>
@@ -221,7 +221,7 @@ int main(void)
 {
     int wrong = 0;
     size_t most = 0;
-    for (uint32_t mode = OLIVASTRUM_TIMELY; mode <= OLIVASTRUM_FDDI; mode++)
+    for (uint32_t mode = OLIVASTRUM_TIMELY; mode <= OLIVASTRUM_EARLIER; mode++)
         for (uint32_t frame = 1; frame <= 40; frame += 39) {
             with_stations(mode, frame, 1);
             with_stations(mode, frame, 128);

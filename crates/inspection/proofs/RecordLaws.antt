@@ -20,20 +20,21 @@ use Rattle.inspection.specs.Records.{baseWith, movedOn, stoppedAt, judge
 use Rattle.inspection.specs.declared.Inspection.{Inspection}
 use Rattle.inspection.specs.declared.Expected.{Expected}
 
--- ---- where the clock stood when the token station's timer was at 0
+-- ---- where the clock stands when the token station's timer is at 0
 
-module _ (h : Head) (clock base : ℕ) where
+module _ (h : Head) (clock base lead : ℕ) where
   -- an FDDI timer that has run for TTRT or longer loses TTRT
-  pub base-late : h .mode ≡ fddi → h .ttrt ≤ ticksBetween base clock → baseWith h clock base ≡ ticksLater base (h .ttrt)
+  pub base-late : h .mode ≡ fddi → h .ttrt ≤ ticksBetween base clock → baseWith h clock base lead ≡ ticksLater base (h .ttrt)
   unfolding baseWith
   base-late e l = rw (eq-eqb (h .mode) fddi e, le-leb (h .ttrt) (ticksBetween base clock) l)
 
   -- any other goes to 0
-  pub base-early : h .mode ≡ fddi → ticksBetween base clock < h .ttrt → baseWith h clock base ≡ clock
+  pub base-early : h .mode ≡ fddi → ticksBetween base clock < h .ttrt → baseWith h clock base lead ≡ clock
   unfolding baseWith
   base-early e l = rw (eq-eqb (h .mode) fddi e, lt-leb (h .ttrt) (ticksBetween base clock) l)
 
-  pub base-timely : h .mode ≢ fddi → baseWith h clock base ≡ clock
+  -- TRT goes to 0 when the synchronous part starts
+  pub base-timely : h .mode ≢ fddi → baseWith h clock base lead ≡ ticksLater clock lead
   unfolding baseWith
   base-timely n = rw (ne-eqb (h .mode) fddi n)
 

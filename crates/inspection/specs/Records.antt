@@ -11,6 +11,7 @@ use Rattle.sets.specs.declared.Set.{Set}
 use Rattle.plans.specs.declared.Alloc.{Alloc}
 use Rattle.entries.specs.declared.Entry.{Entry}
 use Rattle.rings.specs.State.{following}
+use Rattle.rings.specs.Timers.{lead}
 use Rattle.inspection.specs.Counter.{ticksLater, ticksBetween}
 use Rattle.inspection.specs.Opening.{begun}
 use Rattle.inspection.specs.Rules.{place, expected, brokenRule}
@@ -18,10 +19,10 @@ use Rattle.inspection.specs.declared.Inspection.{Inspection}
 
 -- ---- a record that keeps every rule moves the inspection on
 
--- where the clock stood when the token station's timer was at 0, now that the token has come: now, but an FDDI timer that has run for TTRT or longer loses just that
-unfoldable pub baseWith : Head → ℕ → ℕ → ℕ
-baseWith h clock base =
-    cond (eqb (h .mode) fddi) (cond (leb (h .ttrt) (ticksBetween base clock)) (ticksLater base (h .ttrt)) clock) clock
+-- where the clock stands when the token station's timer is at 0, now that the token has come: when its synchronous part starts, but an FDDI timer that has run for TTRT or longer loses just that
+unfoldable pub baseWith : Head → ℕ → ℕ → ℕ → ℕ
+baseWith h clock base lead =
+    cond (eqb (h .mode) fddi) (cond (leb (h .ttrt) (ticksBetween base clock)) (ticksLater base (h .ttrt)) clock) (ticksLater clock lead)
 
 -- u falls by S − s of before and rises by S − s of now
 abbrev pub unusedWith : ℕ → ℕ → ℕ → ℕ → ℕ
@@ -37,7 +38,7 @@ spanOf s t e = spanWith (e .synchronous) (e .asynchronous) (at (t .w) (place s))
 unfoldable pub movedOn : Inspection → Set → Alloc → Entry → Inspection
 movedOn s t a e =
     record {
-      base = set (s .base) (place s) (baseWith (t .head) (s .clock) (at (s .base) (place s)));
+      base = set (s .base) (place s) (baseWith (t .head) (s .clock) (at (s .base) (place s)) (lead t (e .asynchronous)));
       sent = set (s .sent) (place s) (e .synchronous);
       token = following (t .n) (place s);
       clock = ticksLater (s .clock) (spanOf s t e);

@@ -10,18 +10,30 @@ use units::numbers;
 ghost use mathlib.Core.Path.{_≡_};
 ghost use Prim.Native.Nat.{_<_};
 ghost use Rattle.rings.specs.State.{following};
+ghost use Rattle.rings.specs.Timers.{lead};
 ghost use Rattle.inspection.specs.Records.{baseWith, unusedWith, spanWith, stoppedAt, movedOn};
 
-// Where the clock stood when the token station's timer was at 0, now that the token has come: now, but an FDDI timer that has run for TTRT or longer loses just that.
-fn base_after(head: Head, clock: u32, base: u32) -> u32
-    ensures { λ r. ⌜ r ≡ baseWith head clock base ⌝ }
+// Of the asynchronous amount, what comes before the synchronous part: all of it in the 2002 edition, else nothing.
+fn lead_of(set: Set, asynchronous: u32) -> u32
+    ensures { λ r. ⌜ r ≡ lead set asynchronous ⌝ }
+{
+    if set.head.mode == numbers::EARLIER {
+        return asynchronous;
+    }
+    0
+}
+
+// Where the clock stands when the token station's timer is at 0, now that the token has come: when its synchronous part starts, but an FDDI timer that has run for TTRT or longer loses just that.
+fn base_after(head: Head, clock: u32, base: u32, lead: u32) -> u32
+    ensures { λ r. ⌜ r ≡ baseWith head clock base lead ⌝ }
 {
     if head.mode == numbers::FDDI {
         if head.ttrt <= counter::between(base, clock) {
             return counter::later(base, head.ttrt);
         }
+        return clock;
     }
-    clock
+    counter::later(clock, lead)
 }
 
 // u falls by S − s of before and rises by S − s of now.
@@ -68,7 +80,8 @@ pub(crate) fn moved_on(state: Inspection, set: Set, alloc: Alloc, entry: Entry) 
     let amounts = state.sent;
     let shares = alloc.s;
     let walks = set.w;
-    let base = base_after(set.head, state.clock, bases[p]);
+    let lead = lead_of(set, entry.asynchronous);
+    let base = base_after(set.head, state.clock, bases[p], lead);
     let unused = unused_after(state.unused, shares[p], amounts[p], entry.synchronous);
     let span = span_of(entry.synchronous, entry.asynchronous, walks[p]);
     let token = next_station(set.n, station);

@@ -13,6 +13,7 @@
 --     Kept         what a recorder keeps of a run
 --     Witness      an FDDI log, computed
 --     Places       places from N on are never looked at
+--     Editions     the two editions told apart
 --     Logs         the finding of a log's bytes
 --     Promised     the promises, one by one
 pub mod Reaching
@@ -29,5 +30,6 @@ pub mod Model
 pub mod Kept
 pub mod Witness
 pub mod Places
+pub mod Editions
 pub mod Logs
 pub mod Promised

@@ -14,6 +14,7 @@ use Rattle.sets.specs.declared.Set.{Set}
 use Rattle.plans.specs.declared.Alloc.{Alloc}
 use Rattle.entries.specs.declared.Entry.{Entry}
 use Rattle.rings.specs.State.{following}
+use Rattle.rings.specs.Timers.{lead}
 use Rattle.promises.proofs.Course.{following-is, same-or-not}
 use Rattle.inspection.specs.Opening.{passingTimes, begun}
 use Rattle.inspection.specs.Rules.{place, expected, brokenRule}
@@ -43,7 +44,7 @@ module _ (t u : Set) (a b : Alloc) (few : t .n ≤ 128) (some : 1 ≤ t .n) (sam
     expected-same = rw (same .header, shares (place s) inside) refl
 
     moved-same : movedOn s t a e ≡ movedOn s u b e
-    unfolding movedOn
+    unfolding movedOn lead
     moved-same = rw (same .header, same .count, shares (place s) inside, same .walk (place s) inside) refl
 
     judged-same : (k : ℕ) → judged k s t a e ≡ judged k s u b e

@@ -40,6 +40,7 @@ use Rattle.inspection_rules.proofs.Model.{model-gives, model-length, co
 use Rattle.inspection_rules.proofs.Kept.{keptEntries, kept-length, kept-few, kept-fit, kept-gives, kept-log}
 use Rattle.inspection_rules.proofs.Witness.{late-log}
 use Rattle.inspection_rules.proofs.Places.{inspection-same}
+use Rattle.inspection_rules.proofs.Editions.{editions}
 use Rattle.inspection_rules.proofs.Logs.{fit-starts, found-there, log-plan, log-recorded, found-back}
 
 -- ---- what an inspection ends with
@@ -205,6 +206,7 @@ promised =
       first-places = λ t u a b es count same shares. inspection-same t u a b (count .1) (count .0) same shares es;
       written-visit = λ t a before h g counter. could-written counter (ringAfter (openedRing t a) before) (reaches t a h (g .0) before (g .1));
       runs = model-accepted;
+      editions = editions;
       late-log = late-log;
       differ = differs;
       log-refused = λ bs n. finding-refused (readLog bs .number) (foundIn bs) n;

@@ -17,7 +17,7 @@ use Rattle.entries.specs.declared.Entry.{Entry}
 use Rattle.timers.specs.Kept.{TokenRule, Visit, Kept}
 use Rattle.timers.proofs.Promised.{promised as timers-promised}
 use Rattle.rings.specs.State.{count, ttrt, overrun, following, share, unusedAt, Shaped}
-use Rattle.rings.specs.Timers.{Fddi, timerOf, timersOf, hasRun, limit, rise, timersAfter, timelyAfter}
+use Rattle.rings.specs.Timers.{Fddi, timerOf, timersOf, hasRun, limit, lead, rise, timersAfter, timelyAfter}
 use Rattle.rings.specs.TimerLaws.{fddi-or-not, limit-timely, after-timely}
 use Rattle.rings.specs.Opening.{openedRing}
 use Rattle.rings.specs.Sound.{Sound}
@@ -136,16 +136,13 @@ module _ (r : Ring) (K : Reached r) where
 
 -- ---- lists
 
--- all of n timers are raised, that of p from 0
-module _ (n p x : ℕ) (xs : List ℕ) (few : n ≤ length xs) where
-  long : n ≤ length (set xs p 0)
-  long = omega (arith, length-set xs p 0)
+-- all of n timers are raised, and that of p is then y
+module _ (n p x y : ℕ) (xs : List ℕ) (few : n ≤ length xs) where
+  raised-here : p < n → at (set (raise n x xs) p y) p ≡ y
+  raised-here l = getD-set-same (raise n x xs) p y 0 (omega (arith, raise-length n x xs))
 
-  raised-here : p < n → at (raise n x (set xs p 0)) p ≡ x
-  raised-here l = omega (arith, raise-inside n x (set xs p 0) p l long, getD-set-same xs p 0 0 (omega arith))
-
-  raised-there : (i : ℕ) → i < n → i ≢ p → at (raise n x (set xs p 0)) i ≡ at xs i + x
-  raised-there i l d = omega (arith, raise-inside n x (set xs p 0) i l long, getD-set-other xs p i 0 0 d)
+  raised-there : (i : ℕ) → i < n → i ≢ p → at (set (raise n x xs) p y) i ≡ at xs i + x
+  raised-there i l d = getD-set-other (raise n x xs) p i y 0 d ∙ raise-inside n x xs i l few
 
 -- ---- one visit more
 
@@ -198,13 +195,14 @@ module _ (counter : ℕ) (r : Ring) (K : Reached r) (e : Entry) (C : Could count
   -- ---- a timely-token ring
 
   module _ (n : ¬ Fddi (r .set)) where
-    pub early-here : at (next .trt) (r .token) ≡ passes
+    -- TRT went to 0 when the synchronous part started
+    pub early-here : at (next .trt) (r .token) ≡ passes - lead (r .set) (e .asynchronous)
     unfolding moved timelyAfter
-    early-here = rw (after-timely r n (e .synchronous) (e .asynchronous)) (raised-here (count r) (r .token) passes (r .trt) (omega (arith, few, K .shaped .trt)) (K .token))
+    early-here = rw (after-timely r n (e .synchronous) (e .asynchronous)) (raised-here (count r) (r .token) passes _ (r .trt) (omega (arith, few, K .shaped .trt)) (K .token))
 
     pub early-there : (i : ℕ) → i < count r → i ≢ r .token → at (next .trt) i ≡ at (r .trt) i + passes
     unfolding moved timelyAfter
-    early-there i l d = rw (after-timely r n (e .synchronous) (e .asynchronous)) (raised-there (count r) (r .token) passes (r .trt) (omega (arith, few, K .shaped .trt)) i l d)
+    early-there i l d = rw (after-timely r n (e .synchronous) (e .asynchronous)) (raised-there (count r) (r .token) passes _ (r .trt) (omega (arith, few, K .shaped .trt)) i l d)
 
     pub early-unused : next .unused ≡ r .unused - unusedAt r (r .token) + (share r (r .token) - e .synchronous)
     unfolding moved timelyAfter
@@ -303,7 +301,7 @@ module _ (counter : ℕ) (r : Ring) (K : Reached r) (e : Entry) (C : Could count
   unfolding moved timelyAfter
   timers-long =
       ⊎-elim lapped-long
-      (λ n. rw (after-timely r n (e .synchronous) (e .asynchronous)) (raise-length (count r) _ _ ∙ (length-set (r .trt) (r .token) 0 ∙ K .shaped .trt), K .shaped .late))
+      (λ n. rw (after-timely r n (e .synchronous) (e .asynchronous)) (length-set (raise (count r) passes (r .trt)) _ _ ∙ (raise-length (count r) _ (r .trt) ∙ K .shaped .trt), K .shaped .late))
       (fddi-or-not (r .set))
 
   pub reached-next : Reached next

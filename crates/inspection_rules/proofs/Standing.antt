@@ -20,8 +20,8 @@ use Rattle.plans.specs.declared.Alloc.{Alloc}
 use Rattle.entries.specs.declared.Entry.{Entry}
 use Rattle.timers.proofs.Promised.{promised as timers-promised}
 use Rattle.rings.specs.State.{count, ttrt, unusedAt}
-use Rattle.rings.specs.Timers.{Fddi, timersOf, hasRun, limit, rise}
-use Rattle.rings.specs.TimerLaws.{fddi-or-not, fddi-true, fddi-false, limit-timely}
+use Rattle.rings.specs.Timers.{Fddi, timersOf, hasRun, limit, lead, rise}
+use Rattle.rings.specs.TimerLaws.{fddi-or-not, fddi-true, fddi-false, limit-timely, lead-within}
 use Rattle.rings.specs.Opening.{openedRing}
 use Rattle.rings.specs.Steps.{moved}
 use Rattle.rings.specs.declared.Ring.{Ring}
@@ -127,6 +127,14 @@ module _ (r : Ring) (K : Reached r) where
       abbrev ticks : ℕ
       ticks = rise r (e .synchronous) (e .asynchronous)
 
+      -- what is sent before the synchronous part
+      abbrev ahead : ℕ
+      ahead = lead (r .set) (e .asynchronous)
+
+      -- where the clock stands when the timer of the token's station is at 0
+      abbrev moment : ℕ
+      moment = baseWith (r .set .head) (s .clock) (at (s .base) (r .token)) ahead
+
       N : Reached (moved r (e .synchronous) (e .asynchronous))
       N = reached-next counter r K e C
 
@@ -146,12 +154,12 @@ module _ (r : Ring) (K : Reached r) where
       unfolding movedOn
       base-there i l d = getD-set-other (s .base) (place s) i _ 0 (λ q. d (q ∙ place-is))
 
-      base-here : at (movedOn s (r .set) (r .alloc) e .base) (r .token) ≡ baseWith (r .set .head) (s .clock) (at (s .base) (r .token))
+      base-here : at (movedOn s (r .set) (r .alloc) e .base) (r .token) ≡ moment
       unfolding movedOn
       base-here = rw place-is (getD-set-same (s .base) (r .token) _ 0 (omega (arith, S .long, K .token, plan r K .few)))
 
-      -- the token's station: its timer is at 0 now, or has lost TTRT
-      based : (baseWith (r .set .head) (s .clock) (at (s .base) (r .token)) + runOf after (r .token)) % 2 ^ 32 ≡ ticksLater (s .clock) ticks
+      -- the token's station: its timer is at 0 when the synchronous part starts, or has lost TTRT
+      based : (moment + runOf after (r .token)) % 2 ^ 32 ≡ ticksLater (s .clock) ticks
       unfolding moved baseWith
       based =
           let p = r .token in
@@ -165,11 +173,12 @@ module _ (r : Ring) (K : Reached r) where
           (λ (l : ttrt r ≤ runOf r p). rw (le-leb (ttrt r) (runOf r p) l, goes) (moved-base (at (s .base) p) (runOf r p) (s .clock) (ttrt r) ticks l was))
           (below-or-not (runOf r p) (ttrt r))))
           (λ (n : ¬ Fddi (r .set)).
-          let goes : runOf after p ≡ ticks = run-timely after n p ∙ early-here counter r K e C n in
-          rw (fddi-false (r .set) n) (omega (arith, goes)))
+          let goes : runOf after p ≡ ticks - ahead = run-timely after n p ∙ early-here counter r K e C n in
+          let all : s .clock + ahead + (ticks - ahead) ≡ s .clock + ticks = omega (arith, lead-within (r .set) (e .asynchronous)) in
+          rw (fddi-false (r .set) n, goes) (mod-add-mod (s .clock + ahead) (2 ^ 32) (ticks - ahead) ∙ ap (λ (x : ℕ). x % 2 ^ 32) all))
           (fddi-or-not (r .set))
 
-      based-small : baseWith (r .set .head) (s .clock) (at (s .base) (r .token)) < 2 ^ 32
+      based-small : moment < 2 ^ 32
       unfolding baseWith
       based-small =
           let p = r .token in
@@ -178,7 +187,7 @@ module _ (r : Ring) (K : Reached r) where
           (⊎-elim (λ (l : ticksBetween (at (s .base) p) (s .clock) < ttrt r). rw (lt-leb (ttrt r) (ticksBetween (at (s .base) p) (s .clock)) l) clock-small)
           (λ (l : ttrt r ≤ ticksBetween (at (s .base) p) (s .clock)). rw (le-leb (ttrt r) (ticksBetween (at (s .base) p) (s .clock)) l) (omega arith))
           (below-or-not (ticksBetween (at (s .base) p) (s .clock)) (ttrt r))))
-          (λ (n : ¬ Fddi (r .set)). rw (fddi-false (r .set) n) clock-small)
+          (λ (n : ¬ Fddi (r .set)). rw (fddi-false (r .set) n) (omega arith))
           (fddi-or-not (r .set))
 
       clock-next : movedOn s (r .set) (r .alloc) e .clock ≡ ticksLater (s .clock) ticks

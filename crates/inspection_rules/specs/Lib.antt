@@ -3,9 +3,11 @@
 --     Broken      the five rules as sentences, and the first record that breaks one
 --     Model       the record of a visit of the model, as our recorder writes it down
 --     Witness     an FDDI log with a late token
+--     Editions    a run of each edition that the other does not allow
 --     Promised    an inspection accepts just the first, and else names the second
 pub mod Gives
 pub mod Broken
 pub mod Model
 pub mod Witness
+pub mod Editions
 pub mod Promised

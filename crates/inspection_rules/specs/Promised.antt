@@ -28,6 +28,7 @@ use Rattle.inspection_rules.specs.Gives.{Asked, Could, ringAfter, Gives}
 use Rattle.inspection_rules.specs.Broken.{lastOf, took, StartRule, Rule, FirstBroken}
 use Rattle.inspection_rules.specs.Model.{WrittenVisit}
 use Rattle.inspection_rules.specs.Witness.{LateLog}
+use Rattle.inspection_rules.specs.Editions.{Editions}
 
 -- every start is one that a 32-bit counter shows
 abbrev pub Starts : List Entry → Type 0
@@ -98,6 +99,8 @@ pub record Promised : Type 0 where
   -- the numbers that are compared at the record that stops an inspection differ, as its rule has it; the starts are 32-bit numbers, and F is at least 1
   pub differ : (s : Inspection) (t : Set) (a : Alloc) (e : Entry) → s .rule ≡ 0 → s .start < 2 ^ 32 → e .start < 2 ^ 32 → 1 ≤ t .head .frame → inspected s t a e .rule ≢ 0
       → Differ (inspected s t a e .rule) (compared (inspected s t a e) t a e)
+  -- each edition of timely-token goes by its own steps: there is a run of each that the other's do not allow
+  pub editions : Editions
   -- ---- the finding of a log, for any bytes
   -- it is refused with the number of its reading, and then all else is 0
   pub log-refused : (bs : List ℕ) → readLog bs .number ≢ 0 → findingIn bs ≡ record { visits = 0; «record» = 0; rule = 0; number = readLog bs .number }

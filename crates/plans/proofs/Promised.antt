@@ -6,8 +6,9 @@ use mathlib.Core.List.{List}
 use mathlib.Core.Logic.{_↔_, _≢_, ⊎-elim}
 use native.Mathlib.Omega.{arith}
 use native.Mathlib.Nat.{div-zero}
+use borrow.Author.Tests.{ne-eqb}
 use lib.Seq.{ext-getD}
-use Rattle.units.specs.Numbers.{timely, fddi}
+use Rattle.units.specs.Numbers.{fddi}
 use Rattle.units.specs.Places.{at}
 use Rattle.units.specs.SmallLaws.{below-or-not}
 use Rattle.units.specs.JudgingLaws.{true-or-false, decides-not, given, given-later}
@@ -27,8 +28,8 @@ use Rattle.plans.specs.declared.Planned.{Planned}
 
 -- ---- X by the mode
 
-time-timely : (t : Set) (s : ℕ → ℕ) (i : ℕ) → t .head .mode ≡ timely → timeAt t s i ≡ leastTime (t .head .ttrt) (at (t .d) i) (s i)
-time-timely t s i m = laws.time-timely t s i (rw m refl)
+time-timely : (t : Set) (s : ℕ → ℕ) (i : ℕ) → t .head .mode ≢ fddi → timeAt t s i ≡ leastTime (t .head .ttrt) (at (t .d) i) (s i)
+time-timely t s i m = laws.time-timely t s i (ne-eqb _ _ m)
 
 time-fddi : (t : Set) (s : ℕ → ℕ) (i : ℕ) → t .n ≤ 128 → t .head .mode ≡ fddi → timeAt t s i ≡ fddiTime t s i
 time-fddi t s i few m =
@@ -80,7 +81,7 @@ module _ (t : Set) where
       let few = allowed t .0 h .0 .1 in
       record {
         plan = is-plan t few f;
-        smallest = λ m. smallest-each t few (rw m refl);
+        smallest = λ m. smallest-each t few (ne-eqb _ _ m);
         judged = plan-judged t h f;
       }
 

@@ -3,7 +3,7 @@ use Prim.Native.Nat.{ℕ, _+_, _-_, _≤_, _<_}
 use mathlib.Core.Path.{_≡_}
 use mathlib.Core.List.{List}
 use mathlib.Core.Logic.{_↔_, _≢_}
-use Rattle.units.specs.Numbers.{timely, fddi, mostStations}
+use Rattle.units.specs.Numbers.{fddi, mostStations}
 use Rattle.units.specs.Places.{at}
 use Rattle.sets.specs.Rules.{tau, CountAllowed, WalkTimeAllowed, SameSet}
 use Rattle.sets.specs.Judged.{judged}
@@ -24,14 +24,14 @@ fddiTime t s i =
 pub record KeptBy (t : Set) (a : Planned) : Type 0 where
   -- it is the least vector that meets the rules, and 0 from N on
   pub plan : IsPlan t a
-  -- timely-token: at each station it holds the smallest whole S that meets the station's deadline rule
-  pub smallest : t .head .mode ≡ timely → (i : ℕ) → i < t .n → IsSmallest (t .head .ttrt) (at (t .c) i) (at (t .d) i) (at (a .alloc .s) i)
+  -- timely-token, both editions: at each station it holds the smallest whole S that meets the station's deadline rule
+  pub smallest : t .head .mode ≢ fddi → (i : ℕ) → i < t .n → IsSmallest (t .head .ttrt) (at (t .c) i) (at (t .d) i) (at (a .alloc .s) i)
   -- the judgement of that set with that allocation is 0
   pub judged : judgedPlan t (a .alloc) ≡ 0
 
 pub record Promised : Type 0 where
-  -- timely-token: X at a station is 01's, by the station's own S
-  pub time-timely : (t : Set) (s : ℕ → ℕ) (i : ℕ) → t .head .mode ≡ timely → timeAt t s i ≡ leastTime (t .head .ttrt) (at (t .d) i) (s i)
+  -- timely-token, both editions: X at a station is 01's, by the station's own S
+  pub time-timely : (t : Set) (s : ℕ → ℕ) (i : ℕ) → t .head .mode ≢ fddi → timeAt t s i ≡ leastTime (t .head .ttrt) (at (t .d) i) (s i)
   -- FDDI: X at a station is 02's, with q = D / TTRT, r the rest, and the other stations' S: 0 for q = 0, else (q − 1)·S + (r − τ − (F − 1) − the others' S), held between 0 and S
   pub time-fddi : (t : Set) (s : ℕ → ℕ) (i : ℕ) → t .n ≤ mostStations → t .head .mode ≡ fddi → timeAt t s i ≡ fddiTime t s i
   -- with F 1 no station loses more than τ, so both rules and A* are those of before

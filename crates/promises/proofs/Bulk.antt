@@ -22,6 +22,7 @@ use Rattle.promises.specs.History.{overrunOf, Each, Somewhere}
 use Rattle.promises.specs.Facts.{Timing, timing}
 use Rattle.promises.specs.Valid.{Timely as Mode, InTurn}
 use Rattle.promises.specs.Bulk.{visitsAmong, ticksAsked, Asks, AlwaysAsks, Offered, longestWait, BulkServed}
+use Rattle.promises.proofs.Windows.{look-back-all}
 use Rattle.promises.proofs.Course.{Plan, same-or-not}
 use Rattle.promises.proofs.Timing.{latest-within}
 use Rattle.promises.proofs.Steps.{visit-enough}
@@ -172,12 +173,12 @@ module _ (t : Set) (a : Alloc) (P : Plan t a) where
 
   -- ---- the promise
 
-  module _ (left : 1 ≤ spareTime t (at (a .s))) (i : ℕ) (known : i < t .n) (s : Run) (K : Timely t a s) (later : List Call) where
+  module _ (mode : Mode t) (left : 1 ≤ spareTime t (at (a .s))) (i : ℕ) (known : i < t .n) (s : Run) (K : Timely t a s) (later : List Call) where
     now : Timely t a (run s later)
     now = steady-run t a P (Timely t a) (steady t a P) s K later
 
     in-order : Each (InOrder t a) (run s later .records)
-    in-order = each-both (InTurn t) (TimelyVisit t a) (run s later .records) (now .common .turns) (now .each)
+    in-order = each-both (InTurn t) (TimelyVisit t a (t .n)) (run s later .records) (now .common .turns) (rw (look-back-all t mode) at (now .each))
 
     sooner : t .n * (t .n + 1) ≤ length (visitsAmong s later) → Somewhere (λ v before. Offered i v) (visitsAmong s later)
     sooner long = offered t a i known (s .records) (visitsAmong s later) left long (rw (visits-added s later) at in-order)
@@ -189,7 +190,7 @@ module _ (t : Set) (a : Alloc) (P : Plan t a) where
         let clock = run s later .ring .clock in
         let same : run s later .records ≡ b .newer ++ b .first ∷ s .records = visits-added s later ∙ rw (b .visits, append-assoc) in
         let E = rw same at in-order in
-        let late = rw same at (latest-within t a (timing (run s later .ring)) (run s later .records) (now .timed)) in
+        let late = rw same at (latest-within t a (timing (run s later .ring)) (run s later .records) (now .timed) (now .common .turns)) in
         ⊎-elim (λ (few : length (b .newer) + 1 < t .n * (t .n + 1)).
         let within : length (b .newer) + 1 ≤ (t .n + 1) * t .n = omega (arith, mul-comm (t .n + 1) (t .n)) in
         let near = soon t a (b .first) (s .records) (t .n + 1) (b .newer) within E clock late in
@@ -208,9 +209,10 @@ module _ (t : Set) (a : Alloc) (P : Plan t a) where
 pub bulk : (t : Set) (a : Alloc) → judgedPlan t a ≡ 0 → Mode t → 1 ≤ spareTime t (at (a .s)) → BulkServed t a
 bulk t a h mode left =
     let P = plan-of t a h in
+    let every : (calls : List Call) → Timely t a (runOf t a calls) = timely t a P (λ e. omega arith) in
     record {
-      served = λ calls later i known long asks. sooner t a P left i known (runOf t a calls) (timely t a P mode calls) later (omega (arith, one-more (t .n) (t .n + 1)));
-      sooner = λ calls later i known long. sooner t a P left i known (runOf t a calls) (timely t a P mode calls) later (omega arith);
-      in-ticks = λ calls later i known. in-ticks t a P left i known (runOf t a calls) (timely t a P mode calls) later;
-      sends = λ calls later i. sends t a P i later (runOf t a calls) (timely t a P mode calls);
+      served = λ calls later i known long asks. sooner t a P mode left i known (runOf t a calls) (every calls) later (omega (arith, one-more (t .n) (t .n + 1)));
+      sooner = λ calls later i known long. sooner t a P mode left i known (runOf t a calls) (every calls) later (omega arith);
+      in-ticks = λ calls later i known. in-ticks t a P mode left i known (runOf t a calls) (every calls) later;
+      sends = λ calls later i. sends t a P i later (runOf t a calls) (every calls);
     }

@@ -11,7 +11,7 @@ use Rattle.timers.specs.Timers.{later, startedAt, visited, offered}
 use Rattle.rings.specs.Opening.{openedRing, openedWith}
 use Rattle.rings.specs.Sound.{isSound}
 use Rattle.rings.specs.State.{following}
-use Rattle.rings.specs.Timers.{limit, tokenCame, timePassed, timersAfter, timelyAfter, silentTimers, silentTimely, silentFddi, timersSound, timelySound, fddiSound}
+use Rattle.rings.specs.Timers.{lead, limit, tokenCame, timePassed, timersAfter, timelyAfter, silentTimers, silentTimely, silentFddi, timersSound, timelySound, fddiSound}
 use Rattle.rings.specs.Frames.{framesFrom}
 use Rattle.rings.specs.Steps.{syncSent, moved, recordOf, visitedWith}
 use Rattle.rings.specs.HandingIn.{arrivalAllowed, holding, takenWith}
@@ -29,7 +29,7 @@ opening = tt
 
 -- a visit
 unfoldable pub visiting : Unit {0}
-unfolding raise later visited offered framesFrom limit tokenCame timePassed timersAfter timelyAfter syncSent following moved recordOf visitedWith
+unfolding raise later visited offered framesFrom lead limit tokenCame timePassed timersAfter timelyAfter syncSent following moved recordOf visitedWith
 visiting = tt
 
 -- a handing in

@@ -22,7 +22,6 @@ use Rattle.plans.specs.declared.Alloc.{Alloc}
 use Rattle.rings.specs.State.{following}
 use Rattle.rings.specs.Timers.{Fddi}
 use Rattle.rings.specs.declared.VisitRecord.{VisitRecord}
-use Rattle.promises.specs.Valid.{Timely}
 use Rattle.promises.specs.History.{overrunOf, syncStartOf, latest, visitOf, latestOf, due}
 use Rattle.promises.specs.Facts.{Timing, VisitCourse, rises}
 
@@ -31,11 +30,10 @@ pub record Plan (t : Set) (a : Alloc) : Type 0 where
   pub judged : judgedPlan t a ≡ 0
   pub some : 1 ≤ t .n
   pub few : t .n ≤ 128
-  pub mode : Timely t ⊎ Fddi t
   pub rotation : (1 ≤ t .head .ttrt) × (t .head .ttrt ≤ mostTtrt)
   pub walk : 1 ≤ tau t
   pub token : sumBelow (t .n) (at (a .s)) + tau t + overrunOf t ≤ t .head .ttrt
-  pub deadlines : Timely t → (i : ℕ) → i < t .n → at (t .c) i ≤ leastTime (t .head .ttrt) (at (t .d) i) (at (a .s) i)
+  pub deadlines : ¬ Fddi t → (i : ℕ) → i < t .n → at (t .c) i ≤ leastTime (t .head .ttrt) (at (t .d) i) (at (a .s) i)
   pub gaps : (i : ℕ) → i < t .n → at (t .d) i ≤ at (t .p) i
 
 -- ---- what is kept

@@ -12,7 +12,8 @@ use Rattle.sets.specs.declared.Set.{Set}
 use Rattle.plans.specs.declared.Alloc.{Alloc}
 use Rattle.timers.specs.Kept.{TokenRule, Kept, Since as NumbersSince}
 use Rattle.timers.proofs.Promised.{promised as timers-promised}
-use Rattle.rings.specs.Timers.{Fddi, timerOf, hasRun, silentTrt}
+use Rattle.rings.specs.Timers.{Fddi, lead, timerOf, hasRun, silentTrt}
+use Rattle.rings.specs.TimerLaws.{lead-none}
 use Rattle.rings.specs.declared.VisitRecord.{VisitRecord}
 use Rattle.promises.specs.History.{overrunOf, syncStartOf, latestOf}
 use Rattle.promises.specs.Facts.{Timing, VisitCourse, VisitLaps, timerPlan, rises, timersIn}
@@ -32,6 +33,10 @@ pub record Lapped (t : Set) (a : Alloc) (r : Timing) (h : List VisitRecord) : Ty
   -- and the clock is at most so much after the station's last start
   pub since : NumbersSince (timerPlan t a) (hasRun t (timersIn r)) (at (r .last)) (r .clock)
 
+-- an FDDI visit begins with its synchronous part
+first : (t : Set) → Fddi t → (async : ℕ) → lead t async ≡ 0
+first t m async = lead-none t (λ e. omega arith) async
+
 -- the token rule, as `timers` has it
 token-rule : (t : Set) (a : Alloc) → Plan t a → TokenRule (timerPlan t a)
 token-rule t a P = omega (arith, P .token)
@@ -50,7 +55,7 @@ module _ (t : Set) (a : Alloc) (r : Timing) (h : List VisitRecord) (P : Plan t a
       ⊎-elim (λ (x : Unvisited r h i). let z : _≡_ {A = ℕ} 0 1 = cc (e, x .latest) in absurd (omega arith))
       (λ (x : (w : VisitRecord) × Since t r h i w).
       let same : x .0 ≡ u = cc (e, x .1 .latest) in
-      omega (arith, T .since i l, run-small i l, x .1 .last, ap (syncStartOf t) same))
+      omega (arith, T .since i l, run-small i l, x .1 .last, ap (syncStartOf t) same, first t (T .mode) (u .asynchronous .0)))
       (T .course .arrived i l)
 
   -- and before its first visit the silent rotation passed it at most so long ago
@@ -84,8 +89,9 @@ module _ (t : Set) (a : Alloc) (r q : Timing) (v : VisitRecord) (h : List VisitR
   since-next =
       let was = hasRun t (timersIn r) in
       let is = hasRun t (timersIn q) in
+      let begins : at (q .last) (r .token) ≡ r .clock = omega (arith, C .last-here, C .start, first t (T .mode) (v .asynchronous .0)) in
       rw (C .clock)
-      (timers-promised .since (timerPlan t a) was is (r .token) (rises t v) (at (r .last)) (at (q .last)) (r .clock) (F .moves) (T .since) (C .last-here ∙ C .start) (C .last-there))
+      (timers-promised .since (timerPlan t a) was is (r .token) (rises t v) (at (r .last)) (at (q .last)) (r .clock) (F .moves) (T .since) begins (C .last-there))
 
   silent-next : (i : ℕ) → i < t .n → latestOf i (v ∷ h) ≡ none → hasRun t (timersIn q) i ≡ silentTrt t i + q .clock
   silent-next i l e =

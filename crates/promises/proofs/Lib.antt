@@ -25,6 +25,7 @@
 --     FddiWitness  the run in which the token is as late as it can be
 --     BulkWitness  the run in which bulk data waits long
 --     FrameWitness the runs in which a frame runs on past the limit
+--     EarlierWitness the runs of the 2002 edition
 --     Promised     the promises
 pub mod Sums
 pub mod Lists
@@ -52,4 +53,5 @@ pub mod Witness
 pub mod FddiWitness
 pub mod BulkWitness
 pub mod FrameWitness
+pub mod EarlierWitness
 pub mod Promised

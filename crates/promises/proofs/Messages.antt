@@ -1,24 +1,27 @@
--- What every visit and every handing in keep of the messages of a timely-token ring, proved of the facts alone: each held message is in time, and a station that holds none ended its last synchronous part by the deadline of its last message.
+-- What every visit and every handing in keep of the messages of a timely-token ring, in both editions, proved of the facts alone: each held message is in time, and a station that holds none ended its last synchronous part by the deadline of its last message.
 use Prim.Native.Nat.{ℕ, _+_, _≤_, _<_}
 use mathlib.Core.Path.{_≡_, ap, _∙_}
 use mathlib.Core.List.{List}
 use mathlib.Core.Logic.{_⊎_, inl, inr, _≢_, ⊎-elim}
 use native.Mathlib.Omega.{arith}
 use Rattle.units.specs.Places.{at}
-use Rattle.units.specs.PlaceLaws.{sum-part}
+use Rattle.units.specs.PlaceLaws.{sum-part, sum-mono}
 use Rattle.units.specs.SmallLaws.{below-or-not}
 use Rattle.sets.specs.declared.Set.{Set}
 use Rattle.plans.specs.Rules.{leastTime}
 use Rattle.plans.specs.declared.Alloc.{Alloc}
+use Rattle.rings.specs.Timers.{lead}
+use Rattle.rings.specs.TimerLaws.{lead-within}
 use Rattle.rings.specs.declared.Ring.{Ring}
 use Rattle.rings.specs.declared.Message.{Message}
 use Rattle.rings.specs.declared.VisitRecord.{VisitRecord}
 use Rattle.promises.specs.History.{syncStartOf}
 use Rattle.promises.specs.Facts.{Timing, timing, VisitCourse, VisitTimers, VisitMessages, Sending, Silent, Completing, Accepting, rises}
+use Rattle.promises.proofs.Sums.{sum-between}
 use Rattle.promises.proofs.Course.{Plan, Unvisited, Since, same-or-not}
 use Rattle.promises.proofs.Stores.{Stored}
 use Rattle.promises.proofs.Deadlines.{InTime, in-time, served-in-time, fresh-in-time, later-in-time}
-use Rattle.promises.proofs.Timing.{Timed, never-late}
+use Rattle.promises.proofs.Timing.{Timed, token-timer, never-late, room}
 
 -- the deadline of the message that station i holds, or held last
 abbrev pub deadlineAt : Set → Ring → ℕ → ℕ
@@ -49,20 +52,20 @@ module _ (t : Set) (a : Alloc) (r : Ring) (h : List VisitRecord) (P : Plan t a) 
   within-c : (i : ℕ) → i < t .n → (x : ℕ) → x ≤ at (t .c) i → x ≤ leastTime (t .head .ttrt) (at (t .d) i) (at (a .s) i)
   within-c i l x small = omega (arith, P .deadlines (T .mode) i l)
 
-  -- looked at now, the token is not late
-  not-late : (i : ℕ) → i < t .n → at (r .trt) i + 0 + at (a .s) i ≤ t .head .ttrt + at (r .sent) i
-  not-late i l = omega (arith, never-late t a (timing r) h T i l)
+  -- looked at x ticks from now on, the token is not late
+  abbrev pub NotLate : ℕ → ℕ → Type 0
+  NotLate i x = at (r .trt) i + x + at (a .s) i ≤ t .head .ttrt + at (r .sent) i
 
-  -- a held message can still be sent by its deadline
-  pub still-in-time : (i : ℕ) → i < t .n → Waiting t a r i → r .clock + at (r .rest) i ≤ deadlineAt t r i
-  still-in-time i l w =
-      omega (arith, in-time (share-small i l) (w .held) 0 (not-late i l) (w .intime))
+  -- then a held message can still be sent by its deadline
+  pub still-in-time : (i x : ℕ) → i < t .n → NotLate i x → Waiting t a r i → r .clock + x + at (r .rest) i ≤ deadlineAt t r i
+  still-in-time i x l soon w = in-time (share-small i l) (w .held) x soon (w .intime)
 
   pub held-in-time : (i : ℕ) → i < t .n → Messaged t a r i → 0 < at (r .rest) i → Waiting t a r i
   held-in-time i l M held = ⊎-elim (λ (x : Idle t r i). absurd (omega arith)) (λ (w : Waiting t a r i). w) M
 
   pub clock-ahead : (i : ℕ) → i < t .n → Messaged t a r i → 0 < at (r .rest) i → r .clock + at (r .rest) i ≤ deadlineAt t r i
-  clock-ahead i l M held = still-in-time i l (held-in-time i l M held)
+  clock-ahead i l M held =
+      omega (arith, still-in-time i 0 l (omega (arith, never-late t a (timing r) h T i l)) (held-in-time i l M held))
 
 -- ---- one visit more
 
@@ -92,6 +95,18 @@ module _ (t : Set) (a : Alloc) (r q : Ring) (v : VisitRecord) (h : List VisitRec
       }))
       M
 
+  -- where the synchronous part starts the token is not late either: what came before it left room for u
+  not-late-here : NotLate t a r h P T (r .token) (lead t (v .asynchronous .0))
+  not-late-here =
+      let token = T .course .token in
+      let mine = sum-between (t .n) (r .token) (at (r .sent)) (at (a .s)) token (λ j m. T .course .sents j m) in
+      let before = sum-mono (r .token) (at (r .sent)) (at (a .s)) (λ j m. T .course .sents j (omega arith)) in
+      omega (arith, T .unused, lead-within t (v .asynchronous .0), room t a (timing r) (timing q) v h P T C F, token-timer t a (timing r) h T)
+
+  -- so what it holds can then be sent by its deadline
+  begun-in-time : Waiting t a r (r .token) → r .clock + lead t (v .asynchronous .0) + at (r .rest) (r .token) ≤ deadlineAt t r (r .token)
+  begun-in-time w = still-in-time t a r h P T (r .token) (lead t (v .asynchronous .0)) (T .course .token) not-late-here w
+
   -- the station that is visited sends nothing
   silent-kept : Stored t r (r .token) → Messaged t a r (r .token) → Silent r (syncStartOf t v) v → Idle t q (r .token) ⊎ Waiting t a q (r .token)
   silent-kept K M s =
@@ -99,15 +114,14 @@ module _ (t : Set) (a : Alloc) (r q : Ring) (v : VisitRecord) (h : List VisitRec
       let w : Waiting t a r (r .token) = held-in-time t a r h P T (r .token) (T .course .token) M b in
       let same : at (q .rest) (r .token) ≡ at (r .rest) (r .token) = omega (arith, G .rest-here, s .nothing) in
       let fits = within-c t a r h P T (r .token) (T .course .token) (at (r .rest) (r .token)) (K .small) in
-      let ahead : r .clock < at (r .arrival) (r .token) =
-      ⊎-elim (λ (z : at (r .rest) (r .token) ≡ 0). absurd (omega arith)) (λ (z : syncStartOf t v < at (r .arrival) (r .token)). omega (arith, C .start)) (s .reason) in
+      let ahead : syncStartOf t v < at (r .arrival) (r .token) = ⊎-elim (λ (z : at (r .rest) (r .token) ≡ 0). absurd (omega arith)) (λ z. z) (s .reason) in
       inr
       (record {
         held = rw same b;
         had = rw (G .had) (w .had);
         intime =
-            rw (C .sent-here, s .nothing, F .trt-here, same, G .arrival, C .clock)
-            (fresh-in-time (at (r .arrival) (r .token)) (at (t .d) (r .token)) fits (omega arith));
+            rw (C .sent-here, s .nothing, same, G .arrival)
+            (fresh-in-time (at (r .arrival) (r .token)) (at (t .d) (r .token)) fits (omega (arith, C .start, C .clock, F .trt-here)));
       }))
       (λ (b : at (r .rest) (r .token) ≤ 0).
       inl (record { none = omega (arith, G .rest-here); ended = inl (C .sent-here ∙ s .nothing) }))
@@ -120,22 +134,21 @@ module _ (t : Set) (a : Alloc) (r q : Ring) (v : VisitRecord) (h : List VisitRec
       ⊎-elim (λ (b : at (a .s) (r .token) < at (r .rest) (r .token)).
       let whole : v .synchronous .0 ≡ at (a .s) (r .token) = omega (arith, s .amount) in
       let parts : at (q .rest) (r .token) + at (a .s) (r .token) ≡ at (r .rest) (r .token) = omega (arith, G .rest-here) in
-      let none : r .clock + 0 ≡ r .clock = omega arith in
+      let now : r .clock + lead t (v .asynchronous .0) + at (q .trt) (r .token) ≡ q .clock = omega (arith, C .clock, F .trt-here) in
       let share = share-small t a r h P T (r .token) (T .course .token) in
-      let soon = not-late t a r h P T (r .token) (T .course .token) in
-      let next = rw none at (served-in-time share (s .held) 0 (rises t v) (at (q .rest) (r .token)) soon parts (w .intime)) in
+      let next = rw now at (served-in-time share (s .held) (lead t (v .asynchronous .0)) (at (q .trt) (r .token)) (at (q .rest) (r .token)) not-late-here parts (w .intime)) in
       inr
       (record {
         held = omega (arith, G .rest-here);
         had = rw (G .had) (w .had);
-        intime = rw (C .sent-here, whole, F .trt-here, G .arrival, C .clock) next;
+        intime = rw (C .sent-here, whole, G .arrival) next;
       }))
       (λ (b : at (r .rest) (r .token) ≤ at (a .s) (r .token)).
       let whole : v .synchronous .0 ≡ at (r .rest) (r .token) = omega (arith, s .amount) in
       inl
       (record {
         none = omega (arith, G .rest-here);
-        ended = inr (rw (G .had) (w .had), rw (C .sent-here, F .trt-here, G .arrival, C .clock) (omega (arith, still-in-time t a r h P T (r .token) (T .course .token) w)));
+        ended = inr (rw (G .had) (w .had), rw (C .sent-here, G .arrival) (omega (arith, C .clock, F .trt-here, begun-in-time w)));
       }))
       (below-or-not (at (a .s) (r .token)) (at (r .rest) (r .token)))
 
@@ -150,7 +163,7 @@ module _ (t : Set) (a : Alloc) (r q : Ring) (v : VisitRecord) (h : List VisitRec
 
   -- a message that this visit completes is finished by its deadline
   pub completed-in-time : Messaged t a r (r .token) → Completing t r q (syncStartOf t v) v → v .finish .0 ≤ deadlineAt t r (r .token)
-  completed-in-time M c = omega (arith, C .start, c .finish, G .rest-here, c .over, clock-ahead t a r h P T (r .token) (T .course .token) M (c .held))
+  completed-in-time M c = omega (arith, C .start, c .finish, G .rest-here, c .over, begun-in-time (held-in-time t a r h P T (r .token) (T .course .token) M (c .held)))
 
 -- ---- one handing in more
 

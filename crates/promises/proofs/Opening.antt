@@ -1,13 +1,11 @@
 -- A plan that opening accepts gives what the proofs need, and the opened ring keeps all that a run keeps.
-use Prim.Native.Nat.{ℕ, zero, suc, _+_, _-_, _≤_, _<_}
+use Prim.Native.Nat.{ℕ, zero, suc, _+_, _-_, _<_}
 use mathlib.Core.Path.{_≡_, refl}
 use mathlib.Core.List.{[]}
-use mathlib.Core.Logic.{_⊎_, inl, inr, ⊎-elim}
+use mathlib.Core.Logic.{inl}
 use native.Mathlib.Omega.{arith}
-use Rattle.units.specs.Numbers.{timely, fddi, lastMode}
 use Rattle.units.specs.Places.{at, sumBelow}
 use Rattle.units.specs.PlaceLaws.{zero-at, sum-none, sum-split}
-use Rattle.units.specs.SmallLaws.{below-or-not}
 use Rattle.sets.specs.Judged.{zeros}
 use Rattle.sets.specs.declared.Set.{Set}
 use Rattle.plans.specs.Rules.{leastTime, timeAt}
@@ -23,21 +21,17 @@ use Rattle.ring_rules.proofs.OpenedLaws.{fresh}
 use Rattle.rings.specs.Opening.{openedRing}
 use Rattle.promises.specs.History.{asyncOf, latest, due}
 use Rattle.promises.specs.Facts.{timing, timersIn, timerPlan}
-use Rattle.promises.specs.Valid.{Timely}
+use Rattle.promises.proofs.Windows.{own}
 use Rattle.promises.proofs.Course.{Plan, Course}
 use Rattle.promises.proofs.Stores.{Stored, Told}
 use Rattle.promises.proofs.Timing.{Timed}
 use Rattle.promises.proofs.Laps.{Lapped}
 use Rattle.promises.proofs.Messages.{Messaged}
 
--- mode 1 or mode 2
-mode-of : (mode : ℕ) → timely ≤ mode → mode ≤ lastMode → (mode ≡ timely) ⊎ (mode ≡ fddi)
-mode-of mode l k = ⊎-elim (λ (b : mode < 2). inl (omega arith)) (λ (b : 2 ≤ mode). inr (omega arith)) (below-or-not mode 2)
-
 -- X of a timely-token set is the station's own
-timely-time : (t : Set) (a : Alloc) → Timely t → (i : ℕ) → timeAt t (at (a .s)) i ≡ leastTime (t .head .ttrt) (at (t .d) i) (at (a .s) i)
+timely-time : (t : Set) (a : Alloc) → ¬ Fddi t → (i : ℕ) → timeAt t (at (a .s)) i ≡ leastTime (t .head .ttrt) (at (t .d) i) (at (a .s) i)
 unfolding timeAt
-timely-time t a m i = rw (fddi-false t (λ e. omega arith))
+timely-time t a n i = rw (fddi-false t n)
 
 pub plan-of : (t : Set) (a : Alloc) → judgedPlan t a ≡ 0 → Plan t a
 plan-of t a h =
@@ -46,11 +40,10 @@ plan-of t a h =
       judged = h;
       some = g .0 .0;
       few = g .0 .1;
-      mode = mode-of (t .head .mode) (g .1 .0 .0 .header .mode .0) (g .1 .0 .0 .header .mode .1);
       rotation = g .1 .0 .0 .header .ttrt;
       walk = g .1 .1 .0 .0;
       token = omega (arith, g .1 .1 .1 .token);
-      deadlines = λ m i l. omega (arith, g .1 .1 .1 .deadlines i l, timely-time t a m i);
+      deadlines = λ n i l. omega (arith, g .1 .1 .1 .deadlines i l, timely-time t a n i);
       gaps = λ i l. g .1 .0 .0 .stations i l .gap .0;
     }
 
@@ -87,11 +80,11 @@ module _ (t : Set) (a : Alloc) (P : Plan t a) where
         arrived = λ i l. inl (record { latest = refl; early = omega arith; nothing = zero-at i });
       }
 
-  pub opened-timed : Timely t → Timed t a (timing (openedRing t a)) []
+  pub opened-timed : ¬ Fddi t → Timed t a (timing (openedRing t a)) []
   unfolding openedRing latest
   opened-timed mode =
       let F = fresh t a (P .judged) in
-      let trt = F .trts (λ e. omega arith) in
+      let trt = F .trts mode in
       record {
         mode = mode;
         course = opened-course;
@@ -99,7 +92,7 @@ module _ (t : Set) (a : Alloc) (P : Plan t a) where
         passed = λ i l. absurd (omega arith);
         coming = λ i l b.
             omega
-            (arith, trt i l, sum-split (t .n) (at (t .w)) i (omega arith), async-nothing (0 + t .n - i), sum-none (at (t .w)), sum-none (at zeros), sum-zeros i, sum-zeros (t .n));
+            (arith, trt i l, sum-split (t .n) (at (t .w)) i (omega arith), async-nothing (0 + t .n - i - own t), sum-none (at (t .w)), sum-none (at zeros), sum-zeros i, sum-zeros (t .n));
         window = omega (arith, async-nothing (t .n), P .token);
         silent = λ i l _. omega (arith, trt i l);
         since = λ i l u e. let z : _≡_ {A = ℕ} 0 1 = cc e in absurd (omega arith);

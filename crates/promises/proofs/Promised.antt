@@ -20,6 +20,7 @@ use Rattle.sheets.specs.Reading.{setIn, allocIn, judgedSheet, readNumber, readS
 use Rattle.sheets.specs.ReadLaws.{then-none, read-accepted, read-number}
 use Rattle.rings.specs.Opening.{openedRing, opening}
 use Rattle.rings.specs.Timers.{Fddi}
+use Rattle.rings.specs.TimerLaws.{fddi-or-not}
 use Rattle.rings.specs.Steps.{Ask, visitNumber, visited}
 use Rattle.rings.specs.HandingIn.{stationKnown, lengthAllowed, nothingHeld, arrivalAllowed, messageNumber, handedIn}
 use Rattle.rings.specs.RingLaws.{opened-number, opened-accepted, decides-arrival}
@@ -29,9 +30,10 @@ use Rattle.rings.specs.declared.VisitRecord.{VisitRecord}
 use Rattle.promises.specs.Run.{Call, Run, run, runOf, ringOf, recordsOf}
 use Rattle.promises.specs.History.{Each}
 use Rattle.promises.specs.Facts.{timing, Leaving}
-use Rattle.promises.specs.Valid.{AheadOf, Regular, FinishesInTime, dueBy, NeverLate, ExactLimits, DeadlinesKept, TimelyKept, Valid, Timely as Mode}
+use Rattle.promises.specs.Valid.{AheadOf, Regular, FinishesInTime, dueBy, NeverLate, ExactLimits, DeadlinesKept, TimelyKept, Valid}
 use Rattle.promises.specs.Promised.{Promised}
 use Rattle.promises.proofs.Lists.{each-of}
+use Rattle.promises.proofs.Windows.{lookBack, look-back-all, look-back-less}
 use Rattle.promises.proofs.Course.{Plan, Unvisited, Since, same-or-not}
 use Rattle.promises.proofs.Stores.{Latest, Never}
 use Rattle.promises.proofs.Timing.{latest-within}
@@ -47,6 +49,7 @@ use Rattle.promises.proofs.Witness.{happens}
 use Rattle.promises.proofs.FddiWitness.{fddi-happens}
 use Rattle.promises.proofs.BulkWitness.{bulk-waits}
 use Rattle.promises.proofs.FrameWitness.{frames-happen}
+use Rattle.promises.proofs.EarlierWitness.{earlier-happens}
 
 module _ (t : Set) (a : Alloc) (P : Plan t a) (s : Run) (K : Timely t a s) where
   -- ---- visits
@@ -145,26 +148,27 @@ in-time t a P m l =
 
 -- ---- the record of all of it
 
-module _ (t : Set) (a : Alloc) (plan : Plan t a) (mode : Mode t) where
+module _ (t : Set) (a : Alloc) (plan : Plan t a) (mode : ¬ Fddi t) where
   every : (calls : List Call) → Timely t a (runOf t a calls)
   every calls = timely t a plan mode calls
 
-  each : {B : VisitRecord → List VisitRecord → Type 0} → ((v : VisitRecord) (before : List VisitRecord) → TimelyVisit t a v before → B v before) → (calls : List Call) → Each B (recordsOf t a calls)
+  each : {B : VisitRecord → List VisitRecord → Type 0} → ((v : VisitRecord) (before : List VisitRecord) → TimelyVisit t a (lookBack t) v before → B v before)
+      → (calls : List Call) → Each B (recordsOf t a calls)
   each f calls = each-of f (recordsOf t a calls) (every calls .each)
 
   never-late-kept : NeverLate t a (t .head .ttrt)
   never-late-kept =
       record {
         apart = λ calls. each (λ v before k. k .apart) calls;
-        since = λ calls i l u e. omega (arith, latest-within t a (timing (ringOf t a calls)) (recordsOf t a calls) (every calls .timed) i l u e);
+        since = λ calls i l u e. omega (arith, latest-within t a (timing (ringOf t a calls)) (recordsOf t a calls) (every calls .timed) (every calls .common .turns) i l u e);
       }
 
-  limits-kept : ExactLimits t a
+  limits-kept : ExactLimits t a (lookBack t)
   limits-kept =
       record {
         limits = λ calls. each (λ v before k. k .limit) calls;
         spare = omega (arith, plan .token);
-        ticks = λ one calls. each (λ v before k. tick-limit t a one v before k) calls;
+        ticks = λ one calls. each (λ v before k. tick-limit t a (lookBack t) one v before k) calls;
       }
 
   deadlines-kept : DeadlinesKept t a
@@ -181,13 +185,13 @@ module _ (t : Set) (a : Alloc) (plan : Plan t a) (mode : Mode t) where
         taken = λ calls. message-is-taken t a plan (runOf t a calls) (every calls);
       }
 
-  timely-kept : TimelyKept t a
+  timely-kept : TimelyKept t a (lookBack t)
   timely-kept =
       record {
         never-late = never-late-kept;
         timers = λ calls. each (λ v before k. k .timer) calls;
         limits = limits-kept;
-        windows = λ calls. each (λ v before k. window-kept t a v before k) calls;
+        windows = λ calls. each (λ v before k. window-kept t a plan v before k) calls;
         deadlines = deadlines-kept;
       }
 
@@ -196,11 +200,12 @@ valid t a h =
     let plan = plan-of t a h in
     record {
       common =
-          ⊎-elim (λ (mode : Mode t). common t a plan (Timely t a) (steady t a plan) (timely t a plan mode))
-          (λ (mode : Fddi t). common t a plan (Older t a) (older-steady t a plan) (older t a plan mode))
-          (plan .mode);
-      timely = timely-kept t a plan;
+          ⊎-elim (λ (mode : Fddi t). common t a plan (Older t a) (older-steady t a plan) (older t a plan mode))
+          (λ (mode : ¬ Fddi t). common t a plan (Timely t a) (steady t a plan) (timely t a plan mode))
+          (fddi-or-not t);
+      timely = λ m. rw (look-back-all t m) at (timely-kept t a plan (λ e. omega arith));
       fddi = fddi-kept t a plan;
+      earlier = λ m. rw (look-back-less t m) at (timely-kept t a plan (λ e. omega arith));
     }
 
 -- ---- where plans come from
@@ -241,4 +246,5 @@ promised =
       fddi-happens = fddi-happens;
       bulk-waits = bulk-waits;
       frames-happen = frames-happen;
+      earlier-happens = earlier-happens;
     }

@@ -18,9 +18,9 @@ use Rattle.promises.proofs.Course.{latest-here, latest-there}
 use Rattle.promises.proofs.Timely.{TimelyVisit}
 use Rattle.promises.proofs.Turns.{Ago, one-more-ago, own-now, rotation-now, not-own}
 
--- what is known of each visit of a run
+-- what is known of each visit of a run whose limits look back on N visits
 abbrev pub InOrder : Set → Alloc → VisitRecord → List VisitRecord → Type 0
-InOrder t a v before = InTurn t v before × TimelyVisit t a v before
+InOrder t a v before = InTurn t v before × TimelyVisit t a (t .n) v before
 
 module _ (t : Set) (a : Alloc) (first : VisitRecord) (old : List VisitRecord) where
   abbrev here : ℕ

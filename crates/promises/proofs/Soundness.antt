@@ -8,21 +8,16 @@ use Rattle.units.specs.Places.{at}
 use Rattle.sets.specs.declared.Set.{Set}
 use Rattle.plans.specs.declared.Alloc.{Alloc}
 use Rattle.rings.specs.Sound.{isSound}
-use Rattle.rings.specs.Timers.{Fddi, TimersSound}
+use Rattle.rings.specs.Timers.{TimersSound}
 use Rattle.rings.specs.RingLaws.{sound-tests}
 use Rattle.rings.specs.declared.Ring.{Ring}
 use Rattle.rings.specs.declared.VisitRecord.{VisitRecord}
 use Rattle.promises.specs.Facts.{timing}
-use Rattle.promises.specs.Valid.{Timely}
 use Rattle.promises.proofs.Sums.{sum-lacking}
 use Rattle.promises.proofs.Course.{Plan, Course}
 use Rattle.promises.proofs.Stores.{Stored}
 use Rattle.promises.proofs.Timing.{Timed, never-late}
 use Rattle.promises.proofs.Laps.{Lapped, late-small}
-
--- a set goes by one mode
-pub not-fddi : (t : Set) → Timely t → ¬ Fddi t
-not-fddi t m e = omega arith
 
 module _ (t : Set) (a : Alloc) (r : Ring) (h : List VisitRecord) (P : Plan t a) where
   -- ---- the timers
@@ -36,7 +31,7 @@ module _ (t : Set) (a : Alloc) (r : Ring) (h : List VisitRecord) (P : Plan t a) 
               trts = rw (C .set) (λ i l. omega (arith, never-late t a (timing r) h T i l, C .sents i l));
               unused = rw (C .set, C .alloc) (omega (arith, T .unused, sum-lacking (t .n) (at (r .sent)) (at (a .s)) (C .sents)));
             };
-        fddi = rw (C .set) (λ e. absurd (not-fddi t (T .mode) e));
+        fddi = rw (C .set) (λ e. absurd (T .mode e));
       }
 
   pub lapped-sound : Lapped t a (timing r) h → TimersSound r

@@ -17,7 +17,7 @@ use Rattle.rings.specs.State.{count, ttrt, overrun, following, Shaped}
 use Rattle.rings.specs.Timers.{Fddi, timersOf, hasRun}
 use Rattle.rings.specs.Sound.{Sound, isSound}
 use Rattle.rings.specs.Frames.{framesSent}
-use Rattle.rings.specs.Steps.{Ask, syncSent, asyncSent, moved, recordOf, visitNumber}
+use Rattle.rings.specs.Steps.{Ask, syncStart, syncSent, asyncSent, moved, recordOf, visitNumber}
 use Rattle.rings.specs.HandingIn.{holding, handInNumber}
 use Rattle.rings.specs.RingLaws.{sound-tests, sync-within, visit-passed, taken-passed}
 use Rattle.rings.specs.declared.Ring.{Ring}
@@ -124,17 +124,23 @@ module _ (r : Ring) (L : Shaped r) (ask : Ask) (go : visitNumber r ask ≡ 0) wh
         below = moved-below r L s e sync async;
       }
 
-  sending : Sending (r .alloc) r (r .clock) made ⊎ Silent r (r .clock) made
+  -- when the synchronous part starts
+  abbrev begins : ℕ
+  begins = syncStart r (asyncSent r ask)
+
+  sending : Sending (r .alloc) r begins made ⊎ Silent r begins made
+  unfolding recordOf
   sending =
       let A = does .amounts in
       ⊎-elim (λ (held : 0 < at (r .rest) (r .token)).
-      ⊎-elim (λ (late : r .clock < at (r .arrival) (r .token)). inr (record { nothing = A .early late; reason = inr late }))
-      (λ (here : at (r .arrival) (r .token) ≤ r .clock). inl (record { held = held; arrived = here; amount = A .served held here }))
-      (below-or-not (r .clock) (at (r .arrival) (r .token))))
+      ⊎-elim (λ (late : begins < at (r .arrival) (r .token)). inr (record { nothing = A .early late; reason = inr late }))
+      (λ (here : at (r .arrival) (r .token) ≤ begins). inl (record { held = held; arrived = here; amount = A .served held here }))
+      (below-or-not begins (at (r .arrival) (r .token))))
       (λ (none : at (r .rest) (r .token) ≤ 0). inr (record { nothing = A .none (omega arith); reason = inl (omega arith) }))
       (below-or-not 0 (at (r .rest) (r .token)))
 
-  completing : Completing (r .set) r next (r .clock) made ⊎ Leaving r next made
+  completing : Completing (r .set) r next begins made ⊎ Leaving r next made
+  unfolding recordOf
   completing =
       ⊎-elim (λ (held : 0 < at (r .rest) (r .token)).
       ⊎-elim (λ (left : 0 < at (next .rest) (r .token)). inr (record { flag = does .left (inr left) .flag; left = inr left }))

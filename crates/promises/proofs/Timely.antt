@@ -1,4 +1,4 @@
--- What every run of a timely-token ring keeps beside what every run keeps: the timers are the gaps, the limit is exact, and no message is late.
+-- What every run of a timely-token ring, of both editions, keeps beside what every run keeps: the timers are the gaps, the limit is exact, and no message is late.
 use Prim.Native.Nat.{ℕ, _+_, _-_, _≤_, _<_}
 use mathlib.Core.Path.{_≡_, sym, ap, _∙_}
 use mathlib.Core.List.{List}
@@ -13,7 +13,7 @@ use Rattle.sets.specs.Rules.{tau}
 use Rattle.sets.specs.declared.Set.{Set}
 use Rattle.plans.specs.Rules.{spareTime}
 use Rattle.plans.specs.declared.Alloc.{Alloc}
-use Rattle.rings.specs.Timers.{silentTrt}
+use Rattle.rings.specs.Timers.{Fddi, silentTrt}
 use Rattle.rings.specs.Steps.{Ask, visitNumber}
 use Rattle.rings.specs.HandingIn.{holding, handInNumber}
 use Rattle.rings.specs.declared.Ring.{Ring}
@@ -22,14 +22,14 @@ use Rattle.rings.specs.declared.VisitRecord.{VisitRecord}
 use Rattle.promises.specs.Run.{Call, Run, opened, runOf}
 use Rattle.promises.specs.History.{asyncOf, overrunOf, syncStartOf, latestOf, Each}
 use Rattle.promises.specs.Facts.{timing, VisitCourse, VisitTimers, VisitOffer, VisitMessages, Completing, Leaving}
-use Rattle.promises.specs.Valid.{Timely as Mode, Apart, TimerIsGap, ExactLimit, WindowKept, AnyTick, TickLimit, NoneLate}
-use Rattle.promises.proofs.Windows.{async-moves}
+use Rattle.promises.specs.Valid.{InTurn, Apart, TimerIsGap, ExactLimit, WindowKept, AnyTick, TickLimit, NoneLate}
+use Rattle.promises.proofs.Windows.{lookBack, async-moves}
 use Rattle.promises.proofs.Course.{Plan}
 use Rattle.promises.proofs.Timing.{Timed, token-timer, never-late, latest-within, rise-small, timed-kept, room}
 use Rattle.promises.proofs.Messages.{Messaged, deadlineAt, messaged-kept, messaged-taken, completed-in-time}
 use Rattle.promises.proofs.Steps.{visit-early, visit-timers, visit-offer}
 use Rattle.promises.proofs.Opening.{opened-places, opened-timed, opened-stored, opened-told, opened-messaged}
-use Rattle.promises.proofs.Soundness.{not-fddi, timed-sound, is-sound}
+use Rattle.promises.proofs.Soundness.{timed-sound, is-sound}
 use Rattle.promises.proofs.Runs.{Kept, made, movedRun, heldRun, course-facts, message-parts, next-stored, kept-moved, message-facts, kept-held, Steady, steady-run}
 
 -- what is left of TTRT does not depend on the order in which the rest is taken off
@@ -43,20 +43,20 @@ left-over ttrt f u trt walk shares window e =
 
 -- ---- what a new record keeps
 
-pub record TimelyVisit (t : Set) (a : Alloc) (v : VisitRecord) (before : List VisitRecord) : Type 0 where
+pub record TimelyVisit (t : Set) (a : Alloc) (many : ℕ) (v : VisitRecord) (before : List VisitRecord) : Type 0 where
   pub apart : Apart (t .head .ttrt) v before
   -- and so of every other station's latest visit
   pub since : (i : ℕ) → i < t .n → (u : VisitRecord) → latestOf i before ≡ some u → v .start .0 ≤ u .start .0 + t .head .ttrt
   pub timer : TimerIsGap t v before
-  pub limit : ExactLimit t a v before
-  -- this visit and the N before send at most A* + (F − 1)
-  pub room : v .asynchronous .0 + asyncOf (t .n) before ≤ spareTime t (at (a .s)) + overrunOf t
+  pub limit : ExactLimit t a many v before
+  -- this visit and those on which its limit looks back send at most A* + (F − 1)
+  pub room : v .asynchronous .0 + asyncOf many before ≤ spareTime t (at (a .s)) + overrunOf t
   pub none-late : NoneLate v before
 
 module _ (t : Set) (a : Alloc) (r q : Ring) (v : VisitRecord) (h : List VisitRecord) (P : Plan t a) (T : Timed t a (timing r) h)
     (C : VisitCourse t a (timing r) (timing q) v) (F : VisitTimers t (timing r) (timing q) v) where
   -- the timer at the token is the gap since the latest visit
-  gap-since : (u : VisitRecord) → latestOf (v .station .0) h ≡ some u → v .start .0 ≡ u .start .0 + v .trt .0
+  gap-since : (u : VisitRecord) → latestOf (v .station .0) h ≡ some u → v .start .0 ≡ syncStartOf t u + v .trt .0
   gap-since u e =
       omega (arith, C .start, F .timer, T .since (r .token) (T .course .token) u (ap (λ (i : ℕ). latestOf i h) (sym (C .station)) ∙ e))
 
@@ -72,16 +72,16 @@ module _ (t : Set) (a : Alloc) (r q : Ring) (v : VisitRecord) (h : List VisitRec
   timer-made = record { gap = gap-since; first = λ e. omega (arith, first-since e); within = omega (arith, timer-within) }
 
   -- what the timers leave is what the window leaves of A*
-  limit-made : VisitOffer t (timing r) v → ExactLimit t a v h
+  limit-made : VisitOffer t (timing r) v → ExactLimit t a (lookBack t) v h
   limit-made O =
       record {
-        exact = O .limit ∙ left-over (t .head .ttrt) (overrunOf t) (r .unused) (at (r .trt) (r .token)) (tau t) (sumBelow (t .n) (at (a .s))) (asyncOf (t .n) h) (token-timer t a (timing r) h T);
+        exact = O .limit ∙ left-over (t .head .ttrt) (overrunOf t) (r .unused) (at (r .trt) (r .token)) (tau t) (sumBelow (t .n) (at (a .s))) (asyncOf (lookBack t) h) (token-timer t a (timing r) h T);
         within = O .within;
         shut = O .shut;
       }
 
   -- and what was sent left room
-  room-made : v .asynchronous .0 + asyncOf (t .n) h ≤ spareTime t (at (a .s)) + overrunOf t
+  room-made : v .asynchronous .0 + asyncOf (lookBack t) h ≤ spareTime t (at (a .s)) + overrunOf t
   room-made = omega (arith, room t a (timing r) (timing q) v h P T C F, P .token)
 
   module _ (G : VisitMessages t a r q v) (M : Messaged t a r (r .token)) where
@@ -89,17 +89,20 @@ module _ (t : Set) (a : Alloc) (r q : Ring) (v : VisitRecord) (h : List VisitRec
     pub margin-made : Completing t r q (syncStartOf t v) v → v .margin ≡ pos (deadlineAt t r (r .token) - v .finish .0)
     margin-made c = c .margin ∙ rw (le-ltb (deadlineAt t r (r .token)) (v .finish .0) (completed-in-time t a r q v h P T C F G M c))
 
+    since-made : Each (InTurn t) h → (i : ℕ) → i < t .n → (u : VisitRecord) → latestOf i h ≡ some u → v .start .0 ≤ u .start .0 + t .head .ttrt
+    since-made E i l u e = omega (arith, C .start, latest-within t a (timing r) h T E i l u e)
+
     none-late-made : NoneLate v h
     none-late-made flag =
         ⊎-elim (λ (c : Completing t r q (syncStartOf t v) v). (deadlineAt t r (r .token) - v .finish .0, margin-made c))
         (λ (c : Leaving r q v). absurd (omega (arith, c .flag)))
         (G .completing)
 
-    pub visit-made : VisitOffer t (timing r) v → TimelyVisit t a v h
-    visit-made O =
+    pub visit-made : Each (InTurn t) h → VisitOffer t (timing r) v → TimelyVisit t a (lookBack t) v h
+    visit-made E O =
         record {
-          apart = λ u e. omega (arith, gap-since u e, timer-within);
-          since = λ i l u e. omega (arith, C .start, latest-within t a (timing r) h T i l u e);
+          apart = λ u e. since-made E (v .station .0) (rw (C .station) (T .course .token)) u e;
+          since = since-made E;
           timer = timer-made;
           limit = limit-made O;
           room = room-made;
@@ -107,12 +110,12 @@ module _ (t : Set) (a : Alloc) (r q : Ring) (v : VisitRecord) (h : List VisitRec
         }
 
 -- so of any N visits
-pub window-kept : (t : Set) (a : Alloc) (v : VisitRecord) (before : List VisitRecord) → TimelyVisit t a v before → WindowKept t a v before
-window-kept t a v before k = omega (arith, k .room, async-moves (t .n) v before)
+pub window-kept : (t : Set) (a : Alloc) → Plan t a → (v : VisitRecord) (before : List VisitRecord) → TimelyVisit t a (lookBack t) v before → WindowKept t a v before
+window-kept t a P v before k = omega (arith, k .room, async-moves t v before (P .some))
 
 -- with F 1 the limit is nowhere held at 0
-pub tick-limit : (t : Set) (a : Alloc) → AnyTick t → (v : VisitRecord) (before : List VisitRecord) → TimelyVisit t a v before → TickLimit t a v before
-tick-limit t a one v before k =
+pub tick-limit : (t : Set) (a : Alloc) (many : ℕ) → AnyTick t → (v : VisitRecord) (before : List VisitRecord) → TimelyVisit t a many v before → TickLimit t a many v before
+tick-limit t a many one v before k =
     let none : overrunOf t ≡ 0 = omega arith in
     let L = k .limit in
     ⊎-elim (λ (some : 0 < v .limit .0). record { exact = omega (arith, L .exact); kept = omega (arith, L .within) })
@@ -125,11 +128,11 @@ pub record Timely (t : Set) (a : Alloc) (s : Run) : Type 0 where
   pub common : Kept t a s
   pub timed : Timed t a (timing (s .ring)) (s .records)
   pub messaged : (i : ℕ) → i < t .n → Messaged t a (s .ring) i
-  pub each : Each (TimelyVisit t a) (s .records)
+  pub each : Each (TimelyVisit t a (lookBack t)) (s .records)
 
 module _ (t : Set) (a : Alloc) (P : Plan t a) (s : Run) (K : Timely t a s) where
   pub timer-facts : (ask : Ask) → visitNumber (s .ring) ask ≡ 0 → VisitTimers t (timing (s .ring)) (timing (movedRun s ask .ring)) (made s ask)
-  timer-facts ask go = visit-timers (s .ring) (K .common .places) ask go t a (K .common .course .set) (K .common .course .alloc) (not-fddi t (K .timed .mode))
+  timer-facts ask go = visit-timers (s .ring) (K .common .places) ask go t a (K .common .course .set) (K .common .course .alloc) (K .timed .mode)
 
   timely-moved : (ask : Ask) → visitNumber (s .ring) ask ≡ 0 → Timely t a (movedRun s ask)
   timely-moved ask go =
@@ -139,7 +142,7 @@ module _ (t : Set) (a : Alloc) (P : Plan t a) (s : Run) (K : Timely t a s) where
       let C = course-facts t a P s (K .common) ask go in
       let F = timer-facts ask go in
       let G = message-parts t a P s (K .common) ask go in
-      let O = visit-offer r (K .common .places) ask go t a (K .common .course .set) (K .common .course .alloc) (not-fddi t (K .timed .mode)) in
+      let O = visit-offer r (K .common .places) ask go t a (K .common .course .set) (K .common .course .alloc) (K .timed .mode) in
       let token = K .common .course .token in
       let timed = timed-kept t a (timing r) (timing q) v (s .records) P (K .timed) C F (visit-early r (K .common .places) ask go) in
       let sound = is-sound t a q (movedRun s ask .records) P (timed .course) (timed-sound t a q (movedRun s ask .records) P timed) (next-stored t a P s (K .common) ask go) in
@@ -147,7 +150,7 @@ module _ (t : Set) (a : Alloc) (P : Plan t a) (s : Run) (K : Timely t a s) where
         common = kept-moved t a P s (K .common) ask go (omega (arith, rise-small t a (timing r) (timing q) v (s .records) P (K .timed) C F)) sound;
         timed = timed;
         messaged = messaged-kept t a r q v (s .records) P (K .timed) C F G (K .common .stored (r .token) token) (K .messaged);
-        each = (visit-made t a r q v (s .records) P (K .timed) C F G (K .messaged (r .token) token) O, K .each);
+        each = (visit-made t a r q v (s .records) P (K .timed) C F G (K .messaged (r .token) token) (K .common .turns) O, K .each);
       }
 
   timely-held : (m : Message) → handInNumber (s .ring) m ≡ 0 → Timely t a (heldRun s m)
@@ -165,7 +168,7 @@ steady t a P = record { common = λ s K. K .common; moves = timely-moved t a P; 
 
 -- ---- from the opened ring on
 
-timely-opened : (t : Set) (a : Alloc) → Plan t a → Mode t → Timely t a (opened t a)
+timely-opened : (t : Set) (a : Alloc) → Plan t a → ¬ Fddi t → Timely t a (opened t a)
 timely-opened t a P mode =
     let timed = opened-timed t a P mode in
     record {
@@ -184,5 +187,5 @@ timely-opened t a P mode =
       each = tt;
     }
 
-pub timely : (t : Set) (a : Alloc) → Plan t a → Mode t → (calls : List Call) → Timely t a (runOf t a calls)
+pub timely : (t : Set) (a : Alloc) → Plan t a → ¬ Fddi t → (calls : List Call) → Timely t a (runOf t a calls)
 timely t a P mode calls = steady-run t a P (Timely t a) (steady t a P) (opened t a) (timely-opened t a P mode) calls

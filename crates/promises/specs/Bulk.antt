@@ -1,4 +1,5 @@
--- Request No. 3: how long bulk data can wait. It is said of timely-token rings: that the mode is 1 is a premise of `Promised.bulk`, beside A* at least 1. Where request No. 4 asks for it with F 1, it holds for every F.
+-- Request No. 3: how long bulk data can wait. It is said of timely-token rings of the 2003 edition: that the mode is 1 is a premise of `Promised.bulk`, beside A* at least 1.
+-- Where request No. 4 asks for it with F 1, it holds for every F.
 use Prim.Native.Nat.{ℕ, _+_, _*_, _≤_, _<_}
 use mathlib.Core.Path.{_≡_}
 use mathlib.Core.List.{List, [], _∷_}
@@ -43,14 +44,18 @@ pub record Offered (i : ℕ) (v : VisitRecord) : Type 0 where
 abbrev pub longestWait : Set → ℕ
 longestWait t = (t .n + 1) * t .head .ttrt
 
+-- No. 3: a station that asks for at least A* at each of its visits is offered a limit above 0 within any (N + 1)·(N + 1) successive visits
+abbrev pub Served : Set → Alloc → Type 0
+Served t a =
+    (calls later : List Call) (i : ℕ)
+    → i < t .n
+    → (t .n + 1) * (t .n + 1) ≤ length (visitsAmong (runOf t a calls) later)
+    → AlwaysAsks i (spareTime t (at (a .s))) (runOf t a calls) later
+    → Somewhere (λ v before. Offered i v) (visitsAmong (runOf t a calls) later)
+
 -- what is promised of a plan with A* at least 1: after any calls, and whatever is asked for by the others, handed in or refused among the further ones
 pub record BulkServed (t : Set) (a : Alloc) : Type 0 where
-  -- No. 3: a station that asks for at least A* at each of its visits is offered a limit above 0 within any (N + 1)·(N + 1) successive visits
-  pub served : (calls later : List Call) (i : ℕ)
-      → i < t .n
-      → (t .n + 1) * (t .n + 1) ≤ length (visitsAmong (runOf t a calls) later)
-      → AlwaysAsks i (spareTime t (at (a .s))) (runOf t a calls) later
-      → Somewhere (λ v before. Offered i v) (visitsAmong (runOf t a calls) later)
+  pub served : Served t a
   -- N·(N + 1) visits are enough, and whatever it asks for
   pub sooner : (calls later : List Call) (i : ℕ)
       → i < t .n

@@ -10,7 +10,7 @@ use Rattle.sets.specs.declared.Set.{Set}
 use Rattle.plans.specs.declared.Alloc.{Alloc}
 use Rattle.timers.specs.Kept.{Plan, Visit}
 use Rattle.rings.specs.State.{following}
-use Rattle.rings.specs.Timers.{hasRun}
+use Rattle.rings.specs.Timers.{lead, hasRun}
 use Rattle.rings.specs.declared.Ring.{Ring}
 use Rattle.rings.specs.declared.Message.{Message}
 use Rattle.rings.specs.declared.Timers.{Timers}
@@ -74,15 +74,15 @@ pub record VisitCourse (t : Set) (a : Alloc) (r q : Timing) (v : VisitRecord) : 
   pub token : q .token ≡ following (t .n) (r .token)
   pub visits : q .visits ≡ r .visits + 1
 
--- ---- the timers of a timely-token visit
+-- ---- the timers of a timely-token visit, in both editions
 pub record VisitTimers (t : Set) (r q : Timing) (v : VisitRecord) : Type 0 where
   pub timer : v .trt .0 ≡ at (r .trt) (r .token)
   -- the asynchronous part leaves room: where u and TRT are within TTRT, they still are with what was sent
   pub room : r .unused + at (r .trt) (r .token) ≤ t .head .ttrt → v .asynchronous .0 + r .unused + at (r .trt) (r .token) ≤ t .head .ttrt
   -- u falls as s rises
   pub unused : q .unused + v .synchronous .0 ≡ r .unused + at (r .sent) (r .token)
-  -- every TRT rises with the clock, this station's from 0
-  pub trt-here : at (q .trt) (r .token) ≡ rises t v
+  -- every TRT rises with the clock, this station's from 0 at the start of its synchronous part
+  pub trt-here : at (q .trt) (r .token) + lead t (v .asynchronous .0) ≡ rises t v
   pub trt-there : (i : ℕ) → i < t .n → i ≢ r .token → at (q .trt) i ≡ at (r .trt) i + rises t v
 
 -- ---- the offer: the limit of a visit, and what was sent of it. The timing needs no more of it than `room` above

@@ -19,7 +19,7 @@ use Rattle.promises.specs.Witness.{two, row}
 abbrev pub framed : ℕ → Set
 framed mode = record { head = record { ttrt = 100; mode = mode; frame = 16 }; n = 2; w = two 2 1; c = two 34 0; d = two 250 100; p = two 250 100 }
 
--- S 17 and 0, in both modes
+-- S 17 and 0, in every mode
 abbrev pub seventeen : Alloc
 seventeen = record { s = two 17 0 }
 

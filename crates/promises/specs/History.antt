@@ -7,6 +7,7 @@ use mathlib.Core.Option.{Option, none, some}
 use lib.Dec.{eqb}
 use Rattle.sets.specs.declared.Set.{Set}
 use Rattle.rings.specs.State.{following}
+use Rattle.rings.specs.Timers.{lead}
 use Rattle.rings.specs.declared.Message.{Message}
 use Rattle.rings.specs.declared.VisitRecord.{VisitRecord}
 
@@ -20,9 +21,9 @@ asyncOf (suc n) (v ∷ before) = v .asynchronous .0 + asyncOf n before
 abbrev pub overrunOf : Set → ℕ
 overrunOf t = t .head .frame - 1
 
--- when the synchronous part of a visit starts: at the visit's start
+-- when the synchronous part of a visit starts: at the visit's start; in the 2002 edition after its asynchronous part
 abbrev pub syncStartOf : Set → VisitRecord → ℕ
-syncStartOf t v = v .start .0
+syncStartOf t v = v .start .0 + lead t (v .asynchronous .0)
 
 -- the latest of a list that is so, if there is one
 unfoldable pub latest : {A : Type 0} → (A → Bool) → List A → Option A

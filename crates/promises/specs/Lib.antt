@@ -6,6 +6,7 @@
 --     Promised    the promises
 --     Witness     a run in which all that the promises speak of happens
 --     FddiWitness a run of an FDDI ring in which the token is as late as it can be
+--     EarlierWitness runs of the 2002 edition
 --     BulkWitness a run in which bulk data waits long
 --     FrameWitness runs in which a frame runs on past the limit
 -- and, for the proofs:
@@ -20,3 +21,4 @@ pub mod Witness
 pub mod FddiWitness
 pub mod BulkWitness
 pub mod FrameWitness
+pub mod EarlierWitness

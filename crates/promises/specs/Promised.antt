@@ -1,4 +1,5 @@
--- Demand 3, as it reads for the plan's mode (request No. 1) and its longest frame (No. 4), and request No. 3: what is promised of every run, for every set and allocation that meet the rules, whatever calls are made, accepted and refused ones, and whatever is asked for; `proofs/Promised.antt` proves it.
+-- Demand 3, as it reads for the plan's mode (requests No. 1 and 7) and its longest frame (No. 4), and request No. 3.
+-- It is promised of every run, for every set and allocation that meet the rules, whatever calls are made, accepted and refused ones, and whatever is asked for; `proofs/Promised.antt` proves it.
 use Prim.Native.Nat.{ℕ, _≤_}
 use mathlib.Core.Path.{_≡_}
 use mathlib.Core.List.{List, []}
@@ -17,6 +18,7 @@ use Rattle.promises.specs.Witness.{Happens}
 use Rattle.promises.specs.FddiWitness.{FddiHappens}
 use Rattle.promises.specs.BulkWitness.{BulkWaits}
 use Rattle.promises.specs.FrameWitness.{FramesHappen}
+use Rattle.promises.specs.EarlierWitness.{EarlierHappens}
 
 pub record Promised : Type 0 where
   -- whatever set and allocation meet the rules, they are valid
@@ -35,7 +37,7 @@ pub record Promised : Type 0 where
   pub request-valid : (bytes : List ℕ)
       → readRequest bytes .number ≡ 0 → planned (readRequest bytes .set) .number ≡ 0
       → Valid (readRequest bytes .set) (planned (readRequest bytes .set) .alloc)
-  -- request No. 3: on a timely-token ring, where A* is at least 1, no station waits long for asynchronous time; no premise on F
+  -- request No. 3: on a timely-token ring of the 2003 edition, where A* is at least 1, no station waits long for asynchronous time; no premise on F
   pub bulk : (t : Set) (a : Alloc) → judgedPlan t a ≡ 0 → Timely t → 1 ≤ spareTime t (at (a .s)) → BulkServed t a
   -- none of it is kept by never being called upon: there is a run in which all that is promised happens
   pub happens : Happens
@@ -45,3 +47,5 @@ pub record Promised : Type 0 where
   pub bulk-waits : BulkWaits
   -- and there are runs of both kinds of ring in which a frame runs on past the limit by all of F − 1
   pub frames-happen : FramesHappen
+  -- and there are runs of the 2002 edition
+  pub earlier-happens : EarlierHappens

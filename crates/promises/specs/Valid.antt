@@ -12,7 +12,7 @@ use Rattle.sets.specs.Rules.{tau}
 use Rattle.sets.specs.declared.Set.{Set}
 use Rattle.plans.specs.Rules.{spareTime}
 use Rattle.plans.specs.declared.Alloc.{Alloc}
-use Rattle.rings.specs.Timers.{Fddi, silentTrt}
+use Rattle.rings.specs.Timers.{Fddi, Earlier, silentTrt}
 use Rattle.rings.specs.Sound.{Sound}
 use Rattle.rings.specs.Steps.{Ask, visited}
 use Rattle.rings.specs.HandingIn.{handedIn}
@@ -41,18 +41,18 @@ Apart bound v before = (u : VisitRecord) → latestOf (v .station .0) before ≡
 abbrev pub FirstWithin : Set → ℕ → VisitRecord → List VisitRecord → Type 0
 FirstWithin t bound v before = latestOf (v .station .0) before ≡ none → silentTrt t (v .station .0) + v .start .0 ≤ bound
 
--- TRT on arrival is the time since the token was last there
+-- TRT on arrival is the time since the station's last synchronous part began; in the 2003 edition that is when the token was last there
 pub record TimerIsGap (t : Set) (v : VisitRecord) (before : List VisitRecord) : Type 0 where
-  -- since the start of the station's visit before
-  pub gap : (u : VisitRecord) → latestOf (v .station .0) before ≡ some u → v .start .0 ≡ u .start .0 + v .trt .0
+  -- since the start of the station's visit before, in the 2002 edition of that visit's synchronous part
+  pub gap : (u : VisitRecord) → latestOf (v .station .0) before ≡ some u → v .start .0 ≡ syncStartOf t u + v .trt .0
   -- at the station's first visit it is the time since the silent rotation passed it: the walk from there to station N − 1, then the clock
   pub first : latestOf (v .station .0) before ≡ none → v .trt .0 ≡ silentTrt t (v .station .0) + v .start .0
   -- and it is at most TTRT, at the first visit too
   pub within : v .trt .0 ≤ t .head .ttrt
 
--- the limit is exactly A* less the asynchronous time of the N visits before, or 0 where that is larger
-pub record ExactLimit (t : Set) (a : Alloc) (v : VisitRecord) (before : List VisitRecord) : Type 0 where
-  pub exact : v .limit .0 ≡ spareTime t (at (a .s)) - asyncOf (t .n) before
+-- the limit is exactly A* less the asynchronous time of so many visits before, or 0 where that is larger
+pub record ExactLimit (t : Set) (a : Alloc) (many : ℕ) (v : VisitRecord) (before : List VisitRecord) : Type 0 where
+  pub exact : v .limit .0 ≡ spareTime t (at (a .s)) - asyncOf many before
   -- what is sent is at most the limit and F − 1, and nothing where the limit is 0
   pub within : v .asynchronous .0 ≤ v .limit .0 + overrunOf t
   pub shut : v .limit .0 ≡ 0 → v .asynchronous .0 ≡ 0
@@ -66,8 +66,8 @@ abbrev pub AnyTick : Set → Type 0
 AnyTick t = t .head .frame ≡ 1
 
 -- then limit and window together are A*, so that the limit is nowhere held at 0, and no more than the limit is sent
-pub record TickLimit (t : Set) (a : Alloc) (v : VisitRecord) (before : List VisitRecord) : Type 0 where
-  pub exact : v .limit .0 + asyncOf (t .n) before ≡ spareTime t (at (a .s))
+pub record TickLimit (t : Set) (a : Alloc) (many : ℕ) (v : VisitRecord) (before : List VisitRecord) : Type 0 where
+  pub exact : v .limit .0 + asyncOf many before ≡ spareTime t (at (a .s))
   pub kept : v .asynchronous .0 ≤ v .limit .0
 
 -- no message is completed late: where the flag says that one was completed, the margin is not negative
@@ -179,13 +179,13 @@ pub record NeverLate (t : Set) (a : Alloc) (bound : ℕ) : Type 0 where
       → i < t .n → (u : VisitRecord) → latestOf i (recordsOf t a calls) ≡ some u
       → ringOf t a calls .clock ≤ u .start .0 + bound
 
--- the limit is exactly A* less the asynchronous time of the N visits before, held at 0, the silent rotation counting as nothing
-pub record ExactLimits (t : Set) (a : Alloc) : Type 0 where
-  pub limits : (calls : List Call) → Each (ExactLimit t a) (recordsOf t a calls)
+-- the limit is exactly A* less the asynchronous time of so many visits before, held at 0, the silent rotation counting as nothing
+pub record ExactLimits (t : Set) (a : Alloc) (many : ℕ) : Type 0 where
+  pub limits : (calls : List Call) → Each (ExactLimit t a many) (recordsOf t a calls)
   -- A* is a true difference: with τ, F − 1 and the sum of S it makes up TTRT
   pub spare : spareTime t (at (a .s)) + tau t + overrunOf t + sumBelow (t .n) (at (a .s)) ≡ t .head .ttrt
   -- with F 1 the limit is a true difference too
-  pub ticks : AnyTick t → (calls : List Call) → Each (TickLimit t a) (recordsOf t a calls)
+  pub ticks : AnyTick t → (calls : List Call) → Each (TickLimit t a many) (recordsOf t a calls)
 
 -- deadlines are kept
 pub record DeadlinesKept (t : Set) (a : Alloc) : Type 0 where
@@ -219,13 +219,13 @@ Timely t = t .head .mode ≡ timely
 abbrev pub allShares : Set → Alloc → ℕ
 allShares t a = sumBelow (t .n) (at (a .s))
 
--- what a timely-token ring keeps
-pub record TimelyKept (t : Set) (a : Alloc) : Type 0 where
-  -- the token is back within TTRT, and TRT says when it was there last
+-- what a timely-token ring keeps, in both editions; its limit looks back on so many visits
+pub record TimelyKept (t : Set) (a : Alloc) (many : ℕ) : Type 0 where
+  -- the token is back within TTRT, and TRT says when the station's last synchronous part began
   pub never-late : NeverLate t a (t .head .ttrt)
   pub timers : (calls : List Call) → Each (TimerIsGap t) (recordsOf t a calls)
   -- the limit is exact
-  pub limits : ExactLimits t a
+  pub limits : ExactLimits t a many
   -- any N successive visits send at most A* + (F − 1) asynchronously
   pub windows : (calls : List Call) → Each (WindowKept t a) (recordsOf t a calls)
   -- deadlines are kept
@@ -248,5 +248,8 @@ pub record FddiKept (t : Set) (a : Alloc) : Type 0 where
 
 pub record Valid (t : Set) (a : Alloc) : Type 0 where
   pub common : Common t a
-  pub timely : Timely t → TimelyKept t a
+  -- the limit is A* less the asynchronous time of the N visits before
+  pub timely : Timely t → TimelyKept t a (t .n)
   pub fddi : Fddi t → FddiKept t a
+  -- the 2002 edition: the limit is A* less that of the N − 1 visits before, since the station's own last asynchronous part is not in its timer
+  pub earlier : Earlier t → TimelyKept t a (t .n - 1)

@@ -19,10 +19,10 @@ use Rattle.plans.proofs.SameLaws.{judged-plan-same}
 use Rattle.plans.specs.declared.Alloc.{Alloc}
 use Rattle.rings.specs.State.{count, ttrt, unusedAt}
 use Rattle.timers.specs.Timers.{Timer, ticks, startedAt, offered, visited as tokenAt}
-use Rattle.rings.specs.Timers.{Fddi, limit, timerOf, timersOf, trtSoundAt, timerSoundAt, lateSoundAt, timelySound, fddiSound, timersSound}
+use Rattle.rings.specs.Timers.{Fddi, lead, limit, timerOf, timersOf, trtSoundAt, timerSoundAt, lateSoundAt, timelySound, fddiSound, timersSound}
 use Rattle.rings.specs.TimerLaws.{fddi-or-not}
 use Rattle.rings.specs.Sound.{sentSoundAt, restSoundAt, arrivalSoundAt, isSound}
-use Rattle.rings.specs.Steps.{Ask, syncSent, asyncSent, recordOf, visitNumber}
+use Rattle.rings.specs.Steps.{Ask, syncStart, syncSent, asyncSent, recordOf, visitNumber}
 use Rattle.rings.specs.HandingIn.{arrivalAllowed, messageNumber, handInNumber}
 use Rattle.rings.proofs.StationLaws.{equal-or-not}
 use Rattle.ring_rules.specs.Promised.{SameFirst, SameRing, passes, Moved, Held, Fresh}
@@ -74,13 +74,20 @@ module _ (a b : Ring) (e : SameRing a b) where
     here : (xs ys : List ℕ) → SameFirst (count a) xs ys → at xs (a .token) ≡ at ys (b .token)
     here xs ys same = same (a .token) l ∙ ap (at ys) (e .token)
 
+    lead-same : (async : ℕ) → lead (a .set) async ≡ lead (b .set) async
+    unfolding lead
+    lead-same async = rw mode-same
+
+    start-same : (async : ℕ) → syncStart a async ≡ syncStart b async
+    start-same async = rw (e .clock, lead-same async)
+
     limit-same : limit a ≡ limit b
     unfolding limit offered
     limit-same = rw (mode-same, ap (λ (h : Head). h .frame) (e .set .header), here (a .trt) (b .trt) (e .trt), here (a .late) (b .late) (e .late), ttrt-same, e .unused)
 
     pub sync-same : (async : ℕ) → syncSent a async ≡ syncSent b async
     unfolding syncSent
-    sync-same async = rw (here (a .rest) (b .rest) (e .rest), here (a .arrival) (b .arrival) (e .arrival), here (a .alloc .s) (b .alloc .s) (e .alloc), e .clock)
+    sync-same async = rw (here (a .rest) (b .rest) (e .rest), here (a .arrival) (b .arrival) (e .arrival), here (a .alloc .s) (b .alloc .s) (e .alloc), start-same async)
 
     pub async-same : asyncSent a ask ≡ asyncSent b ask
     async-same = rw limit-same
@@ -94,6 +101,7 @@ module _ (a b : Ring) (e : SameRing a b) where
           here (a .rest) (b .rest) (e .rest),
           here (a .arrival) (b .arrival) (e .arrival),
           here (a .set .d) (b .set .d) (e .set .deadline),
+          start-same async,
           e .clock,
           e .token,
         )
@@ -109,7 +117,7 @@ module _ (a b : Ring) (e : SameRing a b) where
           let tb = mb .timely fb in
           let late : at (na .late) i ≡ at (nb .late) i = rw (ta .late, tb .late) (e .late i k) in
           let trt : at (na .trt) i ≡ at (nb .trt) i =
-          ⊎-elim (λ (q : i ≡ a .token). rw q (omega (arith, ta .trt-here, tb .trt-here, passes-same, ap (at (nb .trt)) (e .token))))
+          ⊎-elim (λ (q : i ≡ a .token). rw q (omega (arith, ta .trt-here, tb .trt-here, passes-same, lead-same (v .asynchronous .0), ap (at (nb .trt)) (e .token))))
           (λ (q : i ≢ a .token). omega (arith, ta .trt-there i k q, tb .trt-there i (rw (← e .set .count) k) (rw (← e .token) q), e .trt i k, passes-same))
           (equal-or-not i (a .token)) in
           λ d. record { count = late d; timer = trt d }
@@ -148,6 +156,7 @@ module _ (a b : Ring) (e : SameRing a b) where
         let p = e .token in
         let timers = timers-same na nb v ma mb in
         let rest = here (a .rest) (b .rest) (e .rest) in
+        let last-here : at (na .last) (a .token) ≡ at (nb .last) (a .token) = ma .last ∙ start-same (v .asynchronous .0) ∙ rw p (sym (mb .last)) in
         let rest-b : at (nb .rest) (a .token) + v .synchronous .0 ≡ at (b .rest) (b .token) = rw p (mb .rest) in
         record {
           set = rw (ma .set, mb .set) (e .set);
@@ -158,7 +167,7 @@ module _ (a b : Ring) (e : SameRing a b) where
           rest = rw n (spliced (count a) (a .token) (a .rest) (b .rest) (na .rest) (nb .rest) (e .rest) (omega (arith, ma .rest)) (ma .rests) (rw p (mb .rests)));
           arrival = rw (n, ma .arrival, mb .arrival) (e .arrival);
           had = rw (n, ma .had, mb .had) (e .had);
-          last = rw n (spliced (count a) (a .token) (a .last) (b .last) (na .last) (nb .last) (e .last) (ma .last ∙ e .clock ∙ rw p (sym (mb .last))) (ma .lasts) (rw p (mb .lasts)));
+          last = rw n (spliced (count a) (a .token) (a .last) (b .last) (na .last) (nb .last) (e .last) last-here (ma .lasts) (rw p (mb .lasts)));
           clock = ma .clock ∙ rw (passes-same na nb v ma mb, e .clock) (sym (mb .clock));
           visits = ma .visits ∙ rw (e .visits) (sym (mb .visits));
           token = ⊎-elim (λ (q : a .token + 1 < count a). ma .on q ∙ rw p (sym (mb .on (rw (← p, ← e .set .count) q))))

@@ -2,6 +2,7 @@
 use Prim.Native.Nat.{ℕ, suc, _+_, _-_, _≤_, _<_}
 use mathlib.Core.Path.{_≡_, refl, sym, ap, _∙_}
 use mathlib.Core.Bool.{true, false}
+use mathlib.Core.List.{List}
 use mathlib.Core.Logic.{_⊎_, _≢_, ⊎-elim}
 use native.Mathlib.Omega.{arith}
 use borrow.Author.Tests.{leb-true, ltb-true, eqb-true, le-leb, lt-ltb, le-ltb, eq-eqb}
@@ -15,12 +16,12 @@ use Rattle.units.specs.JudgingLaws.{true-or-false, true-and, and-true}
 use Rattle.rings.specs.State.{count, ttrt, following, share, unusedAt, holds, Shaped}
 use Rattle.timers.specs.Timers.{Timer, visited}
 use Rattle.timers.proofs.Timers.{later-ticks}
-use Rattle.rings.specs.Timers.{limit, Fddi, rise, timerOf, timersOf, tokenCame, timePassed, timelyAfter}
+use Rattle.rings.specs.Timers.{limit, Fddi, rise, riseSince, timerOf, timersOf, tokenCame, timePassed, timelyAfter}
 use Rattle.rings.specs.Sound.{Sound}
-use Rattle.rings.specs.Steps.{Ask, LengthNamed, serves, syncSent, asyncSent, nextToken, moved, completes, recordOf}
+use Rattle.rings.specs.Steps.{Ask, LengthNamed, syncStart, serves, syncSent, asyncSent, nextToken, moved, completes, recordOf}
 use Rattle.ring_rules.specs.Promised.{Amounts, TimelyMoved, FddiMoved, Moved, Completed, NoneCompleted, Done}
 use Rattle.rings.specs.FrameLaws.{frames-sent, frames-within, frames-none, ticks-sent}
-use Rattle.rings.specs.TimerLaws.{fddi-or-not, limit-fddi, limit-timely, after-fddi, after-timely, came-late, came-early, offered-late, offered-early}
+use Rattle.rings.specs.TimerLaws.{lead-within, fddi-or-not, limit-fddi, limit-timely, after-fddi, after-timely, came-late, came-early, offered-late, offered-early}
 use Rattle.rings.proofs.StationLaws.{timer-here, timer-there, moved-long}
 use Rattle.rings.specs.RingLaws.{sound-plan, served, not-served, sync-within}
 use Rattle.rings.specs.declared.Ring.{Ring}
@@ -46,6 +47,12 @@ module _ (r : Ring) (ask : Ask) (L : Shaped r) (s : Sound r) (named : LengthName
   inside : r .token < 128
   inside = omega (arith, s .token, sound-plan r s .0 .1)
 
+  -- what is served has arrived by the start of the synchronous part
+  not-before : (async : ℕ) → serves r async ≡ true → syncStart r async < at (r .arrival) (r .token) → ⊥
+  not-before async e l =
+      let n : at (r .arrival) (r .token) ≤ syncStart r async = leb-true _ _ (and-true (holds r (r .token)) _ e .1) in
+      omega arith
+
   amounts : Amounts r ask (recordOf r (syncSent r (asyncSent r ask)) (asyncSent r ask))
   unfolding recordOf
   amounts =
@@ -54,7 +61,7 @@ module _ (r : Ring) (ask : Ask) (L : Shaped r) (s : Sound r) (named : LengthName
         limit-late = λ e l. limit-fddi r e ∙ offered-late (ttrt r) (timerOf (timersOf r) (r .token)) l;
         limit-early = λ e z. limit-fddi r e ∙ offered-early (ttrt r) (timerOf (timersOf r) (r .token)) z;
         served = λ h l. served r (asyncSent r ask) (true-and _ _ (lt-ltb _ _ h) (le-leb _ _ l));
-        early = λ l. ⊎-elim (λ (e : serves r (asyncSent r ask) ≡ true). let n : at (r .arrival) (r .token) ≤ r .clock = leb-true _ _ (and-true (holds r (r .token)) _ e .1) in absurd (omega arith))
+        early = λ l. ⊎-elim (λ (e : serves r (asyncSent r ask) ≡ true). absurd (not-before (asyncSent r ask) e l))
             (λ (e : serves r (asyncSent r ask) ≡ false). not-served r (asyncSent r ask) e)
             (true-or-false (serves r (asyncSent r ask)));
         none = λ e. omega (arith, sync-within r (asyncSent r ask) .1);
@@ -65,21 +72,19 @@ module _ (r : Ring) (ask : Ask) (L : Shaped r) (s : Sound r) (named : LengthName
         ticks = λ e. ticks-sent (limit r) ask e;
       }
 
-  trt-here : (x : ℕ) → at (raise (count r) x (set (r .trt) (r .token) 0)) (r .token) ≡ x
-  trt-here x =
-      let long : length (set (r .trt) (r .token) 0) ≡ 128 = length-set (r .trt) (r .token) 0 ∙ L .trt in
-      let was : at (set (r .trt) (r .token) 0) (r .token) ≡ 0 = getD-set-same (r .trt) (r .token) 0 0 (omega (arith, inside, L .trt)) in
-      let up : at (raise (count r) x (set (r .trt) (r .token) 0)) (r .token) ≡ at (set (r .trt) (r .token) 0) (r .token) + x =
-      raise-inside (count r) x (set (r .trt) (r .token) 0) (r .token) (s .token) (omega (arith, sound-plan r s .0 .1)) in
-      omega arith
+  -- the TRTs after a visit: all have risen by x, this station's by y
+  abbrev risen : ℕ → ℕ → List ℕ
+  risen x y = set (raise (count r) x (r .trt)) (r .token) y
 
-  trt-there : (x i : ℕ) → i < count r → i ≢ r .token → at (raise (count r) x (set (r .trt) (r .token) 0)) i ≡ at (r .trt) i + x
-  trt-there x i l n =
-      let long : length (set (r .trt) (r .token) 0) ≡ 128 = length-set (r .trt) (r .token) 0 ∙ L .trt in
-      let was : at (set (r .trt) (r .token) 0) i ≡ at (r .trt) i = getD-set-other (r .trt) (r .token) i 0 0 (omega arith) in
-      let up : at (raise (count r) x (set (r .trt) (r .token) 0)) i ≡ at (set (r .trt) (r .token) 0) i + x =
-      raise-inside (count r) x (set (r .trt) (r .token) 0) i l (omega (arith, sound-plan r s .0 .1)) in
-      omega arith
+  risen-long : (x y : ℕ) → length (risen x y) ≡ 128
+  risen-long x y = length-set (raise (count r) x (r .trt)) (r .token) y ∙ (raise-length (count r) x (r .trt) ∙ L .trt)
+
+  trt-here : (x y : ℕ) → at (risen x y) (r .token) ≡ y
+  trt-here x y = getD-set-same (raise (count r) x (r .trt)) (r .token) y 0 (omega (arith, inside, raise-length (count r) x (r .trt), L .trt))
+
+  trt-there : (x y i : ℕ) → i < count r → i ≢ r .token → at (risen x y) i ≡ at (r .trt) i + x
+  trt-there x y i l n =
+      getD-set-other (raise (count r) x (r .trt)) (r .token) i y 0 (omega arith) ∙ raise-inside (count r) x (r .trt) i l (omega (arith, sound-plan r s .0 .1, L .trt))
 
   next-on : r .token + 1 < count r → nextToken r ≡ r .token + 1
   unfolding following
@@ -103,7 +108,12 @@ module _ (r : Ring) (ask : Ask) (L : Shaped r) (s : Sound r) (named : LengthName
         let old : unusedAt r (r .token) ≤ r .unused = omega (arith, s .timers .timely n .unused, sum-part (count r) (unusedAt r) (r .token) (s .token)) in
         let sents : at (r .sent) (r .token) ≤ share r (r .token) = s .sents (r .token) (s .token) in
         rw (after-timely r n sync async)
-        (record { unused = omega arith; trt-here = trt-here (rise r sync async); trt-there = trt-there (rise r sync async); late = refl })
+        (record {
+          unused = omega arith;
+          trt-here = omega (arith, trt-here (rise r sync async) (riseSince r sync async), lead-within (r .set) async);
+          trt-there = trt-there (rise r sync async) (riseSince r sync async);
+          late = refl;
+        })
 
     -- a token leaves a timer below TTRT
     visited-below : (ttrt : ℕ) (t : Timer) → t .timer < ttrt → visited t .timer < ttrt
@@ -125,7 +135,7 @@ module _ (r : Ring) (ask : Ask) (L : Shaped r) (s : Sound r) (named : LengthName
     unfolding moved timelyAfter
     timers-long =
         ⊎-elim (λ e. moved-long r L s e sync async)
-        (λ n. rw (after-timely r n sync async) (raise-length (count r) _ _ ∙ (length-set (r .trt) (r .token) 0 ∙ L .trt), L .late))
+        (λ n. rw (after-timely r n sync async) (risen-long (rise r sync async) (riseSince r sync async), L .late))
         (fddi-or-not (r .set))
 
   changed : Moved r (moved r (syncSent r (asyncSent r ask)) (asyncSent r ask)) (recordOf r (syncSent r (asyncSent r ask)) (asyncSent r ask))
@@ -141,7 +151,7 @@ module _ (r : Ring) (ask : Ask) (L : Shaped r) (s : Sound r) (named : LengthName
         on = next-on;
         round = next-round;
         visits = refl;
-        last = getD-set-same (r .last) (r .token) (r .clock) 0 (omega (arith, inside, L .last));
+        last = getD-set-same (r .last) (r .token) (syncStart r (asyncSent r ask)) 0 (omega (arith, inside, L .last));
         set = refl;
         alloc = refl;
         arrival = refl;
@@ -149,7 +159,7 @@ module _ (r : Ring) (ask : Ask) (L : Shaped r) (s : Sound r) (named : LengthName
         filler = refl;
         sents = λ j n. getD-set-other (r .sent) (r .token) j (syncSent r (asyncSent r ask)) 0 (omega arith);
         rests = λ j n. getD-set-other (r .rest) (r .token) j _ 0 (omega arith);
-        lasts = λ j n. getD-set-other (r .last) (r .token) j (r .clock) 0 (omega arith);
+        lasts = λ j n. getD-set-other (r .last) (r .token) j (syncStart r (asyncSent r ask)) 0 (omega arith);
         shaped =
             record {
               trt = timers-long (syncSent r (asyncSent r ask)) (asyncSent r ask) .0;

@@ -15,6 +15,7 @@ use Rattle.rings.specs.Sound.{Sound}
 use Rattle.rings.specs.Steps.{Ask, LengthNamed, syncSent, asyncSent, moved, recordOf, visitNumber, acceptedVisit, refusedVisit, visited}
 use Rattle.rings.specs.HandingIn.{handInNumber, holding, handedIn}
 use Rattle.ring_rules.specs.Promised.{Fresh, Done, UncutVisit, Held, SameFirst, SameRing, Promised}
+use Rattle.rings.specs.TimerLaws.{lead-none, lead-all}
 use Rattle.rings.specs.RingLaws.{decides-sound, opened-number, taken-number, opened-refused, opened-accepted, visit-refused, visit-accepted, visit-passed, taken-refused, taken-accepted, taken-passed}
 use Rattle.ring_rules.proofs.NumberLaws.{visited-number, visit-eight, visit-ten, visit-thirteen, visit-none, visit-only, message-eight, message-nine, message-ten, message-eleven, message-twelve, message-none, message-only}
 use Rattle.ring_rules.proofs.OpenedLaws.{fresh, opened-sound}
@@ -143,6 +144,8 @@ promised =
       sound = decides-sound;
       sound-timely = sound-timely;
       sound-fddi = sound-fddi;
+      lead-none = λ t async n. lead-none t n async;
+      lead-all = λ t async e. lead-all t e async;
       visit-eight = λ r ask. rw (number-visited r ask) (visit-eight r ask);
       visit-ten = λ r ask. rw (number-visited r ask) (visit-ten r ask);
       visit-thirteen = λ r ask. rw (number-visited r ask) (visit-thirteen r ask);

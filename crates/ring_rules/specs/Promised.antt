@@ -15,7 +15,7 @@ use Rattle.plans.specs.Planned.{judgedPlan}
 use Rattle.plans.specs.declared.Alloc.{Alloc}
 use Rattle.timers.specs.Timers.{ticks, startedAt, visited as tokenAt}
 use Rattle.rings.specs.State.{count, ttrt, overrun, share, unusedAt, Shaped}
-use Rattle.rings.specs.Timers.{Fddi, timerOf, timersOf, TimersSound}
+use Rattle.rings.specs.Timers.{Fddi, Earlier, lead, timerOf, timersOf, TimersSound}
 use Rattle.rings.specs.Frames.{framesSent}
 use Rattle.rings.specs.Opening.{blankRing, opening}
 use Rattle.rings.specs.Sound.{Sound, isSound}
@@ -57,6 +57,14 @@ pub record Fresh (t : Set) (a : Alloc) (r : Ring) : Type 0 where
 
 -- ---- a visit
 
+-- what of the asynchronous part came before the synchronous part: nothing, or in the 2002 edition all of it (`lead-none`, `lead-all` below)
+abbrev pub ahead : Ring → VisitRecord → ℕ
+ahead r v = lead (r .set) (v .asynchronous .0)
+
+-- when the synchronous part started
+abbrev pub begins : Ring → VisitRecord → ℕ
+begins r v = r .clock + ahead r v
+
 -- the two amounts, as the steps have them
 pub record Amounts (r : Ring) (ask : Ask) (v : VisitRecord) : Type 0 where
   -- step 1, timely-token: the larger of TTRT − (F − 1) − u − TRT and 0
@@ -64,10 +72,10 @@ pub record Amounts (r : Ring) (ask : Ask) (v : VisitRecord) : Type 0 where
   -- FDDI: no asynchronous time where the late count is above 0, else TTRT less the timer
   pub limit-late : Fddi (r .set) → 0 < at (r .late) (r .token) → v .limit .0 ≡ 0
   pub limit-early : Fddi (r .set) → at (r .late) (r .token) ≡ 0 → v .limit .0 ≡ ttrt r - at (r .trt) (r .token)
-  -- step 3: a held message whose arrival is at or before the clock: the smaller of S and what remains
-  pub served : 0 < at (r .rest) (r .token) → at (r .arrival) (r .token) ≤ r .clock → v .synchronous .0 ≡ min (share r (r .token)) (at (r .rest) (r .token))
-  -- a message that arrives after the visit's start is not served
-  pub early : r .clock < at (r .arrival) (r .token) → v .synchronous .0 ≡ 0
+  -- step 3: a held message whose arrival is at or before the start of the synchronous part: the smaller of S and what remains
+  pub served : 0 < at (r .rest) (r .token) → at (r .arrival) (r .token) ≤ begins r v → v .synchronous .0 ≡ min (share r (r .token)) (at (r .rest) (r .token))
+  -- a message that arrives after that start is not served
+  pub early : begins r v < at (r .arrival) (r .token) → v .synchronous .0 ≡ 0
   -- no message, nothing sent
   pub none : at (r .rest) (r .token) ≡ 0 → v .synchronous .0 ≡ 0
   -- step 4: frame after frame while the time used is below the limit, each to its end
@@ -88,8 +96,8 @@ passes r v = v .synchronous .0 + v .asynchronous .0 + at (r .set .w) (r .token)
 pub record TimelyMoved (r next : Ring) (v : VisitRecord) : Type 0 where
   -- steps 2 and 3: u falls by S − s of before and rises by S − s of now: it has lost what s has gained
   pub unused : next .unused + v .synchronous .0 ≡ r .unused + at (r .sent) (r .token)
-  -- step 5: every TRT, this station's from 0, rises with the clock
-  pub trt-here : at (next .trt) (r .token) ≡ passes r v
+  -- step 5: every TRT rises with the clock, this station's from 0 at the start of its synchronous part: what came before that is not in it
+  pub trt-here : at (next .trt) (r .token) + ahead r v ≡ passes r v
   pub trt-there : (i : ℕ) → i < count r → i ≢ r .token → at (next .trt) i ≡ at (r .trt) i + passes r v
   -- late counts are left alone
   pub late : next .late ≡ r .late
@@ -111,11 +119,11 @@ pub record Moved (r next : Ring) (v : VisitRecord) : Type 0 where
   pub rest : at (next .rest) (r .token) + v .synchronous .0 ≡ at (r .rest) (r .token)
   -- step 5: the clock rises
   pub clock : next .clock ≡ r .clock + passes r v
-  -- the token moves on, after N − 1 to 0; the visit is counted, and its start kept
+  -- the token moves on, after N − 1 to 0; the visit is counted, and the start of its synchronous part kept
   pub on : r .token + 1 < count r → next .token ≡ r .token + 1
   pub round : r .token + 1 ≡ count r → next .token ≡ 0
   pub visits : next .visits ≡ r .visits + 1
-  pub last : at (next .last) (r .token) ≡ r .clock
+  pub last : at (next .last) (r .token) ≡ begins r v
   -- nothing else changes
   pub set : next .set ≡ r .set
   pub alloc : next .alloc ≡ r .alloc
@@ -127,10 +135,10 @@ pub record Moved (r next : Ring) (v : VisitRecord) : Type 0 where
   pub lasts : SameBut (r .token) (next .last) (r .last)
   pub shaped : Shaped next
 
--- a message was completed: its finish is start + s, its margin the deadline less the finish
+-- a message was completed: its finish is the start of the synchronous part + s, its margin the deadline less the finish
 pub record Completed (r : Ring) (v : VisitRecord) : Type 0 where
   pub flag : v .completed ≡ 1
-  pub finish : v .finish .0 ≡ r .clock + v .synchronous .0
+  pub finish : v .finish .0 ≡ begins r v + v .synchronous .0
   pub margin : v .margin ≡ subℕ (at (r .arrival) (r .token) + at (r .set .d) (r .token)) (v .finish .0)
 
 -- none was completed: finish and margin are 0, and the flag says so
@@ -295,6 +303,9 @@ pub record Promised : Type 0 where
   -- of an FDDI ring that the timers are below TTRT and the late counts at most 3
   pub sound-fddi : (r : Ring) → Fddi (r .set)
       → TimersSound r ↔ (((i : ℕ) → i < count r → at (r .trt) i < ttrt r) × ((i : ℕ) → i < count r → at (r .late) i ≤ 3))
+  -- the synchronous part comes first, and so nothing ahead of it; in the 2002 edition the asynchronous part does
+  pub lead-none : (t : Set) (async : ℕ) → ¬ Earlier t → lead t async ≡ 0
+  pub lead-all : (t : Set) (async : ℕ) → Earlier t → lead t async ≡ async
   -- a visit: 8 exactly if the ring is unsound
   pub visit-eight : (r : Ring) (ask : Ask) → (visited r ask .answer .number ≡ 8) ↔ ¬ Sound r
   -- 10 exactly if it is sound and the length of the frames asked for is not 1 to F

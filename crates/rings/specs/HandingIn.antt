@@ -32,7 +32,7 @@ Free r m = at (r .rest) (m .station .0) ≡ 0
 pub record ArrivalAllowed (r : Ring) (m : Message) : Type 0 where
   -- it is in range
   pub range : m .arrival .0 ≤ mostClock
-  -- it is later than the start of that station's last visit; before its first visit any arrival from 0 passes
+  -- it is later than the start of that station's last visit, in the 2002 edition of that visit's synchronous part; before its first visit any arrival from 0 passes
   pub later : m .station .0 < r .visits → at (r .last) (m .station .0) < m .arrival .0
   -- it is at least P after that station's last accepted arrival, where there is one
   pub gap : at (r .had) (m .station .0) ≢ 0 → at (r .arrival) (m .station .0) + at (r .set .p) (m .station .0) ≤ m .arrival .0
@@ -62,7 +62,7 @@ nothingHeld r m = eqb (at (r .rest) (m .station .0)) 0
 abbrev pub arrivalInRange : Message → Bool
 arrivalInRange m = leb (m .arrival .0) mostClock
 
--- 12: it is later than the start of that station's last visit; before its first visit any arrival from 0 passes
+-- 12: it is later than that start; before its first visit any arrival from 0 passes
 abbrev pub laterThanLastStart : Ring → Message → Bool
 laterThanLastStart r m = beforeFirstVisit r (m .station .0) || ltb (at (r .last) (m .station .0)) (m .arrival .0)
 

@@ -8,7 +8,7 @@ use Rattle.units.specs.Numbers.{accepted, unsound, badLength, clockTooHigh, mos
 use Rattle.units.specs.Places.{at}
 use Rattle.units.specs.Judging.{orElse, between}
 use Rattle.rings.specs.State.{count, following, share, holds}
-use Rattle.rings.specs.Timers.{limit, rise, timersAfter}
+use Rattle.rings.specs.Timers.{limit, lead, rise, timersAfter}
 use Rattle.rings.specs.Sound.{isSound}
 use Rattle.rings.specs.Frames.{framesTime}
 use Rattle.rings.specs.declared.Ask as declared
@@ -33,9 +33,9 @@ lengthNamed r ask = between 1 (r .set .head .frame) (ask .length)
 abbrev pub asyncSent : Ring → Ask → ℕ
 asyncSent r ask = framesTime (limit r) ask
 
--- when the synchronous part starts: at the visit's start, since it comes first
+-- when the synchronous part starts: at the visit's start, since it comes first; in the 2002 edition after the asynchronous part
 abbrev pub syncStart : Ring → ℕ → ℕ
-syncStart r async = r .clock
+syncStart r async = r .clock + lead (r .set) async
 
 -- 3: the station holds a message whose arrival is at or before that moment
 abbrev pub serves : Ring → ℕ → Bool

@@ -1,15 +1,16 @@
 -- The laws of the timers, mode by mode, for the proofs of this layer and those above. No rule stands here.
-use Prim.Native.Nat.{ℕ, _-_, _<_}
+use Prim.Native.Nat.{ℕ, _-_, _≤_, _<_}
 use mathlib.Core.Path.{_≡_}
 use mathlib.Core.Bool.{true, false}
 use mathlib.Core.Logic.{_⊎_, inl, inr, ⊎-elim}
+use native.Mathlib.Omega.{arith}
 use borrow.Author.Tests.{eqb-true, eqb-false, eq-eqb, ne-eqb, lt-leb}
 use Rattle.units.specs.JudgingLaws.{true-or-false}
 use Rattle.sets.specs.declared.Set.{Set}
 use Rattle.plans.specs.Rules.{isFddi}
 use Rattle.plans.specs.declared.Alloc.{Alloc}
 use Rattle.timers.specs.Timers.{Timer, visited, offered}
-use Rattle.rings.specs.Timers.{Fddi, timelyLimit, fddiLimit, limit, timelyAfter, fddiAfter, timersAfter, silentTimely, silentFddi, silentTimers}
+use Rattle.rings.specs.Timers.{Fddi, Earlier, isEarlier, lead, timelyLimit, fddiLimit, limit, timelyAfter, fddiAfter, timersAfter, silentTimely, silentFddi, silentTimers}
 use Rattle.rings.specs.declared.Ring.{Ring}
 
 -- ---- the mode is FDDI or it is not
@@ -23,6 +24,24 @@ fddi-false t n = ne-eqb _ _ n
 pub fddi-or-not : (t : Set) → (Fddi t) ⊎ (¬ Fddi t)
 fddi-or-not t =
     ⊎-elim (λ (e : isFddi t ≡ true). inl (eqb-true _ _ e)) (λ (e : isFddi t ≡ false). inr (eqb-false _ _ e)) (true-or-false (isFddi t))
+
+-- ---- the edition is that of 2002 or it is not
+
+pub lead-all : (t : Set) → Earlier t → (async : ℕ) → lead t async ≡ async
+unfolding lead
+lead-all t e async = rw (eq-eqb _ _ e)
+
+pub lead-none : (t : Set) → ¬ Earlier t → (async : ℕ) → lead t async ≡ 0
+unfolding lead
+lead-none t n async = rw (ne-eqb _ _ n)
+
+pub earlier-or-not : (t : Set) → (Earlier t) ⊎ (¬ Earlier t)
+earlier-or-not t =
+    ⊎-elim (λ (e : isEarlier t ≡ true). inl (eqb-true _ _ e)) (λ (e : isEarlier t ≡ false). inr (eqb-false _ _ e)) (true-or-false (isEarlier t))
+
+pub lead-within : (t : Set) (async : ℕ) → lead t async ≤ async
+lead-within t async =
+    ⊎-elim (λ e. omega (arith, lead-all t e async)) (λ n. omega (arith, lead-none t n async)) (earlier-or-not t)
 
 -- ---- each definition in each mode
 

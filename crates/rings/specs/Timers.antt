@@ -1,13 +1,13 @@
 -- The timers of a ring, apart from all else: the limit that they give, what becomes of them at a visit, what they are at opening, and when they are sound.
 -- Each is asked for by the ring's mode, here and nowhere else.
---     timely-token: TRT of each station, and u; the late counts are neither looked at nor changed
+--     timely-token: TRT of each station, and u; the late counts are neither looked at nor changed. Its two editions differ in when TRT goes to 0
 --     FDDI: the timer and the late count of each station; u is neither looked at nor changed
 use Prim.Native.Nat.{ℕ, _+_, _-_, _≤_, _<_}
 use mathlib.Core.Path.{_≡_}
 use mathlib.Core.Bool.{Bool, cond, _&&_}
 use lib.Dec.{leb, ltb, eqb}
 use lib.ListN.{set}
-use Rattle.units.specs.Numbers.{fddi}
+use Rattle.units.specs.Numbers.{fddi, earlier}
 use Rattle.units.specs.Places.{at, sumBelow, sumFrom, allBelow, fill, raise}
 use Rattle.sets.specs.Judged.{zeros}
 use Rattle.sets.specs.declared.Set.{Set}
@@ -21,6 +21,17 @@ use Rattle.rings.specs.declared.Timers.{Timers}
 -- the set goes by FDDI's rules; `isFddi` tests it
 abbrev pub Fddi : Set → Type 0
 Fddi t = t .head .mode ≡ fddi
+
+-- the set goes by the rules of the 2002 edition; `isEarlier` tests it
+abbrev pub Earlier : Set → Type 0
+Earlier t = t .head .mode ≡ earlier
+
+abbrev pub isEarlier : Set → Bool
+isEarlier t = eqb (t .head .mode) earlier
+
+-- of the asynchronous time of a visit, what comes before its synchronous part: all of it in the 2002 edition, else nothing
+unfoldable pub lead : Set → ℕ → ℕ
+lead t async = cond (isEarlier t) async 0
 
 -- ---- the limit
 
@@ -62,11 +73,15 @@ unusedAfter r sync = unusedFallen r + (share r (r .token) - sync)
 abbrev pub rise : Ring → ℕ → ℕ → ℕ
 rise r sync async = sync + async + at (r .set .w) (r .token)
 
--- timely-token: this station's TRT becomes 0, and then rises with every other
+-- the part of that from the start of the synchronous part on: all of it, or in the 2002 edition sent synchronous + w
+abbrev pub riseSince : Ring → ℕ → ℕ → ℕ
+riseSince r sync async = rise r sync async - lead (r .set) async
+
+-- timely-token: every TRT rises; this station's became 0 when its synchronous part started
 unfoldable pub timelyAfter : Ring → ℕ → ℕ → Timers
 timelyAfter r sync async =
     record {
-      trt = raise (count r) (rise r sync async) (set (r .trt) (r .token) 0);
+      trt = set (raise (count r) (rise r sync async) (r .trt)) (r .token) (riseSince r sync async);
       late = r .late;
       unused = unusedAfter r sync;
     }

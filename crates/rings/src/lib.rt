@@ -22,7 +22,7 @@ use units::numbers;
 pub struct Ring {
     pub set: Set,
     pub alloc: Alloc,
-    // TRT, the time since the station's last token arrival; in an FDDI ring the station's timer.
+    // TRT, the time since the station's last token arrival, in the 2002 edition since its last synchronous part began; in an FDDI ring the station's timer.
     pub trt: [u32; 128],
     // FDDI's late counts. A timely-token ring neither looks at them nor changes them.
     pub late: [u32; 128],
@@ -38,7 +38,7 @@ pub struct Ring {
     pub arrival: [u64; 128],
     // A message was ever accepted there: 0 is no, anything else yes.
     pub had: [u8; 128],
-    // The start of the station's last visit; there was one where the station's number is below visits.
+    // The start of the station's last synchronous part, which is that of its last visit but in the 2002 edition; there was one where the station's number is below visits.
     pub last: [u64; 128],
     pub clock: u64,
     pub visits: u64,

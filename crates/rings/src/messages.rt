@@ -9,7 +9,7 @@ ghost use Rattle.rings.specs.Sound.{isSound};
 ghost use Rattle.rings.specs.HandingIn.{arrivalAllowed, messageNumber, holding};
 ghost use Rattle.rings.specs.Bounds.{Addressed, Holdable};
 
-// The arrival is later than the start of the station's last visit; before its first visit any arrival is.
+// The arrival is later than the start of the station's last synchronous part; before its first visit any arrival is.
 fn later_than_start(visits: u64, station: u64, start: u64, arrival: u64) -> bool
     ensures { λ b. ⌜ b ≡ (leb visits station || ltb start arrival) ⌝ }
 {

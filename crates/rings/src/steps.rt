@@ -8,7 +8,7 @@ use units::Station;
 use units::Ticks;
 use units::numbers;
 ghost use mathlib.Core.Path.{_≡_};
-ghost use Prim.Native.Nat.{_<_, _^_};
+ghost use Prim.Native.Nat.{_+_, _<_, _^_};
 ghost use lib.IntN.{subℕ};
 ghost use Rattle.rings.specs.Steps.{syncStart, nextToken, moved, completes, deadline, recordOf, blankRecord, refusedVisit, firstRefusal};
 ghost use Rattle.rings.specs.Bounds.{Safe, SafeTimers, Sendable, Sent};
@@ -29,16 +29,18 @@ pub(crate) fn first_refusal(sound: bool, named: bool, clock: u64) -> u8
     numbers::ACCEPTED
 }
 
-// When the synchronous part starts: at the visit's start.
+// When the synchronous part starts: at the visit's start, in the 2002 edition after the asynchronous part.
 fn sync_start(r: Ring, asynchronous: u64) -> u64
+    requires { ⌜ r .clock + asynchronous < 2 ^ 64 ⌝ }
     ensures { λ x. ⌜ x ≡ syncStart r asynchronous ⌝ }
 {
-    r.clock
+    let lead = timing::lead_of(r, asynchronous);
+    r.clock + lead
 }
 
 // Step 3: what is sent of the held message.
 pub(crate) fn sync_sent(r: Ring, asynchronous: u64) -> u64
-    requires { ⌜ r .token < 128 ⌝ }
+    requires { ⌜ (r .token < 128) × (r .clock + asynchronous < 2 ^ 64) ⌝ }
     ensures { λ x. ⌜ Sent r asynchronous x ⌝ }
 {
     let p = r.token as usize;

@@ -10,7 +10,7 @@ ghost use Rattle.units.specs.Small.{UpTo};
 ghost use Rattle.plans.specs.Planned.{judgedPlan};
 ghost use Rattle.timers.specs.Timers.{visited};
 ghost use Rattle.rings.specs.State.{ttrt, share};
-ghost use Rattle.rings.specs.Timers.{FddiSound, timersOf, timelyLimit, fddiLimit, unusedAfter, rise, timelyAfter, tokenCame, fddiAfter, timersAfter};
+ghost use Rattle.rings.specs.Timers.{FddiSound, timersOf, lead, timelyLimit, fddiLimit, unusedAfter, rise, timelyAfter, tokenCame, fddiAfter, timersAfter};
 ghost use Rattle.rings.specs.Timers.{silentTimely, silentFddi, silentTimers, timelySound, fddiSound, timersSound};
 ghost use Rattle.rings.specs.Bounds.{Safe, SafeTimely, SafeTimers, Sendable, Limit};
 
@@ -85,23 +85,30 @@ pub(crate) fn rise_of(r: Ring, sync: u64, asynchronous: u64) -> u64
     sync + asynchronous + walk
 }
 
-// Timely-token: TRT of this station from 0, and u.
+// Of the asynchronous time, what comes before the synchronous part: all of it in the 2002 edition, else nothing.
+pub(crate) fn lead_of(r: Ring, asynchronous: u64) -> u64
+    ensures { λ x. ⌜ UpTo asynchronous (lead (r .set) asynchronous) x ⌝ }
+{
+    if r.set.head.mode == numbers::EARLIER {
+        return asynchronous;
+    }
+    0
+}
+
+// Timely-token: TRT, this station's from the start of its synchronous part on, and u.
 fn timely_after(r: Ring, sync: u64, asynchronous: u64) -> Timers
     requires { ⌜ Safe r × SafeTimely r × Sendable r sync asynchronous ⌝ }
     ensures { λ x. ⌜ x ≡ timelyAfter r sync asynchronous ⌝ }
 {
     let p = r.token as usize;
     let rise = rise_of(r, sync, asynchronous);
+    let lead = lead_of(r, asynchronous);
     let unused = unused_after(r, sync);
     let late = r.late;
-    let mut trt = r.trt;
-    trt[p] = 0;
-    let raised = places::raised(trt, r.set.n, rise as u32);
-    Timers {
-        trt: raised,
-        late,
-        unused,
-    }
+    let times = r.trt;
+    let mut trt = places::raised(times, r.set.n, rise as u32);
+    trt[p] = (rise - lead) as u32;
+    Timers { trt, late, unused }
 }
 
 // FDDI: a token comes to a timer; with the late count above 0 it runs on, else it goes to 0.

@@ -23,7 +23,7 @@ CountAllowed t = (1 ≤ t .n) × (t .n ≤ mostStations)
 pub record HeadInRange (h : Head) : Type 0 where
   -- TTRT: 1 to 1,000,000
   pub ttrt : (1 ≤ h .ttrt) × (h .ttrt ≤ mostTtrt)
-  -- the mode has a name: 1 is timely-token, 2 is plain FDDI
+  -- the mode has a name: 1 is timely-token, 2 is plain FDDI, 3 is the 2002 edition of timely-token
   pub mode : (timely ≤ h .mode) × (h .mode ≤ lastMode)
   -- F, the longest frame: 1 to 65,535
   pub frame : (1 ≤ h .frame) × (h .frame ≤ mostFrame)

@@ -10,7 +10,7 @@ use units::numbers;
 #[repr(C)]
 pub struct Head {
     pub ttrt: u32,
-    // 1: timely-token. 2: plain FDDI.
+    // 1: timely-token. 2: plain FDDI. 3: the 2002 edition of timely-token.
     pub mode: u32,
     // F, the longest frame; 1 where asynchronous traffic may stop at any tick.
     pub frame: u32,

@@ -90,8 +90,8 @@ planLength t = 10 + 26 * t .n + headLength (t .head)
 pub record ByTag : Type 0 where
   pub mode-number : (h : Head) → headNumber h 4 ≡ h .mode
   pub frame-number : (h : Head) → headNumber h 5 ≡ h .frame
-  -- the highest number: mode 2, F 65,535
-  pub mode-most : mostOf 4 ≡ 2
+  -- the highest number: mode 3, F 65,535
+  pub mode-most : mostOf 4 ≡ 3
   pub frame-most : mostOf 5 ≡ 65_535
   -- the mode's field stands at 7, if it is there; F's at 7, or behind the mode's 4 bytes at 11
   pub mode-place : (bs : List ℕ) → placeOf bs 4 ≡ 7

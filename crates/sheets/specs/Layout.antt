@@ -24,7 +24,7 @@ mark tag size = tag ∷ 0 ∷ size ∷ []
 unfoldable pub headNumber : Head → ℕ → ℕ
 headNumber h tag = cond (eqb tag modeTag) (h .mode) (h .frame)
 
--- the highest that is allowed: 2, the last mode that has a name, or 65,535
+-- the highest that is allowed: 3, the last mode that has a name, or 65,535
 unfoldable pub mostOf : ℕ → ℕ
 mostOf tag = cond (eqb tag modeTag) lastMode mostFrame
 

@@ -73,9 +73,13 @@ timely = 1
 abbrev pub fddi : ℕ
 fddi = 2
 
+-- the 2002 edition of the timely-token rules: asynchronous traffic first
+abbrev pub earlier : ℕ
+earlier = 3
+
 -- the last mode that has a name
 abbrev pub lastMode : ℕ
-lastMode = 2
+lastMode = 3
 
 -- ---- ranges (01, "Numbers allowed")
 

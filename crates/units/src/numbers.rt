@@ -38,8 +38,10 @@ pub const BUFFER_TOO_SHORT: u8 = 14;
 pub const TIMELY: u32 = 1;
 // Plain FDDI.
 pub const FDDI: u32 = 2;
+// The 2002 edition of the timely-token rules: asynchronous traffic first.
+pub const EARLIER: u32 = 3;
 // The last mode that has a name.
-pub const LAST_MODE: u32 = 2;
+pub const LAST_MODE: u32 = 3;
 
 // ---- ranges
 

@@ -192,7 +192,7 @@ pub fn tight(random: &mut Random, sort: Sort, over: u32) -> Request {
     let spare = smallest_plan(&request).spare() as u32;
     let index = random.index(request.stations.len());
     let more = match sort.mode {
-        Mode::Timely => spare,
+        Mode::Timely | Mode::Earlier => spare,
         Mode::Fddi => most_walk(&request, index, spare),
     };
     let longer = request.head.frame + more + over;
@@ -343,9 +343,11 @@ fn head_edges(plan: &Plan) -> Vec<Plan> {
     let values = [0, 1, walk_sum - 1, walk_sum, 1_000_000, 1_000_001, u32::MAX];
     let edge = |&value| changed(plan, |plan| plan.request.head.ttrt = value);
     let mut edges: Vec<Plan> = values.iter().map(edge).collect();
-    if plan.request.mode() == Mode::Fddi {
-        let edge = |mode| changed(plan, |plan| plan.request.head.mode = mode);
-        edges.extend([0, 1, 3, 255, 256, 258, u32::MAX].map(edge));
+    let edge = |mode| changed(plan, |plan| plan.request.head.mode = mode);
+    match plan.request.mode() {
+        Mode::Timely => (),
+        Mode::Fddi => edges.extend([0, 1, 3, 255, 256, 258, u32::MAX].map(edge)),
+        Mode::Earlier => edges.extend([0, 1, 2, 4, 255, 256, 259, u32::MAX].map(edge)),
     }
     if plan.request.head.frame > 1 {
         edges

@@ -51,7 +51,7 @@ pub fn sheet(random: &mut Random, kind: SheetKind, sort: Sort) -> Vec<u8> {
             let fields = sound_fields(random, kind, sort);
             damaged_frame(random, fields).concat()
         }
-        6 if sort.is_fddi() => {
+        6 if sort.has_mode() => {
             let fields = sound_fields(random, kind, sort);
             damaged_mode(random, fields).concat()
         }
@@ -172,7 +172,7 @@ pub fn every_damage(random: &mut Random, kind: SheetKind, sort: Sort) -> Vec<Vec
     let mut sheets: Vec<Vec<u8>> = (0..=whole.len()).map(|cut| whole[..cut].to_vec()).collect();
     sheets.extend(every_byte_changed(random, &whole));
     sheets.extend(every_field_damaged(&fields, tags(sort)));
-    if sort.is_fddi() {
+    if sort.has_mode() {
         sheets.extend(every_mode_damaged(&fields));
     }
     if sort.uncut {

@@ -165,7 +165,7 @@ fn place(random: &mut Random, plan: &Plan, index: usize, sort: Sort) -> Place {
     let longest = plan.request.stations[index].longest;
     let ttrt = plan.request.head.ttrt;
     let (trt, late) = match sort.mode {
-        Mode::Timely => (random.between32(0, ttrt), 0),
+        Mode::Timely | Mode::Earlier => (random.between32(0, ttrt), 0),
         Mode::Fddi => fddi_timer(random, ttrt),
     };
     Place {
@@ -189,7 +189,7 @@ fn fddi_timer(random: &mut Random, ttrt: u32) -> (u32, u32) {
 fn edge(random: &mut Random, sort: Sort, state: &mut State) {
     let count = state.places.len();
     match random.between(0, 6) {
-        4 if sort.is_fddi() && random.once_in(2) => mode_edge(random, state),
+        4 if sort.has_mode() && random.once_in(2) => mode_edge(random, state),
         5 if sort.uncut && random.once_in(2) => frame_edge(random, state),
         0 => {
             let count = count as u32;

@@ -164,7 +164,7 @@ fn put_in(random: &mut Random, sort: Sort, lines: &mut Vec<String>, index: usize
             let place = random.pick(&[0, 1, 2, 3, index + 1]).min(lines.len());
             lines.insert(place, random.pick(&STRAY_FRAMES).to_string());
         }
-        6 if sort.is_fddi() && random.once_in(2) => {
+        6 if sort.has_mode() && random.once_in(2) => {
             let place = random.pick(&[0, 1, 2, index + 1]).min(lines.len());
             lines.insert(place, random.pick(&STRAY_MODES).to_string());
         }

@@ -114,11 +114,11 @@ fn numbers_before_and_behind_the_mode() {
         planned(&request)
     };
     assert_eq!(moded(2, 100), Ok(vec![24; 2]));
-    for mode in [0, 3, 255, 256, 258, u32::MAX] {
+    for mode in [0, 4, 255, 256, 258, u32::MAX] {
         assert_eq!([moded(mode, 100), moded(mode, 1)], [Err(4), Err(4)], "mode {mode}");
     }
     assert_eq!(moded(2, 1), Err(5));
-    let none = Request { head: Head { ttrt: 100, mode: 3, frame: 1 }, stations: vec![] };
+    let none = Request { head: Head { ttrt: 100, mode: 4, frame: 1 }, stations: vec![] };
     assert_eq!(planned(&none), Err(2));
 }
 

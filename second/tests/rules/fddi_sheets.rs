@@ -59,7 +59,7 @@ fn cut_at_every_place() {
 #[test]
 fn every_value() {
     for value in 0..=255 {
-        let expected = if value == 2 { 0 } else { 4 };
+        let expected = if matches!(value, 2 | 3) { 0 } else { 4 };
         assert_eq!(number(&with_head(&[&[4, 0, 1, value]])), expected, "{value}");
     }
     assert_eq!(number(&with_head(&[])), 0);
@@ -123,7 +123,7 @@ fn texts_that_are_refused() {
         other => panic!("{other:?} of {text}"),
     };
     let station = "station 2 20 200 200\n";
-    for mode in ["0", "1", "3", "255", "256", "258", "4294967295"] {
+    for mode in ["0", "1", "4", "255", "256", "258", "4294967295"] {
         refused(&format!("ttrt 100\nmode {mode}\n{station}"), 4);
         refused(&format!("ttrt 100\nmode {mode}\nmode 2\n{station}"), 2);
         refused(&format!("ttrt 100\nmode {mode}\n"), 2);
@@ -153,7 +153,7 @@ fn frames() {
     assert_eq!(answered(format!("plan {}", to_hex(&plan_sheet()))), format!("0 4 {planset}"));
     assert_eq!(answered(format!("planning {set}")), "0 18 20,20,20,20");
     assert_eq!(answered(format!("write-request 90;{set}")), format!("0 {request}"));
-    assert_eq!(answered(format!("write-request 90;{}", set.replace("100,2", "100,3"))), "4");
+    assert_eq!(answered(format!("write-request 90;{}", set.replace("100,2", "100,4"))), "4");
     assert_eq!(
         answered(format!("open {planset}")),
         "0 0,0,0,80;2,0,0,0,0,0;0,0,0,0,0,0;0,0,0,0,0,0;0,0,0,0,0,0"

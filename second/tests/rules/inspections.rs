@@ -315,7 +315,7 @@ impl Steps {
         let head = plan.request.head;
         let (ttrt, overrun) = (i64::from(head.ttrt), i64::from(head.frame) - 1);
         let limit = match plan.request.mode() {
-            Mode::Timely => {
+            Mode::Timely | Mode::Earlier => {
                 let unused: i64 = plan
                     .allocation
                     .iter()
@@ -341,6 +341,10 @@ impl Steps {
             asynchronous += length;
         }
         next.sent[here] = synchronous;
+        if plan.request.mode() == Mode::Earlier {
+            // The timer goes to 0 behind the asynchronous part.
+            next.trt[here] = -asynchronous;
+        }
         let span = synchronous + asynchronous + i64::from(plan.request.stations[here].walk);
         for (timer, count) in next.trt.iter_mut().zip(&mut next.late) {
             *timer += span;

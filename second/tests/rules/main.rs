@@ -2,6 +2,7 @@
 
 mod allocations;
 mod cases;
+mod earlier;
 mod fddi_plans;
 mod fddi_rings;
 mod fddi_sheets;
@@ -30,6 +31,10 @@ pub fn timely(ttrt: u32) -> Head {
 
 pub fn fddi(ttrt: u32) -> Head {
     Head::new(ttrt, Mode::Fddi)
+}
+
+pub fn earlier(ttrt: u32) -> Head {
+    Head::new(ttrt, Mode::Earlier)
 }
 
 pub fn station(walk: u32, longest: u32, deadline: u32, gap: u32) -> Station {

@@ -17,9 +17,10 @@ fn answered(kind: Kind, sort: Sort) -> Vec<(String, String)> {
 /// The kind and the sorts whose cases show an error. A message served ahead shows in every sort, and
 /// so does a frame that begins at the limit: one of one tick is such a frame too.
 fn shown_by(planted: Planted) -> (Kind, &'static [Sort]) {
-    const TIMELY: &[Sort] = &[Sort::TIMELY, Sort::UNCUT];
+    const TIMELY: &[Sort] = &[Sort::TIMELY, Sort::UNCUT, Sort::EARLIER, Sort::EARLIER_UNCUT];
     const FDDI: &[Sort] = &[Sort::FDDI, Sort::FDDI_UNCUT];
-    const UNCUT: &[Sort] = &[Sort::UNCUT, Sort::FDDI_UNCUT];
+    const EARLIER: &[Sort] = &[Sort::EARLIER, Sort::EARLIER_UNCUT];
+    const UNCUT: &[Sort] = &[Sort::UNCUT, Sort::FDDI_UNCUT, Sort::EARLIER_UNCUT];
     match planted {
         Planted::Nothing => (Kind::Runs, &[]),
         Planted::TimeForNobody | Planted::RoundedDown => (Kind::Planning, TIMELY),
@@ -29,11 +30,15 @@ fn shown_by(planted: Planted) -> (Kind, &'static [Sort]) {
         Planted::CountNotLowered | Planted::TimerResetWhenLate | Planted::HoldingAfterSending => {
             (Kind::Runs, FDDI)
         }
+        Planted::TrtResetFirst | Planted::LookedAtFirst | Planted::LimitAfterSending => {
+            (Kind::Runs, EARLIER)
+        }
         Planted::FrameCut => (Kind::Runs, UNCUT),
         Planted::WrappedStartRefused
         | Planted::SynchronousUpToC
         | Planted::LimitNotCompared
         | Planted::FirstStartCompared => (Kind::Inspections, &Sort::ALL),
+        Planted::LogByTheLaterEdition => (Kind::Inspections, EARLIER),
         _ => (Kind::Runs, TIMELY),
     }
 }
@@ -48,13 +53,14 @@ fn comparing_finds_every_planted_error() {
             let shown = shown_by(planted).0 == kind && shown_by(planted).1.contains(&sort);
             let tried = if shown { 400 } else { 100 };
             let found = answered[..tried].iter().filter(differs).count();
-            // Among the FDDI sets are a few whose mode was changed to timely-token.
+            // Among the sets with a mode are a few whose mode was changed.
             let as_expected = if shown { found > 10 } else { found < 5 };
             assert!(as_expected, "{planted:?}: {found} in {kind:?} of {sort:?}");
         }
     }
-    assert_eq!([0, 21].map(Planted::from_number), [None, None]);
+    assert_eq!([0, 25].map(Planted::from_number), [None, None]);
     assert_eq!(Planted::from_number(20), Some(Planted::FirstStartCompared));
+    assert_eq!(Planted::from_number(24), Some(Planted::LogByTheLaterEdition));
 }
 
 /// Every promise that the runs with the error break.
@@ -79,7 +85,9 @@ fn the_promises_find_wrong_limits() {
         Broken::Unsound,
     ]);
     assert_eq!(broken(Planted::LimitWithoutUnused, Sort::TIMELY), late);
-    for sort in [Sort::TIMELY, Sort::UNCUT] {
+    let earlier = broken(Planted::LimitWithoutUnused, Sort::EARLIER);
+    assert!(earlier.is_subset(&late) && earlier.len() >= 6, "{earlier:?}");
+    for sort in [Sort::TIMELY, Sort::UNCUT, Sort::EARLIER, Sort::EARLIER_UNCUT] {
         for planted in [
             Planted::UnusedFromZero,
             Planted::TrtResetLate,
@@ -94,9 +102,20 @@ fn the_promises_find_wrong_limits() {
     }
 }
 
+/// In the 2002 edition the timer and the limit are found by the exact limit. A message that is
+/// looked at too soon is never late for it: its deadline is kept a visit later.
+#[test]
+fn the_promises_find_the_2003_order() {
+    for sort in [Sort::EARLIER, Sort::EARLIER_UNCUT] {
+        for planted in [Planted::TrtResetFirst, Planted::LimitAfterSending] {
+            assert!(broken(planted, sort).contains(&Broken::LimitNotExact), "{planted:?}");
+        }
+    }
+}
+
 #[test]
 fn the_promises_find_wrong_frames() {
-    for sort in [Sort::UNCUT, Sort::FDDI_UNCUT] {
+    for sort in [Sort::UNCUT, Sort::FDDI_UNCUT, Sort::EARLIER_UNCUT] {
         assert_eq!(broken(Planted::FrameCut, sort), HashSet::from([Broken::FramesNotExact]));
         let broken = broken(Planted::FrameAtLimit, sort);
         for promise in [Broken::FramesNotExact, Broken::TooMuchAsynchronous, Broken::TokenLate] {

@@ -187,7 +187,7 @@ fn usage_for_anything_else() {
         &["else"],
         &["plan", "more"],
         &["run"],
-        &["--planted", "21", "plan"],
+        &["--planted", "99", "plan"],
         &["--planted"],
         &["generate", "runs", "1"],
         &["generate", "runs", "1", "1", "-", "more"],

@@ -105,7 +105,7 @@ fn waits_for_asynchronous_time() {
 
 #[test]
 fn a_clock_at_the_last_time() {
-    for place in 0..8 {
+    for place in 0..12 {
         let case = &Kind::Late.case(Sort::ALL[place as usize / 2], 1, place)[0];
         let answers = answer(case, Planted::Nothing);
         assert!(answers.contains("|refused 13"), "{answers}");

@@ -18,16 +18,19 @@ returns : tie.Need-returns
 returns c =
     let args = c .before .before .before .before .before .before .args in
     let long : args .head .ttrt ≤ ticksBetween (args .base) (args .clock) = omega (arith, c .before .if2 .taken, c .before .before .before .between .ensures) in
-    c .later .ensures ∙ sym (base-late _ _ _ (c .before .before .before .before .if1 .taken) long)
+    c .later .ensures ∙ sym (base-late _ _ _ _ (c .before .before .before .before .if1 .taken) long)
 
 returns-2 : tie.Need-returns-2
 returns-2 c =
     let args = c .before .before .before .before .before .args in
     let short : ticksBetween (args .base) (args .clock) < args .head .ttrt = omega (arith, c .if2 .left, c .before .before .between .ensures) in
-    sym (base-early _ _ _ (c .before .before .before .if1 .taken) short)
+    sym (base-early _ _ _ _ (c .before .before .before .if1 .taken) short)
+
+later-requires-2 : tie.Need-later-requires-2
+later-requires-2 c κs = search needs
 
 returns-3 : tie.Need-returns-3
-returns-3 c = sym (base-timely _ _ _ (c .if1 .left))
+returns-3 c = c .later2 .ensures ∙ sym (base-timely _ _ _ _ (c .before .if1 .left))
 
 pub base-after-spec : {M : Type 1} → statement M
-base-after-spec = tie.close (tie.spec between-requires later-requires returns returns-2 returns-3)
+base-after-spec = tie.close (tie.spec between-requires later-requires returns returns-2 later-requires-2 returns-3)

@@ -7,6 +7,7 @@ use Rattle.sets.specs.declared.Set.{Set}
 use Rattle.plans.specs.declared.Alloc.{Alloc}
 use Rattle.entries.specs.declared.Entry.{Entry}
 use Rattle.rings.specs.State.{following}
+use Rattle.rings.specs.Timers.{lead}
 use Rattle.inspection.specs.Counter.{ticksLater}
 use Rattle.inspection.specs.Rules.{place}
 use Rattle.inspection.specs.Records.{baseWith, unusedWith, spanOf, movedOn}
@@ -23,6 +24,9 @@ mul-base-after c = search needs
 
 array-read-base-after : tie.Need-array-read-base-after
 array-read-base-after c = search needs
+
+lead-of-requires : tie.Need-lead-of-requires
+lead-of-requires c κs = search needs
 
 base-after-requires : tie.Need-base-after-requires
 base-after-requires c κs = search needs
@@ -73,7 +77,8 @@ element-write-next-2 : tie.Need-element-write-next-2
 element-write-next-2 c = search needs
 
 -- an inspection is the moved one if what it stores is
-stored : (s : Inspection) (t : Set) (a : Alloc) (e : Entry) (base unused span token clock visits : ℕ) → base ≡ baseWith (t .head) (s .clock) (at (s .base) (place s))
+stored : (s : Inspection) (t : Set) (a : Alloc) (e : Entry) (ahead base unused span token clock visits : ℕ) → ahead ≡ lead t (e .asynchronous)
+    → base ≡ baseWith (t .head) (s .clock) (at (s .base) (place s)) ahead
     → unused ≡ unusedWith (s .unused) (at (a .s) (place s)) (at (s .sent) (place s)) (e .synchronous) → span ≡ spanOf s t e → token ≡ following (t .n) (place s)
     → clock ≡ ticksLater (s .clock) span → visits ≡ (s .visits + 1) % 2 ^ 64
     → record {
@@ -88,16 +93,19 @@ stored : (s : Inspection) (t : Set) (a : Alloc) (e : Entry) (base unused span to
       rule = s .rule;
     } ≡ movedOn s t a e
 unfolding movedOn
-stored s t a e base unused span token clock visits is falls takes goes runs counts = rw (is, falls, goes, runs, takes, counts) refl
+stored s t a e ahead base unused span token clock visits leads is falls takes goes runs counts = rw (is, leads, falls, goes, runs, takes, counts) refl
 
 returns : tie.Need-returns
-returns c = stored _ _ _ _ _ _ _ _ _ _ (search) (search) (search) (search) (search) (search)
+returns c =
+    let leads = c .before .before .before .before .before .before .lead-of in
+    stored _ _ _ _ (leads .result) _ _ _ _ _ _ (leads .ensures) (search) (search) (search) (search) (search) (search)
 
 pub moved-on-spec : {M : Type 1} → statement M
 moved-on-spec =
     tie.close
     (tie.spec
     cast-p
+    lead-of-requires
     mul-base-after
     array-read-base-after
     base-after-requires

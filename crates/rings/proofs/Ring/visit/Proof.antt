@@ -71,7 +71,7 @@ time-sent-requires c κs =
 sync-sent-requires : tie.Need-sync-sent-requires
 sync-sent-requires c κs =
     let s = safe (c .before .before) .0 in
-    omega arith
+    (omega arith, omega (arith, s .clock, s .rotation, s .allotted, c .time-sent .ensures .within, c .before .limit-of .ensures .small, asked (c .before .before)))
 
 record-of-requires : tie.Need-record-of-requires
 record-of-requires c κs = (safe (c .before .before .before) .0, sendable c)

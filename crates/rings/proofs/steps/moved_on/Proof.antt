@@ -53,7 +53,9 @@ timers-after-requires : tie.Need-timers-after-requires
 timers-after-requires c κs = c .before .before .pre
 
 sync-start-requires : tie.Need-sync-start-requires
-sync-start-requires c κs = search needs
+sync-start-requires c κs =
+    let pre = c .before .before .before .pre in
+    omega (arith, pre .0 .clock, pre .0 .rotation, pre .2 .short)
 
 next-token-requires : tie.Need-next-token-requires
 next-token-requires c κs = c .before .before .before .before .pre .0

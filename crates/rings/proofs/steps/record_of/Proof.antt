@@ -14,6 +14,7 @@ use mir.Syntax.{w64}
 use mir.Val.{toZ, ofZ}
 use mir.ValLaws.{toZ-ofZ}
 use Rattle.rings.specs.RingLaws.{difference-fits}
+use Rattle.rings.specs.TimerLaws.{lead-within}
 use borrow.Author.Needs.{needs}
 use Rattle.rings.proofs.steps.record_of.Statement.{statement}
 use Rattle.rings.proofs.steps.record_of.Tie as tie
@@ -41,7 +42,7 @@ due-small : (r : Ring) → Safe r → deadline r < 2 ^ 62
 due-small r s = omega arith
 
 end-small : (r : Ring) (sync async : ℕ) → Safe r → Sendable r sync async → finish r sync async < 2 ^ 62
-end-small r sync async s t = omega arith
+end-small r sync async s t = omega (arith, lead-within (r .set) async)
 
 inside : (r : Ring) → Safe r → r .token < 128
 inside r s = omega arith
@@ -68,13 +69,15 @@ completes-with-requires : tie.Need-completes-with-requires
 completes-with-requires c κs = inside _ (c .before .before .before .before .before .pre .0)
 
 sync-start-requires : tie.Need-sync-start-requires
-sync-start-requires c κs = search needs
+sync-start-requires c κs =
+    let pre = c .before .before .before .before .before .before .before .pre in
+    omega (arith, pre .0 .clock, pre .0 .rotation, pre .1 .short)
 
 add-finish : tie.Need-add-finish
 add-finish c =
-    let s = c .before .before .before .before .before .before .before .before .pre .0 in
-    let started = c .sync-start .ensures in
-    search needs
+    let pre = c .before .before .before .before .before .before .before .before .pre in
+    let small = end-small _ _ _ (pre .0) (pre .1) in
+    omega (arith, small, c .sync-start .ensures)
 
 deadline-of-requires : tie.Need-deadline-of-requires
 deadline-of-requires c κs = c .before .before .before .before .before .before .before .before .pre .0

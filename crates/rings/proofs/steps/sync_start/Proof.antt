@@ -1,10 +1,19 @@
--- `sync_start` is right because it gives the clock, as the definition does.
-use mathlib.Core.Path.{refl}
+-- `sync_start` is right because it adds the definition's two numbers.
+use Prim.Native.Nat.{_+_}
+use mathlib.Core.Path.{ap}
+use native.Mathlib.Omega.{arith}
+use borrow.Author.Needs.{needs}
 use Rattle.rings.proofs.steps.sync_start.Statement.{statement}
 use Rattle.rings.proofs.steps.sync_start.Tie as tie
 
+lead-of-requires : tie.Need-lead-of-requires
+lead-of-requires c κs = search needs
+
+add-result : tie.Need-add-result
+add-result c = omega (arith, c .before .before .pre, c .before .lead-of .ensures .small)
+
 returns : tie.Need-returns
-returns c = refl
+returns c = ap (λ lead. c .before .before .args .r .clock + lead) (c .before .lead-of .ensures .is)
 
 pub sync-start-spec : {M : Type 1} → statement M
-sync-start-spec = tie.close (tie.spec returns)
+sync-start-spec = tie.close (tie.spec lead-of-requires add-result returns)

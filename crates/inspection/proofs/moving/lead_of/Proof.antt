@@ -1,0 +1,14 @@
+-- `lead_of` is right because its branch is the definition's.
+use mathlib.Core.Path.{sym}
+use Rattle.rings.specs.TimerLaws.{lead-all, lead-none}
+use Rattle.inspection.proofs.moving.lead_of.Statement.{statement}
+use Rattle.inspection.proofs.moving.lead_of.Tie as tie
+
+returns : tie.Need-returns
+returns c = sym (lead-all _ (c .if1 .taken) _)
+
+returns-2 : tie.Need-returns-2
+returns-2 c = sym (lead-none _ (c .if1 .left) _)
+
+pub lead-of-spec : {M : Type 1} → statement M
+lead-of-spec = tie.close (tie.spec returns returns-2)
