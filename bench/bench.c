@@ -45,7 +45,7 @@ static int same_reading(const uint8_t *sheet, size_t length)
     return 1;
 }
 
-#define MOST_PLAN_BYTES (OLIVASTRUM_PLAN_BYTES(128) + OLIVASTRUM_MODE_BYTES + OLIVASTRUM_FRAME_BYTES)
+#define MOST_PLAN_BYTES (OLIVASTRUM_PLAN_BYTES(128) + OLIVASTRUM_MODE_BYTES + OLIVASTRUM_FRAME_BYTES + OLIVASTRUM_GRID_BYTES)
 
 /* The longest frame of the rings that are timed with frames. */
 #define FRAME 40
@@ -73,7 +73,10 @@ static int same_sheets(uint32_t n, uint32_t mode, uint32_t frame)
     for (uint8_t number = 0; number <= 4; number++) {
         const uint8_t modes[OLIVASTRUM_MODE_BYTES] = {4, 0, 1, number};
         const uint8_t frames[OLIVASTRUM_FRAME_BYTES] = {5, 0, 4, 0, number / 3, 0, number};
+        const uint8_t grids[OLIVASTRUM_GRID_BYTES] = {6, 0, 4, 0, 0, number / 3, number};
         if (!same_with(sheet, length, modes, sizeof modes) || !same_with(sheet, length, frames, sizeof frames))
+            return 0;
+        if (!same_with(sheet, length, grids, sizeof grids))
             return 0;
     }
     for (size_t cut = 0; cut <= length + 1; cut++)
@@ -81,7 +84,7 @@ static int same_sheets(uint32_t n, uint32_t mode, uint32_t frame)
             return 0;
     for (size_t at = 0; at < length; at++) {
         uint8_t byte = sheet[at];
-        static const uint8_t others[] = {0, 1, 2, 3, 4, 5, 16, 255};
+        static const uint8_t others[] = {0, 1, 2, 3, 4, 5, 6, 16, 255};
         for (size_t k = 0; k < sizeof others; k++) {
             sheet[at] = others[k];
             if (!same_reading(sheet, length) || !same_reading(sheet, at + random_number() % 20))
@@ -126,7 +129,7 @@ static int same_plans(uint32_t n, uint32_t mode, uint32_t frame)
         set_t other = set;
         alloc_t share = alloc;
         uint32_t i = random_number() % n;
-        switch (random_number() % 9) {
+        switch (random_number() % 10) {
         case 0: other.w[i] = edge(); break;
         case 1: other.c[i] = edge(); break;
         case 2: other.d[i] = edge(); break;
@@ -136,6 +139,7 @@ static int same_plans(uint32_t n, uint32_t mode, uint32_t frame)
         case 6: share.s[i] += random_number() % 3 - 1; break;
         case 7: other.head.mode = edge(); break;
         case 8: other.head.frame = random_number() % 2 ? edge() : random_number() % 70000; break;
+        case 9: other.head.grid = random_number() % 2 ? edge() : random_number() % 1200; break;
         }
         if (random_number() % 4 == 0)
             share.s[random_number() % n] = edge();
@@ -147,14 +151,16 @@ static int same_plans(uint32_t n, uint32_t mode, uint32_t frame)
     return 1;
 }
 
-/* FDDI sets: random ones, with their plan, one a tick beside it and none; and one that is all walk time, so that a timer starts
- * at TTRT. */
+/* FDDI sets: random ones, with frames and a grid or without, with their plan, one a tick beside it and none; and one that is
+ * all walk time, so that a timer starts at TTRT. */
 static int same_older(uint32_t n)
 {
     for (int k = 0; k < 500; k++) {
         set_t set = random_fddi(n, 1 + random_number() % 120);
         if (random_number() % 2)
             set.head.frame = 1 + random_number() % 1000;
+        if (random_number() % 2)
+            set.head.grid = 1 + random_number() % 1000;
         alloc_t share = olivastrum_plan_set(set).alloc;
         if (!same_plan(set, share))
             return 0;

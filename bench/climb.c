@@ -93,7 +93,7 @@ static int random_sets(uint32_t n, uint32_t from, uint32_t to)
  * lacks one. They begin at half of their C and end at C. The others have their S from the first round on. */
 static set_t longest(uint32_t n, uint32_t ttrt, uint32_t c)
 {
-    set_t set = {.head = {ttrt, OLIVASTRUM_FDDI, 1}, .n = n};
+    set_t set = {.head = {ttrt, OLIVASTRUM_FDDI, 1, 1}, .n = n};
     set.w[0] = 1;
     for (uint32_t i = 0; i < n; i++) {
         int climbs = i == 0 || i == n - 1;

@@ -8,6 +8,7 @@
 
 #define MOST_TTRT 1000000u
 #define MOST_FRAME 65535u
+#define MOST_GRID 1000u
 #define MOST_WALK 1000000u
 #define MOST_C 100000000u
 #define MOST_D 100000000u
@@ -50,6 +51,8 @@ static int numbers_fit(const set_t *set)
         return 0;
     if (set->head.frame < 1 || set->head.frame > MOST_FRAME)
         return 0;
+    if (set->head.grid < 1 || set->head.grid > MOST_GRID)
+        return 0;
     for (uint32_t i = 0; i < set->n; i++) {
         FAULT(set->w[i] > MOST_WALK);
         FAULT(set->c[i] > MOST_C);
@@ -90,6 +93,12 @@ static uint32_t rounded_up(uint32_t a, uint32_t b)
     return (a + b - 1) / b;
 }
 #endif
+
+/* The smallest multiple of the grid that is no less; where every number is one, there is nothing to do. */
+static uint32_t on_the_grid(uint32_t grid, uint32_t s)
+{
+    return grid == 1 ? s : rounded_up(s, grid) * grid;
+}
 
 /* The first less the second, held at 0. */
 static uint32_t room(uint32_t a, uint32_t b)
@@ -141,6 +150,16 @@ static int deadlines_fit(const set_t *set, const alloc_t *alloc, uint32_t taken)
     return 1;
 }
 
+static int shares_on_the_grid(const alloc_t *alloc, uint32_t grid, uint32_t n)
+{
+    if (grid == 1)
+        return 1;
+    for (uint32_t i = 0; i < n; i++)
+        if (quotient(alloc->s[i], grid) * grid != alloc->s[i])
+            return 0;
+    return 1;
+}
+
 static uint8_t judge_plan(const set_t *set, const alloc_t *alloc)
 {
     if (!count_fits(set))
@@ -151,6 +170,8 @@ static uint8_t judge_plan(const set_t *set, const alloc_t *alloc)
     if (tau < 1 || tau > set->head.ttrt)
         return OLIVASTRUM_WALK_TIME;
     uint32_t taken = sum(alloc->s, set->n) + tau + set->head.frame - 1;
+    if (!shares_on_the_grid(alloc, set->head.grid, set->n))
+        return OLIVASTRUM_RULE_BROKEN;
     if (taken > set->head.ttrt || !deadlines_fit(set, alloc, taken))
         return OLIVASTRUM_RULE_BROKEN;
     return OLIVASTRUM_ACCEPTED;
@@ -189,6 +210,7 @@ static uint8_t read_fields(const uint8_t *sheet, size_t length, struct olivastru
     uint32_t head = 0; /* the highest tag of the header's fields that has passed */
     set->head.mode = OLIVASTRUM_TIMELY;
     set->head.frame = 1;
+    set->head.grid = 1;
     for (;;) {
         if (length - at < 3)
             return OLIVASTRUM_SHEET_ENDS;
@@ -208,8 +230,8 @@ static uint8_t read_fields(const uint8_t *sheet, size_t length, struct olivastru
         case 255:
             allowed = stations > 0 && allocations == stations && size == 0;
             break;
-        default: /* tag 4, the mode, and tag 5, F; cases of their own make the loop slower */
-            allowed = (tag == 4 || tag == 5) && head > 0 && head < tag && stations == 0 && size == (tag == 4 ? 1 : 4);
+        default: /* tag 4, the mode, tag 5, F, and tag 6, g; cases of their own make the loop slower */
+            allowed = tag >= 4 && tag <= 6 && head > 0 && head < tag && stations == 0 && size == (tag == 4 ? 1 : 4);
         }
         if (!allowed)
             return OLIVASTRUM_SHEET_WRONG;
@@ -235,6 +257,9 @@ static uint8_t read_fields(const uint8_t *sheet, size_t length, struct olivastru
         } else if (tag == 5) {
             head = 5;
             set->head.frame = number_at(body) == 1 ? 0 : number_at(body);
+        } else if (tag == 6) {
+            head = 6;
+            set->head.grid = number_at(body) == 1 ? 0 : number_at(body);
         } else {
             set->n = stations;
             return at < length ? OLIVASTRUM_SHEET_GOES_ON : OLIVASTRUM_ACCEPTED;
@@ -263,6 +288,8 @@ struct olivastrum_written plain_write_plan(const set_t *set, const alloc_t *allo
         needed += OLIVASTRUM_MODE_BYTES;
     if (set->head.frame != 1)
         needed += OLIVASTRUM_FRAME_BYTES;
+    if (set->head.grid != 1)
+        needed += OLIVASTRUM_GRID_BYTES;
     if (length < needed) {
         answer.number = OLIVASTRUM_BUFFER_TOO_SHORT;
         return answer;
@@ -274,6 +301,8 @@ struct olivastrum_written plain_write_plan(const set_t *set, const alloc_t *allo
     }
     if (set->head.frame != 1)
         at = put_number(put_mark(at, 5, 4), set->head.frame);
+    if (set->head.grid != 1)
+        at = put_number(put_mark(at, 6, 4), set->head.grid);
     for (uint32_t i = 0; i < set->n; i++) {
         at = put_mark(at, 2, 16);
         at = put_number(at, set->w[i]);
@@ -305,7 +334,7 @@ static int timely_plan(const set_t *set, alloc_t *alloc)
 {
     uint64_t all = sum(set->w, set->n) + set->head.frame - 1;
     for (uint32_t i = 0; i < set->n; i++) {
-        alloc->s[i] = smallest(set->head.ttrt, set->c[i], set->d[i]);
+        alloc->s[i] = on_the_grid(set->head.grid, smallest(set->head.ttrt, set->c[i], set->d[i]));
         all += alloc->s[i];
     }
     return all <= set->head.ttrt;
@@ -340,7 +369,7 @@ int plain_climb(const set_t *set, alloc_t *alloc, struct plain_climbed *took)
                 if (q[i] == 0 || (q[i] == 1 && c <= s))
                     return 0;
                 took->raised++;
-                s = raised(q[i], c, more);
+                s = on_the_grid(set->head.grid, raised(q[i], c, more));
                 if (s > ttrt)
                     return 0;
                 alloc->s[i] = s;

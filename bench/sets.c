@@ -12,7 +12,7 @@ uint32_t random_number(void)
 /* FDDI gives nothing in the first rotation of a deadline, so there each is a rotation longer. */
 struct olivastrum_set stations(uint32_t n, uint32_t mode, uint32_t frame)
 {
-    struct olivastrum_set set = {.head = {100000, mode, frame}, .n = n};
+    struct olivastrum_set set = {.head = {100000, mode, frame, 1}, .n = n};
     uint32_t longer = mode == OLIVASTRUM_FDDI ? 100000 : 0;
     for (uint32_t i = 0; i < n; i++) {
         set.w[i] = 10 + i % 3;
@@ -25,7 +25,7 @@ struct olivastrum_set stations(uint32_t n, uint32_t mode, uint32_t frame)
 
 struct olivastrum_set rotations(uint32_t q, uint32_t mode)
 {
-    struct olivastrum_set set = {.head = {90000, mode, 1}, .n = OLIVASTRUM_MOST_STATIONS};
+    struct olivastrum_set set = {.head = {90000, mode, 1, 1}, .n = OLIVASTRUM_MOST_STATIONS};
     for (uint32_t i = 0; i < set.n; i++) {
         set.w[i] = 1;
         set.c[i] = (q - 1) * (100 + 37 * i % 400);
@@ -38,7 +38,7 @@ struct olivastrum_set rotations(uint32_t q, uint32_t mode)
 struct olivastrum_set random_fddi(uint32_t n, uint32_t load)
 {
     uint32_t ttrt = 2000 + random_number() % 998001;
-    struct olivastrum_set set = {.head = {ttrt, OLIVASTRUM_FDDI, 1}, .n = n};
+    struct olivastrum_set set = {.head = {ttrt, OLIVASTRUM_FDDI, 1, 1}, .n = n};
     uint32_t weight[OLIVASTRUM_MOST_STATIONS], all = 0, walk = 1 + random_number() % (ttrt / 10 / n);
     for (uint32_t i = 0; i < n; i++)
         all += weight[i] = 1 + random_number() % 1000;

@@ -62,9 +62,9 @@
 
 /* The version of the header and the library, as `./olivastrum version` prints it. */
 #define OLIVASTRUM_VERSION_MAJOR 0
-#define OLIVASTRUM_VERSION_MINOR 9
+#define OLIVASTRUM_VERSION_MINOR 10
 #define OLIVASTRUM_VERSION_PATCH 0
-#define OLIVASTRUM_VERSION "0.9.0"
+#define OLIVASTRUM_VERSION "0.10.0"
 
 #ifdef __cplusplus
 extern "C" {
@@ -76,12 +76,12 @@ enum {
     OLIVASTRUM_SHEET_ENDS = 1,        /* the sheet ends inside a field, or before the end field */
     OLIVASTRUM_SHEET_WRONG = 2,       /* wrong tag, wrong length, wrong count of stations or allocations */
     OLIVASTRUM_SHEET_GOES_ON = 3,     /* a byte follows the end field */
-    OLIVASTRUM_OUT_OF_RANGE = 4,      /* w, C, D, P, TTRT, F or S outside its range, or a mode that is not 1, 2 or 3; on
-                                         a sheet or in a text a mode that is named and is not 2 or 3, or
-                                         an F that is named and is 1 */
+    OLIVASTRUM_OUT_OF_RANGE = 4,      /* w, C, D, P, TTRT, F, g or S outside its range, or a mode that is not 1, 2 or 3;
+                                         on a sheet or in a text a mode that is named and is not 2 or 3, or
+                                         an F or a g that is named and is 1 */
     OLIVASTRUM_WALK_TIME = 5,         /* the sum of all w is 0 or above TTRT */
-    OLIVASTRUM_NO_ALLOCATION = 6,     /* planning: no allocation exists */
-    OLIVASTRUM_RULE_BROKEN = 7,       /* the given allocation breaks the token or the deadline rule */
+    OLIVASTRUM_NO_ALLOCATION = 6,     /* planning: no allocation of multiples of g exists */
+    OLIVASTRUM_RULE_BROKEN = 7,       /* the given allocation breaks the token or the deadline rule, or is off the grid */
     OLIVASTRUM_UNSOUND = 8,           /* the ring's state is unsound */
     OLIVASTRUM_NO_SUCH_STATION = 9,   /* station number not below N */
     OLIVASTRUM_BAD_LENGTH = 10,       /* message length 0 or above C; visit: frame length 0 or above F */
@@ -99,12 +99,13 @@ enum {
 #define OLIVASTRUM_FDDI 2u
 #define OLIVASTRUM_EARLIER 3u
 
-/* The bytes of a request sheet and of a plan sheet of n stations; and what a mode other than timely-token, and a longest
- * frame F other than 1, take beside. */
+/* The bytes of a request sheet and of a plan sheet of n stations; and what a mode other than timely-token, a longest frame
+ * F other than 1 and a grid g other than 1 take beside. */
 #define OLIVASTRUM_REQUEST_BYTES(n) (10u + 19u * (n))
 #define OLIVASTRUM_PLAN_BYTES(n) (10u + 26u * (n))
 #define OLIVASTRUM_MODE_BYTES 4u
 #define OLIVASTRUM_FRAME_BYTES 7u
+#define OLIVASTRUM_GRID_BYTES 7u
 
 /* A log: the fields of its plan sheet but the end; then for each visit tag 16, length 17, the station in one byte, and
  * start, limit, synchronous and asynchronous in four bytes each, the high byte first; then the end. So it has the bytes
@@ -120,12 +121,14 @@ struct olivastrum_station {
     uint64_t number;
 };
 
-/* What a sheet says before its stations. A set that is made by hand names its mode, 1 is timely-token, and its longest
- * frame F, 1 to 65,535: with 1 asynchronous traffic may be cut at any tick. */
+/* What a sheet says before its stations. A set that is made by hand names its mode, 1 is timely-token; its longest frame
+ * F, 1 to 65,535: with 1 asynchronous traffic may be cut at any tick; and its grid g, 1 to 1,000: every S is a multiple of
+ * it. */
 struct olivastrum_head {
     uint32_t ttrt;
     uint32_t mode;
     uint32_t frame;
+    uint32_t grid;
 };
 
 /* N stations in ring order: walk time w to the next, longest message C (0: no stream), deadline D, least gap P. */
@@ -138,7 +141,7 @@ struct olivastrum_set {
     uint32_t p[OLIVASTRUM_MOST_STATIONS];
 };
 
-/* The synchronous time S of each station. */
+/* The synchronous time S of each station, a multiple of g. */
 struct olivastrum_alloc {
     uint32_t s[OLIVASTRUM_MOST_STATIONS];
 };
@@ -153,7 +156,6 @@ struct olivastrum_ring {
     uint32_t sent[OLIVASTRUM_MOST_STATIONS];    /* synchronous ticks sent at its last visit */
     uint32_t rest[OLIVASTRUM_MOST_STATIONS];    /* what remains of the held message; 0: none is held */
     uint32_t token;                             /* the station that has the token */
-    uint32_t filler;                            /* nothing looks at it and nothing changes it */
     uint64_t arrival[OLIVASTRUM_MOST_STATIONS]; /* the held message's arrival, and after it the last accepted one */
     uint8_t had[OLIVASTRUM_MOST_STATIONS];      /* a message was ever accepted: 0 is no, anything else yes */
     uint64_t last[OLIVASTRUM_MOST_STATIONS];    /* the start of the last visit, where the station is below visits; in the
@@ -279,22 +281,22 @@ OLIVASTRUM_SIZE(void *, 8);
 OLIVASTRUM_SIZE(size_t, 8);
 OLIVASTRUM_SIZE(struct olivastrum_ticks, 8);
 OLIVASTRUM_SIZE(struct olivastrum_station, 8);
-OLIVASTRUM_SIZE(struct olivastrum_head, 12);
-OLIVASTRUM_SIZE(struct olivastrum_set, 2064);
+OLIVASTRUM_SIZE(struct olivastrum_head, 16);
+OLIVASTRUM_SIZE(struct olivastrum_set, 2068);
 OLIVASTRUM_SIZE(struct olivastrum_alloc, 512);
 OLIVASTRUM_SIZE(struct olivastrum_ring, 6832);
 OLIVASTRUM_SIZE(struct olivastrum_ask, 8);
 OLIVASTRUM_SIZE(struct olivastrum_message, 24);
 OLIVASTRUM_SIZE(struct olivastrum_visit_record, 72);
-OLIVASTRUM_SIZE(struct olivastrum_read_request, 2068);
-OLIVASTRUM_SIZE(struct olivastrum_read_plan, 2580);
+OLIVASTRUM_SIZE(struct olivastrum_read_request, 2072);
+OLIVASTRUM_SIZE(struct olivastrum_read_plan, 2584);
 OLIVASTRUM_SIZE(struct olivastrum_written, 16);
 OLIVASTRUM_SIZE(struct olivastrum_planned, 516);
 OLIVASTRUM_SIZE(struct olivastrum_opened, 6840);
 OLIVASTRUM_SIZE(struct olivastrum_visit_answer, 80);
 OLIVASTRUM_SIZE(struct olivastrum_recorder, 24);
 OLIVASTRUM_SIZE(struct olivastrum_entry, 20);
-OLIVASTRUM_SIZE(struct olivastrum_read_log, 2600);
+OLIVASTRUM_SIZE(struct olivastrum_read_log, 2608);
 OLIVASTRUM_SIZE(struct olivastrum_next_entry, 32);
 OLIVASTRUM_SIZE(struct olivastrum_finding, 24);
 
@@ -318,8 +320,8 @@ struct olivastrum_written olivastrum_write_request_sheet(struct olivastrum_set s
 #define OLIVASTRUM_STACK_WRITE_PLAN_SHEET 18944
 struct olivastrum_written olivastrum_write_plan_sheet(struct olivastrum_set set, struct olivastrum_alloc alloc, uint8_t *out, size_t length);
 
-/* Plans a set: the least vector, no allocation that meets the rules has less at any station; or 2, 4, 5 or 6. 6 is given
- * exactly if no allocation exists. With mode 2 the plan meets FDDI's rules and promises no deadline. */
+/* Plans a set: the least vector of multiples of g, no other that meets the rules has less at any station; or 2, 4, 5 or 6.
+ * 6 is given exactly if no such allocation exists. With mode 2 the plan meets FDDI's rules and promises no deadline. */
 #define OLIVASTRUM_STACK_PLAN_SET 8704
 struct olivastrum_planned olivastrum_plan_set(struct olivastrum_set set);
 
@@ -329,7 +331,7 @@ struct olivastrum_opened olivastrum_open_ring(struct olivastrum_set set, struct 
 
 /* A visit at the station that has the token, with frames asked for. The ring is changed where it stands; 8, 10 or 13
  * leave it as it was. */
-#define OLIVASTRUM_STACK_VISIT 31744
+#define OLIVASTRUM_STACK_VISIT 30720
 struct olivastrum_visit_answer olivastrum_visit(struct olivastrum_ring *ring, struct olivastrum_ask ask);
 
 /* Hands in a message. The ring is changed where it stands; 8 to 12 leave it as it was. Returns the number. */
@@ -340,7 +342,7 @@ uint8_t olivastrum_hand_in(struct olivastrum_ring *ring, struct olivastrum_messa
  * says it is at the ring's clock (0 and 0 give the log that the program's `log` writes). The rest of out is left as it
  * was. 2, 4, 5, 7 or 14 write nothing; the recorder then has only its number, and is not to be used: what is added to it
  * would be written from place 0 on, and would be no log. */
-#define OLIVASTRUM_STACK_BEGIN_LOG 18944
+#define OLIVASTRUM_STACK_BEGIN_LOG 19456
 struct olivastrum_recorder olivastrum_begin_log(struct olivastrum_set set, struct olivastrum_alloc alloc, uint32_t counter, uint64_t clock, uint8_t *out, size_t length);
 
 /* Adds the record of an accepted visit: the counter moves on by what the clock rose. 14 where its field and the end do
@@ -370,7 +372,7 @@ struct olivastrum_next_entry olivastrum_log_entry(const uint8_t *log, size_t len
 struct olivastrum_finding olivastrum_inspect_log(const uint8_t *log, size_t length);
 
 /* The most that a call of any of them needs. */
-#define OLIVASTRUM_STACK_MOST 31744
+#define OLIVASTRUM_STACK_MOST 30720
 
 #ifdef __cplusplus
 }

@@ -38,7 +38,9 @@ usage: second [--planted K] [COMMAND]
                 second inspect < ring.log
   generate KIND SEED COUNT [DIR]
               framed cases out, or into a file in DIR; fddi-KIND for sets that run FDDI,
-              uncut-KIND and fddi-uncut-KIND for such with a longest frame F
+              earlier-KIND for the 2002 edition; uncut-KIND, fddi-uncut-KIND and
+              earlier-uncut-KIND for such with a longest frame F, grid-KIND,
+              fddi-grid-KIND and earlier-grid-KIND for such on a grid g
                 second generate requests 1 20000 > cases
   answers     framed cases in, one line of answer for each out
                 second answers < cases

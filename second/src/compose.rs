@@ -33,6 +33,7 @@ struct Draft {
     ttrt: Option<u32>,
     mode: Option<u32>,
     frame: Option<u32>,
+    grid: Option<u32>,
     stations: Vec<Station>,
     allocation: Vec<u32>,
     misplaced: bool,
@@ -48,6 +49,7 @@ impl Draft {
             [b"ttrt", ttrt] => self.take_ttrt(number(ttrt)?),
             [b"mode", mode] => self.take_mode(number(mode)?),
             [b"frame", frame] => self.take_frame(number(frame)?),
+            [b"grid", grid] => self.take_grid(number(grid)?),
             [b"station", ref numbers @ ..] => self.take_station(numbers)?,
             [b"visit", ref numbers @ ..] => return self.take_visit(numbers),
             _ => return None,
@@ -66,16 +68,23 @@ impl Draft {
         self.ttrt.is_some() && self.stations.is_empty() && self.plan.is_none()
     }
 
-    /// `mode` stands at most once, in the head and before `frame`.
+    /// `mode` stands at most once, in the head and before `frame` and `grid`.
     fn take_mode(&mut self, mode: u32) {
-        self.misplaced |= self.mode.is_some() || self.frame.is_some() || !self.in_head();
+        let behind = [self.mode, self.frame, self.grid].iter().any(Option::is_some);
+        self.misplaced |= behind || !self.in_head();
         self.mode = Some(mode);
     }
 
-    /// `frame` stands at most once, in the head.
+    /// `frame` stands at most once, in the head and before `grid`.
     fn take_frame(&mut self, frame: u32) {
-        self.misplaced |= self.frame.is_some() || !self.in_head();
+        self.misplaced |= self.frame.is_some() || self.grid.is_some() || !self.in_head();
         self.frame = Some(frame);
+    }
+
+    /// `grid` stands at most once, in the head.
+    fn take_grid(&mut self, grid: u32) {
+        self.misplaced |= self.grid.is_some() || !self.in_head();
+        self.grid = Some(grid);
     }
 
     fn take_station(&mut self, words: &[&[u8]]) -> Option<()> {
@@ -126,8 +135,8 @@ impl Draft {
     /// What the lines before the stations say.
     fn head(&self) -> Result<Head, Refusal> {
         let ttrt = self.ttrt.ok_or(Refusal::WrongField)?;
-        let [mode, frame] = [self.mode, self.frame].map(header_number);
-        Ok(Head { ttrt, mode, frame })
+        let [mode, frame, grid] = [self.mode, self.frame, self.grid].map(header_number);
+        Ok(Head { ttrt, mode, frame, grid })
     }
 
     fn request(&self) -> Result<Request, Refusal> {

@@ -82,26 +82,25 @@ pub fn show_set(request: &Request, allocation: &[u32]) -> String {
     parts.join(";")
 }
 
-/// `TTRT`, `TTRT,MODE` or `TTRT,MODE,FRAME`: as many as the last that is not 1.
+/// `TTRT`, `TTRT,MODE`, `TTRT,MODE,FRAME` or `TTRT,MODE,FRAME,GRID`: up to the last that is not 1.
 pub fn show_head(head: &Head) -> String {
-    let Head { ttrt, mode, frame } = *head;
-    match (mode, frame) {
-        (1, 1) => ttrt.to_string(),
-        (_, 1) => joined(&[ttrt, mode]),
-        _ => joined(&[ttrt, mode, frame]),
-    }
+    let Head { ttrt, mode, frame, grid } = *head;
+    let further = [mode, frame, grid];
+    let shown = further.iter().rposition(|&number| number != 1).map_or(0, |place| place + 1);
+    joined(&[&[ttrt], &further[..shown]].concat())
 }
 
-/// What `show_head` shows; the mode and F may stand there in any case.
+/// What `show_head` shows; the mode, F and g may stand there in any case.
 pub fn read_head(part: &str) -> Option<Head> {
     let numbers: Option<Vec<u32>> = part.split(',').map(parse).collect();
-    let (ttrt, mode, frame) = match numbers?[..] {
-        [ttrt] => (ttrt, 1, 1),
-        [ttrt, mode] => (ttrt, mode, 1),
-        [ttrt, mode, frame] => (ttrt, mode, frame),
-        _ => return None,
+    let mut numbers = numbers?;
+    if numbers.len() < 4 {
+        numbers.resize(4, 1);
+    }
+    let [ttrt, mode, frame, grid] = numbers[..] else {
+        return None;
     };
-    Some(Head { ttrt, mode, frame })
+    Some(Head { ttrt, mode, frame, grid })
 }
 
 fn joined<T: ToString>(numbers: &[T]) -> String {

@@ -18,27 +18,35 @@ use crate::text::Call;
 use random::Random;
 use sheets::SheetKind;
 
-/// What sets a case has: their mode, and whether they have an F.
+/// What sets a case has: their mode, whether they have an F, and whether they have a g. Those with a
+/// g have an F or not.
 #[derive(Clone, Copy, Debug, PartialEq, Eq)]
 pub struct Sort {
     pub mode: Mode,
     pub uncut: bool,
+    pub grid: bool,
 }
 
 impl Sort {
-    pub const TIMELY: Sort = Sort { mode: Mode::Timely, uncut: false };
-    pub const FDDI: Sort = Sort { mode: Mode::Fddi, uncut: false };
-    pub const UNCUT: Sort = Sort { mode: Mode::Timely, uncut: true };
-    pub const FDDI_UNCUT: Sort = Sort { mode: Mode::Fddi, uncut: true };
-    pub const EARLIER: Sort = Sort { mode: Mode::Earlier, uncut: false };
-    pub const EARLIER_UNCUT: Sort = Sort { mode: Mode::Earlier, uncut: true };
-    pub const ALL: [Sort; 6] = [
+    pub const TIMELY: Sort = Sort { mode: Mode::Timely, uncut: false, grid: false };
+    pub const FDDI: Sort = Sort { mode: Mode::Fddi, uncut: false, grid: false };
+    pub const UNCUT: Sort = Sort { mode: Mode::Timely, uncut: true, grid: false };
+    pub const FDDI_UNCUT: Sort = Sort { mode: Mode::Fddi, uncut: true, grid: false };
+    pub const EARLIER: Sort = Sort { mode: Mode::Earlier, uncut: false, grid: false };
+    pub const EARLIER_UNCUT: Sort = Sort { mode: Mode::Earlier, uncut: true, grid: false };
+    pub const GRID: Sort = Sort { mode: Mode::Timely, uncut: true, grid: true };
+    pub const FDDI_GRID: Sort = Sort { mode: Mode::Fddi, uncut: true, grid: true };
+    pub const EARLIER_GRID: Sort = Sort { mode: Mode::Earlier, uncut: true, grid: true };
+    pub const ALL: [Sort; 9] = [
         Sort::TIMELY,
         Sort::FDDI,
         Sort::UNCUT,
         Sort::FDDI_UNCUT,
         Sort::EARLIER,
         Sort::EARLIER_UNCUT,
+        Sort::GRID,
+        Sort::FDDI_GRID,
+        Sort::EARLIER_GRID,
     ];
 
     pub fn is_fddi(self) -> bool {
@@ -52,13 +60,16 @@ impl Sort {
 
     /// What stands before the name of a kind of such sets.
     pub fn prefix(self) -> &'static str {
-        match (self.mode, self.uncut) {
-            (Mode::Timely, false) => "",
-            (Mode::Fddi, false) => "fddi-",
-            (Mode::Timely, true) => "uncut-",
-            (Mode::Fddi, true) => "fddi-uncut-",
-            (Mode::Earlier, false) => "earlier-",
-            (Mode::Earlier, true) => "earlier-uncut-",
+        match (self.mode, self.uncut, self.grid) {
+            (Mode::Timely, _, true) => "grid-",
+            (Mode::Fddi, _, true) => "fddi-grid-",
+            (Mode::Earlier, _, true) => "earlier-grid-",
+            (Mode::Timely, false, _) => "",
+            (Mode::Fddi, false, _) => "fddi-",
+            (Mode::Timely, true, _) => "uncut-",
+            (Mode::Fddi, true, _) => "fddi-uncut-",
+            (Mode::Earlier, false, _) => "earlier-",
+            (Mode::Earlier, true, _) => "earlier-uncut-",
         }
     }
 }
@@ -123,7 +134,7 @@ impl Kind {
 
     /// A kind and the sort of its sets: `KIND` is timely-token and has no F, `fddi-KIND` is FDDI,
     /// `earlier-KIND` is the 2002 edition; `uncut-KIND`, `fddi-uncut-KIND` and `earlier-uncut-KIND`
-    /// have an F.
+    /// have an F, `grid-KIND`, `fddi-grid-KIND` and `earlier-grid-KIND` a g.
     pub fn from_name(name: &str) -> Option<(Kind, Sort)> {
         let names = |kind: Kind| Sort::ALL.map(|sort| (kind, sort));
         let mut every = Kind::ALL.into_iter().flat_map(names);

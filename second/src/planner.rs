@@ -1,8 +1,8 @@
-//! The smallest allocation, found by search on the deadline rule.
+//! The smallest allocation, found by search on the deadline rule, among the multiples of the grid.
 
 use crate::planted::Planted;
 use crate::raising::raised;
-use crate::rules::{least_time, require, rotations, Mode, Plan, Refusal, Request, Station};
+use crate::rules::{least_time, require, rotations, Head, Mode, Plan, Refusal, Request, Station};
 
 /// The plan with the smallest S at each station, or number 2, 4, 5 or 6.
 pub fn plan(request: &Request, planted: Planted) -> Result<Plan, Refusal> {
@@ -24,30 +24,35 @@ fn passed(plan: &Plan, planted: Planted) -> bool {
 
 /// A timely-token station's rule looks at its own S alone.
 fn each_smallest(request: &Request, planted: Planted) -> Vec<u32> {
-    let smallest = |station: &Station| smallest(request.head.ttrt, station, planted);
+    let smallest = |station: &Station| smallest(&request.head, station, planted);
     request.stations.iter().map(smallest).collect()
 }
 
 /// The smallest S that meets the deadline rule of a station in range.
-fn smallest(ttrt: u32, station: &Station, planted: Planted) -> u32 {
-    let found = misjudged(ttrt, station, planted).unwrap_or_else(|| searched(ttrt, station));
-    u32::try_from(found).expect("S is at most C + TTRT")
+fn smallest(head: &Head, station: &Station, planted: Planted) -> u32 {
+    let step = u64::from(head.grid);
+    let found = misjudged(head.ttrt, station, planted).unwrap_or_else(|| match planted {
+        Planted::DownToTheGrid => searched(head.ttrt, 1, station) / step * step,
+        _ => searched(head.ttrt, step, station),
+    });
+    u32::try_from(found).expect("S is at most C + TTRT + g")
 }
 
-/// X never falls as S grows, and S = C + α always meets the rule: halve between 0 and that.
-fn searched(ttrt: u32, station: &Station) -> u64 {
+/// X never falls as S grows, and S = C + α always meets the rule: halve among the multiples of the
+/// step up to the first that is not below that.
+fn searched(ttrt: u32, step: u64, station: &Station) -> u64 {
     let needed = u64::from(station.longest);
     let (_, missing) = rotations(ttrt, station.deadline);
-    let (mut low, mut high) = (0, needed + missing);
+    let (mut low, mut high) = (0, (needed + missing).div_ceil(step));
     while low < high {
         let middle = (low + high) / 2;
-        if least_time(ttrt, station.deadline, middle) >= needed {
+        if least_time(ttrt, station.deadline, middle * step) >= needed {
             high = middle;
         } else {
             low = middle + 1;
         }
     }
-    low
+    low * step
 }
 
 /// The wrong S of a planted error, where it applies.

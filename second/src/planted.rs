@@ -51,10 +51,16 @@ pub enum Planted {
     LimitAfterSending,
     /// 24: a log of the 2002 edition is judged by the order of the 2003 edition.
     LogByTheLaterEdition,
+    /// 25: the smallest S rounded down to the grid.
+    DownToTheGrid,
+    /// 26: FDDI's least vector without the grid.
+    ClimbOffTheGrid,
+    /// 27: a given S off the grid is refused with 4 in the place of 7.
+    OffGridOutOfRange,
 }
 
 impl Planted {
-    pub const ALL: [Planted; 24] = [
+    pub const ALL: [Planted; 27] = [
         Planted::TimeForNobody,
         Planted::RoundedDown,
         Planted::LimitWithoutUnused,
@@ -79,6 +85,9 @@ impl Planted {
         Planted::LookedAtFirst,
         Planted::LimitAfterSending,
         Planted::LogByTheLaterEdition,
+        Planted::DownToTheGrid,
+        Planted::ClimbOffTheGrid,
+        Planted::OffGridOutOfRange,
     ];
 
     /// The error of a number, from 1 on.

@@ -1,5 +1,5 @@
 //! FDDI's least allocation by raising. Every S begins at 0. A station whose deadline rule fails
-//! against what the others have now is raised to the smallest S that meets it; nobody is ever
+//! against what the others have now is raised to the smallest multiple of the grid that meets it; nobody is ever
 //! lowered. What others have only takes from a station, so no S rises above that of any vector that
 //! meets the rules. The search is by halving on the rule itself.
 
@@ -23,6 +23,8 @@ struct Raising<'a> {
     planted: Planted,
     /// τ + F − 1.
     lost: u64,
+    /// g.
+    step: u64,
     /// The most that all S together may be.
     most: u64,
     allocation: Vec<u64>,
@@ -43,6 +45,7 @@ impl Raising<'_> {
             request,
             planted,
             lost,
+            step: if planted == Planted::ClimbOffTheGrid { 1 } else { request.head.grid.into() },
             most: room.ok_or(Refusal::NoAllocation)?,
             allocation: vec![0; request.stations.len()],
             sum: 0,
@@ -77,7 +80,9 @@ impl Raising<'_> {
     fn raise(&mut self, index: usize) -> Result<(), Refusal> {
         let s = self.allocation[index];
         let others = self.sum - s;
-        let found = first(s, self.most + 1, |more| self.meets(index, more, others));
+        let (from, last) = (s / self.step, self.most / self.step);
+        let steps = first(from, last + 1, |more| self.meets(index, more * self.step, others));
+        let found = steps * self.step;
         require(found + others <= self.most, Refusal::NoAllocation)?;
         self.allocation[index] = found;
         self.sum = others + found;

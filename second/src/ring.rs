@@ -82,10 +82,19 @@ pub struct Ring {
     planted: Planted,
 }
 
+/// The wrong number of a planted error, where it applies.
+fn misnamed(plan: &Plan, refusal: Refusal, planted: Planted) -> Refusal {
+    let off_grid = refusal == Refusal::RuleBroken && !plan.on_grid();
+    if planted == Planted::OffGridOutOfRange && off_grid {
+        return Refusal::OutOfRange;
+    }
+    refusal
+}
+
 impl Ring {
     /// The ring at the end of the silent rotation, or number 2, 4, 5 or 7.
     pub fn open(plan: &Plan, planted: Planted) -> Result<Ring, Refusal> {
-        plan.judge()?;
+        plan.judge().map_err(|refusal| misnamed(plan, refusal, planted))?;
         Ok(Ring {
             plan: plan.clone(),
             clock: 0,

@@ -12,6 +12,8 @@ pub const MOST_GAP: u32 = 100_000_000;
 pub const ALLOCATION: RangeInclusive<u32> = 0..=1_000_000;
 /// F, the longest frame; 1 says that asynchronous traffic may be cut at any tick.
 pub const FRAME: RangeInclusive<u32> = 1..=65_535;
+/// g, the grid, of which every S is a multiple; 1 says that S may be any whole number.
+pub const GRID: RangeInclusive<u32> = 1..=1_000;
 /// The last arrival time, and the last clock at which a visit may start.
 pub const LAST_TIME: u64 = 1_000_000_000_000;
 
@@ -94,24 +96,25 @@ impl Station {
     }
 }
 
-/// What a sheet says before its stations: TTRT, the number of the mode, any number at first, and
-/// the longest frame F.
+/// What a sheet says before its stations: TTRT, the number of the mode, any number at first, the
+/// longest frame F and the grid g.
 #[derive(Clone, Copy, Debug, PartialEq, Eq)]
 pub struct Head {
     pub ttrt: u32,
     pub mode: u32,
     pub frame: u32,
+    pub grid: u32,
 }
 
 impl Head {
-    /// A head without F: frames are of one tick.
+    /// A head without F and g: frames are of one tick, and S is any number.
     pub fn new(ttrt: u32, mode: Mode) -> Head {
-        Head { ttrt, mode: mode.number(), frame: 1 }
+        Head { ttrt, mode: mode.number(), frame: 1, grid: 1 }
     }
 
     fn in_range(&self) -> bool {
-        let frame = FRAME.contains(&self.frame);
-        TTRT.contains(&self.ttrt) && Mode::of(self.mode).is_some() && frame
+        let sizes = FRAME.contains(&self.frame) && GRID.contains(&self.grid);
+        TTRT.contains(&self.ttrt) && Mode::of(self.mode).is_some() && sizes
     }
 
     /// F − 1, the most that a frame runs past the moment before which it must start. A head that
@@ -243,8 +246,13 @@ impl Plan {
         let in_range = self.allocation.iter().all(|s| ALLOCATION.contains(s));
         require(in_range && self.request.in_range(), Refusal::OutOfRange)?;
         require(self.request.walk_sum_allowed(), Refusal::WalkSum)?;
-        let rules = self.token_in_time() && self.meets_deadlines();
+        let rules = self.token_in_time() && self.meets_deadlines() && self.on_grid();
         require(rules, Refusal::RuleBroken)
+    }
+
+    /// Whether every S is a multiple of g, in a judged set.
+    pub fn on_grid(&self) -> bool {
+        self.allocation.iter().all(|s| s % self.request.head.grid == 0)
     }
 
     fn meets_deadlines(&self) -> bool {

@@ -10,11 +10,12 @@ pub const STATION_TAG: u8 = 2;
 const ALLOCATION_TAG: u8 = 3;
 const MODE_TAG: u8 = 4;
 pub const FRAME_TAG: u8 = 5;
+pub const GRID_TAG: u8 = 6;
 pub const VISIT_TAG: u8 = 16;
 const END_TAG: u8 = 255;
 
-/// What TTRT, the mode, F and the end take on a sheet.
-const AROUND_STATIONS: usize = 7 + 4 + 7 + 3;
+/// What TTRT, the mode, F, g and the end take on a sheet.
+const AROUND_STATIONS: usize = 7 + 4 + 7 + 7 + 3;
 /// The most bytes that a program needs to read of a request sheet: the longest, and one more.
 pub const REQUEST_READ: usize = AROUND_STATIONS + 19 * MOST_STATIONS + 1;
 /// The same of a plan sheet.
@@ -35,6 +36,8 @@ enum Place {
     Head,
     /// Behind the mode.
     Moded,
+    /// Behind F.
+    Framed,
     Stations,
     Allocations,
     Visits,
@@ -47,15 +50,20 @@ pub struct Contents {
     ttrt: u32,
     mode: Option<u32>,
     frame: Option<u32>,
+    grid: Option<u32>,
     stations: Vec<Station>,
     allocation: Vec<u32>,
     pub entries: Vec<Entry>,
 }
 
 impl Contents {
+    fn head(&self) -> Head {
+        let [mode, frame, grid] = [self.mode, self.frame, self.grid].map(header_number);
+        Head { ttrt: self.ttrt, mode, frame, grid }
+    }
+
     fn request(&self) -> Request {
-        let [mode, frame] = [self.mode, self.frame].map(header_number);
-        Request { head: Head { ttrt: self.ttrt, mode, frame }, stations: self.stations.clone() }
+        Request { head: self.head(), stations: self.stations.clone() }
     }
 
     fn plan(&self) -> Plan {
@@ -118,11 +126,20 @@ const FRAME_FIELD: Row = Row {
     length: 4,
     when: |_| true,
     keep: |contents, body| contents.frame = Some(number(body, 0)),
+    then: Place::Framed,
+};
+
+const GRID_FIELD: Row = Row {
+    at: &[Place::Head, Place::Moded, Place::Framed],
+    tag: GRID_TAG,
+    length: 4,
+    when: |_| true,
+    keep: |contents, body| contents.grid = Some(number(body, 0)),
     then: Place::Stations,
 };
 
 const STATION_FIELD: Row = Row {
-    at: &[Place::Head, Place::Moded, Place::Stations],
+    at: &[Place::Head, Place::Moded, Place::Framed, Place::Stations],
     tag: STATION_TAG,
     length: 16,
     when: |contents| contents.stations.len() < MOST_STATIONS,
@@ -184,12 +201,14 @@ const LOG_END: Row = Row {
     then: Place::Done,
 };
 
-const REQUEST_TABLE: &[Row] = &[TTRT_FIELD, MODE_FIELD, FRAME_FIELD, STATION_FIELD, REQUEST_END];
+const REQUEST_TABLE: &[Row] =
+    &[TTRT_FIELD, MODE_FIELD, FRAME_FIELD, GRID_FIELD, STATION_FIELD, REQUEST_END];
 
 const PLAN_TABLE: &[Row] = &[
     TTRT_FIELD,
     MODE_FIELD,
     FRAME_FIELD,
+    GRID_FIELD,
     STATION_FIELD,
     FIRST_ALLOCATION,
     NEXT_ALLOCATION,
@@ -201,6 +220,7 @@ pub const LOG_TABLE: &[Row] = &[
     TTRT_FIELD,
     MODE_FIELD,
     FRAME_FIELD,
+    GRID_FIELD,
     STATION_FIELD,
     FIRST_ALLOCATION,
     NEXT_ALLOCATION,
@@ -214,6 +234,7 @@ pub const ANY_TABLE: &[Row] = &[
     TTRT_FIELD,
     MODE_FIELD,
     FRAME_FIELD,
+    GRID_FIELD,
     STATION_FIELD,
     REQUEST_END,
     FIRST_ALLOCATION,
@@ -328,13 +349,16 @@ pub fn read_any(sheet: &[u8]) -> Result<(Sheet, Vec<Entry>), Refusal> {
 
 /// The fields of a sheet, unjudged; with an allocation they are those of a plan.
 pub fn fields(request: &Request, allocation: &[u32]) -> Vec<Vec<u8>> {
-    let Head { ttrt, mode, frame } = request.head;
+    let Head { ttrt, mode, frame, grid } = request.head;
     let mut fields = vec![field(TTRT_TAG, &[ttrt])];
     if mode != header_number(None) {
         fields.push(mode_field(mode as u8));
     }
     if frame != header_number(None) {
-        fields.push(frame_field(frame));
+        fields.push(number_field(FRAME_TAG, frame));
+    }
+    if grid != header_number(None) {
+        fields.push(number_field(GRID_TAG, grid));
     }
     for station in &request.stations {
         let Station { walk, longest, deadline, gap } = *station;
@@ -363,9 +387,9 @@ pub fn mode_field(mode: u8) -> Vec<u8> {
     vec![MODE_TAG, 0, 1, mode]
 }
 
-/// The field of F, any number.
-pub fn frame_field(frame: u32) -> Vec<u8> {
-    field(FRAME_TAG, &[frame])
+/// The field of F or of g, any number.
+pub fn number_field(tag: u8, number: u32) -> Vec<u8> {
+    field(tag, &[number])
 }
 
 fn field(tag: u8, numbers: &[u32]) -> Vec<u8> {

@@ -107,9 +107,9 @@ pub fn show_sheet(sheet: &Sheet) -> String {
 
 /// The text of a set, and with an allocation that of a plan; nothing is judged.
 pub fn show_stations(request: &Request, allocation: &[u32]) -> String {
-    let Head { ttrt, mode, frame } = request.head;
+    let Head { ttrt, mode, frame, grid } = request.head;
     let mut text = format!("ttrt {ttrt}\n");
-    for (name, number) in [("mode", mode), ("frame", frame)] {
+    for (name, number) in [("mode", mode), ("frame", frame), ("grid", grid)] {
         if number != header_number(None) {
             text += &format!("{name} {number}\n");
         }

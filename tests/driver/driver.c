@@ -8,7 +8,7 @@
 #include "words.h"
 #include <string.h>
 
-/* ---- sets and plans: `TTRT;W,C,D,P;..`, and for a plan `TTRT;W,C,D,P,S;..`; `TTRT,MODE` or `TTRT,MODE,F` where they are not 1 */
+/* ---- sets and plans: `TTRT;W,C,D,P;..`, and for a plan `TTRT;W,C,D,P,S;..`; `TTRT,MODE,F,G` up to the last that is not 1 */
 struct plan {
     set_t set;
     alloc_t alloc;
@@ -21,6 +21,7 @@ static void no_station(struct plan *plan)
     plan->set.head.ttrt = number32();
     plan->set.head.mode = passed(",") ? number32() : OLIVASTRUM_TIMELY;
     plan->set.head.frame = passed(",") ? number32() : 1;
+    plan->set.head.grid = passed(",") ? number32() : 1;
     plan->set.n = 0;
 }
 
@@ -68,10 +69,12 @@ static void stations(struct plan *plan, int with_shares)
 static void put_set(const set_t *set, const alloc_t *alloc)
 {
     put_number(set->head.ttrt);
-    if (set->head.mode != OLIVASTRUM_TIMELY || set->head.frame != 1)
+    if (set->head.mode != OLIVASTRUM_TIMELY || set->head.frame != 1 || set->head.grid != 1)
         put_after(',', set->head.mode);
-    if (set->head.frame != 1)
+    if (set->head.frame != 1 || set->head.grid != 1)
         put_after(',', set->head.frame);
+    if (set->head.grid != 1)
+        put_after(',', set->head.grid);
     for (uint32_t i = 0; i < set->n && i < MOST; i++) {
         put_after(';', set->w[i]);
         put_after(',', set->c[i]);

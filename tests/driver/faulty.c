@@ -53,6 +53,7 @@ static void spoil_set(uint8_t number, set_t *set)
     FAULT("set-refused", number != 0, set->head.ttrt);
     FAULT("mode-refused", number != 0, set->head.mode);
     FAULT("frame-refused", number != 0, set->head.frame);
+    FAULT("grid-refused", number != 0, set->head.grid);
     FAULT("set-w", number == 0 && set->n < MOST, set->w[LAST]);
     FAULT("set-c", number == 0 && set->n < MOST, set->c[LAST]);
     FAULT("set-d", number == 0 && set->n < MOST, set->d[LAST]);
@@ -126,7 +127,6 @@ static void spoil_places(ring_t *ring)
     FAULT("ring-arrival", spare, ring->arrival[LAST]);
     FAULT("ring-had", spare, ring->had[LAST]);
     FAULT("ring-last", spare, ring->last[LAST]);
-    FAULT("ring-filler", 1, ring->filler);
     FAULT("ring-set", spare, ring->set.c[LAST]);
     FAULT("ring-alloc", spare, ring->alloc.s[LAST]);
 }

@@ -157,7 +157,6 @@ struct olivastrum_opened opening(const set_t *set, const alloc_t *alloc)
     must(all_zero(ring->sent, sizeof ring->sent), "not-blank");
     must(all_zero(ring->rest, sizeof ring->rest) && all_zero(ring->arrival, sizeof ring->arrival), "not-blank");
     must(all_zero(ring->had, sizeof ring->had) && all_zero(ring->last, sizeof ring->last), "not-blank");
-    must(ring->filler == 0, "not-blank");
     return opened;
 }
 
@@ -190,7 +189,6 @@ static void ring_kept(const ring_t *was, const ring_t *is)
     uint32_t n = was->set.n;
     must(guard_of(host.before, 0xa5) && guard_of(host.behind, 0x5a), "touched");
     must(same(&is->set, &was->set, sizeof is->set) && same(&is->alloc, &was->alloc, sizeof is->alloc), "changed");
-    must(is->filler == was->filler, "changed");
     must(SAME_PAST(n, is->trt, was->trt) && SAME_PAST(n, is->late, was->late), "past-n");
     must(SAME_PAST(n, is->sent, was->sent) && SAME_PAST(n, is->rest, was->rest), "past-n");
     must(SAME_PAST(n, is->arrival, was->arrival) && SAME_PAST(n, is->had, was->had) && SAME_PAST(n, is->last, was->last), "past-n");

@@ -33,7 +33,7 @@ typedef struct olivastrum_ring ring_t;
 static int layouts(void)
 {
     SAME(FIELDS_HEAD, sizeof(struct olivastrum_head), AT(olivastrum_head, ttrt), AT(olivastrum_head, mode),
-         AT(olivastrum_head, frame));
+         AT(olivastrum_head, frame), AT(olivastrum_head, grid));
     SAME(FIELDS_SET, sizeof(struct olivastrum_set), AT(olivastrum_set, head), AT(olivastrum_set, n), AT(olivastrum_set, w),
          AT(olivastrum_set, c), AT(olivastrum_set, d), AT(olivastrum_set, p));
     SAME(FIELDS_ALLOC, sizeof(struct olivastrum_alloc), AT(olivastrum_alloc, s));
@@ -43,7 +43,7 @@ static int layouts(void)
          AT(olivastrum_read_plan, number));
     SAME(FIELDS_WRITTEN, sizeof(struct olivastrum_written), AT(olivastrum_written, length), AT(olivastrum_written, number));
     SAME(FIELDS_RING, sizeof(ring_t), AT(olivastrum_ring, set), AT(olivastrum_ring, alloc), AT(olivastrum_ring, trt), AT(olivastrum_ring, late),
-         AT(olivastrum_ring, sent), AT(olivastrum_ring, rest), AT(olivastrum_ring, token), AT(olivastrum_ring, filler), AT(olivastrum_ring, arrival),
+         AT(olivastrum_ring, sent), AT(olivastrum_ring, rest), AT(olivastrum_ring, token), AT(olivastrum_ring, arrival),
          AT(olivastrum_ring, had), AT(olivastrum_ring, last), AT(olivastrum_ring, clock), AT(olivastrum_ring, visits), AT(olivastrum_ring, unused));
     SAME(FIELDS_ASK, sizeof(struct olivastrum_ask), AT(olivastrum_ask, frames), AT(olivastrum_ask, length));
     SAME(FIELDS_MESSAGE, sizeof(struct olivastrum_message), AT(olivastrum_message, station), AT(olivastrum_message, length),
@@ -64,11 +64,11 @@ static int layouts(void)
     SAME(FIELDS_FINDING, sizeof(struct olivastrum_finding), AT(olivastrum_finding, visits), AT(olivastrum_finding, record),
          AT(olivastrum_finding, rule), AT(olivastrum_finding, number));
 
-    CHECK(sizeof(struct olivastrum_set) == 4 * 4 + 4 * 128 * 4);
+    CHECK(sizeof(struct olivastrum_set) == 5 * 4 + 4 * 128 * 4);
     CHECK(sizeof(struct olivastrum_alloc) == 128 * 4);
     CHECK(sizeof(struct olivastrum_ask) == 2 * 4);
     CHECK(sizeof(struct olivastrum_message) == 3 * 8);
-    CHECK(sizeof(ring_t) == sizeof(struct olivastrum_set) + sizeof(struct olivastrum_alloc) + 4 * 128 * 4 + 2 * 4 + 2 * 128 * 8 + 128 + 3 * 8);
+    CHECK(sizeof(ring_t) == sizeof(struct olivastrum_set) + sizeof(struct olivastrum_alloc) + 4 * 128 * 4 + 4 + 2 * 128 * 8 + 128 + 3 * 8);
     return 1;
 }
 
@@ -114,7 +114,7 @@ static uint8_t *put_set(uint8_t *at)
 
 static int is_the_set(const struct olivastrum_set *set)
 {
-    CHECK(set->head.ttrt == 100 && set->head.mode == OLIVASTRUM_TIMELY && set->head.frame == 1 && set->n == STATIONS);
+    CHECK(set->head.ttrt == 100 && set->head.mode == OLIVASTRUM_TIMELY && set->head.frame == 1 && set->head.grid == 1 && set->n == STATIONS);
     for (int i = 0; i < OLIVASTRUM_MOST_STATIONS; i++) {
         CHECK(set->w[i] == (i < STATIONS ? walk_times[i] : 0));
         CHECK(set->c[i] == (i < STATIONS ? 20u : 0));
@@ -138,7 +138,8 @@ static int places(void)
 
     struct olivastrum_read_plan read = olivastrum_read_plan_sheet(plan, sizeof plan);
     CHECK(read.number == 0);
-    CHECK(read.set.head.ttrt == first && read.set.head.mode == OLIVASTRUM_TIMELY && read.set.head.frame == 1 && read.set.n == count);
+    CHECK(read.set.head.ttrt == first && read.set.head.mode == OLIVASTRUM_TIMELY && read.set.head.frame == 1);
+    CHECK(read.set.head.grid == 1 && read.set.n == count);
     for (uint32_t i = 0; i < count; i++) {
         CHECK(read.set.w[i] == 10 + i);
         CHECK(read.set.c[i] == 20 + i);
@@ -274,7 +275,7 @@ static int opening(ring_t *ring, struct olivastrum_set set, struct olivastrum_al
     *ring = opened.ring;
     CHECK(memcmp(&ring->set, &set, sizeof set) == 0);
     CHECK(memcmp(&ring->alloc, &alloc, sizeof alloc) == 0);
-    CHECK(ring->clock == 0 && ring->visits == 0 && ring->token == 0 && ring->filler == 0 && ring->unused == 80);
+    CHECK(ring->clock == 0 && ring->visits == 0 && ring->token == 0 && ring->unused == 80);
     CHECK(ring->trt[0] == 2 && all_zero(ring->trt + 1, sizeof ring->trt - 4) && all_zero(ring->late, sizeof ring->late));
     CHECK(all_zero(ring->sent, sizeof ring->sent) && all_zero(ring->rest, sizeof ring->rest));
     CHECK(all_zero(ring->arrival, sizeof ring->arrival) && all_zero(ring->had, sizeof ring->had) && all_zero(ring->last, sizeof ring->last));
@@ -497,7 +498,7 @@ static int older_ring(void)
 {
     struct olivastrum_set set;
     memset(&set, 0, sizeof set);
-    set.head.ttrt = 100, set.head.mode = OLIVASTRUM_FDDI, set.head.frame = 1, set.n = 2;
+    set.head.ttrt = 100, set.head.mode = OLIVASTRUM_FDDI, set.head.frame = 1, set.head.grid = 1, set.n = 2;
     for (int i = 0; i < 2; i++)
         set.w[i] = 50, set.d[i] = set.p[i] = 300;
     uint8_t sheet[OLIVASTRUM_REQUEST_BYTES(2) + OLIVASTRUM_MODE_BYTES];
@@ -545,7 +546,7 @@ static int uncut_ring(void)
 {
     struct olivastrum_set set;
     memset(&set, 0, sizeof set);
-    set.head.ttrt = 100, set.head.mode = OLIVASTRUM_TIMELY, set.head.frame = 5, set.n = 1;
+    set.head.ttrt = 100, set.head.mode = OLIVASTRUM_TIMELY, set.head.frame = 5, set.head.grid = 1, set.n = 1;
     set.w[0] = 2, set.c[0] = 20, set.d[0] = set.p[0] = 250;
     uint8_t sheet[OLIVASTRUM_REQUEST_BYTES(1) + OLIVASTRUM_FRAME_BYTES];
     struct olivastrum_written written = olivastrum_write_request_sheet(set, sheet, sizeof sheet);
@@ -555,7 +556,6 @@ static int uncut_ring(void)
     struct olivastrum_planned planned = olivastrum_plan_set(set);
     CHECK(planned.number == 0 && planned.alloc.s[0] == 10);
     ring_t ring = olivastrum_open_ring(set, planned.alloc).ring;
-    ring.filler = 0x12345678;
 
     /* a length of 0 or above F is 10, and the ring stays as it was */
     for (uint32_t length = 0; length <= 6; length += 6) {
@@ -572,7 +572,6 @@ static int uncut_ring(void)
     CHECK(answer.number == 0 && answer.record.trt.ticks == 87 && answer.record.limit.ticks == 0 && answer.record.asynchronous.ticks == 0);
     answer = olivastrum_visit(&ring, two);
     CHECK(answer.number == 0 && answer.record.limit.ticks == 84 && answer.record.asynchronous.ticks == 8 && ring.clock == 99);
-    CHECK(ring.filler == 0x12345678);
 
     /* F out of its range, or one that leaves the token rule broken, is unsound in a ring */
     ring_t other = ring;
@@ -599,7 +598,9 @@ static int earlier_log(struct olivastrum_set set, struct olivastrum_alloc alloc)
     CHECK(written.number == 0 && written.length == LENGTH);
     struct olivastrum_finding found = olivastrum_inspect_log(log, LENGTH);
     CHECK(found.number == 0 && found.visits == 2 && found.record == 0 && found.rule == 0);
-    memmove(log + 7, log + 7 + OLIVASTRUM_MODE_BYTES, LENGTH - 7 - OLIVASTRUM_MODE_BYTES);
+    /* Without its mode field. */
+    for (size_t at = 7; at + OLIVASTRUM_MODE_BYTES < LENGTH; at++)
+        log[at] = log[at + OLIVASTRUM_MODE_BYTES];
     found = olivastrum_inspect_log(log, LENGTH - OLIVASTRUM_MODE_BYTES);
     CHECK(found.number == 0 && found.visits == 2 && found.record == 2 && found.rule == 3);
     return 1;
@@ -610,7 +611,7 @@ static int earlier_ring(void)
 {
     struct olivastrum_set set;
     memset(&set, 0, sizeof set);
-    set.head.ttrt = 100, set.head.mode = OLIVASTRUM_EARLIER, set.head.frame = 1, set.n = 1;
+    set.head.ttrt = 100, set.head.mode = OLIVASTRUM_EARLIER, set.head.frame = 1, set.head.grid = 1, set.n = 1;
     set.w[0] = 2, set.c[0] = 20, set.d[0] = set.p[0] = 250;
     uint8_t sheet[OLIVASTRUM_REQUEST_BYTES(1) + OLIVASTRUM_MODE_BYTES];
     struct olivastrum_written written = olivastrum_write_request_sheet(set, sheet, sizeof sheet);
@@ -639,6 +640,40 @@ static int earlier_ring(void)
     return earlier_log(set, planned.alloc);
 }
 
+/* ---- a ring on a grid: TTRT 100, g 7, w 2, and S 10 rounded up to 14 */
+static int stepped_ring(void)
+{
+    struct olivastrum_set set;
+    memset(&set, 0, sizeof set);
+    set.head.ttrt = 100, set.head.mode = OLIVASTRUM_TIMELY, set.head.frame = 1, set.head.grid = 7, set.n = 1;
+    set.w[0] = 2, set.c[0] = 20, set.d[0] = set.p[0] = 250;
+    uint8_t sheet[OLIVASTRUM_REQUEST_BYTES(1) + OLIVASTRUM_GRID_BYTES];
+    struct olivastrum_written written = olivastrum_write_request_sheet(set, sheet, sizeof sheet);
+    CHECK(written.number == 0 && written.length == sizeof sheet && sheet[7] == 6 && sheet[13] == 7);
+    struct olivastrum_read_request read = olivastrum_read_request_sheet(sheet, sizeof sheet);
+    CHECK(read.number == 0 && memcmp(&read.set, &set, sizeof set) == 0);
+    struct olivastrum_planned planned = olivastrum_plan_set(set);
+    CHECK(planned.number == 0 && planned.alloc.s[0] == 14);
+    ring_t ring = olivastrum_open_ring(set, planned.alloc).ring;
+    CHECK(olivastrum_visit(&ring, ticks(1000)).record.limit.ticks == 84);
+
+    /* an S off the grid is 7, and unsound in a ring; so is a g out of its range, which is 4 elsewhere */
+    struct olivastrum_alloc off = planned.alloc;
+    off.s[0] = 15;
+    CHECK(olivastrum_open_ring(set, off).number == OLIVASTRUM_RULE_BROKEN);
+    ring_t other = ring;
+    other.set.head.grid = 3;
+    CHECK(unsound(&other));
+    other.set.head.grid = 0;
+    CHECK(unsound(&other));
+    set.head.grid = 1001;
+    CHECK(olivastrum_plan_set(set).number == OLIVASTRUM_OUT_OF_RANGE);
+    /* no multiple of 99 is within 98 */
+    set.head.grid = 99;
+    CHECK(olivastrum_plan_set(set).number == OLIVASTRUM_NO_ALLOCATION);
+    return 1;
+}
+
 int main(void)
 {
     static ring_t ring;
@@ -646,7 +681,7 @@ int main(void)
     struct olivastrum_alloc alloc;
     if (!layouts() || !constants() || !places() || !planning(&set, &alloc) || !opening(&ring, set, alloc))
         return 1;
-    if (!asked_less(ring) || !worked_run(&ring) || !logs(set, alloc) || !any_bytes(&ring) || !older_ring() || !uncut_ring() || !earlier_ring())
+    if (!asked_less(ring) || !worked_run(&ring) || !logs(set, alloc) || !any_bytes(&ring) || !older_ring() || !uncut_ring() || !earlier_ring() || !stepped_ring())
         return 1;
     puts("ok");
     return 0;

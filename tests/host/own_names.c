@@ -28,7 +28,7 @@ OWN(judge)
 
 int main(void)
 {
-    struct olivastrum_set set = {{100, OLIVASTRUM_TIMELY, 1}, 1, {1}, {20}, {100}, {100}};
+    struct olivastrum_set set = {{100, OLIVASTRUM_TIMELY, 1, 1}, 1, {1}, {20}, {100}, {100}};
     struct olivastrum_planned planned = olivastrum_plan_set(set);
     struct olivastrum_opened opened = olivastrum_open_ring(set, planned.alloc);
     struct olivastrum_message message = {{0}, {20}, {0}};

@@ -164,7 +164,7 @@ static void measure_all(void)
 /* ---- what the calls are made with */
 static struct olivastrum_set stations(uint32_t mode, uint32_t frame, uint32_t n)
 {
-    struct olivastrum_set made = {.head = {100000, mode, frame}, .n = n};
+    struct olivastrum_set made = {.head = {100000, mode, frame, 1}, .n = n};
     for (uint32_t i = 0; i < n && i < 128; i++) {
         made.w[i] = 1;
         made.c[i] = 300;

@@ -176,7 +176,7 @@ unfolding withVisit visitedKind judgedSheet
 first-out d whole planned judged = rw (eq-eqb (d .kind) 2 planned, eq-eqb (judgedPlan (d .set) (d .alloc)) 0 judged, whole) refl
 
 pub fields-few : (t : Set) (a : Alloc) → judgedSheet true t a ≡ 0 → length (fieldsOf true t a) ≤ 3_400
-fields-few t a h = omega (arith, fields-long true t a, judged-kept true t a h .count .1, head-small (t .head) 2)
+fields-few t a h = omega (arith, fields-long true t a, judged-kept true t a h .count .1, head-small (t .head) 3)
 
 -- the plan's fields where the stations are a plan's, and else nothing
 pub plan-first : (d : Draft) → d .kind ≡ 2 → planSent d ≡ fieldsOf true (d .set) (d .alloc)

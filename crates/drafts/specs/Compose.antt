@@ -12,7 +12,7 @@ use Rattle.sets.specs.declared.Head.{Head}
 use Rattle.sets.specs.declared.Set.{Set}
 use Rattle.plans.specs.Planned.{judgedPlan, blankAlloc}
 use Rattle.plans.specs.declared.Alloc.{Alloc}
-use Rattle.fields.specs.Fields.{headTag, modeTag, frameTag}
+use Rattle.fields.specs.Fields.{headTag, modeTag, frameTag, gridTag}
 use Rattle.fields.specs.Header.{absent, headerNumber}
 use Rattle.sheets.specs.Writing.{refusedWriting, writtenAnswer, writtenBuffer}
 use Rattle.sheets.specs.declared.Written.{Written}
@@ -36,9 +36,13 @@ modeWord = 109 ∷ 111 ∷ 100 ∷ 101 ∷ []
 abbrev pub frameWord : List ℕ
 frameWord = 102 ∷ 114 ∷ 97 ∷ 109 ∷ 101 ∷ []
 
+-- "grid"
+abbrev pub gridWord : List ℕ
+gridWord = 103 ∷ 114 ∷ 105 ∷ 100 ∷ []
+
 -- the word of a line of the header behind TTRT's, by its tag on a sheet
 unfoldable pub wordOf : ℕ → List ℕ
-wordOf tag = cond (eqb tag modeTag) modeWord frameWord
+wordOf tag = cond (eqb tag modeTag) modeWord (cond (eqb tag frameTag) frameWord gridWord)
 
 -- "station"
 abbrev pub stationWord : List ℕ
@@ -58,9 +62,11 @@ isLine s code count = isReadable s && (eqb (s .word) code && (eqb (s .count) cou
 abbrev pub isTtrt : Scan → Bool
 isTtrt s = isLine s (codeOf ttrtWord) 1
 
--- the tag of a line of the header behind TTRT's, `mode M` or `frame F`; 0 for any other line
+-- the tag of a line of the header behind TTRT's, `mode M`, `frame F` or `grid G`; 0 for any other line
 unfoldable pub lineTag : Scan → ℕ
-lineTag s = cond (isLine s (codeOf modeWord) 1) modeTag (cond (isLine s (codeOf frameWord) 1) frameTag 0)
+lineTag s =
+    cond (isLine s (codeOf modeWord) 1) modeTag
+    (cond (isLine s (codeOf frameWord) 1) frameTag (cond (isLine s (codeOf gridWord) 1) gridTag 0))
 
 -- `station W C D P`
 abbrev pub isStation : Scan → Bool
@@ -104,11 +110,13 @@ headedBy d tag h =
 -- TTRT stands on the first line, once; a number that no line names is what its absence means on a sheet
 unfoldable pub withTtrt : Draft → ℕ → Draft
 withTtrt d ttrt =
-    cond (eqb (d .head) 0) (headedBy d headTag (record { ttrt = ttrt; mode = absent; frame = absent })) (misplaced d)
+    cond (eqb (d .head) 0) (headedBy d headTag (record { ttrt = ttrt; mode = absent; frame = absent; grid = absent })) (misplaced d)
 
 -- the header with another number for a tag
 unfoldable pub headWith : Head → ℕ → ℕ → Head
-headWith h tag number = cond (eqb tag modeTag) (record { ttrt = h .ttrt; mode = number; frame = h .frame }) (record { ttrt = h .ttrt; mode = h .mode; frame = number })
+headWith h tag number =
+    cond (eqb tag modeTag) (record { ttrt = h .ttrt; mode = number; frame = h .frame; grid = h .grid })
+    (cond (eqb tag frameTag) (record { ttrt = h .ttrt; mode = h .mode; frame = number; grid = h .grid }) (record { ttrt = h .ttrt; mode = h .mode; frame = h .frame; grid = number }))
 
 -- a further line of the header stands behind TTRT's and before the first station, above those with lower tags, once; it gives the number that its field on a sheet would give
 unfoldable pub withFurther : Draft → ℕ → ℕ → Draft

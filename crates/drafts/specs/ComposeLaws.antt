@@ -19,7 +19,7 @@ use Rattle.text.specs.Text.{newline}
 use Rattle.lines.specs.ScanLaws.{steppedOver, hasNoEnd, first-and-rest}
 use Rattle.lines.specs.Scan.{freshScan, stepped, codeOf, isReadable}
 use Rattle.sheets.specs.WriteLaws.{written-fits}
-use Rattle.drafts.specs.Compose.{modeWord, frameWord, allFit, isLine, lineTag, NumbersFit, lineDrafted, onNextLine, composeOn, composeAfter, isWhole, composedAnswer, composedBuffer, WroteDraft}
+use Rattle.drafts.specs.Compose.{modeWord, frameWord, gridWord, allFit, isLine, lineTag, NumbersFit, lineDrafted, onNextLine, composeOn, composeAfter, isWhole, composedAnswer, composedBuffer, WroteDraft}
 use Rattle.lines.specs.declared.Scan.{Scan}
 use Rattle.drafts.specs.declared.Draft.{Draft}
 use Rattle.drafts.specs.declared.Composing.{Composing}
@@ -53,7 +53,10 @@ tag-fits s h =
     ⊎-elim (λ (e : isLine s (codeOf modeWord) 1 ≡ true). line-fits s (codeOf modeWord) 1 e)
     (λ (e : isLine s (codeOf modeWord) 1 ≡ false).
     ⊎-elim (λ (f : isLine s (codeOf frameWord) 1 ≡ true). line-fits s (codeOf frameWord) 1 f)
-    (λ (f : isLine s (codeOf frameWord) 1 ≡ false). absurd (false≢true (rw (e, f) at h)))
+    (λ (f : isLine s (codeOf frameWord) 1 ≡ false).
+    ⊎-elim (λ (g : isLine s (codeOf gridWord) 1 ≡ true). line-fits s (codeOf gridWord) 1 g)
+    (λ (g : isLine s (codeOf gridWord) 1 ≡ false). absurd (false≢true (rw (e, f, g) at h)))
+    (true-or-false (isLine s (codeOf gridWord) 1)))
     (true-or-false (isLine s (codeOf frameWord) 1)))
     (true-or-false (isLine s (codeOf modeWord) 1))
 

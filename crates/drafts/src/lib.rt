@@ -14,12 +14,14 @@ use sheets::Written;
 use text::PAGE_SIZE;
 use units::numbers;
 
-// The letters of `ttrt`, of `mode`, of `frame`, of `station` and of `visit`, each as one number to base 256.
+// The letters of `ttrt`, of `mode`, of `frame`, of `grid`, of `station` and of `visit`, each as one number to base 256.
 const TTRT: u64 = 1_953_788_532;
 
 const MODE: u64 = 1_836_016_741;
 
 const FRAME: u64 = 440_005_651_813;
+
+const GRID: u64 = 1_735_551_332;
 
 const STATION: u64 = 32_497_584_235_442_030;
 
@@ -37,7 +39,7 @@ pub struct Draft {
     pub line: u64,
     // The first line that cannot be read; 0: none.
     pub unread: u64,
-    // The highest tag of the header's lines that were read, as on a sheet: 0 none, 1 TTRT, 4 the mode, 5 F.
+    // The highest tag of the header's lines that were read, as on a sheet: 0 none, 1 TTRT, 4 the mode, 5 F, 6 g.
     pub head: u8,
     // The stations are a request's, 1, or a plan's, 2; 0: none was read. Behind a visit 3 where the plan was accepted, 4 where it was refused.
     pub kind: u8,
@@ -108,6 +110,7 @@ fn with_ttrt(d: Draft, ttrt: u32) -> Draft
         ttrt,
         mode: fields::ABSENT,
         frame: fields::ABSENT,
+        grid: fields::ABSENT,
     };
     set.head = head;
     let alloc = d.alloc;
@@ -131,12 +134,22 @@ fn head_with(h: Head, tag: u8, number: u32) -> Head
             ttrt: h.ttrt,
             mode: number,
             frame: h.frame,
+            grid: h.grid,
+        };
+    }
+    if tag == fields::FRAME_TAG {
+        return Head {
+            ttrt: h.ttrt,
+            mode: h.mode,
+            frame: number,
+            grid: h.grid,
         };
     }
     Head {
         ttrt: h.ttrt,
         mode: h.mode,
-        frame: number,
+        frame: h.frame,
+        grid: number,
     }
 }
 
@@ -312,6 +325,9 @@ fn line_tag(s: Scan) -> u8
     }
     if is_line(s, FRAME, 1) {
         return fields::FRAME_TAG;
+    }
+    if is_line(s, GRID, 1) {
+        return fields::GRID_TAG;
     }
     0
 }

@@ -1,6 +1,6 @@
 -- The laws of FDDI plans: sizes, one station, one round, all rounds. No rule stands here.
 use Prim.Native.Nat.{ℕ, zero, suc, _+_, _-_, _*_, _≤_, _<_, _^_, min}
-use mathlib.Core.Path.{_≡_, refl, sym, ap, _∙_}
+use mathlib.Core.Path.{_≡_, refl, sym}
 use mathlib.Core.Bool.{Bool, true, false, true≢false, _&&_, _||_, or-true}
 use mathlib.Core.Logic.{_⊎_, inl, inr, ⊎-elim}
 use mathlib.Core.List.{List}
@@ -8,14 +8,13 @@ use lib.ListN.{length}
 use lib.Dec.{leb, ltb, eqb}
 use borrow.Author.Tests.{eqb-false, ltb-false, leb-false, eq-eqb, le-leb, lt-leb}
 use native.Mathlib.Omega.{arith}
-use native.Mathlib.Nat.{div-mul-le-self, mul-le-mul-left, mul-comm, mul-assoc, zero-mul, suc-mul, div-zero}
-use Rattle.units.specs.Small.{roundedUp}
-use Rattle.units.specs.SmallLaws.{below-or-not, product-small}
+use Rattle.units.specs.Grid.{stepped}
+use Rattle.units.specs.SmallLaws.{product-small}
 use Rattle.units.specs.JudgingLaws.{Decides}
 use Rattle.units.specs.Places.{at, sumBelow}
 use Rattle.units.specs.PlaceLaws.{sum-split, from-step, sum-held, fill-inside}
 use Rattle.fddi.specs.Rules.{stations, timeWith, others}
-use Rattle.fddi.specs.Climb.{holds, stepped, offGrid, hopeless, wanted, next, rotationsAt, rotationsOf, zeros}
+use Rattle.fddi.specs.Climb.{holds, offGrid, hopeless, wanted, next, rotationsAt, rotationsOf, zeros}
 use Rattle.fddi.specs.declared.Load.{Load}
 
 -- ---- sizes
@@ -23,30 +22,6 @@ use Rattle.fddi.specs.declared.Load.{Load}
 -- the product of two 32-bit numbers fits 64 bits
 pub product-fits : (a b : ℕ) → a < 2 ^ 32 → b < 2 ^ 32 → a * b < 2 ^ 64
 product-fits a b p q = omega (arith, product-small a b p q)
-
--- b shares of the rounded-up size are less than one share too many
-pub shares-within : (a b : ℕ) → b * roundedUp a b ≤ a + (b - 1)
-shares-within a b = rw mul-comm (div-mul-le-self (a + (b - 1)) b)
-
--- q multiples are less than one multiple of each too many
-pub step-shares : (grid q x : ℕ) → q * stepped grid q x ≤ x + q * grid
-step-shares grid q x =
-    let k = roundedUp x (q * grid) in
-    let e : q * (k * grid) ≡ q * grid * k = ap (λ (z : ℕ). q * z) (mul-comm k grid) ∙ sym (mul-assoc q grid k) in
-    omega (arith, shares-within x (q * grid))
-
--- and one of them is less than one step too large
-pub step-small : (grid q x : ℕ) → stepped grid q x ≤ x + grid
-step-small grid zero x =
-    let e : zero * grid ≡ 0 = zero-mul grid in
-    let z : roundedUp x (zero * grid) ≡ 0 = rw (e, div-zero) refl in
-    rw (z, zero-mul) (omega arith)
-step-small grid (suc q) x =
-    ⊎-elim (λ (large : x + grid < stepped grid (suc q) x).
-    let l : q * grid ≤ q * stepped grid (suc q) x = mul-le-mul-left q (omega arith) in
-    absurd (omega (arith, step-shares grid (suc q) x, suc-mul q (stepped grid (suc q) x), suc-mul q grid)))
-    (λ (small : stepped grid (suc q) x ≤ x + grid). small)
-    (below-or-not (x + grid) (stepped grid (suc q) x))
 
 -- ---- X
 

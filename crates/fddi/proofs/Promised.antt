@@ -1,18 +1,19 @@
 -- FDDI plans keep their promises because the climb is never above a vector that meets the rules, and stays only where it meets them itself.
-use Prim.Native.Nat.{ℕ, zero, suc, _+_, _-_, _*_, _/_, _≤_, _<_}
+use Prim.Native.Nat.{ℕ, zero, suc, _+_, _-_, _*_, _≤_, _<_}
 use mathlib.Core.Path.{_≡_, refl, sym, ap, _∙_}
 use mathlib.Core.Bool.{true, false, true≢false, false≢true}
 use mathlib.Core.List.{List}
 use mathlib.Core.Logic.{_⊎_, inl, inr, ⊎-elim, _↔_}
 use native.Mathlib.Omega.{arith}
-use native.Mathlib.Nat.{suc-mul, mul-le-mul-right, mul-div-cancel, mul-zero}
-use borrow.Author.Tests.{eqb-true, eq-eqb}
+use native.Mathlib.Nat.{suc-mul, mul-le-mul-right}
 use lib.Seq.{ext-getD}
 use Rattle.units.specs.Places.{at, sumBelow, allBelow}
 use Rattle.units.specs.PlaceLaws.{decides-all, sum-same, all-same}
 use Rattle.units.specs.SmallLaws.{below-or-not}
 use Rattle.units.specs.JudgingLaws.{Decides, decides-le, decides-both, iff-then}
-use Rattle.fddi.specs.Rules.{stations, wholeRotations, rest, lost, others, timeAt, MultipleOf, MeetsFddi, SameLoad, deadlineFitsAt, tokenFits, onGrid, gridFitsAt, rulesKept}
+use Rattle.units.specs.Grid.{MultipleOf, onGridAt}
+use Rattle.units.specs.GridLaws.{decides-grid}
+use Rattle.fddi.specs.Rules.{stations, wholeRotations, rest, lost, others, timeAt, MeetsFddi, SameLoad, deadlineFitsAt, tokenFits, rulesKept}
 use Rattle.fddi.specs.Climb.{rotationsAt, zeros, none, climbFrom, leastPlan}
 use Rattle.fddi.specs.Answer.{IsLeast, Fitting}
 use Rattle.fddi.specs.Promised.{Regions, Promised}
@@ -48,20 +49,12 @@ products q c r z s =
 
 -- ---- each test decides its rule
 
--- the steps of a multiple are its own; on a grid of 0 only 0 is one
-whole-steps : (g k x : ℕ) → x ≡ k * g → x / g * g ≡ x
-whole-steps zero k x e = mul-zero (x / zero) ∙ sym (mul-zero k) ∙ sym e
-whole-steps (suc g) k x e = rw e (ap (λ (z : ℕ). z * suc g) (mul-div-cancel k (omega arith)))
-
-on-grid : (g x : ℕ) → Decides (onGrid g x) (MultipleOf g x)
-on-grid g x = (λ h. (x / g, sym (eqb-true (x / g * g) x h)), λ m. eq-eqb (x / g * g) x (whole-steps g (m .0) x (m .1)))
-
 test : (l : Load) (s : ℕ → ℕ) → Decides (rulesKept l s) (MeetsFddi l s)
 test l s =
     let n = stations l in
     let token = decides-le (sumBelow n s + lost l) (l .ttrt) in
     let deadlines = decides-all n (deadlineFitsAt l s) (λ i. at (l .c) i ≤ timeAt l s i) (λ i. decides-le (at (l .c) i) (timeAt l s i)) in
-    let grid = decides-all n (gridFitsAt l s) (λ i. MultipleOf (l .grid) (s i)) (λ i. on-grid (l .grid) (s i)) in
+    let grid = decides-all n (onGridAt (l .grid) s) (λ i. MultipleOf (l .grid) (s i)) (λ i. decides-grid (l .grid) (s i)) in
     let all = decides-both _ _ _ _ token (decides-both _ _ _ _ deadlines grid) in (
       λ h. let f = all .0 h in record { token = f .0; deadlines = f .1 .0; grid = f .1 .1 },
       λ m. all .1 (m .token, (m .deadlines, m .grid)),
@@ -177,8 +170,8 @@ first-places-test a b s v same each =
     let sums : sumBelow (stations a) s ≡ sumBelow (stations b) v = sum-same (stations a) s v each ∙ ap (λ (k : ℕ). sumBelow k v) n in
     let deadlines : allBelow (stations a) (deadlineFitsAt a s) ≡ allBelow (stations b) (deadlineFitsAt b v) =
     all-same (stations a) (deadlineFitsAt a s) (deadlineFitsAt b v) (λ i l. rw (same .longest i l, time-same a b same s v each i l)) ∙ ap (λ (k : ℕ). allBelow k (deadlineFitsAt b v)) n in
-    let grid : allBelow (stations a) (gridFitsAt a s) ≡ allBelow (stations b) (gridFitsAt b v) =
-    all-same (stations a) (gridFitsAt a s) (gridFitsAt b v) (λ i l. rw (each i l, same .grid)) ∙ ap (λ (k : ℕ). allBelow k (gridFitsAt b v)) n in
+    let grid : allBelow (stations a) (onGridAt (a .grid) s) ≡ allBelow (stations b) (onGridAt (b .grid) v) =
+    all-same (stations a) (onGridAt (a .grid) s) (onGridAt (b .grid) v) (λ i l. rw (each i l, same .grid)) ∙ ap (λ (k : ℕ). allBelow k (onGridAt (b .grid) v)) n in
     rw (sums, deadlines, grid, lost-same a b same, same .ttrt)
 
 pub promised : Promised

@@ -12,7 +12,8 @@ use Rattle.units.specs.Places.{at, sumBelow}
 use Rattle.units.specs.PlaceLaws.{zero-at, sum-mono, sum-part, sum-same, fill-length, fill-inside, fill-outside}
 use Rattle.units.specs.SmallLaws.{below-or-not}
 use Rattle.units.specs.JudgingLaws.{true-or-false}
-use Rattle.fddi.specs.Rules.{stations, rest, lost, others, timeAt, tokenFits, MultipleOf, MeetsFddi}
+use Rattle.units.specs.Grid.{MultipleOf}
+use Rattle.fddi.specs.Rules.{stations, rest, lost, others, timeAt, tokenFits, MeetsFddi}
 use Rattle.fddi.specs.Climb.{holds, rotationsAt, moreAt, nextAt, heldAt, zeros, none, sumOf, after, climbFrom, leastPlan}
 use Rattle.fddi.specs.Answer.{IsLeast}
 use Rattle.fddi.specs.declared.Load.{Load}

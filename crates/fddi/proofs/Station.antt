@@ -1,17 +1,18 @@
 -- One station: the next S is never above an S that is enough in a plan, and it is above its own where that is not enough.
 use Prim.Native.Nat.{ℕ, zero, suc, _+_, _-_, _*_, _≤_, _<_, min}
-use mathlib.Core.Path.{_≡_, refl, sym, ap, _∙_}
+use mathlib.Core.Path.{_≡_, refl, _∙_}
 use mathlib.Core.Bool.{true, false, _&&_, _||_}
 use mathlib.Core.Logic.{_⊎_, inl, inr, ⊎-elim, _↔_}
 use native.Mathlib.Omega.{arith}
-use native.Mathlib.Nat.{mul-le-mul-left, mul-le-mul-right, mul-comm, mul-assoc, mul-pos, zero-mul, mul-zero, suc-mul, one-mul}
+use native.Mathlib.Nat.{mul-le-mul-left, zero-mul, mul-zero, suc-mul, one-mul}
 use lib.Dec.{leb, ltb, eqb}
 use borrow.Author.Tests.{eqb-true, ltb-true, leb-true}
-use Rattle.units.specs.Small.{roundedUp}
-use Rattle.units.specs.SmallLaws.{below-or-not, shares-enough, shares-least}
+use Rattle.units.specs.Grid.{MultipleOf, stepped}
+use Rattle.units.specs.GridLaws.{step-multiple, step-enough, step-least}
+use Rattle.units.specs.SmallLaws.{below-or-not}
 use Rattle.units.specs.JudgingLaws.{Decides, decides-le, decides-not, true-or-false, and-true}
-use Rattle.fddi.specs.Rules.{timeWith, MultipleOf}
-use Rattle.fddi.specs.Climb.{holds, stepped, offGrid, hopeless, wanted, next}
+use Rattle.fddi.specs.Rules.{timeWith}
+use Rattle.fddi.specs.Climb.{holds, offGrid, hopeless, wanted, next}
 use Rattle.fddi.proofs.Laws.{Meetable, meetable, or-cases, decides-or, time-none, time-some, wanted-none, wanted-whole, wanted-late, next-same, next-wanted}
 
 -- ---- X at least C, put another way
@@ -53,24 +54,6 @@ holds-less q c more less s l = ⊎-elim (λ p. inl p) (λ p. inr (omega arith))
 pub holds-none : (q c more s : ℕ) → c ≤ 0 → Holds q c more s
 holds-none q c more s z = inl (omega arith)
 
--- ---- multiples of the grid
-
-pub step-enough : (grid q x : ℕ) → 0 < q → 0 < grid → x ≤ q * stepped grid q x
-step-enough grid q x p g =
-    let k = roundedUp x (q * grid) in
-    let e : q * (k * grid) ≡ q * grid * k = ap (λ (z : ℕ). q * z) (mul-comm k grid) ∙ sym (mul-assoc q grid k) in
-    omega (arith, shares-enough x (q * grid) (mul-pos p g))
-
-pub step-least : (grid q x v : ℕ) → 0 < q → 0 < grid → MultipleOf grid v → x ≤ q * v → stepped grid q x ≤ v
-step-least grid q x v p g m h =
-    let k = m .0 in
-    let e : q * v ≡ q * grid * k = ap (λ (z : ℕ). q * z) (m .1 ∙ mul-comm k grid) ∙ sym (mul-assoc q grid k) in
-    let l : roundedUp x (q * grid) ≤ k = shares-least x (q * grid) k (mul-pos p g) (omega arith) in
-    rw (m .1) (mul-le-mul-right grid l)
-
-pub step-multiple : (grid q x : ℕ) → MultipleOf grid (stepped grid q x)
-step-multiple grid q x = (roundedUp x (q * grid), refl)
-
 -- ---- what a station asks for
 
 less-than : {a b : ℕ} → a < b → a ≤ b
@@ -111,10 +94,10 @@ module _ (ttrt grid q c more s : ℕ) (test : (offGrid ttrt grid || hopeless q c
   whole-least v on b =
       let m = may in
       let t = two ttrt grid q c s _ m b in
-      ⊎-elim (λ p. step-least grid (q - 1) c v t (m .step) on p)
+      ⊎-elim (λ p. step-least grid (q - 1) c v on p)
       (λ p.
-      let l : stepped grid q more ≤ v = step-least grid q more v (m .some) (m .step) on p in
-      step-least grid (q - 1) c v t (m .step) on (omega (arith, mul-le-mul-left (q - 1) l)))
+      let l : stepped grid q more ≤ v = step-least grid q more v on p in
+      step-least grid (q - 1) c v on (omega (arith, mul-le-mul-left (q - 1) l)))
 
   late-least : (v : ℕ) → MultipleOf grid v → (q - 1) * stepped grid q more < c → Holds q c more v → stepped grid q more ≤ v
   late-least v on b =
@@ -123,7 +106,7 @@ module _ (ttrt grid q c more s : ℕ) (test : (offGrid ttrt grid || hopeless q c
       ⊎-elim (λ (short : v < stepped grid q more). absurd (omega (arith, mul-le-mul-left (q - 1) (less-than short))))
       (λ (long : stepped grid q more ≤ v). long)
       (below-or-not v (stepped grid q more)))
-      (λ p. step-least grid q more v (m .some) (m .step) on p)
+      (λ p. step-least grid q more v on p)
 
   pub wanted-least : (v : ℕ) → MultipleOf grid v → Holds q c more v → wanted ttrt grid q c more s ≤ v
   wanted-least v on h =

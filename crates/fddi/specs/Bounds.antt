@@ -1,9 +1,9 @@
 -- What the small functions of FDDI planning hand back: the definition's number and, for whoever adds and multiplies on, how large it can be.
-use Prim.Native.Nat.{ℕ, _+_, _*_, _/_, _≤_, _<_, _^_}
+use Prim.Native.Nat.{ℕ, _*_, _/_, _≤_, _<_, _^_}
 use mathlib.Core.Path.{_≡_}
 use mathlib.Core.List.{List}
 use Rattle.fddi.specs.Rules.{lost}
-use Rattle.fddi.specs.Climb.{stepped, wanted, next, rotationsOf, raised}
+use Rattle.fddi.specs.Climb.{wanted, next, rotationsOf, raised}
 use Rattle.fddi.specs.declared.Load.{Load}
 use Rattle.fddi.specs.declared.climb.Raised.{Raised}
 
@@ -17,17 +17,6 @@ pub record Whole (a b r : ℕ) : Type 0 where
 pub record Lost (l : Load) (r : ℕ) : Type 0 where
   pub is : r ≡ lost l
   pub small : r < 2 ^ 33
-
--- the numbers of a step are small enough to multiply
-pub record Steppable (grid q x : ℕ) : Type 0 where
-  pub shares : q * grid < 2 ^ 32
-  pub whole : x < 2 ^ 34
-
--- r is the smallest multiple of which q are enough
-pub record Stepped (grid q x r : ℕ) : Type 0 where
-  pub is : r ≡ stepped grid q x
-  pub small : r ≤ x + grid
-  pub shares : q * r ≤ x + q * grid
 
 -- the numbers of a station are small enough to raise it
 pub record Raisable (ttrt q more : ℕ) : Type 0 where

@@ -3,7 +3,7 @@ use Prim.Native.Nat.{ℕ, zero, suc, _+_, _-_, _*_, min}
 use mathlib.Core.Bool.{Bool, true, false, cond, _&&_, _||_}
 use mathlib.Core.List.{List}
 use lib.Dec.{leb, ltb, eqb}
-use Rattle.units.specs.Small.{roundedUp}
+use Rattle.units.specs.Grid.{stepped}
 use Rattle.units.specs.Places.{at, sumBelow, fill}
 pub use Rattle.units.specs.Places.{zeros}
 use Rattle.fddi.specs.Rules.{stations, wholeRotations, lost, tokenFits}
@@ -20,10 +20,6 @@ lacking ttrt q c d taken = c + (taken - (d - q * ttrt))
 -- X at least C, put another way: q − 1 shares are enough for C, or q shares are enough for `more`, C with what the last rotation lacks
 abbrev pub holds : ℕ → ℕ → ℕ → ℕ → Bool
 holds q c more s = leb c ((q - 1) * s) || leb more (q * s)
-
--- the smallest multiple of the grid of which q are at least x
-abbrev pub stepped : ℕ → ℕ → ℕ → ℕ
-stepped grid q x = roundedUp x (q * grid) * grid
 
 -- no multiple of the grid above 0 is within TTRT
 abbrev pub offGrid : ℕ → ℕ → Bool

@@ -2,7 +2,8 @@
 use Prim.Native.Nat.{ℕ, zero, suc, _+_, _-_, _*_, _/_, _≤_, _<_, min}
 use mathlib.Core.Path.{_≡_}
 use mathlib.Core.Bool.{Bool, _&&_}
-use lib.Dec.{leb, eqb}
+use lib.Dec.{leb}
+use Rattle.units.specs.Grid.{MultipleOf, onGridAt}
 use Rattle.units.specs.Places.{at, sumBelow, sumFrom, allBelow}
 use Rattle.fddi.specs.declared.Load.{Load}
 
@@ -41,10 +42,6 @@ others n s i = sumBelow i s + sumFrom (i + 1) n s
 abbrev pub timeAt : Load → (ℕ → ℕ) → ℕ → ℕ
 timeAt l s i = leastTime (l .ttrt) (at (l .d) i) (lost l + others (stations l) s i) (s i)
 
--- x is a multiple of g
-abbrev pub MultipleOf : ℕ → ℕ → Type 0
-MultipleOf g x = (k : ℕ) × (x ≡ k * g)
-
 -- the rules, of any vector of numbers whatever
 pub record MeetsFddi (l : Load) (s : ℕ → ℕ) : Type 0 where
   -- the deadline rule at every station: X at least C
@@ -75,14 +72,8 @@ deadlinesFit l s = allBelow (stations l) (deadlineFitsAt l s)
 abbrev pub tokenFits : Load → (ℕ → ℕ) → Bool
 tokenFits l s = leb (sumBelow (stations l) s + lost l) (l .ttrt)
 
-abbrev pub onGrid : ℕ → ℕ → Bool
-onGrid g x = eqb (x / g * g) x
-
-abbrev pub gridFitsAt : Load → (ℕ → ℕ) → ℕ → Bool
-gridFitsAt l s i = onGrid (l .grid) (s i)
-
 abbrev pub gridFits : Load → (ℕ → ℕ) → Bool
-gridFits l s = allBelow (stations l) (gridFitsAt l s)
+gridFits l s = allBelow (stations l) (onGridAt (l .grid) s)
 
 -- the test of a given vector
 abbrev pub rulesKept : Load → (ℕ → ℕ) → Bool

@@ -46,9 +46,10 @@ fn wanted(ttrt: u32, grid: u32, q: u32, c: u32, more: u64, s: u32) -> u64
     if off | hopeless {
         return units::wide(ttrt) + 1;
     }
-    let late = shares::stepped(grid, q, more);
-    if units::wide(c) <= (units::wide(q) - 1) * late {
-        return shares::stepped(grid, q - 1, units::wide(c));
+    let turns = units::wide(q);
+    let late = quotients::stepped(grid, turns, more);
+    if units::wide(c) <= (turns - 1) * late {
+        return quotients::stepped(grid, turns - 1, units::wide(c));
     }
     late
 }

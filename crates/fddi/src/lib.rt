@@ -5,7 +5,7 @@ mod shares;
 ghost use mathlib.Core.Path.{_≡_};
 ghost use Prim.Native.Nat.{_≤_};
 ghost use Rattle.units.specs.Places.{at};
-ghost use Rattle.fddi.specs.Rules.{leastTime, lost, deadlinesFit, tokenFits, onGrid, gridFits, rulesKept};
+ghost use Rattle.fddi.specs.Rules.{leastTime, lost, deadlinesFit, tokenFits, rulesKept};
 ghost use Rattle.fddi.specs.Climb.{none, leastPlan};
 ghost use Rattle.fddi.specs.Bounds.{Lost};
 
@@ -79,33 +79,6 @@ fn deadlines_fit(l: Load, s: [u32; 128]) -> bool
     all
 }
 
-// S is a multiple of the grid.
-fn on_grid(grid: u32, s: u32) -> bool
-    ensures { λ r. ⌜ r ≡ onGrid grid s ⌝ }
-{
-    if grid == 1 {
-        return true;
-    }
-    let own = units::wide(s);
-    let step = units::wide(grid);
-    shares::whole(own, step) * step == own
-}
-
-// Every S is a multiple of the grid.
-fn grid_fits(l: Load, s: [u32; 128]) -> bool
-    ensures { λ r. ⌜ r ≡ gridFits l (at s) ⌝ }
-{
-    let end = units::places(l.n);
-    let mut all = true;
-    let mut i: usize = 0;
-    while i < end {
-        let one = on_grid(l.grid, s[i]);
-        all = all & one;
-        i += 1;
-    }
-    all
-}
-
 // The test of a given vector: the token rule, the deadline rule at every station, and the grid.
 pub fn meets_rules(l: Load, s: [u32; 128]) -> bool
     ensures { λ r. ⌜ r ≡ rulesKept l (at s) ⌝ }
@@ -113,7 +86,7 @@ pub fn meets_rules(l: Load, s: [u32; 128]) -> bool
     if !token_fits(l, s) {
         return false;
     }
-    deadlines_fit(l, s) & grid_fits(l, s)
+    deadlines_fit(l, s) & quotients::all_on_grid(l.grid, l.n, s)
 }
 
 // There is no such vector: zeros.

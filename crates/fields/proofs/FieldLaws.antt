@@ -9,7 +9,7 @@ use lib.Dec.{eqb}
 use lib.ListN.{length}
 use borrow.Author.Tests.{le-leb, lt-leb, leb-true, lt-ltb, ltb-true, eq-eqb, ne-eqb, eqb-true}
 use Rattle.units.specs.JudgingLaws.{held, failed, passed, and-true, true-and, true-or-false}
-use Rattle.fields.specs.Fields.{headTag, headSize, stationTag, stationSize, allocationTag, allocationSize, modeTag, frameTag, endTag, endSize}
+use Rattle.fields.specs.Fields.{headTag, headSize, stationTag, stationSize, allocationTag, allocationSize, modeTag, gridTag, endTag, endSize}
 use Rattle.fields.specs.Fields.{allocationsFor, due, headed, row, furtherSize, isFurther, inHeader, isAllowed, left, tagAt, sizeAt, behind, allowedAt, fieldNumber, handedOut, fieldAt, FieldWhole}
 use Rattle.fields.specs.declared.Passed.{Passed}
 
@@ -93,7 +93,7 @@ allocations-few false n = omega arith
 -- a field of the header behind TTRT
 pub record Further (tag size : ℕ) : Type 0 where
   pub low : modeTag ≤ tag
-  pub high : tag ≤ frameTag
+  pub high : tag ≤ gridTag
   pub long : size ≡ furtherSize tag
 
 -- its length is 1 or 4

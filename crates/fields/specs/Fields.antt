@@ -49,6 +49,10 @@ frameTag = 5
 abbrev pub frameSize : ℕ
 frameSize = 4
 
+-- tag 6, as long as F's: g, the grid
+abbrev pub gridTag : ℕ
+gridTag = 6
+
 -- tag 255, length 0: the end
 abbrev pub endTag : ℕ
 endTag = 255
@@ -74,13 +78,13 @@ headed p = leb headTag (p .head)
 abbrev pub row : ℕ → ℕ → Bool → Bool → Bool
 row tag its holds rest = cond (eqb tag its) holds rest
 
--- the length of a field of the header behind TTRT: the mode's, and one for every other
+-- the length of a field of the header behind TTRT: the mode's, and F's for every other
 unfoldable pub furtherSize : ℕ → ℕ
 furtherSize tag = cond (eqb tag modeTag) modeSize frameSize
 
--- a field of the header behind TTRT, with its one length: the mode, or F
+-- a field of the header behind TTRT, with its one length: the mode, F or g
 abbrev pub isFurther : ℕ → ℕ → Bool
-isFurther tag size = between modeTag frameTag tag && eqb size (furtherSize tag)
+isFurther tag size = between modeTag gridTag tag && eqb size (furtherSize tag)
 
 -- such a field stands behind TTRT and before the first station, and its tag is above those of the header's fields that have passed
 abbrev pub inHeader : Passed → ℕ → Bool

@@ -1,4 +1,4 @@
--- The fields of the header behind TTRT, one rule for all: the mode, tag 4, then F, tag 5. Each may be absent.
+-- The fields of the header behind TTRT, one rule for all: the mode, tag 4, then F, tag 5, then g, tag 6. Each may be absent.
 use Prim.Native.Nat.{ℕ, zero, suc, _+_, _-_}
 use mathlib.Core.Bool.{Bool, cond}
 use mathlib.Core.List.{List}
@@ -8,7 +8,7 @@ use Rattle.fields.specs.Fields.{modeTag, furtherSize, tagAt}
 
 -- how many they are; their tags follow one another, from the mode's on
 abbrev pub furtherCount : ℕ
-furtherCount = 2
+furtherCount = 3
 
 -- the number that an absent field means
 abbrev pub absent : ℕ
@@ -30,7 +30,7 @@ unfoldable pub furtherPlace : List ℕ → ℕ → ℕ
 furtherPlace bs zero = 7
 furtherPlace bs (suc k) = behindTag bs (modeTag + k) (furtherPlace bs k)
 
--- the same by its tag: 7 for the mode; 7, or 11 behind the mode, for F
+-- the same by its tag: 7 for the mode; 7, or 11 behind the mode, for F; for g 7 more behind F
 abbrev pub placeOf : List ℕ → ℕ → ℕ
 placeOf bs tag = furtherPlace bs (tag - modeTag)
 

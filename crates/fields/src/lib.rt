@@ -29,6 +29,9 @@ pub const FRAME_TAG: u8 = 5;
 
 pub const FRAME_SIZE: usize = 4;
 
+// As long as F's.
+pub const GRID_TAG: u8 = 6;
+
 pub const END_TAG: u8 = 255;
 
 pub const END_SIZE: usize = 0;
@@ -57,7 +60,7 @@ pub fn allocations_for(plan: bool, n: usize) -> usize
     if plan { n } else { 0 }
 }
 
-// The length of a field of the header behind TTRT: the mode's, and one for every other.
+// The length of a field of the header behind TTRT: the mode's, and F's for every other.
 pub fn further_size(tag: u8) -> usize
     ensures { λ r. ⌜ r ≡ furtherSize tag ⌝ }
 {
@@ -73,7 +76,7 @@ fn is_further(tag: u8, size: usize) -> bool
     ensures { λ r. ⌜ r ≡ isFurther tag size ⌝ }
 {
     let its = further_size(tag);
-    (MODE_TAG <= tag) & (tag <= FRAME_TAG) & (size == its)
+    (MODE_TAG <= tag) & (tag <= GRID_TAG) & (size == its)
 }
 
 // Such a field may stand next: behind TTRT, before the first station, and above the header's fields that have passed.

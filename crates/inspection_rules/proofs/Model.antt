@@ -54,7 +54,6 @@ back x =
       sent = x .sent;
       rest = zeros;
       token = x .token;
-      filler = 0;
       arrival = zeros;
       had = zeros;
       last = x .last;

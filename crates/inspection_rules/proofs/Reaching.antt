@@ -69,7 +69,6 @@ still r =
       sent = r .sent;
       rest = zeros;
       token = r .token;
-      filler = 0;
       arrival = zeros;
       had = zeros;
       last = zeros;

@@ -38,10 +38,10 @@ places τ (suc n) = places τ n ++ (place (fieldOf τ n) ∷ [])
 abbrev layout : Ty → ℕ → List ℕ
 layout τ n = size τ ∷ places τ n
 
-head : layout Head.mir 3 ≡ 12 ∷ 0 ∷ 4 ∷ 8 ∷ []
+head : layout Head.mir 4 ≡ 16 ∷ 0 ∷ 4 ∷ 8 ∷ 12 ∷ []
 head = refl
 
-set : layout Set.mir 6 ≡ 2064 ∷ 0 ∷ 12 ∷ 16 ∷ 528 ∷ 1040 ∷ 1552 ∷ []
+set : layout Set.mir 6 ≡ 2068 ∷ 0 ∷ 16 ∷ 20 ∷ 532 ∷ 1044 ∷ 1556 ∷ []
 set = refl
 
 alloc : layout Alloc.mir 1 ≡ 512 ∷ 0 ∷ []
@@ -50,16 +50,16 @@ alloc = refl
 planned : layout Planned.mir 2 ≡ 516 ∷ 0 ∷ 512 ∷ []
 planned = refl
 
-read-request : layout ReadRequest.mir 2 ≡ 2068 ∷ 0 ∷ 2064 ∷ []
+read-request : layout ReadRequest.mir 2 ≡ 2072 ∷ 0 ∷ 2068 ∷ []
 read-request = refl
 
-read-plan : layout ReadPlan.mir 3 ≡ 2580 ∷ 0 ∷ 2064 ∷ 2576 ∷ []
+read-plan : layout ReadPlan.mir 3 ≡ 2584 ∷ 0 ∷ 2068 ∷ 2580 ∷ []
 read-plan = refl
 
 written : layout Written.mir 2 ≡ 16 ∷ 0 ∷ 8 ∷ []
 written = refl
 
-ring : layout Ring.mir 14 ≡ 6832 ∷ 0 ∷ 2064 ∷ 2576 ∷ 3088 ∷ 3600 ∷ 4112 ∷ 4624 ∷ 4628 ∷ 4632 ∷ 5656 ∷ 5784 ∷ 6808 ∷ 6816 ∷ 6824 ∷ []
+ring : layout Ring.mir 13 ≡ 6832 ∷ 0 ∷ 2068 ∷ 2580 ∷ 3092 ∷ 3604 ∷ 4116 ∷ 4628 ∷ 4632 ∷ 5656 ∷ 5784 ∷ 6808 ∷ 6816 ∷ 6824 ∷ []
 ring = refl
 
 ask : layout Ask.mir 2 ≡ 8 ∷ 0 ∷ 4 ∷ []
@@ -83,7 +83,7 @@ entry = refl
 next-entry : layout NextEntry.mir 2 ≡ 32 ∷ 0 ∷ 24 ∷ []
 next-entry = refl
 
-read-log : layout ReadLog.mir 5 ≡ 2600 ∷ 0 ∷ 2064 ∷ 2576 ∷ 2584 ∷ 2592 ∷ []
+read-log : layout ReadLog.mir 5 ≡ 2608 ∷ 0 ∷ 2068 ∷ 2584 ∷ 2592 ∷ 2600 ∷ []
 read-log = refl
 
 recorder : layout Recorder.mir 4 ≡ 24 ∷ 0 ∷ 8 ∷ 16 ∷ 20 ∷ []

@@ -98,7 +98,7 @@ its-field e fit =
       long = entry-length e;
     }
 
-small-written : logOf (smallSet timely 1) (record { s = zeros }) (record { station = 0; start = 4_294_967_295; limit = 1; synchronous = 2; asynchronous = 259 } ∷ [])
+small-written : logOf (smallSet timely 1 1) (record { s = zeros }) (record { station = 0; start = 4_294_967_295; limit = 1; synchronous = 2; asynchronous = 259 } ∷ [])
     ≡ 1 ∷ 0 ∷ 4 ∷ 0 ∷ 0 ∷ 0 ∷ 1
     ∷ 2 ∷ 0 ∷ 16 ∷ 0 ∷ 0 ∷ 0 ∷ 1 ∷ 0 ∷ 0 ∷ 0 ∷ 0 ∷ 0 ∷ 0 ∷ 0 ∷ 1 ∷ 0 ∷ 0 ∷ 0 ∷ 1
     ∷ 3 ∷ 0 ∷ 4 ∷ 0 ∷ 0 ∷ 0 ∷ 0

@@ -83,7 +83,7 @@ pub record Promised : Type 0 where
   -- a log has its plan's bytes and 20 for each visit
   pub long : (t : Set) (a : Alloc) (es : List Entry) → length (logOf t a es) ≡ planLength t + 20 * length es
   -- one log written out: TTRT 1, one station of w 1, C 0, D 1, P 1, S 0; a visit at counter 4,294,967,295 of limit 1, synchronous 2, asynchronous 259
-  pub written-out : logOf (smallSet timely 1) (record { s = zeros }) (record { station = 0; start = 4_294_967_295; limit = 1; synchronous = 2; asynchronous = 259 } ∷ [])
+  pub written-out : logOf (smallSet timely 1 1) (record { s = zeros }) (record { station = 0; start = 4_294_967_295; limit = 1; synchronous = 2; asynchronous = 259 } ∷ [])
       ≡ 1 ∷ 0 ∷ 4 ∷ 0 ∷ 0 ∷ 0 ∷ 1
       ∷ 2 ∷ 0 ∷ 16 ∷ 0 ∷ 0 ∷ 0 ∷ 1 ∷ 0 ∷ 0 ∷ 0 ∷ 0 ∷ 0 ∷ 0 ∷ 0 ∷ 1 ∷ 0 ∷ 0 ∷ 0 ∷ 1
       ∷ 3 ∷ 0 ∷ 4 ∷ 0 ∷ 0 ∷ 0 ∷ 0

@@ -1,4 +1,4 @@
--- What the first bytes say of a sheet or log, all of it says, if they are enough: the longest plan has 3,346 bytes without its end, and a visit 20.
+-- What the first bytes say of a sheet or log, all of it says, if they are enough: the longest plan has 3,353 bytes without its end, and a visit 20.
 use Prim.Native.Nat.{ℕ, suc, _+_, _*_, _≤_, _<_}
 use mathlib.Core.Path.{_≡_, refl, sym, ap, _∙_}
 use mathlib.Core.Bool.{Bool, true, false, cond, _&&_}
@@ -45,34 +45,36 @@ use Rattle.log_shows.specs.LogShown.{isLog, planText, plainText, headTex
 pub record Begins (first bs : List ℕ) : Type 0 where
   pub same : (i : ℕ) → i < length first → at first i ≡ at bs i
   pub within : length first ≤ length bs
-  pub enough : 3_366 ≤ length first
+  pub enough : 3_373 ≤ length first
 
 -- ---- how far the fields of a sheet go
 
 record Short (head a : ℕ) : Type 0 where
-  all : a ≤ 18
+  all : a ≤ 25
+  no-grid : head ≤ 5 → a ≤ 18
   no-frame : head ≤ 4 → a ≤ 11
   no-mode : head ≤ 3 → a ≤ 7
 
 headed-short : (bs : List ℕ) (head a : ℕ) → Headed bs head a → Short head a
-headed-short bs _ _ (ttrt-first w) = record { all = omega arith; no-frame = λ l. omega arith; no-mode = λ l. omega arith }
+headed-short bs _ _ (ttrt-first w) = record { all = omega arith; no-grid = λ l. omega arith; no-frame = λ l. omega arith; no-mode = λ l. omega arith }
 headed-short bs _ _ (and-further {head} {a} tag size before f above w) =
     let s = headed-short bs head a before in
     let low = f .low in
     let high = f .high in
     record {
-      all = omega (arith, s .no-frame (omega arith), f .long, further-small tag);
+      all = omega (arith, s .no-grid (omega arith), f .long, further-small tag);
+      no-grid = λ l. omega (arith, s .no-frame (omega arith), f .long, further-small tag);
       no-frame = λ l.
           let mode : tag ≡ 4 = omega arith in
           omega (arith, s .no-mode (omega arith), f .long ∙ ap furtherSize mode ∙ further-one);
       no-mode = λ l. absurd (omega arith);
     }
 
-header-short : (bs : List ℕ) (p : Passed) → Header bs p → p .from ≤ 18
+header-short : (bs : List ℕ) (p : Passed) → Header bs p → p .from ≤ 25
 header-short bs p (no-header h f s) = omega (arith, f)
 header-short bs p (a-header h) = headed-short bs (p .head) (p .from) h .all
 
-place-short : (plan : Bool) (bs : List ℕ) (p : Passed) (a : ℕ) → WellFormed plan bs p a → a ≤ 3_346
+place-short : (plan : Bool) (bs : List ℕ) (p : Passed) (a : ℕ) → WellFormed plan bs p a → a ≤ 3_353
 place-short plan bs p a before =
     let t = through plan bs p a before in
     omega (arith, t .place, header-short bs p (t .header), t .few, t .most, allocations-few plan (p .stations))
@@ -123,8 +125,8 @@ some-fault : (end : Bool) → faultAt end ≢ 0
 some-fault true z = absurd (omega arith)
 some-fault false z = absurd (omega arith)
 
-module _ (xs : List ℕ) (enough : 3_366 ≤ length xs) where
-  stop-there : (a : ℕ) → a ≤ 3_346 → visitStands xs a ≡ false → stopNumber xs a ≡ faultAt (isEnd xs a)
+module _ (xs : List ℕ) (enough : 3_373 ≤ length xs) where
+  stop-there : (a : ℕ) → a ≤ 3_353 → visitStands xs a ≡ false → stopNumber xs a ≡ faultAt (isEnd xs a)
   unfolding visitStands
   stop-there a l none =
       let other : isVisit xs a ≡ false = rw (le-leb (a + 20) (length xs) (omega arith)) at none in
@@ -132,7 +134,7 @@ module _ (xs : List ℕ) (enough : 3_366 ≤ length xs) where
       (λ (e : isEnd xs a ≡ false). stop-wrong xs a (omega arith) other e ∙ rw e refl)
       (true-or-false (isEnd xs a))
 
-  log-refused : scanned true xs .at ≤ 3_346 → planStart xs .passed ≡ true → isLog xs ≡ false → readLog xs ≡ refusedLog (faultAt (isEnd xs (scanned true xs .at)))
+  log-refused : scanned true xs .at ≤ 3_353 → planStart xs .passed ≡ true → isLog xs ≡ false → readLog xs ≡ refusedLog (faultAt (isEnd xs (scanned true xs .at)))
   unfolding walked
   log-refused short all plain =
       let a = scanned true xs .at in
@@ -157,30 +159,48 @@ module _ (first bs : List ℕ) (b : Begins first bs) where
   column-same : (from step n : ℕ) → ((i : ℕ) → i < n → from + step * i + 4 ≤ length first) → column first from step n ≡ column bs from step n
   column-same from step n inside = fill-same n _ _ zeros (λ i l. number-same (from + step * i) (inside i l))
 
-  given-same : (a tag : ℕ) → a ≤ 11 → givenAt first a tag ≡ givenAt bs a tag
+  given-same : (a tag : ℕ) → a ≤ 18 → givenAt first a tag ≡ givenAt bs a tag
   unfolding bodyAt
   given-same a tag l =
       let enough = b .enough in
       rw (b .same a (omega arith), b .same (a + 3) (omega arith), number-same (a + 3) (omega arith)) refl
 
-  in-same : (tag a : ℕ) → placeOf first tag ≡ a → placeOf bs tag ≡ a → a ≤ 11 → numberIn first tag ≡ numberIn bs tag
+  in-same : (tag a : ℕ) → placeOf first tag ≡ a → placeOf bs tag ≡ a → a ≤ 18 → numberIn first tag ≡ numberIn bs tag
   in-same tag a here there l = ap (λ (x : ℕ). givenAt first x tag) here ∙ given-same a tag l ∙ ap (λ (x : ℕ). givenAt bs x tag) (sym there)
 
-  frame-same : numberIn first 5 ≡ numberIn bs 5
-  frame-same =
+  frame-place : (placeOf first 5 ≡ placeOf bs 5) × (placeOf bs 5 ≤ 11)
+  frame-place =
       let rule = sheet-rules .by-tag in
       let tag : at first 7 ≡ at bs 7 = b .same 7 (omega (arith, b .enough)) in
-      ⊎-elim (λ (e : tagAt bs 7 ≡ 4). in-same 5 11 (rule .frame-second first (tag ∙ e)) (rule .frame-second bs e) (omega arith))
-      (λ (e : tagAt bs 7 ≢ 4). in-same 5 7 (rule .frame-first first (λ f. e (sym tag ∙ f))) (rule .frame-first bs e) (omega arith))
+      ⊎-elim (λ (e : tagAt bs 7 ≡ 4).
+      let there = rule .frame-second bs e in
+      (rule .frame-second first (tag ∙ e) ∙ sym there, omega arith))
+      (λ (e : tagAt bs 7 ≢ 4).
+      let there = rule .frame-first bs e in
+      (rule .frame-first first (λ f. e (sym tag ∙ f)) ∙ sym there, omega arith))
       (same-or-not (tagAt bs 7) 4)
+
+  grid-same : numberIn first 6 ≡ numberIn bs 6
+  grid-same =
+      let rule = sheet-rules .by-tag in
+      let here = frame-place .0 in
+      let low = frame-place .1 in
+      let tag : tagAt first (placeOf first 5) ≡ tagAt bs (placeOf bs 5) = ap (at first) here ∙ b .same (placeOf bs 5) (omega (arith, b .enough)) in
+      ⊎-elim (λ (e : tagAt bs (placeOf bs 5) ≡ 5).
+      in-same 6 (placeOf bs 5 + 7) (rule .grid-second first (tag ∙ e) ∙ ap (λ (x : ℕ). x + 7) here) (rule .grid-second bs e) (omega arith))
+      (λ (e : tagAt bs (placeOf bs 5) ≢ 5).
+      in-same 6 (placeOf bs 5) (rule .grid-first first (λ f. e (sym tag ∙ f)) ∙ here) (rule .grid-first bs e) (omega arith))
+      (same-or-not (tagAt bs (placeOf bs 5)) 5)
 
   head-same : headIn first ≡ headIn bs
   head-same =
       let mode : numberIn first 4 ≡ numberIn bs 4 = in-same 4 7 (sheet-rules .by-tag .mode-place first) (sheet-rules .by-tag .mode-place bs) (omega arith) in
+      let frame : numberIn first 5 ≡ numberIn bs 5 = in-same 5 (placeOf bs 5) (frame-place .0) refl (omega (arith, frame-place .1)) in
       let ttrt : numberAt first 3 ≡ numberAt bs 3 = number-same 3 (omega (arith, b .enough)) in
-      ap (λ (n : ℕ). record { ttrt = n; mode = numberIn first 4; frame = numberIn first 5 }) ttrt
-      ∙ ap (λ (n : ℕ). record { ttrt = numberAt bs 3; mode = n; frame = numberIn first 5 }) mode
-      ∙ ap (λ (n : ℕ). record { ttrt = numberAt bs 3; mode = numberIn bs 4; frame = n }) frame-same
+      ap (λ (n : ℕ). record { ttrt = n; mode = numberIn first 4; frame = numberIn first 5; grid = numberIn first 6 }) ttrt
+      ∙ ap (λ (n : ℕ). record { ttrt = numberAt bs 3; mode = n; frame = numberIn first 5; grid = numberIn first 6 }) mode
+      ∙ ap (λ (n : ℕ). record { ttrt = numberAt bs 3; mode = numberIn bs 4; frame = n; grid = numberIn first 6 }) frame
+      ∙ ap (λ (n : ℕ). record { ttrt = numberAt bs 3; mode = numberIn bs 4; frame = numberIn bs 5; grid = n }) grid-same
 
   -- ---- the same walk
 
@@ -195,7 +215,7 @@ module _ (first bs : List ℕ) (b : Begins first bs) where
       rw (tag, size) at next
 
   module _ (plan : Bool) where
-    fault-same : (p : Passed) (a k : ℕ) → a ≤ 3_346 → Fault bs a p k → Fault first a p k
+    fault-same : (p : Passed) (a k : ℕ) → a ≤ 3_353 → Fault bs a p k → Fault first a p k
     fault-same p a _ short (no-start few) = absurd (omega (arith, b .enough, b .within))
     fault-same p a _ short (not-allowed three wrong) =
         let enough = b .enough in
@@ -210,7 +230,7 @@ module _ (first bs : List ℕ) (b : Begins first bs) where
         let none = end-short p (tagAt bs a) (sizeAt bs a) (w .allowed) e in
         follows (record { inside = omega arith; allowed = rw (tag, size) (w .allowed) }) (tag ∙ e) (omega arith)
 
-    at-short : scanned plan bs .at ≤ 3_346
+    at-short : scanned plan bs .at ≤ 3_353
     at-short = place-short plan bs _ _ (stopped plan bs .before)
 
     not-ended : AtEnd bs (scanned plan bs .at) (scanned plan bs .passed) → ⊥
@@ -275,7 +295,7 @@ module _ (first bs : List ℕ) (b : Begins first bs) where
   pub start-inside : planStart bs .at ≤ length first
   start-inside = omega (arith, start-at bs, at-short true, b .enough)
 
-  visit-same : (a : ℕ) → a ≤ 3_346 → visitStands first a ≡ visitStands bs a
+  visit-same : (a : ℕ) → a ≤ 3_353 → visitStands first a ≡ visitStands bs a
   unfolding visitStands
   visit-same a l =
       let enough = b .enough in

@@ -80,7 +80,7 @@ shownOf bs = shownWith bs (visitsPart bs)
 
 -- ---- how the program reads them
 
--- so many bytes first. The fields of the longest plan are 3,346 bytes, and a visit behind them 20
+-- so many bytes first. The fields of the longest plan are 3,353 bytes, and a visit behind them 20
 abbrev pub firstSize : ℕ
 firstSize = 3_400
 

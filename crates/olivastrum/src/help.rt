@@ -13,7 +13,7 @@ fn sheets(to: i32) -> bool {
     let name = more(
         true,
         to,
-        b"olivastrum: plans timely-token and FDDI rings, and runs them one visit at a time\n\n",
+        b"olivastrum: plans timely-token and FDDI rings, runs them one visit at a time, and inspects their logs\n\n",
     );
     let plan = more(
         name,

@@ -18,9 +18,9 @@ use usage::words;
 // Where the status goes, if the first word asks for it.
 const STATUS_FILENO: i32 = 3;
 
-// `plan`: the plan of the request sheet on standard input, or the refusal. The longest, of 128 stations with a mode and F, has 2,453 bytes; one more tells that a byte follows it.
+// `plan`: the plan of the request sheet on standard input, or the refusal. The longest, of 128 stations with a mode, F and g, has 2,460 bytes; one more tells that a byte follows it.
 fn plan() -> Ending {
-    let mut sheet: [u8; 2_454] = [0; 2_454];
+    let mut sheet: [u8; 2_461] = [0; 2_461];
     let filled = reading::fill(STDIN_FILENO, &mut sheet);
     if filled.failed {
         return ending::unread_input();
@@ -34,7 +34,7 @@ fn plan() -> Ending {
 
 // `plan-sheet`: the plan sheet of the request sheet on standard input; refused, no byte is written.
 fn plan_sheet() -> Ending {
-    let mut sheet: [u8; 2_454] = [0; 2_454];
+    let mut sheet: [u8; 2_461] = [0; 2_461];
     let filled = reading::fill(STDIN_FILENO, &mut sheet);
     if filled.failed {
         return ending::unread_input();
@@ -52,7 +52,7 @@ fn plan_sheet() -> Ending {
 
 // `version`: the version, here and nowhere else in the sources.
 fn version() -> Ending {
-    ending::answer(b"0.9.0\n", false)
+    ending::answer(b"0.10.0\n", false)
 }
 
 // `help`.

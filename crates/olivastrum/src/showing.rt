@@ -108,7 +108,7 @@ fn show_log(showing: Showing, head: &[u8], from: usize, more: bool) -> Ending {
     finish(last)
 }
 
-// The longest plan has 3,346 bytes without its end, and a visit 20: both lie in the first 3,400, if the input has them.
+// The longest plan has 3,353 bytes without its end, and a visit 20: both lie in the first 3,400, if the input has them.
 pub(crate) fn show() -> Ending {
     let mut head: [u8; 3_400] = [0; 3_400];
     let filled = reading::fill(STDIN_FILENO, &mut head);

@@ -18,7 +18,7 @@ use Rattle.sets.specs.declared.Set.{Set}
 use Rattle.plans.specs.Planned.{blankAlloc}
 use Rattle.plans.specs.declared.Alloc.{Alloc}
 use Rattle.fields.specs.Rows.{rows}
-use Rattle.fields.specs.Fields.{modeTag, frameTag}
+use Rattle.fields.specs.Fields.{modeTag, frameTag, gridTag}
 use Rattle.fields.specs.Header.{furtherCount, absent}
 use Rattle.fields.proofs.HeaderLaws.{same-or-not, header-there}
 use Rattle.sheets.specs.Layout.{headNumber}
@@ -53,7 +53,10 @@ further-word : (tag : ℕ) → Readable (wordOf tag)
 unfolding wordOf steppedOver stepped characterRead letterRead hasNoEnd
 further-word tag =
     ⊎-elim (λ (e : eqb tag modeTag ≡ true). rw e (record { stepped-over = refl; some = omega arith; inside = refl }))
-    (λ (e : eqb tag modeTag ≡ false). rw e (record { stepped-over = refl; some = omega arith; inside = refl }))
+    (λ (e : eqb tag modeTag ≡ false).
+    ⊎-elim (λ (f : eqb tag frameTag ≡ true). rw (e, f) (record { stepped-over = refl; some = omega arith; inside = refl }))
+    (λ (f : eqb tag frameTag ≡ false). rw (e, f) (record { stepped-over = refl; some = omega arith; inside = refl }))
+    (true-or-false (eqb tag frameTag)))
     (true-or-false (eqb tag modeTag))
 
 -- ---- one line
@@ -90,15 +93,20 @@ module _ (d : Draft) (number : ℕ) (l : number < 2 ^ 32) where
   unfolding Drafts lineDrafted withNumbers lineTag wordOf
   frame-drafted = rw (lt-ltb number (2 ^ 32) l)
 
-  further-drafted : (tag : ℕ) → modeTag ≤ tag → tag ≤ frameTag → Drafts tag
-  further-drafted tag low high =
-      ⊎-elim (λ (e : tag ≡ modeTag). subst Drafts (sym e) mode-drafted)
-      (λ (other : tag ≢ modeTag).
-      let e : tag ≡ frameTag = ⊎-elim (λ (b : tag < 5). absurd (other (omega arith))) (λ (b : 5 ≤ tag). omega arith) (below-or-not tag 5) in
-      subst Drafts (sym e) frame-drafted)
-      (same-or-not tag modeTag)
+  grid-drafted : Drafts gridTag
+  unfolding Drafts lineDrafted withNumbers lineTag wordOf
+  grid-drafted = rw (lt-ltb number (2 ^ 32) l)
 
-further-composed : (d : Draft) (tag number : ℕ) → modeTag ≤ tag → tag ≤ frameTag → number < 2 ^ 32 → number ≢ absent
+  further-drafted : (tag : ℕ) → modeTag ≤ tag → tag ≤ gridTag → Drafts tag
+  further-drafted tag low high =
+      ⊎-elim (λ (b : tag < 5). let e : modeTag ≡ tag = omega arith in subst Drafts e mode-drafted)
+      (λ (b : 5 ≤ tag).
+      ⊎-elim (λ (d : tag < 6). let e : frameTag ≡ tag = omega arith in subst Drafts e frame-drafted)
+      (λ (d : 6 ≤ tag). let e : gridTag ≡ tag = omega arith in subst Drafts e grid-drafted)
+      (below-or-not tag 6))
+      (below-or-not tag 5)
+
+further-composed : (d : Draft) (tag number : ℕ) → modeTag ≤ tag → tag ≤ gridTag → number < 2 ^ 32 → number ≢ absent
     → composeAfter (atRest d) (furtherLine tag number) ≡ atRest (onNextLine (withFurther d tag number))
 unfolding Drafts
 further-composed d tag number low high l other =
@@ -206,7 +214,7 @@ headLine h (suc k) = cond (noLine h k) (headLine h k) (nextLine (headLine h k))
 
 -- the header so far; a number that no line names is what its absence means
 unfoldable headSoFar : Head → ℕ → Head
-headSoFar h zero = record { ttrt = h .ttrt; mode = absent; frame = absent }
+headSoFar h zero = record { ttrt = h .ttrt; mode = absent; frame = absent; grid = absent }
 headSoFar h (suc k) = headWith (headSoFar h k) (modeTag + k) (headNumber h (modeTag + k))
 
 -- a number that is absent changes nothing of it
@@ -214,7 +222,8 @@ so-far-absent : (h : Head) (k : ℕ) → k < furtherCount → headNumber h (mode
 unfolding headSoFar headWith headNumber
 so-far-absent h zero l e = rw e refl
 so-far-absent h (suc zero) l e = rw e refl
-so-far-absent h (suc (suc k)) l e = absurd (omega arith)
+so-far-absent h (suc (suc zero)) l e = rw e refl
+so-far-absent h (suc (suc (suc k))) l e = absurd (omega arith)
 
 -- and behind all fields it is the header
 so-far-all : (h : Head) → headSoFar h furtherCount ≡ h

@@ -12,7 +12,7 @@ use Rattle.sets.specs.Rules.{CountAllowed}
 use Rattle.sets.specs.declared.Head.{Head}
 use Rattle.plans.specs.Planned.{blankAlloc}
 use Rattle.plans.specs.declared.Alloc.{Alloc}
-use Rattle.fields.specs.Fields.{modeTag}
+use Rattle.fields.specs.Fields.{modeTag, frameTag}
 use Rattle.fields.specs.Header.{headerNumber}
 use Rattle.sheets.specs.Layout.{headNumber, mostOf}
 use Rattle.sheets.specs.Writing.{writtenAnswer}
@@ -33,7 +33,10 @@ misplaced-broken d = and-false (eqb (d .unread) 0)
 with-number : (h : Head) (tag number : ℕ) → headNumber (headWith h tag number) tag ≡ number
 unfolding headNumber headWith
 with-number h tag number =
-    ⊎-elim (λ (e : eqb tag modeTag ≡ true). rw e refl) (λ (e : eqb tag modeTag ≡ false). rw e refl) (true-or-false (eqb tag modeTag))
+    ⊎-elim (λ (e : eqb tag modeTag ≡ true). rw e refl)
+    (λ (e : eqb tag modeTag ≡ false).
+    ⊎-elim (λ (f : eqb tag frameTag ≡ true). rw (e, f) refl) (λ (f : eqb tag frameTag ≡ false). rw (e, f) refl) (true-or-false (eqb tag frameTag)))
+    (true-or-false (eqb tag modeTag))
 
 module _ (d : Draft) (tag number : ℕ) where
   pub line-given : 1 ≤ d .head → d .head < tag → d .set .n ≡ 0 → headNumber (withFurther d tag number .set .head) tag ≡ headerNumber true number

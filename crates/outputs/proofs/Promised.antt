@@ -31,7 +31,7 @@ use Rattle.drafts.proofs.SentLaws.{broken-text, refused-plan-text, broken-end, 
 use Rattle.outputs.specs.PlanText.{planLines, plannedText, requestText, planPrinted}
 use Rattle.text.specs.TextLaws.{text-accepted, text-refused}
 use Rattle.outputs.specs.PlanSheet.{planningNumber, answerOr, bufferOr}
-use Rattle.outputs.specs.Promised.{Promised, workedSheet, workedText, olderSheet, olderText, framedSheet, framedText}
+use Rattle.outputs.specs.Promised.{Promised, workedSheet, workedText, olderSheet, olderText, framedSheet, framedText, griddedSheet, griddedText}
 use Rattle.outputs.specs.ShowText.{furtherLine, headLines, shareWords, stationLine, sheetText, showPrinted}
 use Rattle.outputs.proofs.ShowLaws.{shown-request}
 use Rattle.outputs.proofs.ShownLaws.{shown-composed}
@@ -78,13 +78,14 @@ empty-read = refl
 empty-said : planPrinted [] ≡ refusedLine 1
 empty-said = text-refused _ _ (λ e. absurd (omega (arith, e, empty-read))) ∙ ap refusedLine empty-read
 
-olderSet : ℕ → Set
-olderSet frame =
-    record { head = record { ttrt = 100; mode = 2; frame = frame }; n = 1; w = fill 1 (λ i. 2) zeros; c = fill 1 (λ i. 20) zeros; d = fill 1 (λ i. 200) zeros; p = fill 1 (λ i. 200) zeros }
+olderSet : ℕ → ℕ → Set
+olderSet frame grid =
+    let long = fill 1 (λ i. 200) zeros in
+    record { head = record { ttrt = 100; mode = 2; frame = frame; grid = grid }; n = 1; w = fill 1 (λ i. 2) zeros; c = fill 1 (λ i. 20) zeros; d = long; p = long }
 
 workedSet : Set
 workedSet =
-    record { head = record { ttrt = 100; mode = 1; frame = 1 }; n = 4; w = fill 1 (λ i. 2) zeros; c = fill 4 (λ i. 20) zeros; d = fill 4 (λ i. 100) zeros; p = fill 4 (λ i. 100) zeros }
+    record { head = record { ttrt = 100; mode = 1; frame = 1; grid = 1 }; n = 4; w = fill 1 (λ i. 2) zeros; c = fill 4 (λ i. 20) zeros; d = fill 4 (λ i. 100) zeros; p = fill 4 (λ i. 100) zeros }
 
 worked-read : readRequest workedSheet ≡ record { set = workedSet; number = 0 }
 unfolding workedSet readSheet readAnswer thenNumber scanned scanFrom stopsAt stopNumber withField cursorAfter fieldNumber handedOut isAllowed
@@ -103,24 +104,33 @@ worked-said : planPrinted workedSheet ≡ workedText
 unfolding textOr
 worked-said = ap requestText worked-read ∙ ap (plannedText workedSet) worked-planned ∙ worked-lines
 
--- an older set, shown; and the same with frames
-older-read : readRequest olderSheet ≡ record { set = olderSet 1; number = 0 }
+-- an older set, shown; the same with frames; and the same on a grid
+older-read : readRequest olderSheet ≡ record { set = olderSet 1 1; number = 0 }
 unfolding olderSet readSheet readAnswer thenNumber scanned scanFrom stopsAt stopNumber withField cursorAfter fieldNumber handedOut isAllowed
     orElse allBelow shortAt numberAt bodyAt furtherSize furtherPlace behindTag fill judgedSheet judgedThen allHold sumBelow headInRange stationInRange headerNumber
 older-read = refl
 
-framed-read : readRequest framedSheet ≡ record { set = olderSet 40; number = 0 }
+framed-read : readRequest framedSheet ≡ record { set = olderSet 40 1; number = 0 }
 unfolding olderSet readSheet readAnswer thenNumber scanned scanFrom stopsAt stopNumber withField cursorAfter fieldNumber handedOut isAllowed
     orElse allBelow shortAt numberAt bodyAt furtherSize furtherPlace behindTag fill judgedSheet judgedThen allHold sumBelow headInRange stationInRange headerNumber
 framed-read = refl
 
-older-lines : sheetText false (olderSet 1) blankAlloc ≡ olderText
+gridded-read : readRequest griddedSheet ≡ record { set = olderSet 40 5; number = 0 }
+unfolding olderSet readSheet readAnswer thenNumber scanned scanFrom stopsAt stopNumber withField cursorAfter fieldNumber handedOut isAllowed
+    orElse allBelow shortAt numberAt bodyAt furtherSize furtherPlace behindTag fill judgedSheet judgedThen allHold sumBelow headInRange stationInRange headerNumber
+gridded-read = refl
+
+older-lines : sheetText false (olderSet 1 1) blankAlloc ≡ olderText
 unfolding olderSet sheetText headLines headNumber furtherLine wordOf stationLine shareWords rows line lineOn decimalWithin fill
 older-lines = refl
 
-framed-lines : sheetText false (olderSet 40) blankAlloc ≡ framedText
+framed-lines : sheetText false (olderSet 40 1) blankAlloc ≡ framedText
 unfolding olderSet sheetText headLines headNumber furtherLine wordOf stationLine shareWords rows line lineOn decimalWithin fill
 framed-lines = refl
+
+gridded-lines : sheetText false (olderSet 40 5) blankAlloc ≡ griddedText
+unfolding olderSet sheetText headLines headNumber furtherLine wordOf stationLine shareWords rows line lineOn decimalWithin fill
+gridded-lines = refl
 
 shown-set : (sheet : List ℕ) (t : Set) → readRequest sheet ≡ record { set = t; number = 0 } → showPrinted sheet ≡ sheetText false t blankAlloc
 shown-set sheet t e =
@@ -143,8 +153,9 @@ promised =
       same-refusal = λ sheet out k. (refused-text sheet k, (or-refused (planningNumber (readRequest sheet)) _ k, or-kept (planningNumber (readRequest sheet)) _ out k));
       show-compose = shown-composed;
       log-compose = log-composed;
-      older = shown-set olderSheet (olderSet 1) older-read ∙ older-lines;
-      framed = shown-set framedSheet (olderSet 40) framed-read ∙ framed-lines;
+      older = shown-set olderSheet (olderSet 1 1) older-read ∙ older-lines;
+      framed = shown-set framedSheet (olderSet 40 1) framed-read ∙ framed-lines;
+      gridded = shown-set griddedSheet (olderSet 40 5) gridded-read ∙ gridded-lines;
       header-line = line-given;
       header-other = λ d tag number out e outside whole count.
           other-four d tag out whole count (subst (λ (n : ℕ). ¬ ((1 ≤ n) × (n ≤ mostOf tag))) (sym e) (header-out (mostOf tag) number outside));

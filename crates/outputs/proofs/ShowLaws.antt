@@ -11,11 +11,11 @@ use Rattle.sheets.specs.ReadLaws.{read-few}
 use Rattle.sets.specs.declared.Head.{Head}
 use Rattle.sheets.specs.declared.ReadRequest.{ReadRequest}
 use Rattle.sheets.specs.declared.ReadPlan.{ReadPlan}
-use Rattle.fields.specs.Fields.{modeTag}
+use Rattle.fields.specs.Fields.{modeTag, frameTag}
 use Rattle.fields.specs.Header.{furtherCount, absent}
 use Rattle.sheets.specs.Layout.{headNumber}
 use Rattle.text.specs.Text.{decimalOf, line, refusedLine}
-use Rattle.drafts.specs.Compose.{modeWord, frameWord, wordOf}
+use Rattle.drafts.specs.Compose.{modeWord, frameWord, gridWord, wordOf}
 use Rattle.text.specs.TextLaws.{text-accepted, text-refused}
 use Rattle.outputs.specs.ShowText.{ttrtLine, furtherLine, headLines, sheetText, planReadText, requestReadText, planShown, showPrinted}
 
@@ -29,16 +29,23 @@ unfolding furtherLine
 line-some tag number other = rw (ne-eqb number absent other) refl
 
 -- with the word of its tag
-pub mode-line : (tag number : ℕ) → tag ≡ modeTag → number ≢ absent → line (modeWord ∷ decimalOf number ∷ []) ≡ furtherLine tag number
-unfolding wordOf
-mode-line tag number e other = sym (line-some tag number other ∙ rw e refl)
+pub word-line : (tag number : ℕ) (word : List ℕ) → wordOf tag ≡ word → number ≢ absent → line (word ∷ decimalOf number ∷ []) ≡ furtherLine tag number
+word-line tag number word e other = sym (line-some tag number other ∙ ap (λ (w : List ℕ). line (w ∷ decimalOf number ∷ [])) e)
 
-pub frame-line : (tag number : ℕ) → tag ≢ modeTag → number ≢ absent → line (frameWord ∷ decimalOf number ∷ []) ≡ furtherLine tag number
+pub mode-named : (tag : ℕ) → tag ≡ modeTag → wordOf tag ≡ modeWord
 unfolding wordOf
-frame-line tag number e other = sym (line-some tag number other ∙ rw (ne-eqb tag modeTag e) refl)
+mode-named tag e = rw e refl
+
+pub frame-named : (tag : ℕ) → tag ≡ frameTag → wordOf tag ≡ frameWord
+unfolding wordOf
+frame-named tag e = rw e refl
+
+pub grid-named : (tag : ℕ) → tag ≢ modeTag → tag ≢ frameTag → wordOf tag ≡ gridWord
+unfolding wordOf
+grid-named tag m f = rw (ne-eqb tag modeTag m, ne-eqb tag frameTag f) refl
 
 -- the header's lines, one by one
-pub head-lines : (h : Head) → headLines h furtherCount ≡ ttrtLine (h .ttrt) ++ furtherLine 4 (h .mode) ++ furtherLine 5 (h .frame)
+pub head-lines : (h : Head) → headLines h furtherCount ≡ ttrtLine (h .ttrt) ++ furtherLine 4 (h .mode) ++ furtherLine 5 (h .frame) ++ furtherLine 6 (h .grid)
 unfolding headLines headNumber
 head-lines h = refl
 

@@ -12,7 +12,7 @@ use Rattle.sets.specs.declared.Set.{Set}
 use Rattle.plans.specs.Planned.{blankAlloc}
 use Rattle.plans.specs.declared.Alloc.{Alloc}
 use Rattle.fields.specs.Bytes.{AllBytes}
-use Rattle.fields.specs.Fields.{modeTag}
+use Rattle.fields.specs.Fields.{modeTag, frameTag}
 use Rattle.sheets.specs.Layout.{headNumber, mostOf, sheetOf, planSheet, sheetLength}
 use Rattle.sheets.proofs.ReadingLaws.{head-ranges}
 use Rattle.sheets.proofs.WritingLaws.{answer-accepted, buffer-accepted, number-none, sheet-long}
@@ -56,7 +56,11 @@ kind-few false (suc n) = omega arith
 
 most-small : (tag : ℕ) → mostOf tag < 2 ^ 32
 unfolding mostOf
-most-small tag = ⊎-elim (λ (e : eqb tag modeTag ≡ true). rw e (omega arith)) (λ (e : eqb tag modeTag ≡ false). rw e (omega arith)) (true-or-false (eqb tag modeTag))
+most-small tag =
+    ⊎-elim (λ (e : eqb tag modeTag ≡ true). rw e (omega arith))
+    (λ (e : eqb tag modeTag ≡ false).
+    ⊎-elim (λ (f : eqb tag frameTag ≡ true). rw (e, f) (omega arith)) (λ (f : eqb tag frameTag ≡ false). rw (e, f) (omega arith)) (true-or-false (eqb tag frameTag)))
+    (true-or-false (eqb tag modeTag))
 
 module _ (plan : Bool) (t : Set) (a : Alloc) (k : Kept plan t a) where
   small-at : (i : ℕ) → i < t .n → SmallAt plan t a i

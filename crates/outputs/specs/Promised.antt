@@ -62,6 +62,18 @@ framedText =
     116 ∷ 116 ∷ 114 ∷ 116 ∷ 32 ∷ 49 ∷ 48 ∷ 48 ∷ 10 ∷ 109 ∷ 111 ∷ 100 ∷ 101 ∷ 32 ∷ 50 ∷ 10 ∷ 102 ∷ 114 ∷ 97 ∷ 109 ∷ 101 ∷ 32 ∷ 52 ∷ 48 ∷ 10 ∷
     115 ∷ 116 ∷ 97 ∷ 116 ∷ 105 ∷ 111 ∷ 110 ∷ 32 ∷ 50 ∷ 32 ∷ 50 ∷ 48 ∷ 32 ∷ 50 ∷ 48 ∷ 48 ∷ 32 ∷ 50 ∷ 48 ∷ 48 ∷ 10 ∷ []
 
+-- and on a grid of 5
+abbrev pub griddedSheet : List ℕ
+griddedSheet =
+    1 ∷ 0 ∷ 4 ∷ 0 ∷ 0 ∷ 0 ∷ 100 ∷ 4 ∷ 0 ∷ 1 ∷ 2 ∷ 5 ∷ 0 ∷ 4 ∷ 0 ∷ 0 ∷ 0 ∷ 40 ∷ 6 ∷ 0 ∷ 4 ∷ 0 ∷ 0 ∷ 0 ∷ 5 ∷
+    2 ∷ 0 ∷ 16 ∷ 0 ∷ 0 ∷ 0 ∷ 2 ∷ 0 ∷ 0 ∷ 0 ∷ 20 ∷ 0 ∷ 0 ∷ 0 ∷ 200 ∷ 0 ∷ 0 ∷ 0 ∷ 200 ∷ 255 ∷ 0 ∷ 0 ∷ []
+
+abbrev pub griddedText : List ℕ
+griddedText =
+    116 ∷ 116 ∷ 114 ∷ 116 ∷ 32 ∷ 49 ∷ 48 ∷ 48 ∷ 10 ∷ 109 ∷ 111 ∷ 100 ∷ 101 ∷ 32 ∷ 50 ∷ 10 ∷ 102 ∷ 114 ∷ 97 ∷ 109 ∷ 101 ∷ 32 ∷ 52 ∷ 48 ∷ 10 ∷
+    103 ∷ 114 ∷ 105 ∷ 100 ∷ 32 ∷ 53 ∷ 10 ∷
+    115 ∷ 116 ∷ 97 ∷ 116 ∷ 105 ∷ 111 ∷ 110 ∷ 32 ∷ 50 ∷ 32 ∷ 50 ∷ 48 ∷ 32 ∷ 50 ∷ 48 ∷ 48 ∷ 32 ∷ 50 ∷ 48 ∷ 48 ∷ 10 ∷ []
+
 pub record Promised : Type 0 where
   -- an empty input prints `refused 1`
   pub empty : planPrinted [] ≡ refusedLine 1
@@ -85,7 +97,9 @@ pub record Promised : Type 0 where
   pub older : showPrinted olderSheet ≡ olderText
   -- and `frame 40` behind that
   pub framed : showPrinted framedSheet ≡ framedText
-  -- a further line of the header in a text, `mode M` by tag 4 and `frame F` by tag 5: behind TTRT's, before the first station and above those with lower tags it gives the number that its field on a sheet gives
+  -- and `grid 5` behind both
+  pub gridded : showPrinted griddedSheet ≡ griddedText
+  -- a further line of the header in a text, `mode M` by tag 4, `frame F` by tag 5 and `grid G` by tag 6: behind TTRT's, before the first station and above those with lower tags it gives the number that its field on a sheet gives
   pub header-line : (d : Draft) (tag number : ℕ) → 1 ≤ d .head → d .head < tag → d .set .n ≡ 0 → headNumber (withFurther d tag number .set .head) tag ≡ headerNumber true number
   -- so a text with a number there that is not 2 to the highest, 1 among them, is refused with 4, if its lines make a sheet of 1 to 128 stations
   pub header-other : (d : Draft) (tag number : ℕ) (out : List ℕ) → headNumber (d .set .head) tag ≡ headerNumber true number

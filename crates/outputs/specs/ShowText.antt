@@ -23,7 +23,7 @@ use Rattle.drafts.specs.Compose.{ttrtWord, wordOf, stationWord}
 abbrev pub ttrtLine : ℕ → List ℕ
 ttrtLine ttrt = line (ttrtWord ∷ decimalOf ttrt ∷ [])
 
--- `mode M` or `frame F`, by the tag; no line where the number is what its absence means
+-- `mode M`, `frame F` or `grid G`, by the tag; no line where the number is what its absence means
 unfoldable pub furtherLine : ℕ → ℕ → List ℕ
 furtherLine tag number = cond (eqb number absent) [] (line (wordOf tag ∷ decimalOf number ∷ []))
 

@@ -13,7 +13,7 @@ use Rattle.units.specs.SmallLaws.{below-or-not}
 use Rattle.sets.specs.Judged.{blankSet, zeros}
 use Rattle.plans.specs.Planned.{judgedPlan, blankAlloc}
 use Rattle.fields.specs.Bytes.{bodyAt}
-use Rattle.fields.specs.Fields.{modeTag, frameTag, furtherSize, tagAt, sizeAt}
+use Rattle.fields.specs.Fields.{modeTag, gridTag, furtherSize, tagAt, sizeAt}
 use Rattle.fields.specs.Header.{furtherCount, behindTag, furtherPlace, givenAt, headerNumber}
 use Rattle.fields.specs.declared.Passed.{Passed}
 use Rattle.fields.proofs.FieldLaws.{further-one, further-four, further-small, Kind, a-head, a-station, an-allocation, an-end, a-further, allowed-kind}
@@ -104,7 +104,7 @@ module _ (head rest : List ℕ) (p : Passed) (a : ℕ) (all : AllPassed true hea
 
   head-same : headIn (head ++ rest) ≡ headIn head
   head-same =
-      rw (number-same head rest 3 (omega (arith, all .header .ttrt .inside)), given-same 0 (omega arith), given-same 1 (omega arith)) refl
+      rw (number-same head rest 3 (omega (arith, all .header .ttrt .inside)), given-same 0 (omega arith), given-same 1 (omega arith), given-same 2 (omega arith)) refl
 
   set-same : setOf (head ++ rest) p ≡ setOf head p
   set-same =
@@ -131,11 +131,11 @@ header-short bs _ _ (ttrt-first w) = omega arith
 header-short bs _ _ (and-further {head} {a} tag size before f above w) =
     omega (arith, header-short bs head a before, f .low, f .long, further-small tag)
 
-header-low : (bs : List ℕ) (head a : ℕ) → Headed bs head a → head ≤ frameTag
+header-low : (bs : List ℕ) (head a : ℕ) → Headed bs head a → head ≤ gridTag
 header-low bs _ _ (ttrt-first w) = omega arith
 header-low bs _ _ (and-further tag size before f above w) = f .high
 
-from-low : (bs : List ℕ) (p : Passed) → Header bs p → p .from ≤ 21
+from-low : (bs : List ℕ) (p : Passed) → Header bs p → p .from ≤ 28
 from-low bs p (no-header h f s) = omega arith
 from-low bs p (a-header h) = omega (arith, header-short bs (p .head) (p .from) h, header-low bs (p .head) (p .from) h)
 
@@ -154,7 +154,7 @@ module _ (head rest : List ℕ) (none : planPassed (scanned true head .passed) �
   abbrev a : ℕ
   a = scanned true head .at
 
-  early : a ≤ 3_349
+  early : a ≤ 3_356
   early =
       let t = through true head p a (stopped true head .before) in
       omega (arith, t .place, t .few, t .most, from-low head p (t .header))

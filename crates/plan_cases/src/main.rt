@@ -22,7 +22,7 @@ fn row(d: u32, c: u32) {
     space();
     number(units::wide(c));
     space();
-    number(plans::smallest(100, c, d));
+    number(plans::smallest(1, 100, c, d));
     line();
 }
 
@@ -35,6 +35,7 @@ fn equal_stations(ttrt: u32, n: u32, tau: u32, d: u32, c: u32) -> Set {
             ttrt,
             mode: numbers::TIMELY,
             frame: 1,
+            grid: 1,
         },
         n,
         w,

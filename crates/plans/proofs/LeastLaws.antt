@@ -1,5 +1,5 @@
 -- What planning tries is the least vector, in every mode: at each station at most every vector that meets the rules, and it meets them wherever any vector does. So 6 is right where it breaks one, and it is the plan where it does not.
-use Prim.Native.Nat.{ℕ, _+_, _≤_, _<_}
+use Prim.Native.Nat.{ℕ, _≤_, _<_}
 use mathlib.Core.Path.{_≡_, refl, sym, _∙_}
 use mathlib.Core.Bool.{Bool, true, false, true≢false}
 use mathlib.Core.Logic.{_≢_, ⊎-elim}
@@ -17,10 +17,10 @@ use Rattle.fddi.specs.Rules.{stations, MeetsFddi, rulesKept}
 use Rattle.fddi.specs.Climb.{none, leastPlan}
 use Rattle.fddi.specs.Answer as fddi-answer
 use Rattle.fddi.proofs.Promised as fddi-plans
-use Rattle.plans.specs.Rules.{isFddi, loadOf, lost, MeetsRules, IsSmallest, AllocInRange, deadlineFitsAt, deadlinesFit, tokenFits, rulesFit, timelyFitsAt}
+use Rattle.plans.specs.Rules.{wholeRotations, alpha, isFddi, loadOf, MeetsToken, MeetsRules, IsSmallest, AllocInRange, deadlineFitsAt, deadlinesFit, tokenFits, rulesFit, timelyFitsAt}
 use Rattle.plans.specs.Planned.{smallestAt, smallestAlloc, leastAlloc, leastFits, judgedPlan, blankAlloc, planned}
 use Rattle.plans.specs.Answer.{IsPlan}
-use Rattle.plans.specs.PlanLaws.{smallest-is, time-timely, time-fddi, decides-alloc, decides-token, decides-rules, given-0, answered-refused, answered-plan}
+use Rattle.plans.specs.PlanLaws.{smallest-is, smallest-least, time-timely, time-fddi, decides-alloc, decides-token, decides-rules, given-0, answered-refused, answered-plan}
 
 zeros-at : (i : ℕ) → at zeros i ≡ 0
 zeros-at i =
@@ -37,23 +37,29 @@ smallest-inside t few i l = fill-inside (t .n) (smallestAt t) zeros i l few
 -- a vector that meets the rules is at least as large at every station
 smallest-below : (t : Set) → isFddi t ≡ false → t .n ≤ 128 → (v : ℕ → ℕ) → MeetsRules t v → (i : ℕ) → i < t .n → at (smallestAlloc t .s) i ≤ v i
 smallest-below t h few v m i l =
-    rw (smallest-inside t few i l)
-    (smallest-is (t .head .ttrt) (at (t .c) i) (at (t .d) i) .least (v i) (rw (time-timely t v i h) at (m .deadlines i l)))
+    let whole = wholeRotations (t .head .ttrt) (at (t .d) i) in
+    let missing = alpha (t .head .ttrt) (at (t .d) i) in
+    let enough = rw (time-timely t v i h) at (m .deadlines i l) in
+    rw (smallest-inside t few i l) (smallest-least (t .head .grid) whole missing (at (t .c) i) (v i) (m .grid i l) enough)
 
--- the smallest allocation keeps the deadline rule, so the token rule decides
-pub smallest-token : (t : Set) → isFddi t ≡ false → t .n ≤ 128 → sumBelow (t .n) (at (smallestAlloc t .s)) + lost t ≤ t .head .ttrt → MeetsRules t (at (smallestAlloc t .s))
-smallest-token t h few fits =
+-- at each station of the smallest allocation stands the smallest multiple
+smallest-stands : (t : Set) → t .n ≤ 128 → 0 < t .head .grid → (i : ℕ) → i < t .n → IsSmallest (t .head .grid) (t .head .ttrt) (at (t .c) i) (at (t .d) i) (at (smallestAlloc t .s) i)
+smallest-stands t few some i l =
+    rw (smallest-inside t few i l) (smallest-is (t .head .grid) (t .head .ttrt) (at (t .c) i) (at (t .d) i) some)
+
+-- the smallest allocation keeps the deadline rule and the grid, so the token rule decides
+pub smallest-token : (t : Set) → isFddi t ≡ false → t .n ≤ 128 → 0 < t .head .grid → MeetsToken t (at (smallestAlloc t .s)) → MeetsRules t (at (smallestAlloc t .s))
+smallest-token t h few some fits =
     record {
-      deadlines = λ i l.
-          rw (time-timely t (at (smallestAlloc t .s)) i h, smallest-inside t few i l)
-          (smallest-is (t .head .ttrt) (at (t .c) i) (at (t .d) i) .meets);
+      deadlines = λ i l. rw (time-timely t (at (smallestAlloc t .s)) i h) (smallest-stands t few some i l .meets);
       token = fits;
+      grid = λ i l. smallest-stands t few some i l .multiple;
     }
 
 -- where a vector meets the rules, it does
-smallest-rules : (t : Set) → isFddi t ≡ false → t .n ≤ 128 → (v : ℕ → ℕ) → MeetsRules t v → MeetsRules t (at (smallestAlloc t .s))
-smallest-rules t h few v m =
-    smallest-token t h few (omega (arith, sum-mono (t .n) (at (smallestAlloc t .s)) v (smallest-below t h few v m), m .token))
+smallest-rules : (t : Set) → isFddi t ≡ false → t .n ≤ 128 → 0 < t .head .grid → (v : ℕ → ℕ) → MeetsRules t v → MeetsRules t (at (smallestAlloc t .s))
+smallest-rules t h few some v m =
+    smallest-token t h few some (omega (arith, sum-mono (t .n) (at (smallestAlloc t .s)) v (smallest-below t h few v m), m .token))
 
 -- ---- FDDI: the rules of the load are the set's, and the climb finds the least vector
 
@@ -66,6 +72,7 @@ module _ (t : Set) (h : isFddi t ≡ true) (few : t .n ≤ 128) where
       record {
         deadlines = λ i l. rw (time-fddi t s i h) (m .deadlines i (omega arith));
         token = omega (arith, sums-all s, m .token);
+        grid = λ i l. m .grid i (omega arith);
       }
 
   pub to-load : (s : ℕ → ℕ) → MeetsRules t s → MeetsFddi (loadOf t) s
@@ -73,7 +80,7 @@ module _ (t : Set) (h : isFddi t ≡ true) (few : t .n ≤ 128) where
       record {
         deadlines = λ i l. rw (time-fddi t s i h) at (m .deadlines i (omega arith));
         token = omega (arith, sums-all s, m .token);
-        grid = λ i l. (s i, omega arith);
+        grid = λ i l. m .grid i (omega arith);
       }
 
   -- where a vector meets the rules, the climb finds the least one
@@ -125,11 +132,11 @@ least-below t few v m i l =
     (true-or-false (isFddi t))
 
 -- where a vector meets the rules, what planning tries does
-pub least-needed : (t : Set) → t .n ≤ 128 → (v : ℕ → ℕ) → MeetsRules t v → leastFits t ≡ true
-least-needed t few v m =
+pub least-needed : (t : Set) → t .n ≤ 128 → 0 < t .head .grid → (v : ℕ → ℕ) → MeetsRules t v → leastFits t ≡ true
+least-needed t few some v m =
     decides-rules t (at (leastAlloc t .s)) .1
     (⊎-elim (λ h. rw (least-fddi t h) (from-load t h few (at (leastPlan (loadOf t) .s)) (climb-found t h few v m .meets)))
-    (λ h. rw (least-timely t h) (smallest-rules t h few v m))
+    (λ h. rw (least-timely t h) (smallest-rules t h few some v m))
     (true-or-false (isFddi t)))
 
 -- ---- what the code asks is what the rules say
@@ -149,12 +156,12 @@ load-rules t s h few =
     same-test _ _ _ _ (fddi-plans.promised .test (loadOf t) s) (decides-rules t s) (from-load t h few s) (to-load t h few s)
 
 -- FDDI: the climb finds a vector exactly where what planning tries meets the rules
-pub climb-fits : (t : Set) → isFddi t ≡ true → t .n ≤ 128 → leastPlan (loadOf t) .found ≡ leastFits t
-climb-fits t h few =
+pub climb-fits : (t : Set) → isFddi t ≡ true → t .n ≤ 128 → 0 < t .head .grid → leastPlan (loadOf t) .found ≡ leastFits t
+climb-fits t h few some =
     let found = leastPlan (loadOf t) .found in
     ⊎-elim (λ e.
     let meets = fddi-plans.promised .found (loadOf t) e .meets in
-    e ∙ sym (least-needed t few (at (leastPlan (loadOf t) .s)) (from-load t h few (at (leastPlan (loadOf t) .s)) meets)))
+    e ∙ sym (least-needed t few some (at (leastPlan (loadOf t) .s)) (from-load t h few (at (leastPlan (loadOf t) .s)) meets)))
     (λ e.
     let none : (m : leastFits t ≡ true) → ⊥ = λ m.
     fddi-plans.promised .missing (loadOf t) .0 e (at (leastAlloc t .s)) (to-load t h few (at (leastAlloc t .s)) (decides-rules t (at (leastAlloc t .s)) .0 m)) in
@@ -162,10 +169,10 @@ climb-fits t h few =
     (true-or-false found)
 
 -- timely-token: the token rule decides whether the smallest allocation meets the rules
-pub smallest-fits : (t : Set) → isFddi t ≡ false → t .n ≤ 128 → tokenFits t (at (smallestAlloc t .s)) ≡ leastFits t
-smallest-fits t h few =
+pub smallest-fits : (t : Set) → isFddi t ≡ false → t .n ≤ 128 → 0 < t .head .grid → tokenFits t (at (smallestAlloc t .s)) ≡ leastFits t
+smallest-fits t h few some =
     rw (least-timely t h)
-    (same-test _ _ _ _ (decides-token t (at (smallestAlloc t .s))) (decides-rules t (at (smallestAlloc t .s))) (smallest-token t h few) (λ m. m .token))
+    (same-test _ _ _ _ (decides-token t (at (smallestAlloc t .s))) (decides-rules t (at (smallestAlloc t .s))) (smallest-token t h few some) (λ m. m .token))
 
 -- each S of an allocation that meets the rules is at most TTRT
 pub alloc-small : (t : Set) (v : ℕ → ℕ) → MeetsRules t v → (i : ℕ) → i < t .n → v i ≤ t .head .ttrt
@@ -193,8 +200,8 @@ is-plan t few f =
       past = least-past t;
     }
 
-pub smallest-each : (t : Set) → t .n ≤ 128 → isFddi t ≡ false → (i : ℕ) → i < t .n → IsSmallest (t .head .ttrt) (at (t .c) i) (at (t .d) i) (at (leastAlloc t .s) i)
-smallest-each t few h i l = rw (least-timely t h, smallest-inside t few i l) (smallest-is (t .head .ttrt) (at (t .c) i) (at (t .d) i))
+pub smallest-each : (t : Set) → t .n ≤ 128 → 0 < t .head .grid → isFddi t ≡ false → (i : ℕ) → i < t .n → IsSmallest (t .head .grid) (t .head .ttrt) (at (t .c) i) (at (t .d) i) (at (leastAlloc t .s) i)
+smallest-each t few some h i l = rw (least-timely t h) (smallest-stands t few some i l)
 
 pub plan-judged : (t : Set) → judged t ≡ 0 → leastFits t ≡ true → judgedPlan t (leastAlloc t) ≡ 0
 plan-judged t h f =

@@ -1,14 +1,17 @@
 -- Planning keeps its promises because what it tries is at most every vector that meets the rules, and meets them itself where any does.
-use Prim.Native.Nat.{ℕ, _-_, _≤_, _<_, min}
+use Prim.Native.Nat.{ℕ, _-_, _*_, _≤_, _<_, min}
 use mathlib.Core.Path.{_≡_, refl, sym, ap, _∙_}
 use mathlib.Core.Bool.{true, false, true≢false}
 use mathlib.Core.List.{List}
 use mathlib.Core.Logic.{_↔_, _≢_, ⊎-elim}
 use native.Mathlib.Omega.{arith}
-use native.Mathlib.Nat.{div-zero}
+use native.Mathlib.Nat.{div-zero, one-mul, mul-zero, mul-le-mul-left}
 use borrow.Author.Tests.{ne-eqb}
 use lib.Seq.{ext-getD}
 use Rattle.units.specs.Numbers.{fddi}
+use Rattle.units.specs.Small.{roundedUp}
+use Rattle.units.specs.Grid.{stepped}
+use Rattle.units.specs.GridLaws.{every-multiple, step-enough, step-least}
 use Rattle.units.specs.Places.{at}
 use Rattle.units.specs.SmallLaws.{below-or-not}
 use Rattle.units.specs.JudgingLaws.{true-or-false, decides-not, given, given-later}
@@ -16,12 +19,12 @@ use Rattle.sets.specs.Rules.{countAllowed, numbersAllowed, walkTimeAllowed}
 use Rattle.sets.specs.Judged.{judged}
 use Rattle.sets.specs.SetLaws.{decides-count, decides-numbers, decides-walk, allowed, judged-two, judged-four, judged-five, judged-later}
 use Rattle.sets.specs.declared.Set.{Set}
-use Rattle.plans.specs.Rules.{leastTime, timeAt, MeetsRules}
+use Rattle.plans.specs.Rules.{wholeRotations, alpha, leastTime, timeAt, MeetsDeadline, MeetsDeadlines, MeetsToken, MeetsRules, IsSmallest}
 use Rattle.plans.specs.Planned.{smallestFor, leastAlloc, leastFits, blankAlloc, planNumber, planned}
 use Rattle.plans.specs.Answer.{IsPlan, Fitting}
-use Rattle.plans.specs.Promised.{fddiTime, KeptBy, Promised}
+use Rattle.plans.specs.Promised.{fddiTime, SmallestOfAll, KeptBy, Promised}
 use Rattle.plans.specs.PlanLaws as laws
-use Rattle.plans.specs.PlanLaws.{smallest-meets, smallest-least, smallest-is, smallest-one, decides-rules, answered-number, answered-refused, given-two, given-four, given-five, given-seven, given-none}
+use Rattle.plans.specs.PlanLaws.{smallest-multiple, smallest-meets, smallest-least, smallest-is, smallest-one, decides-rules, answered-number, answered-refused, given-two, given-four, given-five, given-seven, given-none}
 use Rattle.plans.proofs.LeastLaws.{from-load, to-load, least-past, least-long, least-needed, smallest-each, plan-refused-set, plan-none, plan-found, plan-judged, is-plan}
 use Rattle.plans.proofs.SameLaws.{planned-same, judged-plan-same}
 use Rattle.plans.specs.declared.Planned.{Planned}
@@ -38,10 +41,45 @@ time-fddi t s i few m =
 
 -- ---- the smallest S
 
-at-zero : (c d : ℕ) → smallestFor 0 c d ≡ c
-at-zero c d =
+-- a larger S meets the deadline rule too
+meets-more : (ttrt c d s z : ℕ) → s ≤ z → MeetsDeadline ttrt c d s → MeetsDeadline ttrt c d z
+meets-more ttrt c d s z l h = omega (arith, mul-le-mul-left (wholeRotations ttrt d) l)
+
+-- of two grids' smallest: the multiple that the smallest of all is rounded up to
+rounded : (g ttrt c d : ℕ) → 0 < g → smallestFor g ttrt c d ≡ roundedUp (smallestFor 1 ttrt c d) g * g
+rounded g ttrt c d some =
+    let s = smallestFor 1 ttrt c d in
+    let own = smallest-is 1 ttrt c d (omega arith) in
+    let wide = smallest-is g ttrt c d some in
+    let once : stepped g 1 s ≡ roundedUp s g * g = rw (one-mul g) refl in
+    let up : s ≤ roundedUp s g * g = omega (arith, step-enough g 1 s (omega arith) some) in
+    omega (
+      arith,
+      once,
+      step-least g 1 s (smallestFor g ttrt c d) (wide .multiple) (omega (arith, own .least (smallestFor g ttrt c d) (every-multiple (smallestFor g ttrt c d)) (wide .meets))),
+      wide .least (roundedUp s g * g) (roundedUp s g, refl) (meets-more ttrt c d s (roundedUp s g * g) up (own .meets)),
+    )
+
+every-number : (ttrt c d s : ℕ) → IsSmallest 1 ttrt c d s ↔ SmallestOfAll ttrt c d s
+every-number ttrt c d s = (
+  λ h. record { meets = h .meets; least = λ z m. h .least z (every-multiple z) m },
+  λ h. record { multiple = every-multiple s; meets = h .meets; least = λ z _ m. h .least z m },
+)
+
+no-grid : (t : Set) (s : ℕ → ℕ) → t .head .grid ≡ 1 → MeetsRules t s ↔ (MeetsDeadlines t s × MeetsToken t s)
+no-grid t s one = (
+  λ m. (m .deadlines, m .token),
+  λ m. record { deadlines = m .0; token = m .1; grid = λ i l. rw one (every-multiple (s i)) },
+)
+
+grid-zero : (ttrt c d : ℕ) → smallestFor 0 ttrt c d ≡ 0
+grid-zero ttrt c d = smallest-multiple 0 (wholeRotations ttrt d) (alpha ttrt d) c .1 ∙ mul-zero _
+
+at-zero : (g c d : ℕ) → 0 < g → smallestFor g 0 c d ≡ roundedUp c g * g
+at-zero g c d some =
     let none : 0 - d ≡ 0 = omega arith in
-    rw (div-zero d, none) (omega (arith, smallest-meets 0 0 c, smallest-least 0 0 c c (omega arith)))
+    let same : smallestFor 1 0 c d ≡ c = rw (div-zero d, none) (omega (arith, smallest-meets 1 0 0 c (omega arith), smallest-least 1 0 0 c c (every-multiple c) (omega arith))) in
+    rounded g 0 c d some ∙ rw same
 
 -- ---- 6, and the plan
 
@@ -69,7 +107,7 @@ module _ (t : Set) where
   six = (
     λ h.
         let said = six-says h in
-        (said .0, λ s m. true≢false (sym (least-needed t (allowed t .0 (said .0) .0 .1) (at s) m) ∙ said .1)),
+        (said .0, λ s m. let all = allowed t .0 (said .0) in true≢false (sym (least-needed t (all .0 .1) (all .1 .0 .header .grid .0) (at s) m) ∙ said .1)),
     λ h. ap (λ (a : Planned). a .number) (plan-none t (h .0) (none-token (h .0) (h .1))),
   )
 
@@ -78,10 +116,11 @@ module _ (t : Set) where
 
   kept-found : judged t ≡ 0 → leastFits t ≡ true → KeptBy t (record { alloc = leastAlloc t; number = 0 })
   kept-found h f =
-      let few = allowed t .0 h .0 .1 in
+      let all = allowed t .0 h in
+      let few = all .0 .1 in
       record {
         plan = is-plan t few f;
-        smallest = λ m. smallest-each t few (ne-eqb _ _ m);
+        smallest = λ m. smallest-each t few (all .1 .0 .header .grid .0) (ne-eqb _ _ m);
         judged = plan-judged t h f;
       }
 
@@ -118,7 +157,7 @@ module _ (t : Set) where
             let j = allowed t .1 (c, (n, w)) in
             plan-none t j (none-token j (λ s m. none (s, m)));
         plan = λ c n w some.
-            let token = least-needed t (c .1) (at (some .0)) (some .1) in
+            let token = least-needed t (c .1) (n .header .grid .0) (at (some .0)) (some .1) in
             rw (plan-found t (allowed t .1 (c, (n, w))) token) (is-plan t (c .1) token);
       }
 
@@ -134,7 +173,7 @@ module _ (t : Set) where
       ⊎-elim (λ token.
       one-plan (count .1) token a (f .plan count numbers walk (leastAlloc t .s, decides-rules t (at (leastAlloc t .s)) .0 token)) ∙ sym (plan-found t j token))
       (λ token.
-      f .six count numbers walk (λ some. true≢false (sym (least-needed t (count .1) (at (some .0)) (some .1)) ∙ token)) ∙ sym (plan-none t j token))
+      f .six count numbers walk (λ some. true≢false (sym (least-needed t (count .1) (numbers .header .grid .0) (at (some .0)) (some .1)) ∙ token)) ∙ sym (plan-none t j token))
       (true-or-false (leastFits t)))
       (λ w.
       let count = decides-count t .0 c in
@@ -164,6 +203,10 @@ promised =
       rules-fddi = λ t s few m. (to-load t (rw m refl) few s, from-load t (rw m refl) few s);
       smallest = smallest-is;
       no-second = smallest-one;
+      rounded = rounded;
+      every-number = every-number;
+      no-grid = no-grid;
+      grid-zero = grid-zero;
       at-zero = at-zero;
       six = six;
       refused-set = refused-set;

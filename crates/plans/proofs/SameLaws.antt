@@ -6,6 +6,7 @@ use mathlib.Core.Logic.{⊎-elim}
 use native.Mathlib.Omega.{arith}
 use lib.Dec.{eqb}
 use Rattle.units.specs.Numbers.{fddi}
+use Rattle.units.specs.Grid.{onGridAt}
 use Rattle.units.specs.Places.{at, sumBelow, allBelow, fill}
 use Rattle.units.specs.PlaceLaws.{all-same, fill-same, sum-same}
 use Rattle.units.specs.Judging.{orElse}
@@ -18,7 +19,7 @@ use Rattle.sets.specs.declared.Set.{Set}
 use Rattle.fddi.specs.Rules as fddi-rules
 use Rattle.fddi.specs.declared.Found.{Found}
 use Rattle.fddi.proofs.Promised as fddi-plans
-use Rattle.plans.specs.Rules.{isFddi, loadOf, lost, timeAt, inRangeS, deadlineFitsAt, deadlinesFit, tokenFits, rulesFit, allocInRange}
+use Rattle.plans.specs.Rules.{isFddi, loadOf, lost, timeAt, inRangeS, deadlineFitsAt, deadlinesFit, tokenFits, gridFits, rulesFit, allocInRange}
 use Rattle.plans.specs.Planned.{smallestAt, smallestAlloc, leastAlloc, leastFits, judgedPlan, planned}
 use Rattle.plans.specs.PlanLaws.{time-timely, time-fddi}
 use Rattle.plans.specs.declared.Alloc.{Alloc}
@@ -31,6 +32,9 @@ module _ (a b : Set) (same : SameSet a b) where
   ttrt-same : a .head .ttrt ≡ b .head .ttrt
   ttrt-same = ap (λ (h : Head). h .ttrt) (same .header)
 
+  grid-same : a .head .grid ≡ b .head .grid
+  grid-same = ap (λ (h : Head). h .grid) (same .header)
+
   lost-same : lost a ≡ lost b
   lost-same = rw (tau-same a b same, same .header)
 
@@ -40,7 +44,7 @@ module _ (a b : Set) (same : SameSet a b) where
         count = same .count;
         ttrt = ttrt-same;
         frame = ap (λ (h : Head). h .frame) (same .header);
-        grid = refl;
+        grid = grid-same;
         tau = tau-same a b same;
         longest = λ i l. same .longest i (omega arith);
         deadline = λ i l. same .deadline i (omega arith);
@@ -73,13 +77,18 @@ module _ (a b : Set) (same : SameSet a b) where
         all-same (a .n) (deadlineFitsAt a s) (deadlineFitsAt b v) (λ i l. rw (same .longest i l, time-same i l)) ∙
         ap (λ (n : ℕ). allBelow n (deadlineFitsAt b v)) (same .count)
 
+    multiples-same : gridFits a s ≡ gridFits b v
+    multiples-same =
+        all-same (a .n) (onGridAt (a .head .grid) s) (onGridAt (b .head .grid) v) (λ i l. rw (each i l, grid-same)) ∙
+        ap (λ (n : ℕ). allBelow n (onGridAt (b .head .grid) v)) (same .count)
+
     rules-same : rulesFit a s ≡ rulesFit b v
-    rules-same = rw (deadlines-same, token-same)
+    rules-same = rw (deadlines-same, token-same, multiples-same)
 
   smallest-same : smallestAlloc a ≡ smallestAlloc b
   smallest-same =
       ap (λ (s : List ℕ). record { s = s })
-      (fill-same (a .n) (smallestAt a) (smallestAt b) zeros (λ i l. rw (ttrt-same, same .longest i l, same .deadline i l)) ∙
+      (fill-same (a .n) (smallestAt a) (smallestAt b) zeros (λ i l. rw (grid-same, ttrt-same, same .longest i l, same .deadline i l)) ∙
       ap (λ (n : ℕ). fill n (smallestAt b) zeros) (same .count))
 
   least-same : leastAlloc a ≡ leastAlloc b

@@ -10,7 +10,7 @@ use Rattle.plans.specs.Rules.{MeetsRules, IsLeast}
 use Rattle.plans.specs.Planned.{blankAlloc}
 use Rattle.plans.specs.declared.Planned.{Planned}
 
--- some vector of numbers meets both rules
+-- some vector of numbers meets the rules, so that every number of it is a multiple of the grid
 abbrev pub AllocationExists : Set → Type 0
 AllocationExists t = (s : List ℕ) × MeetsRules t (at s)
 
@@ -33,7 +33,7 @@ pub record Fitting (t : Set) (a : Planned) : Type 0 where
   pub four : CountAllowed t → ¬ NumbersAllowed t → Refused 4 a
   -- 5: τ is 0 or above TTRT
   pub five : CountAllowed t → NumbersAllowed t → ¬ WalkTimeAllowed t → Refused 5 a
-  -- 6: no allocation exists
+  -- 6: no allocation of multiples of the grid exists
   pub six : CountAllowed t → NumbersAllowed t → WalkTimeAllowed t → ¬ AllocationExists t → Refused 6 a
   -- else the plan
   pub plan : CountAllowed t → NumbersAllowed t → WalkTimeAllowed t → AllocationExists t → IsPlan t a

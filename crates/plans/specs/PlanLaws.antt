@@ -4,19 +4,20 @@ use mathlib.Core.Path.{_≡_, refl, _∙_}
 use mathlib.Core.Bool.{true, false, _&&_}
 use mathlib.Core.Logic.{_↔_, _≢_, ⊎-elim}
 use native.Mathlib.Omega.{arith}
-use native.Mathlib.Nat.{mul-le-mul-left, div-mul-le-self, div-zero, le-mul-of-pos-right, mul-comm, zero-mul}
+use native.Mathlib.Nat.{mul-le-mul-left, div-mul-le-self, zero-mul}
 use borrow.Author.Tests.{le-leb, lt-leb}
 use Rattle.units.specs.Numbers.{mostS}
-use Rattle.units.specs.Small.{roundedUp}
+use Rattle.units.specs.Grid.{MultipleOf, onGridAt, stepped}
+use Rattle.units.specs.GridLaws.{decides-grid, step-multiple, step-enough, step-least, step-small}
 use Rattle.units.specs.Places.{at, sumBelow}
 use Rattle.units.specs.PlaceLaws.{decides-all}
 use Rattle.units.specs.JudgingLaws.{Decides, decides-le, decides-both, held, failed, given, given-later, not-given, iff-then, iff-under}
 use Rattle.sets.specs.Rules.{CountAllowed, WalkTimeAllowed, countAllowed, numbersAllowed, walkTimeAllowed}
 use Rattle.sets.specs.SetLaws.{decides-count, decides-numbers, decides-walk}
 use Rattle.sets.specs.declared.Set.{Set}
-use Rattle.units.specs.SmallLaws.{below-or-not, one-more, shares-enough, shares-least}
+use Rattle.units.specs.SmallLaws.{below-or-not, one-more}
 use Rattle.fddi.specs.Rules as fddi-rules
-use Rattle.plans.specs.Rules.{lost, wholeRotations, alpha, timeWith, leastTime, isFddi, loadOf, timeAt, MeetsDeadlines, MeetsRules, AllocInRange, IsSmallest, InRange, KeepsRules, inRangeS, deadlineFitsAt, deadlinesFit, tokenFits, rulesFit, allocInRange}
+use Rattle.plans.specs.Rules.{lost, wholeRotations, alpha, timeWith, leastTime, isFddi, loadOf, timeAt, MeetsDeadlines, MeetsToken, MeetsRules, AllocInRange, IsSmallest, InRange, KeepsRules, inRangeS, deadlineFitsAt, deadlinesFit, tokenFits, gridFits, rulesFit, allocInRange}
 use Rattle.plans.specs.Planned.{smallestWith, smallestFor, judgedPlan, blankAlloc, answered}
 use Rattle.plans.specs.declared.Alloc.{Alloc}
 
@@ -29,85 +30,76 @@ pub alpha-small : (ttrt d : ℕ) → alpha ttrt d ≤ ttrt
 alpha-small ttrt d =
     omega (arith, one-more (wholeRotations ttrt d) ttrt, rotations-within ttrt d)
 
-pub share-small : (a b : ℕ) → roundedUp a b ≤ a
-share-small a b =
-    ⊎-elim (λ (pos : 0 < b). shares-least a b a pos (rw mul-comm (le-mul-of-pos-right a pos)))
-    (λ (none : b ≤ 0). let e : b ≡ 0 = omega arith in rw (e, div-zero) (omega arith))
-    (below-or-not 0 b)
+-- ---- the formula is the smallest: with the grid, m and α as they come
 
--- ---- the formula is the smallest: with m and α as they come
+module _ (g m α c : ℕ) where
+  -- whole rotations alone are enough, or the last part counts too
+  pub smallest-whole : c ≤ m * α → smallestWith g m α c ≡ stepped g m c
+  unfolding smallestWith
+  smallest-whole h = rw (le-leb c (m * α) h)
 
--- whole rotations alone are enough, or the last part counts too
-pub smallest-whole : (m α c : ℕ) → c ≤ m * α → smallestWith m α c ≡ roundedUp c m
-unfolding smallestWith
-smallest-whole m α c h = rw (le-leb c (m * α) h)
+  pub smallest-part : m * α < c → smallestWith g m α c ≡ stepped g (m + 1) (c + α)
+  unfolding smallestWith
+  smallest-part h = rw (lt-leb c (m * α) h)
 
-pub smallest-part : (m α c : ℕ) → m * α < c → smallestWith m α c ≡ roundedUp (c + α) (m + 1)
-unfolding smallestWith
-smallest-part m α c h = rw (lt-leb c (m * α) h)
+  -- what holds of both holds of the smallest
+  smallest-each : (P : ℕ → Type 0) → (c ≤ m * α → P (stepped g m c)) → (m * α < c → P (stepped g (m + 1) (c + α))) → P (smallestWith g m α c)
+  smallest-each P whole part =
+      ⊎-elim (λ (b : m * α < c). rw (smallest-part b) (part b)) (λ (b : c ≤ m * α). rw (smallest-whole b) (whole b)) (below-or-not (m * α) c)
 
--- C at most m·α: rounded-up C / m is enough
-whole-enough : (m α c : ℕ) → c ≤ m * α → c ≤ m * roundedUp c m
-whole-enough m α c h =
-    ⊎-elim (λ (pos : 0 < m). shares-enough c m pos)
-    (λ (none : m ≤ 0). let e : m ≡ 0 = omega arith in let z : m * α ≡ 0 = rw e (zero-mul α) in omega arith)
-    (below-or-not 0 m)
+  pub smallest-multiple : MultipleOf g (smallestWith g m α c)
+  smallest-multiple = smallest-each (MultipleOf g) (λ _. step-multiple g m c) (λ _. step-multiple g (m + 1) (c + α))
 
-whole-least : (m α c z : ℕ) → c ≤ m * α → c ≤ m * z + (z - α) → roundedUp c m ≤ z
-whole-least m α c z h meets =
-    ⊎-elim (λ (pos : 0 < m).
-    ⊎-elim (λ (short : z < α). shares-least c m z pos (omega arith))
-    (λ (long : α ≤ z). let l : roundedUp c m ≤ α = shares-least c m α pos h in omega arith)
-    (below-or-not z α))
-    (λ (none : m ≤ 0).
-    let e : m ≡ 0 = omega arith in
-    let k : m * α ≡ 0 = rw e (zero-mul α) in
-    let l : roundedUp c m ≤ c = share-small c m in
-    omega arith)
-    (below-or-not 0 m)
+  -- C at most m·α: m of it are enough for C
+  whole-enough : 0 < g → c ≤ m * α → c ≤ m * stepped g m c
+  whole-enough some h =
+      ⊎-elim (λ (pos : 0 < m). step-enough g m c pos some)
+      (λ (none : m ≤ 0). let e : m ≡ 0 = omega arith in let z : m * α ≡ 0 = rw e (zero-mul α) in omega arith)
+      (below-or-not 0 m)
 
-part-enough : (m α c : ℕ) → c ≤ timeWith m α (roundedUp (c + α) (m + 1))
-part-enough m α c =
-    let s = roundedUp (c + α) (m + 1) in
-    omega (arith, shares-enough (c + α) (m + 1) (omega arith), one-more m (roundedUp (c + α) (m + 1)))
+  pub smallest-meets : 0 < g → c ≤ timeWith m α (smallestWith g m α c)
+  smallest-meets some =
+      smallest-each (λ s. c ≤ timeWith m α s) (λ h. omega (arith, whole-enough some h))
+      (λ h. omega (arith, step-enough g (m + 1) (c + α) (omega arith) some, one-more m (stepped g (m + 1) (c + α))))
 
-part-least : (m α c z : ℕ) → m * α < c → c ≤ m * z + (z - α) → roundedUp (c + α) (m + 1) ≤ z
-part-least m α c z h meets =
-    ⊎-elim (λ (short : z < α). let l : m * z ≤ m * α = mul-le-mul-left m (omega arith) in absurd (omega arith))
-    (λ (long : α ≤ z). shares-least (c + α) (m + 1) z (omega arith) (omega (arith, one-more m z)))
-    (below-or-not z α)
+  -- a multiple that meets the rule: m of it are enough for C, and past m·α m + 1 are enough for C + α
+  whole-shares : (z : ℕ) → c ≤ m * α → c ≤ timeWith m α z → c ≤ m * z
+  whole-shares z h meets =
+      ⊎-elim (λ (short : z < α). omega arith) (λ (long : α ≤ z). omega (arith, mul-le-mul-left m long)) (below-or-not z α)
 
-pub smallest-meets : (m α c : ℕ) → c ≤ timeWith m α (smallestWith m α c)
-smallest-meets m α c =
-    ⊎-elim (λ (part : m * α < c). rw (smallest-part m α c part) (part-enough m α c))
-    (λ (whole : c ≤ m * α).
-    rw (smallest-whole m α c whole)
-    (omega (arith, whole-enough m α c whole)))
-    (below-or-not (m * α) c)
+  part-shares : (z : ℕ) → m * α < c → c ≤ timeWith m α z → c + α ≤ (m + 1) * z
+  part-shares z h meets =
+      ⊎-elim (λ (short : z < α). let l : m * z ≤ m * α = mul-le-mul-left m (omega arith) in absurd (omega arith))
+      (λ (long : α ≤ z). omega (arith, one-more m z))
+      (below-or-not z α)
 
-pub smallest-least : (m α c z : ℕ) → c ≤ timeWith m α z → smallestWith m α c ≤ z
-smallest-least m α c z meets =
-    ⊎-elim (λ (part : m * α < c). rw (smallest-part m α c part) (part-least m α c z part meets))
-    (λ (whole : c ≤ m * α). rw (smallest-whole m α c whole) (whole-least m α c z whole meets))
-    (below-or-not (m * α) c)
+  pub smallest-least : (z : ℕ) → MultipleOf g z → c ≤ timeWith m α z → smallestWith g m α c ≤ z
+  smallest-least z on meets =
+      smallest-each (λ s. s ≤ z) (λ h. step-least g m c z on (whole-shares z h meets))
+      (λ h. step-least g (m + 1) (c + α) z on (part-shares z h meets))
 
-pub smallest-is : (ttrt c d : ℕ) → IsSmallest ttrt c d (smallestFor ttrt c d)
-smallest-is ttrt c d =
+  -- it is at most C + α and a step
+  smallest-within : smallestWith g m α c ≤ c + α + g
+  smallest-within =
+      smallest-each (λ s. s ≤ c + α + g) (λ _. omega (arith, step-small g m c)) (λ _. step-small g (m + 1) (c + α))
+
+pub smallest-is : (g ttrt c d : ℕ) → 0 < g → IsSmallest g ttrt c d (smallestFor g ttrt c d)
+smallest-is g ttrt c d some =
     record {
-      meets = smallest-meets (wholeRotations ttrt d) (alpha ttrt d) c;
-      least = smallest-least (wholeRotations ttrt d) (alpha ttrt d) c;
+      multiple = smallest-multiple g (wholeRotations ttrt d) (alpha ttrt d) c;
+      meets = smallest-meets g (wholeRotations ttrt d) (alpha ttrt d) c some;
+      least = smallest-least g (wholeRotations ttrt d) (alpha ttrt d) c;
     }
 
-pub smallest-one : (ttrt c d s : ℕ) → IsSmallest ttrt c d s → s ≡ smallestFor ttrt c d
-smallest-one ttrt c d s h =
-    let i = smallest-is ttrt c d in
-    omega (arith, h .least (smallestFor ttrt c d) (i .meets), i .least s (h .meets))
+pub smallest-one : (g ttrt c d s : ℕ) → 0 < g → IsSmallest g ttrt c d s → s ≡ smallestFor g ttrt c d
+smallest-one g ttrt c d s some h =
+    let i = smallest-is g ttrt c d some in
+    omega (arith, h .least (smallestFor g ttrt c d) (i .multiple) (i .meets), i .least s (h .multiple) (h .meets))
 
--- the smallest S is at most C + TTRT
-pub smallest-small : (ttrt c d : ℕ) → smallestFor ttrt c d ≤ c + ttrt
-smallest-small ttrt c d =
-    omega
-    (arith, smallest-least (wholeRotations ttrt d) (alpha ttrt d) c (c + alpha ttrt d) (omega arith), alpha-small ttrt d)
+-- the smallest S is at most C + TTRT and a step
+pub smallest-small : (g ttrt c d : ℕ) → smallestFor g ttrt c d ≤ c + ttrt + g
+smallest-small g ttrt c d =
+    omega (arith, smallest-within g (wholeRotations ttrt d) (alpha ttrt d) c, alpha-small ttrt d)
 
 -- ---- X by the mode
 
@@ -128,13 +120,17 @@ pub decides-deadlines : (t : Set) (s : ℕ → ℕ) → Decides (deadlinesFit t 
 decides-deadlines t s =
     decides-all (t .n) (deadlineFitsAt t s) (λ i. at (t .c) i ≤ timeAt t s i) (λ i. decides-le (at (t .c) i) (timeAt t s i))
 
-pub decides-token : (t : Set) (s : ℕ → ℕ) → Decides (tokenFits t s) (sumBelow (t .n) s + lost t ≤ t .head .ttrt)
+pub decides-token : (t : Set) (s : ℕ → ℕ) → Decides (tokenFits t s) (MeetsToken t s)
 decides-token t s = decides-le (sumBelow (t .n) s + lost t) (t .head .ttrt)
 
 pub decides-rules : (t : Set) (s : ℕ → ℕ) → Decides (rulesFit t s) (MeetsRules t s)
 decides-rules t s =
+    let grid = decides-all (t .n) (onGridAt (t .head .grid) s) (λ i. MultipleOf (t .head .grid) (s i)) (λ i. decides-grid (t .head .grid) (s i)) in
     let both = decides-both (deadlinesFit t s) (tokenFits t s) _ _ (decides-deadlines t s) (decides-token t s) in
-    (λ h. let f = both .0 h in record { deadlines = f .0; token = f .1 }, λ m. both .1 (m .deadlines, m .token))
+    let all = decides-both (deadlinesFit t s && tokenFits t s) (gridFits t s) _ _ both grid in (
+      λ h. let f = all .0 h in record { deadlines = f .0 .0; token = f .0 .1; grid = f .1 },
+      λ m. all .1 ((m .deadlines, m .token), m .grid),
+    )
 
 -- ---- the judgement of a given plan, test by test
 

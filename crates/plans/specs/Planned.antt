@@ -3,7 +3,7 @@ use Prim.Native.Nat.{ℕ, zero, suc, _+_, _*_}
 use mathlib.Core.Bool.{Bool, cond, _&&_}
 use lib.Dec.{leb}
 use Rattle.units.specs.Numbers.{accepted, wrongShape, outOfRange, badWalkTime, noAllocation, rulesBroken}
-use Rattle.units.specs.Small.{roundedUp}
+use Rattle.units.specs.Grid.{stepped}
 use Rattle.units.specs.Places.{at, fill}
 use Rattle.units.specs.Judging.{orElse}
 use Rattle.sets.specs.Rules.{countAllowed, numbersAllowed, walkTimeAllowed}
@@ -16,17 +16,18 @@ use Rattle.plans.specs.declared.Planned.{Planned}
 
 -- ---- the smallest S
 
--- with m and α given: up to C = m·α whole rotations are enough, C / m rounded up; above it the last part counts too, (C + α) / (m + 1) rounded up
-unfoldable pub smallestWith : ℕ → ℕ → ℕ → ℕ
-smallestWith m α c = cond (leb c (m * α)) (roundedUp c m) (roundedUp (c + α) (m + 1))
+-- on a grid, with m and α given: up to C = m·α whole rotations are enough, and it is the smallest multiple of which m are at least C;
+-- above it the last part counts too, and it is the smallest multiple of which m + 1 are at least C + α
+unfoldable pub smallestWith : ℕ → ℕ → ℕ → ℕ → ℕ
+smallestWith grid m α c = cond (leb c (m * α)) (stepped grid m c) (stepped grid (m + 1) (c + α))
 
--- the smallest S for TTRT, C and D. `Promised` says that it is the smallest; at TTRT 0 it is C
-abbrev pub smallestFor : ℕ → ℕ → ℕ → ℕ
-smallestFor ttrt c d = smallestWith (wholeRotations ttrt d) (alpha ttrt d) c
+-- the smallest S on a grid for TTRT, C and D. `Promised` says that it is the smallest; at TTRT 0 it is C rounded up to the grid, on a grid of 0 it is 0
+abbrev pub smallestFor : ℕ → ℕ → ℕ → ℕ → ℕ
+smallestFor grid ttrt c d = smallestWith grid (wholeRotations ttrt d) (alpha ttrt d) c
 
 -- the smallest S of station i
 abbrev pub smallestAt : Set → ℕ → ℕ
-smallestAt t i = smallestFor (t .head .ttrt) (at (t .c) i) (at (t .d) i)
+smallestAt t i = smallestFor (t .head .grid) (t .head .ttrt) (at (t .c) i) (at (t .d) i)
 
 -- ---- the judgement of a given plan: 0, or the lowest of 2, 4, 5 and 7 that applies
 

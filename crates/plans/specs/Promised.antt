@@ -1,15 +1,16 @@
 -- What is promised of planning and of the judgement of a given plan, beside the contracts; `proofs/Promised.antt` proves it.
-use Prim.Native.Nat.{ℕ, _+_, _-_, _≤_, _<_}
+use Prim.Native.Nat.{ℕ, _+_, _-_, _*_, _≤_, _<_}
 use mathlib.Core.Path.{_≡_}
 use mathlib.Core.List.{List}
 use mathlib.Core.Logic.{_↔_, _≢_}
 use Rattle.units.specs.Numbers.{fddi, mostStations}
+use Rattle.units.specs.Small.{roundedUp}
 use Rattle.units.specs.Places.{at}
 use Rattle.sets.specs.Rules.{tau, CountAllowed, WalkTimeAllowed, SameSet}
 use Rattle.sets.specs.Judged.{judged}
 use Rattle.sets.specs.declared.Set.{Set}
 use Rattle.fddi.specs.Rules.{timeWith, rest, others, MeetsFddi}
-use Rattle.plans.specs.Rules.{lost, wholeRotations, leastTime, timeAt, MeetsRules, IsSmallest, InRange, KeepsRules, loadOf}
+use Rattle.plans.specs.Rules.{lost, wholeRotations, leastTime, timeAt, MeetsDeadline, MeetsDeadlines, MeetsToken, MeetsRules, IsSmallest, InRange, KeepsRules, loadOf}
 use Rattle.plans.specs.Planned.{smallestFor, judgedPlan, planned, blankAlloc}
 use Rattle.plans.specs.Answer.{Fitting, IsPlan}
 use Rattle.plans.specs.declared.Alloc.{Alloc}
@@ -20,12 +21,17 @@ abbrev pub fddiTime : Set → (ℕ → ℕ) → ℕ → ℕ
 fddiTime t s i =
     timeWith (wholeRotations (t .head .ttrt) (at (t .d) i)) (rest (t .head .ttrt) (at (t .d) i) - (lost t + others (t .n) s i)) (s i)
 
+-- s is the smallest of all whole numbers that meet the deadline rule
+pub record SmallestOfAll (ttrt c d s : ℕ) : Type 0 where
+  pub meets : MeetsDeadline ttrt c d s
+  pub least : (other : ℕ) → MeetsDeadline ttrt c d other → s ≤ other
+
 -- what a plan that planning answered keeps
 pub record KeptBy (t : Set) (a : Planned) : Type 0 where
   -- it is the least vector that meets the rules, and 0 from N on
   pub plan : IsPlan t a
-  -- timely-token, both editions: at each station it holds the smallest whole S that meets the station's deadline rule
-  pub smallest : t .head .mode ≢ fddi → (i : ℕ) → i < t .n → IsSmallest (t .head .ttrt) (at (t .c) i) (at (t .d) i) (at (a .alloc .s) i)
+  -- timely-token, both editions: at each station it holds the smallest multiple of the grid that meets the station's deadline rule
+  pub smallest : t .head .mode ≢ fddi → (i : ℕ) → i < t .n → IsSmallest (t .head .grid) (t .head .ttrt) (at (t .c) i) (at (t .d) i) (at (a .alloc .s) i)
   -- the judgement of that set with that allocation is 0
   pub judged : judgedPlan t (a .alloc) ≡ 0
 
@@ -38,19 +44,27 @@ pub record Promised : Type 0 where
   pub no-frames : (t : Set) → t .head .frame ≡ 1 → lost t ≡ tau t
   -- FDDI: the rules are those of `fddi`, of the set's load
   pub rules-fddi : (t : Set) (s : ℕ → ℕ) → t .n ≤ mostStations → t .head .mode ≡ fddi → MeetsRules t s ↔ MeetsFddi (loadOf t) s
-  -- `smallest` meets the deadline rule, and every number that meets it is at least as large: for all numbers, TTRT 0 among them
-  pub smallest : (ttrt c d : ℕ) → IsSmallest ttrt c d (smallestFor ttrt c d)
+  -- `smallest` is a multiple of the grid and meets the deadline rule, and every multiple that meets it is at least as large: for all numbers, TTRT 0 among them
+  pub smallest : (grid ttrt c d : ℕ) → 0 < grid → IsSmallest grid ttrt c d (smallestFor grid ttrt c d)
   -- no second number is so
-  pub no-second : (ttrt c d s : ℕ) → IsSmallest ttrt c d s → s ≡ smallestFor ttrt c d
-  -- at TTRT 0, where D / TTRT is read as 0, X is S, and C comes back
-  pub at-zero : (c d : ℕ) → smallestFor 0 c d ≡ c
-  -- planning answers 6 exactly if the set is judged 0 and no list of numbers whatever meets the rules
+  pub no-second : (grid ttrt c d s : ℕ) → 0 < grid → IsSmallest grid ttrt c d s → s ≡ smallestFor grid ttrt c d
+  -- it is the smallest whole S, rounded up to the grid
+  pub rounded : (grid ttrt c d : ℕ) → 0 < grid → smallestFor grid ttrt c d ≡ roundedUp (smallestFor 1 ttrt c d) grid * grid
+  -- on a grid of 1 it is the smallest of all whole numbers, as before there was a grid
+  pub every-number : (ttrt c d s : ℕ) → IsSmallest 1 ttrt c d s ↔ SmallestOfAll ttrt c d s
+  -- and the rules are the deadline rule and the token rule alone
+  pub no-grid : (t : Set) (s : ℕ → ℕ) → t .head .grid ≡ 1 → MeetsRules t s ↔ (MeetsDeadlines t s × MeetsToken t s)
+  -- on a grid of 0, which no set has, it is 0
+  pub grid-zero : (ttrt c d : ℕ) → smallestFor 0 ttrt c d ≡ 0
+  -- at TTRT 0, where D / TTRT is read as 0, X is S, and C comes back, rounded up to the grid
+  pub at-zero : (grid c d : ℕ) → 0 < grid → smallestFor grid 0 c d ≡ roundedUp c grid * grid
+  -- planning answers 6 exactly if the set is judged 0 and no list of numbers whatever meets the rules, so no list of multiples of the grid meets the token and the deadline rule
   pub six : (t : Set) → (planned t .number ≡ 6) ↔ ((judged t ≡ 0) × ((s : List ℕ) → ¬ MeetsRules t (at s)))
   -- where the set is refused, so is the plan, with the set's number
   pub refused-set : (t : Set) → judged t ≢ 0 → planned t .number ≡ judged t
   -- a refused plan is blank
   pub blank : (t : Set) → planned t .number ≢ 0 → planned t .alloc ≡ blankAlloc
-  -- an answered plan is what 01 asks
+  -- an answered plan is what 01 asks, on the grid
   pub kept : (t : Set) → planned t .number ≡ 0 → KeptBy t (planned t)
   -- 01's sentences allow exactly one answer for each set, and it is planning's
   pub one-answer : (t : Set) (a : Planned) → Fitting t a ↔ (a ≡ planned t)
@@ -64,7 +78,7 @@ pub record Promised : Type 0 where
   pub given-four : (t : Set) (a : Alloc) → (judgedPlan t a ≡ 4) ↔ (CountAllowed t × ¬ InRange t a)
   -- 5, exactly if all numbers are in range and τ is 0 or above TTRT
   pub given-five : (t : Set) (a : Alloc) → (judgedPlan t a ≡ 5) ↔ (CountAllowed t × (InRange t a × ¬ WalkTimeAllowed t))
-  -- 7, exactly if all that is right and the allocation breaks the token or the deadline rule
+  -- 7, exactly if all that is right and the allocation breaks the token or the deadline rule or has an S off the grid
   pub given-seven : (t : Set) (a : Alloc) → (judgedPlan t a ≡ 7) ↔ (CountAllowed t × (InRange t a × (WalkTimeAllowed t × ¬ KeepsRules t a)))
   -- 0, exactly if all that is right and the allocation meets the rules
   pub given-none : (t : Set) (a : Alloc) → (judgedPlan t a ≡ 0) ↔ (CountAllowed t × (InRange t a × (WalkTimeAllowed t × KeepsRules t a)))

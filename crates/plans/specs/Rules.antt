@@ -1,8 +1,9 @@
--- 01, "Allocations", and 02, No. 1: the deadline rule by the mode, the token rule and the spare time, first as sentences, then as tests that can be run; `PlanLaws` proves that each test decides its sentence. An allocation is any vector of numbers, S at each station.
+-- 01, "Allocations", and 02, No. 1, 4 and 8: the deadline rule by the mode, the token rule, the grid and the spare time, first as sentences, then as tests that can be run; `PlanLaws` proves that each test decides its sentence. An allocation is any vector of numbers, S at each station.
 use Prim.Native.Nat.{ℕ, _+_, _-_, _*_, _/_, _≤_, _<_}
 use mathlib.Core.Bool.{Bool, cond, _&&_}
 use lib.Dec.{leb, eqb}
 use Rattle.units.specs.Numbers.{fddi, mostS}
+use Rattle.units.specs.Grid.{MultipleOf, onGridAt}
 use Rattle.units.specs.Places.{at, sumBelow, allBelow}
 use Rattle.sets.specs.Rules.{tau, NumbersAllowed}
 use Rattle.sets.specs.declared.Set.{Set}
@@ -34,18 +35,19 @@ leastTime ttrt d s = timeWith (wholeRotations ttrt d) (alpha ttrt d) s
 abbrev pub MeetsDeadline : ℕ → ℕ → ℕ → ℕ → Type 0
 MeetsDeadline ttrt c d s = c ≤ leastTime ttrt d s
 
--- s is the smallest number that meets the deadline rule
-pub record IsSmallest (ttrt c d s : ℕ) : Type 0 where
+-- s is the smallest multiple of the grid that meets the deadline rule
+pub record IsSmallest (grid ttrt c d s : ℕ) : Type 0 where
+  pub multiple : MultipleOf grid s
   pub meets : MeetsDeadline ttrt c d s
-  pub least : (other : ℕ) → MeetsDeadline ttrt c d other → s ≤ other
+  pub least : (other : ℕ) → MultipleOf grid other → MeetsDeadline ttrt c d other → s ≤ other
 
 -- the set goes by FDDI's rules
 abbrev pub isFddi : Set → Bool
 isFddi t = eqb (t .head .mode) fddi
 
--- what FDDI's rules look at; every whole number is on the grid
+-- what FDDI's rules look at
 abbrev pub loadOf : Set → Load
-loadOf t = record { n = t .n; ttrt = t .head .ttrt; frame = t .head .frame; grid = 1; tau = tau t; c = t .c; d = t .d }
+loadOf t = record { n = t .n; ttrt = t .head .ttrt; frame = t .head .frame; grid = t .head .grid; tau = tau t; c = t .c; d = t .d }
 
 -- X at station i of a whole vector, by the mode: FDDI's looks at the other stations' S too (003, Theorem 2)
 unfoldable pub timeAt : Set → (ℕ → ℕ) → ℕ → ℕ
@@ -55,11 +57,16 @@ timeAt t s i = cond (isFddi t) (fddi-rules.timeAt (loadOf t) s i) (leastTime (t 
 abbrev pub MeetsDeadlines : Set → (ℕ → ℕ) → Type 0
 MeetsDeadlines t s = (i : ℕ) → i < t .n → at (t .c) i ≤ timeAt t s i
 
--- both rules, of any vector of numbers whatever
+-- the token rule of a whole vector: the sum of all S at most TTRT − τ − (F − 1), written without a difference
+abbrev pub MeetsToken : Set → (ℕ → ℕ) → Type 0
+MeetsToken t s = sumBelow (t .n) s + lost t ≤ t .head .ttrt
+
+-- the rules, of any vector of numbers whatever
 pub record MeetsRules (t : Set) (s : ℕ → ℕ) : Type 0 where
   pub deadlines : MeetsDeadlines t s
-  -- the token rule: the sum of all S at most TTRT − τ − (F − 1), written without a difference
-  pub token : sumBelow (t .n) s + lost t ≤ t .head .ttrt
+  pub token : MeetsToken t s
+  -- every S is a multiple of the grid (No. 8)
+  pub grid : (i : ℕ) → i < t .n → MultipleOf (t .head .grid) (s i)
 
 -- s is the least vector: it meets the rules, and is at most every vector that does, at every station
 pub record IsLeast (t : Set) (s : ℕ → ℕ) : Type 0 where
@@ -78,7 +85,7 @@ AllocInRange t s = (i : ℕ) → i < t .n → s i ≤ mostS
 abbrev pub InRange : Set → Alloc → Type 0
 InRange t a = NumbersAllowed t × AllocInRange t (at (a .s))
 
--- and the allocation keeps both rules
+-- and the allocation keeps the rules
 abbrev pub KeepsRules : Set → Alloc → Type 0
 KeepsRules t a = MeetsRules t (at (a .s))
 
@@ -93,9 +100,12 @@ deadlinesFit t s = allBelow (t .n) (deadlineFitsAt t s)
 abbrev pub tokenFits : Set → (ℕ → ℕ) → Bool
 tokenFits t s = leb (sumBelow (t .n) s + lost t) (t .head .ttrt)
 
--- both rules
+abbrev pub gridFits : Set → (ℕ → ℕ) → Bool
+gridFits t s = allBelow (t .n) (onGridAt (t .head .grid) s)
+
+-- the rules
 abbrev pub rulesFit : Set → (ℕ → ℕ) → Bool
-rulesFit t s = deadlinesFit t s && tokenFits t s
+rulesFit t s = deadlinesFit t s && tokenFits t s && gridFits t s
 
 -- the deadline rule of a timely-token set, by the stations' own S
 abbrev pub timelyFitsAt : Set → (ℕ → ℕ) → ℕ → Bool

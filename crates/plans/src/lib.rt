@@ -48,16 +48,16 @@ pub fn least_time(ttrt: u32, d: u32, s: u32) -> u64
     turns.whole * long + units::room(long, turns.alpha)
 }
 
-// The smallest S that meets the deadline rule.
-pub fn smallest(ttrt: u32, c: u32, d: u32) -> u64
-    ensures { λ r. ⌜ UpTo (c + ttrt) (smallestFor ttrt c d) r ⌝ }
+// The smallest multiple of the grid that meets the deadline rule.
+pub fn smallest(grid: u32, ttrt: u32, c: u32, d: u32) -> u64
+    ensures { λ r. ⌜ UpTo (c + ttrt + grid) (smallestFor grid ttrt c d) r ⌝ }
 {
     let turns = shares::rotations(ttrt, d);
     let longest = units::wide(c);
     if longest <= turns.whole * turns.alpha {
-        quotients::rounded_up(longest, turns.whole)
+        quotients::stepped(grid, turns.whole, longest)
     } else {
-        quotients::rounded_up(longest + turns.alpha, turns.whole + 1)
+        quotients::stepped(grid, turns.whole + 1, longest + turns.alpha)
     }
 }
 
@@ -120,14 +120,14 @@ fn load_of(t: Set) -> Load
         n: t.n,
         ttrt: t.head.ttrt,
         frame: t.head.frame,
-        grid: 1,
+        grid: t.head.grid,
         tau: sets::walk_time(t),
         c,
         d,
     }
 }
 
-// Both rules hold, by the set's mode.
+// The rules hold, by the set's mode.
 fn rules_fit(t: Set, a: Alloc) -> bool
     requires { ⌜ t .n ≤ 128 ⌝ }
     ensures { λ r. ⌜ r ≡ rulesFit t (at (a .s)) ⌝ }
@@ -136,7 +136,8 @@ fn rules_fit(t: Set, a: Alloc) -> bool
         let s = a.s;
         return fddi::meets_rules(load_of(t), s);
     }
-    deadlines_fit(t, a) & token_fits(t, a)
+    let s = a.s;
+    deadlines_fit(t, a) & token_fits(t, a) & quotients::all_on_grid(t.head.grid, t.n, s)
 }
 
 // A*, the spare time.
@@ -180,7 +181,7 @@ fn smallest_alloc(t: Set) -> Alloc
     let mut s: [u32; 128] = [0; 128];
     let mut i: usize = 0;
     while i < end {
-        let least = smallest(t.head.ttrt, t.c[i], t.d[i]);
+        let least = smallest(t.head.grid, t.head.ttrt, t.c[i], t.d[i]);
         let stored = least as u32;
         s[i] = stored;
         i += 1;

@@ -34,7 +34,6 @@ belated clock =
       sent = zeros;
       rest = two 15 0;
       token = 0;
-      filler = 0;
       arrival = zeros;
       had = two 1 0;
       last = zeros;

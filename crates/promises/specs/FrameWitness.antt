@@ -17,7 +17,7 @@ use Rattle.promises.specs.Witness.{two, row}
 
 -- TTRT 100, F 16, w 2 and 1; station 0 has C 34, D 250, P 250, station 1 has no synchronous stream
 abbrev pub framed : ℕ → Set
-framed mode = record { head = record { ttrt = 100; mode = mode; frame = 16 }; n = 2; w = two 2 1; c = two 34 0; d = two 250 100; p = two 250 100 }
+framed mode = record { head = record { ttrt = 100; mode = mode; frame = 16; grid = 1 }; n = 2; w = two 2 1; c = two 34 0; d = two 250 100; p = two 250 100 }
 
 -- S 17 and 0, in every mode
 abbrev pub seventeen : Alloc

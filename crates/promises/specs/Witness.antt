@@ -23,7 +23,7 @@ two a b = (a ∷ b ∷ []) ++ replicate 126 0
 
 -- TTRT 100, w 1 each; station 0 has C 30, D 250, P 250, station 1 has no synchronous stream
 abbrev pub pairOf : ℕ → Set
-pairOf mode = record { head = record { ttrt = 100; mode = mode; frame = 1 }; n = 2; w = two 1 1; c = two 30 0; d = two 250 100; p = two 250 100 }
+pairOf mode = record { head = record { ttrt = 100; mode = mode; frame = 1; grid = 1 }; n = 2; w = two 1 1; c = two 30 0; d = two 250 100; p = two 250 100 }
 
 -- as a timely-token ring
 abbrev pub pair : Set

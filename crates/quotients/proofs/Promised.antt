@@ -5,6 +5,9 @@ use native.Mathlib.Omega.{arith}
 use native.Mathlib.Numerals.{add-one}
 use native.Mathlib.Nat.{mod-lt, div-zero, mod-zero, mul-comm, add-mul, two-pow-succ, dvd-iff-mod-eq-zero, le-div-iff-mul-le, div-lt-iff-lt-mul}
 use Rattle.units.specs.SmallLaws.{shares-enough, shares-least}
+use Rattle.units.specs.Grid.{stepped}
+use Rattle.units.specs.GridLaws.{decides-grid, step-multiple, step-enough, step-least, step-none}
+use Rattle.quotients.specs.Steps.{SmallestMultiple}
 use Rattle.quotients.specs.Promised.{Promised}
 use Rattle.quotients.proofs.Laws.{kept-last, together}
 
@@ -14,6 +17,10 @@ turns-bits a d p k pos is within highest =
     let once : 2 ^ k * d ≡ d * 2 ^ k = mul-comm (2 ^ k) d in
     let more : 2 ^ (k + 1) * d ≡ 2 ^ k * d + 2 ^ k * d = rw (add-one, two-pow-succ) (add-mul (2 ^ k) (2 ^ k) d) in
     (le-div-iff-mul-le pos .1 (omega arith), div-lt-iff-lt-mul pos .1 (omega arith))
+
+smallest-multiple : (g q x : ℕ) → 0 < g → 0 < q → SmallestMultiple g q x (stepped g q x)
+smallest-multiple g q x some shared =
+    record { multiple = step-multiple g q x; enough = step-enough g q x shared some; least = step-least g q x }
 
 pub promised : Promised
 promised =
@@ -27,4 +34,10 @@ promised =
       least = λ a d n z pos h enough. rw (h .is) (shares-least a d z pos (rw mul-comm enough));
       share-by-zero = λ a n h. h .is ∙ div-zero (a + 0);
       turns = λ a d p pos h. turns-bits a d p (h .doubled .turns) pos (h .doubled .is) (h .within) (h .highest);
+      smallest-multiple = smallest-multiple;
+      no-second-multiple = λ g q x r some shared h.
+          let own = smallest-multiple g q x some shared in
+          omega (arith, h .least (stepped g q x) (own .multiple) (own .enough), own .least r (h .multiple) (h .enough));
+      no-multiple = step-none;
+      on-grid = decides-grid;
     }

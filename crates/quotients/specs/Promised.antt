@@ -4,6 +4,9 @@ use mathlib.Core.Path.{_≡_}
 use mathlib.Core.Logic.{_↔_}
 use Rattle.quotients.specs.Division.{Divided, Share}
 use Rattle.quotients.specs.Turns.{Raised}
+use Rattle.quotients.specs.Steps.{SmallestMultiple}
+use Rattle.units.specs.Grid.{MultipleOf, onGrid, stepped}
+use Rattle.units.specs.JudgingLaws.{Decides}
 
 pub record Promised : Type 0 where
   -- the quotient times the divisor and the remainder are together the dividend, by 0 too
@@ -24,3 +27,11 @@ pub record Promised : Type 0 where
   pub share-by-zero : (dividend share : ℕ) → Share dividend 0 share → share ≡ 0
   -- the divisor is doubled one time less than the quotient has bits: with k doublings the quotient is 2^k or above, and below 2^(k + 1)
   pub turns : (dividend divisor part : ℕ) → 0 < divisor → (h : Raised dividend divisor part) → (2 ^ (h .doubled .turns) ≤ dividend / divisor) × (dividend / divisor < 2 ^ (h .doubled .turns + 1))
+  -- the multiple that is handed back is the smallest of which so many shares are enough
+  pub smallest-multiple : (grid shares need : ℕ) → 0 < grid → 0 < shares → SmallestMultiple grid shares need (stepped grid shares need)
+  -- no second number is so
+  pub no-second-multiple : (grid shares need r : ℕ) → 0 < grid → 0 < shares → SmallestMultiple grid shares need r → r ≡ stepped grid shares need
+  -- in steps of 0, or shared among nobody, it is 0
+  pub no-multiple : (grid shares need : ℕ) → shares * grid ≡ 0 → stepped grid shares need ≡ 0
+  -- the test finds the multiples of the grid and no other number; on a grid of 0 there is 0 alone
+  pub on-grid : (grid x : ℕ) → Decides (onGrid grid x) (MultipleOf grid x)

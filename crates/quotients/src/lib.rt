@@ -1,6 +1,10 @@
-// Quotients by shifting and subtracting: the whole quotient with its remainder, and the share rounded up. No function here divides.
-ghost use Prim.Native.Nat.{_<_, _≤_};
+// Quotients by shifting and subtracting: the whole quotient with its remainder, the share rounded up, and multiples of a grid. No function here divides.
+ghost use mathlib.Core.Path.{_≡_};
+ghost use Prim.Native.Nat.{_<_, _≤_, min};
+ghost use Rattle.units.specs.Grid.{onGrid, onGridAt};
+ghost use Rattle.units.specs.Places.{at, allBelow};
 ghost use Rattle.quotients.specs.Division.{Divided, Share};
+ghost use Rattle.quotients.specs.Steps.{Stepped};
 ghost use Rattle.quotients.specs.Turns.{Raised};
 
 // A whole quotient, and what is left over.
@@ -90,4 +94,49 @@ pub fn divide_narrow(dividend: u32, divisor: u32) -> NarrowDivision
         quotient,
         remainder,
     }
+}
+
+// ---- multiples of a grid
+
+// The most shares, and what they must be enough for, that leave room to multiply.
+const MOST_SHARES: u64 = 4_294_967_296;
+
+const MOST_NEED: u64 = 4_611_686_018_427_387_904;
+
+// The smallest multiple of the grid of which so many shares are enough. 0 in steps of 0 or shared among nobody, and where the numbers are too large to multiply.
+pub fn stepped(grid: u32, shares: u64, need: u64) -> u64
+    ensures { λ r. ⌜ Stepped grid shares need r ⌝ }
+{
+    let fits = (shares <= MOST_SHARES) & (need <= MOST_NEED);
+    if !fits {
+        return 0;
+    }
+    let step = units::wide(grid);
+    rounded_up(need, shares * step) * step
+}
+
+// The number is a multiple of the grid; on a grid of 1 nothing is divided.
+fn on_grid(grid: u32, number: u32) -> bool
+    ensures { λ r. ⌜ r ≡ onGrid grid number ⌝ }
+{
+    if grid == 1 {
+        return true;
+    }
+    let both = divide(units::wide(number), units::wide(grid));
+    both.remainder == 0
+}
+
+// Each of the first n numbers is a multiple of the grid.
+pub fn all_on_grid(grid: u32, n: u32, numbers: [u32; 128]) -> bool
+    ensures { λ r. ⌜ r ≡ allBelow (min n 128) (onGridAt grid (at numbers)) ⌝ }
+{
+    let end = units::places(n);
+    let mut all = true;
+    let mut i: usize = 0;
+    while i < end {
+        let one = on_grid(grid, numbers[i]);
+        all = all & one;
+        i += 1;
+    }
+    all
 }

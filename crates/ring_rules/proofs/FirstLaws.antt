@@ -173,7 +173,6 @@ module _ (a b : Ring) (e : SameRing a b) where
           token = ⊎-elim (λ (q : a .token + 1 < count a). ma .on q ∙ rw p (sym (mb .on (rw (← p, ← e .set .count) q))))
               (λ (q : count a ≤ a .token + 1). let last : a .token + 1 ≡ count a = omega arith in ma .round last ∙ sym (mb .round (rw (← p, ← e .set .count) last)))
               (below-or-not (a .token + 1) (count a));
-          filler = ma .filler ∙ e .filler ∙ sym (mb .filler);
           unused = unused-same na nb v ma mb;
         }
 
@@ -215,7 +214,6 @@ module _ (a b : Ring) (e : SameRing a b) where
           clock = ha .clock ∙ e .clock ∙ sym (hb .clock);
           visits = ha .visits ∙ e .visits ∙ sym (hb .visits);
           token = ha .token ∙ e .token ∙ sym (hb .token);
-          filler = ha .filler ∙ e .filler ∙ sym (hb .filler);
           unused = ha .unused ∙ e .unused ∙ sym (hb .unused);
         }
 
@@ -252,6 +250,5 @@ fresh-same t u a b r q same alloc fr fq =
       clock = fr .clock ∙ sym (fq .clock);
       visits = fr .visits ∙ sym (fq .visits);
       token = fr .token ∙ sym (fq .token);
-      filler = fr .filler ∙ sym (fq .filler);
       unused = fr .unused ∙ (sum-same (t .n) (at (a .s)) (at (b .s)) alloc ∙ rw (same .count) (sym (fq .unused)));
     }

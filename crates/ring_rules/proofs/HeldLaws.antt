@@ -38,7 +38,6 @@ module _ (r : Ring) (m : Message) (L : Shaped r) (s : Sound r) (t : Takes r m) w
         clock = refl;
         visits = refl;
         token = refl;
-        filler = refl;
         unused = refl;
         shaped =
             record {

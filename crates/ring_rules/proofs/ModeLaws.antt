@@ -10,7 +10,7 @@ use Rattle.rings.specs.TimerLaws.{fddi-true, fddi-false}
 use Rattle.rings.specs.Sound.{isSound}
 use Rattle.rings.specs.Steps.{Ask, syncSent, moved, recordOf, visitNumber, visitedWith}
 use Rattle.rings.specs.HandingIn.{arrivalAllowed, holding, handInNumber, takenWith}
-use Rattle.ring_rules.specs.Promised.{withLate, withUnused, withFiller, LeftAlone}
+use Rattle.ring_rules.specs.Promised.{withLate, withUnused, LeftAlone}
 use Rattle.rings.specs.declared.Ring.{Ring}
 use Rattle.rings.specs.declared.Message.{Message}
 
@@ -66,27 +66,6 @@ module _ (r : Ring) (unused : ℕ) (e : Fddi (r .set)) where
   unused-message zero m = refl
   unused-message (suc k) m = refl
 
--- ---- any ring's filler
-
-module _ (r : Ring) (filler : ℕ) where
-  filler-number : (m : Message) → handInNumber (withFiller filler r) m ≡ handInNumber r m
-  unfolding isSound timersSound timelySound fddiSound arrivalAllowed
-  filler-number m = refl
-
-  filler-visit : (k : ℕ) (ask : Ask) → visitedWith k (withFiller filler r) ask ≡ record { ring = withFiller filler (visitedWith k r ask .ring); answer = visitedWith k r ask .answer }
-  unfolding visitedWith moved recordOf limit syncSent timersAfter timelyAfter timePassed tokenCame
-  filler-visit zero ask = refl
-  filler-visit (suc k) ask = refl
-
-  filler-message : (k : ℕ) (m : Message) → takenWith k (withFiller filler r) m ≡ record { ring = withFiller filler (takenWith k r m .ring); number = takenWith k r m .number }
-  unfolding takenWith holding
-  filler-message zero m = refl
-  filler-message (suc k) m = refl
-
-  filler-sound : isSound (withFiller filler r) ≡ isSound r
-  unfolding isSound timersSound timelySound fddiSound
-  filler-sound = refl
-
 -- a change that the calls pass on, whatever the number, and that the numbers do not see, is left alone
 left-alone : (change : Ring → Ring) (r : Ring) → isSound (change r) ≡ isSound r → ((ask : Ask) → visitNumber (change r) ask ≡ visitNumber r ask)
     → ((m : Message) → handInNumber (change r) m ≡ handInNumber r m)
@@ -110,8 +89,3 @@ pub unused-alone : (r : Ring) (unused : ℕ) → Fddi (r .set) → LeftAlone (wi
 unused-alone r unused e =
     let same = unused-sound r unused e in
     left-alone (withUnused unused) r same (λ ask. rw same refl) (unused-number r unused e) (unused-visit r unused e) (unused-message r unused e)
-
-pub filler-alone : (r : Ring) (filler : ℕ) → LeftAlone (withFiller filler) r
-filler-alone r filler =
-    let same = filler-sound r filler in
-    left-alone (withFiller filler) r same (λ ask. rw same refl) (filler-number r filler) (filler-visit r filler) (filler-message r filler)

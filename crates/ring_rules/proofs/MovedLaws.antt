@@ -156,7 +156,6 @@ module _ (r : Ring) (ask : Ask) (L : Shaped r) (s : Sound r) (named : LengthName
         alloc = refl;
         arrival = refl;
         had = refl;
-        filler = refl;
         sents = λ j n. getD-set-other (r .sent) (r .token) j (syncSent r (asyncSent r ask)) 0 (omega arith);
         rests = λ j n. getD-set-other (r .rest) (r .token) j _ 0 (omega arith);
         lasts = λ j n. getD-set-other (r .last) (r .token) j (syncStart r (asyncSent r ask)) 0 (omega arith);

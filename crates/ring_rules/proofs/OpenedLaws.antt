@@ -49,7 +49,6 @@ module _ (t : Set) (a : Alloc) (h : judgedPlan t a ≡ 0) where
         alloc = refl;
         clock = refl;
         token = refl;
-        filler = refl;
         trts = trts;
         lates = lates;
         timers = opened-timer t a h;

@@ -22,7 +22,7 @@ use Rattle.ring_rules.proofs.OpenedLaws.{fresh, opened-sound}
 use Rattle.ring_rules.proofs.MovedLaws.{margin-kept, margin-late, done}
 use Rattle.ring_rules.proofs.HeldLaws.{held, held-sound}
 use Rattle.ring_rules.proofs.FirstLaws.{sound-same, visit-number-same, sync-same, async-same, record-same, moved-same, message-number-same, held-same, fresh-same}
-use Rattle.ring_rules.proofs.ModeLaws.{sound-timely, sound-fddi, late-alone, unused-alone, filler-alone}
+use Rattle.ring_rules.proofs.ModeLaws.{sound-timely, sound-fddi, late-alone, unused-alone}
 use Rattle.rings.specs.declared.Ring.{Ring}
 use Rattle.rings.specs.declared.Message.{Message}
 
@@ -173,5 +173,4 @@ promised =
       first-places-message = first-places-message;
       late-alone = late-alone;
       unused-alone = unused-alone;
-      filler-alone = filler-alone;
     }

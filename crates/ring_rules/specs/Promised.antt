@@ -37,7 +37,6 @@ pub record Fresh (t : Set) (a : Alloc) (r : Ring) : Type 0 where
   pub alloc : r .alloc ≡ a
   pub clock : r .clock ≡ 0
   pub token : r .token ≡ 0
-  pub filler : r .filler ≡ 0
   -- timely-token, TRT: the sum of w from the station to station N − 1
   pub trts : ¬ Fddi t → (i : ℕ) → i < t .n → at (r .trt) i ≡ sumFrom i (t .n) (at (t .w))
   pub lates : ¬ Fddi t → (i : ℕ) → at (r .late) i ≡ 0
@@ -129,7 +128,6 @@ pub record Moved (r next : Ring) (v : VisitRecord) : Type 0 where
   pub alloc : next .alloc ≡ r .alloc
   pub arrival : next .arrival ≡ r .arrival
   pub had : next .had ≡ r .had
-  pub filler : next .filler ≡ r .filler
   pub sents : SameBut (r .token) (next .sent) (r .sent)
   pub rests : SameBut (r .token) (next .rest) (r .rest)
   pub lasts : SameBut (r .token) (next .last) (r .last)
@@ -187,7 +185,6 @@ pub record Held (r : Ring) (m : Message) (next : Ring) : Type 0 where
   pub clock : next .clock ≡ r .clock
   pub visits : next .visits ≡ r .visits
   pub token : next .token ≡ r .token
-  pub filler : next .filler ≡ r .filler
   pub unused : next .unused ≡ r .unused
   pub shaped : Shaped next
 
@@ -211,7 +208,6 @@ pub record SameRing (a b : Ring) : Type 0 where
   pub clock : a .clock ≡ b .clock
   pub visits : a .visits ≡ b .visits
   pub token : a .token ≡ b .token
-  pub filler : a .filler ≡ b .filler
   pub unused : a .unused ≡ b .unused
 
 -- ---- what a mode leaves alone
@@ -227,7 +223,6 @@ withLate late r =
       sent = r .sent;
       rest = r .rest;
       token = r .token;
-      filler = r .filler;
       arrival = r .arrival;
       had = r .had;
       last = r .last;
@@ -247,33 +242,12 @@ withUnused unused r =
       sent = r .sent;
       rest = r .rest;
       token = r .token;
-      filler = r .filler;
       arrival = r .arrival;
       had = r .had;
       last = r .last;
       clock = r .clock;
       visits = r .visits;
       unused = unused;
-    }
-
--- the ring with another filler
-abbrev pub withFiller : ℕ → Ring → Ring
-withFiller filler r =
-    record {
-      set = r .set;
-      alloc = r .alloc;
-      trt = r .trt;
-      late = r .late;
-      sent = r .sent;
-      rest = r .rest;
-      token = r .token;
-      filler = filler;
-      arrival = r .arrival;
-      had = r .had;
-      last = r .last;
-      clock = r .clock;
-      visits = r .visits;
-      unused = r .unused;
     }
 
 -- what is so changed at a ring changes no answer, and is there after each call as it was before
@@ -362,5 +336,3 @@ pub record Promised : Type 0 where
   pub late-alone : (r : Ring) (late : List ℕ) → ¬ Fddi (r .set) → LeftAlone (withLate late) r
   -- and an FDDI ring's u is neither looked at nor changed
   pub unused-alone : (r : Ring) (unused : ℕ) → Fddi (r .set) → LeftAlone (withUnused unused) r
-  -- no ring's filler is looked at or changed
-  pub filler-alone : (r : Ring) (filler : ℕ) → LeftAlone (withFiller filler) r

@@ -86,7 +86,6 @@ holding r m =
       sent = r .sent;
       rest = set (r .rest) (m .station .0) (m .length .0);
       token = r .token;
-      filler = r .filler;
       arrival = set (r .arrival) (m .station .0) (m .arrival .0);
       had = set (r .had) (m .station .0) 1;
       last = r .last;

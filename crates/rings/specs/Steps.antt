@@ -60,7 +60,6 @@ moved r sync async =
       sent = set (r .sent) (r .token) sync;
       rest = set (r .rest) (r .token) (at (r .rest) (r .token) - sync);
       token = nextToken r;
-      filler = r .filler;
       arrival = r .arrival;
       had = r .had;
       last = set (r .last) (r .token) (syncStart r async);

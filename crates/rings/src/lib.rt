@@ -32,8 +32,6 @@ pub struct Ring {
     pub rest: [u32; 128],
     // The station that has the token.
     pub token: u32,
-    // A word that nothing looks at and nothing changes: with it the 64-bit numbers begin where the machine wants them.
-    pub filler: u32,
     // The held message's arrival, and after it the last accepted one.
     pub arrival: [u64; 128],
     // A message was ever accepted there: 0 is no, anything else yes.

@@ -11,7 +11,7 @@ use borrow.Author.Count.{below-more}
 use borrow.Author.Tests.{le-leb, ne-eqb}
 use Rattle.units.specs.JudgingLaws.{true-or-false}
 use Rattle.units.specs.SmallLaws.{below-or-not}
-use Rattle.fields.specs.Fields.{modeTag, frameTag, endTag, endSize, furtherSize, allocationsFor, due, headed, isAllowed, tagAt, sizeAt, behind, allowedAt, FieldWhole}
+use Rattle.fields.specs.Fields.{modeTag, gridTag, endTag, endSize, furtherSize, allocationsFor, due, headed, isAllowed, tagAt, sizeAt, behind, allowedAt, FieldWhole}
 use Rattle.fields.specs.Header.{furtherCount, behindTag, furtherPlace}
 use Rattle.fields.proofs.HeaderLaws.{same-or-not, behind-there, behind-not, place-first, place-next, place-same}
 use Rattle.fields.proofs.FieldLaws.{Whole, allocations-few, Further, Kind, a-head, a-station, an-allocation, an-end, a-further, allowed-kind, kind-allowed}
@@ -222,7 +222,7 @@ headed-first : (bs : List ℕ) (head a : ℕ) → Headed bs head a → Whole bs 
 headed-first bs _ _ (ttrt-first w) = w
 headed-first bs _ _ (and-further {head} {a} tag size before f above w) = headed-first bs head a before
 
-headed-low : (bs : List ℕ) (head a : ℕ) → Headed bs head a → head ≤ frameTag
+headed-low : (bs : List ℕ) (head a : ℕ) → Headed bs head a → head ≤ gridTag
 headed-low bs _ _ (ttrt-first w) = omega arith
 headed-low bs _ _ (and-further tag size before f above w) = f .high
 

@@ -165,7 +165,8 @@ module _ (plan : Bool) (bs : List ℕ) (t : Set) (a : Alloc) (parts : FieldParts
       let ttrt = laid-ttrt bs (t .head) (parts .header) (small .header) in
       let mode = laid-head bs (t .head) (parts .header) first-station 0 (omega arith) (small .mode) in
       let frame = laid-head bs (t .head) (parts .header) first-station 1 (omega arith) (small .frame) in
-      rw (ttrt, mode, frame, w, c, d, p)
+      let grid = laid-head bs (t .head) (parts .header) first-station 2 (omega arith) (small .grid) in
+      rw (ttrt, mode, frame, grid, w, c, d, p)
 
   pub parts-alloc : (head : ℕ) → ((i : ℕ) → i < allocationsFor plan (t .n) → at (a .s) i < 2 ^ 32)
       → allocOf bs (passedAll plan head (behindHead t) (t .n) (allocationsFor plan (t .n))) ≡ firstAllocations (allocationsFor plan (t .n)) a
@@ -247,6 +248,7 @@ kept-small plan t a k =
       header = omega (arith, k .numbers .header .ttrt);
       mode = omega (arith, k .numbers .header .mode);
       frame = omega (arith, k .numbers .header .frame);
+      grid = omega (arith, k .numbers .header .grid);
       walk = λ i l. omega (arith, k .numbers .stations i l .walk);
       longest = λ i l. omega (arith, k .numbers .stations i l .longest);
       deadline = λ i l. omega (arith, k .numbers .stations i l .deadline .1);

@@ -11,7 +11,7 @@ use Rattle.units.specs.SmallLaws.{below-or-not}
 use Rattle.sets.specs.declared.Head.{Head}
 use Rattle.fields.specs.Rows.{Stands}
 use Rattle.fields.specs.Bytes.{numberAt, bytesOf, bodyOf, AllBytes}
-use Rattle.fields.specs.Fields.{modeTag, frameTag, furtherSize, tagAt}
+use Rattle.fields.specs.Fields.{modeTag, gridTag, furtherSize, tagAt}
 use Rattle.fields.specs.Header.{furtherCount, absent, headerNumber, behindTag, furtherPlace, placeOf, saidAt, givenAt}
 use Rattle.fields.proofs.SegmentLaws.{stands-left, stands-right, stands-join}
 use Rattle.fields.proofs.ByteLaws.{number-read, number-stands}
@@ -27,21 +27,21 @@ use Rattle.sheet_rules.proofs.StandLaws.{mark-stands, whole-stands}
 
 module _ (bs : List ℕ) where
   -- the number of a tag is the one that is read for it
-  pub number-of : (tag : ℕ) → modeTag ≤ tag → tag ≤ frameTag → headNumber (headIn bs) tag ≡ numberIn bs tag
+  pub number-of : (tag : ℕ) → modeTag ≤ tag → tag ≤ gridTag → headNumber (headIn bs) tag ≡ numberIn bs tag
   unfolding headNumber
   number-of tag low high =
-      ⊎-elim (λ (e : tag ≡ 4). subst (λ (k : ℕ). headNumber (headIn bs) k ≡ numberIn bs k) (sym e) refl)
-      (λ (other : tag ≢ 4). let e : tag ≡ 5 = five tag low high other in subst (λ (k : ℕ). headNumber (headIn bs) k ≡ numberIn bs k) (sym e) refl)
-      (same-or-not tag 4)
-    where
-      five : (tag : ℕ) → 4 ≤ tag → tag ≤ 5 → tag ≢ 4 → tag ≡ 5
-      five tag low high other = ⊎-elim (λ (b : tag < 5). absurd (other (omega arith))) (λ (b : 5 ≤ tag). omega arith) (below-or-not tag 5)
+      ⊎-elim (λ (b : tag < 5). let e : tag ≡ 4 = omega arith in subst (λ (k : ℕ). headNumber (headIn bs) k ≡ numberIn bs k) (sym e) refl)
+      (λ (b : 5 ≤ tag).
+      ⊎-elim (λ (d : tag < 6). let e : tag ≡ 5 = omega arith in subst (λ (k : ℕ). headNumber (headIn bs) k ≡ numberIn bs k) (sym e) refl)
+      (λ (d : 6 ≤ tag). let e : tag ≡ 6 = omega arith in subst (λ (k : ℕ). headNumber (headIn bs) k ≡ numberIn bs k) (sym e) refl)
+      (below-or-not tag 6))
+      (below-or-not tag 5)
 
   -- the same by the field
   pub number-at : (k : ℕ) → k < furtherCount → headNumber (headIn bs) (modeTag + k) ≡ givenAt bs (furtherPlace bs k) (modeTag + k)
   number-at k l = number-of (modeTag + k) (omega arith) (omega arith) ∙ ap (λ (a : ℕ). givenAt bs a (modeTag + k)) (place-of bs k)
 
-  module _ (tag : ℕ) (low : modeTag ≤ tag) (high : tag ≤ frameTag) where
+  module _ (tag : ℕ) (low : modeTag ≤ tag) (high : tag ≤ gridTag) where
     -- not there
     pub reads-absent : tagAt bs (placeOf bs tag) ≢ tag → headNumber (headIn bs) tag ≡ absent
     reads-absent other = number-of tag low high ∙ given-absent bs tag (placeOf bs tag) other

@@ -1,5 +1,6 @@
 -- The promises hold because a sheet's parts stand one behind the other, are counted where they stand, and hold the numbers that were written.
 use Prim.Native.Nat.{ℕ, zero, suc, _+_, _^_, _≤_, _<_}
+use native.Mathlib.Nat.{add-assoc}
 use mathlib.Core.Path.{_≡_, refl, sym, ap, _∙_}
 use mathlib.Core.Bool.{Bool, true, false, cond}
 use mathlib.Core.List.{List, [], _∷_, _++_, append-nil}
@@ -24,8 +25,8 @@ use Rattle.plans.proofs.SameLaws.{judged-plan-same}
 use Rattle.plans.specs.declared.Alloc.{Alloc}
 use Rattle.fields.specs.Rows.{rows}
 use Rattle.fields.specs.Bytes.{bytesOf, bodyAt, bodyOf, AllBytes}
-use Rattle.fields.specs.Fields.{furtherSize, allocationsFor}
-use Rattle.fields.specs.Header.{behindTag, furtherPlace}
+use Rattle.fields.specs.Fields.{modeTag, furtherSize, allocationsFor}
+use Rattle.fields.specs.Header.{furtherCount, behindTag, furtherPlace, placeOf}
 use Rattle.fields.proofs.HeaderLaws.{behind-there, behind-not}
 use Rattle.fields.proofs.SegmentLaws.{rows-same}
 use Rattle.fields.specs.declared.Passed.{Passed}
@@ -34,13 +35,13 @@ use Rattle.scan.specs.FirstFault.{Fault, no-start, not-allowed, cut-body, follo
 use Rattle.scan.specs.declared.Scanned.{Scanned}
 use Rattle.scan.proofs.ScanLaws.{zero-or-not, fault-there, end-there, stopped, shape-fault, shape-whole}
 use Rattle.scan.proofs.PassedLaws.{whole-ended, scanned-ended, through, plan-no-request}
-use Rattle.sheets.specs.Layout.{mark, headNumber, mostOf, furtherBytes, furtherLength, headUpTo, headBytes, headLength, stationWith, stationBytes, allocationBytes, endBytes, fieldsOf, sheetOf, requestSheet, planSheet, sheetLength}
+use Rattle.sheets.specs.Layout.{mark, headNumber, mostOf, furtherBytes, furtherLength, headUpTo, headLength, stationWith, stationBytes, allocationBytes, endBytes, fieldsOf, sheetOf, requestSheet, planSheet, sheetLength}
 use Rattle.sheets.specs.Reading.{thenNumber, setIn, allocIn, judgedSheet, readSheet, readRequest, readPlan}
 use Rattle.sheets.specs.Writing.{writtenAnswer, writtenBuffer, requestWritten, planWritten}
 use Rattle.sheet_rules.specs.Promised.{Promised, ZeroPast, GivenRequest, GivenPlan, firstPlaces, firstAllocations, requestLength, planLength, ByTag, There, said, smallSet, Numbers32}
 use Rattle.sheets.specs.ReadLaws.{then-rest, then-keeps, then-none, read-refused, read-accepted, read-number, sheet-accepted}
 use Rattle.sheets.proofs.ReadingLaws.{head-out}
-use Rattle.sheets.proofs.WritingLaws.{further-none, length-none, length-some, head-fields, head-lengths, sheet-long, answer-accepted, answer-number, buffer-accepted, buffer-refused, number-none, number-short, number-judged as written-judged}
+use Rattle.sheets.proofs.WritingLaws.{further-none, up-to-more, length-none, length-some, head-fields, head-lengths, sheet-long, answer-accepted, answer-number, buffer-accepted, buffer-refused, number-none, number-short, number-judged as written-judged}
 use Rattle.sheet_rules.proofs.BackLaws.{read-back, laid-number, first-same, first-allocations}
 use Rattle.sheet_rules.proofs.HeaderLaws.{reads-absent, reads-number, reads-out}
 use Rattle.sheet_rules.proofs.StandingLaws.{may-stand}
@@ -368,24 +369,34 @@ plan-laid-out : (t : Set) (a : Alloc) → CountAllowed t → Numbers32 t → ((i
 unfolding judgedSheet
 plan-laid-out t a count small shares = laid-number true t a count small shares
 
-small-written : requestSheet (smallSet timely 1) ≡ 1 ∷ 0 ∷ 4 ∷ 0 ∷ 0 ∷ 0 ∷ 1 ∷ 2 ∷ 0 ∷ 16 ∷ 0 ∷ 0 ∷ 0 ∷ 1 ∷ 0 ∷ 0 ∷ 0 ∷ 0 ∷ 0 ∷ 0 ∷ 0 ∷ 1 ∷ 0 ∷ 0 ∷ 0 ∷ 1 ∷ 255 ∷ 0 ∷ 0 ∷ []
+small-written : requestSheet (smallSet timely 1 1) ≡ 1 ∷ 0 ∷ 4 ∷ 0 ∷ 0 ∷ 0 ∷ 1 ∷ 2 ∷ 0 ∷ 16 ∷ 0 ∷ 0 ∷ 0 ∷ 1 ∷ 0 ∷ 0 ∷ 0 ∷ 0 ∷ 0 ∷ 0 ∷ 0 ∷ 1 ∷ 0 ∷ 0 ∷ 0 ∷ 1 ∷ 255 ∷ 0 ∷ 0 ∷ []
 unfolding sheetOf headUpTo headNumber furtherBytes bodyOf furtherSize stationWith rows bytesOf fill
 small-written = refl
 
-fddi-written : requestSheet (smallSet fddi 1)
+fddi-written : requestSheet (smallSet fddi 1 1)
     ≡ 1 ∷ 0 ∷ 4 ∷ 0 ∷ 0 ∷ 0 ∷ 1 ∷ 4 ∷ 0 ∷ 1 ∷ 2 ∷ 2 ∷ 0 ∷ 16 ∷ 0 ∷ 0 ∷ 0 ∷ 1 ∷ 0 ∷ 0 ∷ 0 ∷ 0 ∷ 0 ∷ 0 ∷ 0 ∷ 1 ∷ 0 ∷ 0 ∷ 0 ∷ 1 ∷ 255 ∷ 0 ∷ 0 ∷ []
 unfolding sheetOf headUpTo headNumber furtherBytes bodyOf furtherSize stationWith rows bytesOf fill
 fddi-written = refl
 
-frame-written : requestSheet (smallSet timely 40)
+frame-written : requestSheet (smallSet timely 40 1)
     ≡ 1 ∷ 0 ∷ 4 ∷ 0 ∷ 0 ∷ 0 ∷ 1 ∷ 5 ∷ 0 ∷ 4 ∷ 0 ∷ 0 ∷ 0 ∷ 40 ∷ 2 ∷ 0 ∷ 16 ∷ 0 ∷ 0 ∷ 0 ∷ 1 ∷ 0 ∷ 0 ∷ 0 ∷ 0 ∷ 0 ∷ 0 ∷ 0 ∷ 1 ∷ 0 ∷ 0 ∷ 0 ∷ 1 ∷ 255 ∷ 0 ∷ 0 ∷ []
 unfolding sheetOf headUpTo headNumber furtherBytes bodyOf furtherSize stationWith rows bytesOf fill
 frame-written = refl
 
-both-written : requestSheet (smallSet fddi 65_535)
-    ≡ 1 ∷ 0 ∷ 4 ∷ 0 ∷ 0 ∷ 0 ∷ 1 ∷ 4 ∷ 0 ∷ 1 ∷ 2 ∷ 5 ∷ 0 ∷ 4 ∷ 0 ∷ 0 ∷ 255 ∷ 255 ∷ 2 ∷ 0 ∷ 16 ∷ 0 ∷ 0 ∷ 0 ∷ 1 ∷ 0 ∷ 0 ∷ 0 ∷ 0 ∷ 0 ∷ 0 ∷ 0 ∷ 1 ∷ 0 ∷ 0 ∷ 0 ∷ 1 ∷ 255 ∷ 0 ∷ 0 ∷ []
+grid-written : requestSheet (smallSet timely 1 5)
+    ≡ 1 ∷ 0 ∷ 4 ∷ 0 ∷ 0 ∷ 0 ∷ 1 ∷ 6 ∷ 0 ∷ 4 ∷ 0 ∷ 0 ∷ 0 ∷ 5 ∷ 2 ∷ 0 ∷ 16 ∷ 0 ∷ 0 ∷ 0 ∷ 1 ∷ 0 ∷ 0 ∷ 0 ∷ 0 ∷ 0 ∷ 0 ∷ 0 ∷ 1 ∷ 0 ∷ 0 ∷ 0 ∷ 1 ∷ 255 ∷ 0 ∷ 0 ∷ []
 unfolding sheetOf headUpTo headNumber furtherBytes bodyOf furtherSize stationWith rows bytesOf fill
-both-written = refl
+grid-written = refl
+
+all-written : requestSheet (smallSet fddi 65_535 1_000)
+    ≡ 1 ∷ 0 ∷ 4 ∷ 0 ∷ 0 ∷ 0 ∷ 1
+    ∷ 4 ∷ 0 ∷ 1 ∷ 2
+    ∷ 5 ∷ 0 ∷ 4 ∷ 0 ∷ 0 ∷ 255 ∷ 255
+    ∷ 6 ∷ 0 ∷ 4 ∷ 0 ∷ 0 ∷ 3 ∷ 232
+    ∷ 2 ∷ 0 ∷ 16 ∷ 0 ∷ 0 ∷ 0 ∷ 1 ∷ 0 ∷ 0 ∷ 0 ∷ 0 ∷ 0 ∷ 0 ∷ 0 ∷ 1 ∷ 0 ∷ 0 ∷ 0 ∷ 1
+    ∷ 255 ∷ 0 ∷ 0 ∷ []
+unfolding sheetOf headUpTo headNumber furtherBytes bodyOf furtherSize stationWith rows bytesOf fill
+all-written = refl
 
 -- ---- the header
 
@@ -395,49 +406,54 @@ tags =
     record {
       mode-number = λ h. refl;
       frame-number = λ h. refl;
+      grid-number = λ h. refl;
       mode-most = refl;
       frame-most = refl;
+      grid-most = refl;
       mode-place = λ bs. refl;
       frame-first = λ bs other. behind-not bs 4 7 other;
       frame-second = λ bs e. behind-there bs 4 7 e;
+      grid-first = λ bs other. behind-not bs 5 (placeOf bs 5) other;
+      grid-second = λ bs e. behind-there bs 5 (placeOf bs 5) e ∙ add-assoc (placeOf bs 5) 3 4;
       mode-said = λ bs a. refl;
       frame-said = λ bs a. refl;
+      grid-said = λ bs a. refl;
     }
 
 -- what the header has behind TTRT
-lengths : (h : Head) → headLength h ≡ cond (eqb (h .mode) 1) 0 4 + cond (eqb (h .frame) 1) 0 7
+lengths : (h : Head) → headLength h ≡ cond (eqb (h .mode) 1) 0 4 + cond (eqb (h .frame) 1) 0 7 + cond (eqb (h .grid) 1) 0 7
 unfolding furtherLength furtherSize
 lengths h = head-lengths h
 
-none-further : (h : Head) → h .mode ≡ 1 → h .frame ≡ 1 → headLength h ≡ 0
-none-further h e d = omega (arith, head-lengths h, length-none 4 (h .mode) e, length-none 5 (h .frame) d)
+none-further : (h : Head) → h .mode ≡ 1 → h .frame ≡ 1 → h .grid ≡ 1 → headLength h ≡ 0
+none-further h m f g = omega (arith, head-lengths h, length-none 4 (h .mode) m, length-none 5 (h .frame) f, length-none 6 (h .grid) g)
 
-all-further : (h : Head) → h .mode ≢ 1 → h .frame ≢ 1 → headLength h ≡ 11
+all-further : (h : Head) → h .mode ≢ 1 → h .frame ≢ 1 → h .grid ≢ 1 → headLength h ≡ 18
 unfolding furtherSize
-all-further h e d = omega (arith, head-lengths h, length-some 4 (h .mode) e, length-some 5 (h .frame) d)
+all-further h m f g = omega (arith, head-lengths h, length-some 4 (h .mode) m, length-some 5 (h .frame) f, length-some 6 (h .grid) g)
 
--- a number of 1 has no field
-uncut-bytes : (plan : Bool) (t : Set) (a : Alloc) → t .head .frame ≡ 1
+-- a number of 1 has no field: a header with 1 from the k-th further number on ends with the first k fields
+first-fields : (h : Head) (k n : ℕ) → k ≤ n → ((j : ℕ) → k ≤ j → j < n → headNumber h (modeTag + j) ≡ 1) → headUpTo h n ≡ headUpTo h k
+first-fields h k zero l ones = ap (headUpTo h) (omega arith)
+first-fields h k (suc n) l ones =
+    ⊎-elim (λ (b : k < suc n).
+    up-to-more h n
+    ∙ ap (λ (s : List ℕ). headUpTo h n ++ s) (further-none (modeTag + n) (headNumber h (modeTag + n)) (ones n (omega arith) (omega arith)))
+    ∙ append-nil (headUpTo h n)
+    ∙ first-fields h k n (omega arith) (λ j m b. ones j m (omega arith)))
+    (λ (b : suc n ≤ k). ap (headUpTo h) (omega arith))
+    (below-or-not k (suc n))
+
+bytes-before : (plan : Bool) (t : Set) (a : Alloc) (k : ℕ) → k ≤ furtherCount → ((j : ℕ) → k ≤ j → j < furtherCount → headNumber (t .head) (modeTag + j) ≡ 1)
     → sheetOf plan t a
-    ≡ mark 1 4 ++ bytesOf (t .head .ttrt) ++ furtherBytes 4 (t .head .mode)
-    ++ rows (t .n) (stationBytes t) ++ rows (allocationsFor plan (t .n)) (allocationBytes a) ++ mark 255 0
+    ≡ headUpTo (t .head) k ++ rows (t .n) (stationBytes t) ++ rows (allocationsFor plan (t .n)) (allocationBytes a) ++ mark 255 0
 unfolding sheetOf
-uncut-bytes plan t a e =
-    let first = mark 1 4 ++ bytesOf (t .head .ttrt) ++ furtherBytes 4 (t .head .mode) in
-    let header : headBytes (t .head) ≡ first = head-fields (t .head) ∙ ap (λ (s : List ℕ). first ++ s) (further-none 5 (t .head .frame) e) ∙ append-nil first in
-    ap (λ (s : List ℕ). s ++ rows (t .n) (stationBytes t) ++ rows (allocationsFor plan (t .n)) (allocationBytes a) ++ mark 255 0) header
-
-timely-bytes : (plan : Bool) (t : Set) (a : Alloc) → t .head .mode ≡ timely → t .head .frame ≡ 1
-    → sheetOf plan t a
-    ≡ mark 1 4 ++ bytesOf (t .head .ttrt) ++ rows (t .n) (stationBytes t) ++ rows (allocationsFor plan (t .n)) (allocationBytes a) ++ mark 255 0
-timely-bytes plan t a e d =
-    let first = mark 1 4 ++ bytesOf (t .head .ttrt) in
-    let header : first ++ furtherBytes 4 (t .head .mode) ≡ first = ap (λ (s : List ℕ). first ++ s) (further-none 4 (t .head .mode) e) ∙ append-nil first in
-    uncut-bytes plan t a d
-    ∙ ap (λ (s : List ℕ). s ++ rows (t .n) (stationBytes t) ++ rows (allocationsFor plan (t .n)) (allocationBytes a) ++ mark 255 0) header
+bytes-before plan t a k l ones =
+    ap (λ (s : List ℕ). s ++ rows (t .n) (stationBytes t) ++ rows (allocationsFor plan (t .n)) (allocationBytes a) ++ mark 255 0)
+    (first-fields (t .head) k furtherCount l ones)
 
 -- a number of the header that is out of its range
-other-number : (plan : Bool) (bs : List ℕ) → WholeSheet plan bs → (tag : ℕ) → 4 ≤ tag → tag ≤ 5 → There bs tag
+other-number : (plan : Bool) (bs : List ℕ) → WholeSheet plan bs → (tag : ℕ) → 4 ≤ tag → tag ≤ 6 → There bs tag
     → ¬ ((2 ≤ said bs tag) × (said bs tag ≤ mostOf tag)) → readSheet plan bs .number ≡ 4
 other-number plan bs w tag low high e out =
     let z : scanned plan bs .number ≡ 0 = ap (λ (r : Scanned). r .number) (end-there plan bs w) in
@@ -450,18 +466,18 @@ promised =
       header-length = lengths;
       request-length = λ t. let e = sheet-long false t blankAlloc in omega arith;
       plan-length = λ t a. let e = sheet-long true t a in omega arith;
-      shortest = λ t one e d. omega (arith, sheet-long false t blankAlloc, none-further (t .head) e d);
-      longest-timely = λ t one e d. omega (arith, sheet-long false t blankAlloc, none-further (t .head) e d);
-      longest = λ t all e d. omega (arith, sheet-long false t blankAlloc, all-further (t .head) e d);
-      longest-plan = λ t a all e d. omega (arith, sheet-long true t a, all-further (t .head) e d);
+      shortest = λ t one m f g. omega (arith, sheet-long false t blankAlloc, none-further (t .head) m f g);
+      longest-timely = λ t one m f g. omega (arith, sheet-long false t blankAlloc, none-further (t .head) m f g);
+      longest = λ t all m f g. omega (arith, sheet-long false t blankAlloc, all-further (t .head) m f g);
+      longest-plan = λ t a all m f g. omega (arith, sheet-long true t a, all-further (t .head) m f g);
       header-fields = head-fields;
       field-none = λ tag. further-none tag 1 refl;
-      uncut-sheet = uncut-bytes;
-      timely-sheet = timely-bytes;
+      as-before = bytes-before;
       written-out = small-written;
       written-out-fddi = fddi-written;
       written-out-frame = frame-written;
-      written-out-both = both-written;
+      written-out-grid = grid-written;
+      written-out-all = all-written;
       request-back = request-written;
       plan-back = plan-written;
       back-same = first-same;

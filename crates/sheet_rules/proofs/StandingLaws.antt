@@ -11,9 +11,8 @@ use Rattle.units.specs.SmallLaws.{below-or-not}
 use Rattle.units.specs.Judging.{between}
 use Rattle.fields.specs.Fields.{allocationsFor, due, headed, row, furtherSize, isFurther, inHeader, isAllowed}
 use Rattle.fields.proofs.FieldLaws.{further-one, further-four}
-use Rattle.fields.proofs.HeaderLaws.{same-or-not}
 use Rattle.fields.specs.declared.Passed.{Passed}
-use Rattle.sheet_rules.specs.Standing.{MayStand, a-head, a-mode, a-frame, a-station, an-allocation, an-end}
+use Rattle.sheet_rules.specs.Standing.{MayStand, a-head, a-mode, a-frame, a-grid, a-station, an-allocation, an-end}
 
 decides-eq : (a b : ℕ) → Decides (eqb a b) (a ≡ b)
 decides-eq a b = (eqb-true a b, eq-eqb a b)
@@ -59,7 +58,7 @@ module _ (p : Passed) (tag size : ℕ) where
   End = (((size ≡ 0) × (1 ≤ p .head)) × (1 ≤ p .stations)) × (p .allocations ≡ due p)
 
   abbrev Further : Type 0
-  Further = (((4 ≤ tag) × (tag ≤ 5)) × (size ≡ furtherSize tag)) × (((1 ≤ p .head) × (p .head < tag)) × (p .stations ≡ 0))
+  Further = (((4 ≤ tag) × (tag ≤ 6)) × (size ≡ furtherSize tag)) × (((1 ≤ p .head) × (p .head < tag)) × (p .stations ≡ 0))
 
   abbrev Rows : Type 0
   Rows =
@@ -81,7 +80,7 @@ module _ (p : Passed) (tag size : ℕ) where
       (decides-both _ (leb 1 (p .stations)) _ _ (decides-both (eqb size 0) (headed p) _ _ (decides-eq size 0) behind) (decides-le 1 (p .stations)))
       (decides-eq (p .allocations) (due p)) in
       let further = decides-both (isFurther tag size) (inHeader p tag) _ _
-      (decides-both (between 4 5 tag) (eqb size (furtherSize tag)) _ _ (decides-between 4 5 tag) (decides-eq size (furtherSize tag)))
+      (decides-both (between 4 6 tag) (eqb size (furtherSize tag)) _ _ (decides-between 4 6 tag) (decides-eq size (furtherSize tag)))
       (decides-both _ (eqb (p .stations) 0) _ _ (decides-both (headed p) (ltb (p .head) tag) _ _ behind (decides-lt (p .head) tag)) (decides-eq (p .stations) 0)) in
       decides-row tag 1 _ _ _ _ head
       (decides-row tag 2 _ _ _ _ station
@@ -97,16 +96,19 @@ due-in-plan : (plan : Bool) (stations allocations : ℕ) → plan ≡ true → a
 due-in-plan plan stations allocations e l = rw e l
 
 module _ (p : Passed) (tag size : ℕ) where
-  -- a further field of the header is the mode or F
+  -- a further field of the header is the mode, F or g
   further-says : Further p tag size → MayStand p tag size
   further-says f =
       let low = f .0 .0 .0 in
       let above = f .1 .0 .1 in
-      ⊎-elim (λ (e : tag ≡ 4). a-mode e (f .0 .1 ∙ ap furtherSize e ∙ further-one) (f .1 .0 .0) (omega arith) (f .1 .1))
-      (λ (other : tag ≢ 4).
-      let e : tag ≡ 5 = ⊎-elim (λ (b : tag < 5). absurd (other (omega arith))) (λ (b : 5 ≤ tag). omega (arith, f .0 .0 .1)) (below-or-not tag 5) in
-      a-frame e (f .0 .1 ∙ further-four tag other) (f .1 .0 .0) (omega arith) (f .1 .1))
-      (same-or-not tag 4)
+      let high = f .0 .0 .1 in
+      ⊎-elim (λ (b : tag < 5). let e : tag ≡ 4 = omega arith in a-mode e (f .0 .1 ∙ ap furtherSize e ∙ further-one) (f .1 .0 .0) (omega arith) (f .1 .1))
+      (λ (b : 5 ≤ tag).
+      let four = f .0 .1 ∙ further-four tag (λ e. omega arith) in
+      ⊎-elim (λ (d : tag < 6). a-frame (omega arith) four (f .1 .0 .0) (omega arith) (f .1 .1))
+      (λ (d : 6 ≤ tag). a-grid (omega arith) four (f .1 .0 .0) (omega arith) (f .1 .1))
+      (below-or-not tag 6))
+      (below-or-not tag 5)
 
   rows-say : Rows p tag size → MayStand p tag size
   rows-say =
@@ -129,6 +131,8 @@ module _ (p : Passed) (tag size : ℕ) where
   say-rows (a-mode e s h l n) =
       inr (omega arith, inr (omega arith, inr (omega arith, inr (omega arith, (((omega arith, omega arith), s ∙ sym (ap furtherSize e ∙ further-one)), ((h, omega arith), n))))))
   say-rows (a-frame e s h l n) =
+      inr (omega arith, inr (omega arith, inr (omega arith, inr (omega arith, (((omega arith, omega arith), s ∙ sym (further-four tag (λ d. omega arith))), ((h, omega arith), n))))))
+  say-rows (a-grid e s h l n) =
       inr (omega arith, inr (omega arith, inr (omega arith, inr (omega arith, (((omega arith, omega arith), s ∙ sym (further-four tag (λ d. omega arith))), ((h, omega arith), n))))))
   say-rows (a-station e s h n a) = inr (omega arith, inl (e, (((s, h), n), a)))
   say-rows (an-allocation e s h f a) = inr (omega arith, inr (omega arith, inl (e, ((s, h), due-in-plan (p .plan) (p .stations) (p .allocations) f a))))

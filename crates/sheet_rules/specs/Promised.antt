@@ -16,11 +16,11 @@ use Rattle.plans.specs.Planned.{judgedPlan, blankAlloc}
 use Rattle.plans.specs.declared.Alloc.{Alloc}
 use Rattle.fields.specs.Rows.{rows}
 use Rattle.fields.specs.Bytes.{numberAt, bytesOf, AllBytes}
-use Rattle.fields.specs.Fields.{isAllowed, allocationsFor, tagAt}
-use Rattle.fields.specs.Header.{placeOf, saidAt}
+use Rattle.fields.specs.Fields.{modeTag, isAllowed, allocationsFor, tagAt}
+use Rattle.fields.specs.Header.{furtherCount, placeOf, saidAt}
 use Rattle.fields.specs.declared.Passed.{Passed}
 use Rattle.scan.specs.FirstFault.{FirstFault, WholeSheet}
-use Rattle.sheets.specs.Layout.{mark, headNumber, mostOf, furtherBytes, headBytes, headLength, stationBytes, allocationBytes, sheetOf, requestSheet, planSheet}
+use Rattle.sheets.specs.Layout.{mark, headNumber, mostOf, furtherBytes, headUpTo, headBytes, headLength, stationBytes, allocationBytes, sheetOf, requestSheet, planSheet}
 use Rattle.sheets.specs.Reading.{setIn, allocIn, readSheet, readRequest, readPlan}
 use Rattle.sheets.specs.Writing.{requestWritten, planWritten}
 use Rattle.sheet_rules.specs.Standing.{MayStand}
@@ -50,11 +50,12 @@ pub record ZeroPast (t : Set) : Type 0 where
   pub deadline : (i : ℕ) → t .n ≤ i → at (t .d) i ≡ 0
   pub gap : (i : ℕ) → t .n ≤ i → at (t .p) i ≡ 0
 
--- TTRT, F and the numbers of the first N stations are 32-bit numbers, as those of every set of the code are; the mode is one byte, as on a sheet
+-- TTRT, F, g and the numbers of the first N stations are 32-bit numbers, as those of every set of the code are; the mode is one byte, as on a sheet
 pub record Numbers32 (t : Set) : Type 0 where
   pub header : t .head .ttrt < 2 ^ 32
   pub mode : t .head .mode < 256
   pub frame : t .head .frame < 2 ^ 32
+  pub grid : t .head .grid < 2 ^ 32
   pub walk : (i : ℕ) → i < t .n → at (t .w) i < 2 ^ 32
   pub longest : (i : ℕ) → i < t .n → at (t .c) i < 2 ^ 32
   pub deadline : (i : ℕ) → i < t .n → at (t .d) i < 2 ^ 32
@@ -86,20 +87,25 @@ planLength t = 10 + 26 * t .n + headLength (t .head)
 
 -- ---- the header's fields behind TTRT, by their tags
 
--- what tag 4 and what tag 5 stand for in a header, and where and how its field is read
+-- what tags 4, 5 and 6 stand for in a header, and where and how the field of each is read
 pub record ByTag : Type 0 where
   pub mode-number : (h : Head) → headNumber h 4 ≡ h .mode
   pub frame-number : (h : Head) → headNumber h 5 ≡ h .frame
-  -- the highest number: mode 3, F 65,535
+  pub grid-number : (h : Head) → headNumber h 6 ≡ h .grid
+  -- the highest number: mode 3, F 65,535, g 1,000
   pub mode-most : mostOf 4 ≡ 3
   pub frame-most : mostOf 5 ≡ 65_535
-  -- the mode's field stands at 7, if it is there; F's at 7, or behind the mode's 4 bytes at 11
+  pub grid-most : mostOf 6 ≡ 1_000
+  -- the mode's field stands at 7, if it is there; F's at 7, or behind the mode's 4 bytes at 11; g's where F's would stand, or behind F's 7 bytes
   pub mode-place : (bs : List ℕ) → placeOf bs 4 ≡ 7
   pub frame-first : (bs : List ℕ) → tagAt bs 7 ≢ 4 → placeOf bs 5 ≡ 7
   pub frame-second : (bs : List ℕ) → tagAt bs 7 ≡ 4 → placeOf bs 5 ≡ 11
-  -- the mode is one byte, F four
+  pub grid-first : (bs : List ℕ) → tagAt bs (placeOf bs 5) ≢ 5 → placeOf bs 6 ≡ placeOf bs 5
+  pub grid-second : (bs : List ℕ) → tagAt bs (placeOf bs 5) ≡ 5 → placeOf bs 6 ≡ placeOf bs 5 + 7
+  -- the mode is one byte, F and g four
   pub mode-said : (bs : List ℕ) (a : ℕ) → saidAt bs a 4 ≡ at bs (a + 3)
   pub frame-said : (bs : List ℕ) (a : ℕ) → saidAt bs a 5 ≡ numberAt bs (a + 3)
+  pub grid-said : (bs : List ℕ) (a : ℕ) → saidAt bs a 6 ≡ numberAt bs (a + 3)
 
 -- the field with this tag is there
 abbrev pub There : List ℕ → ℕ → Type 0
@@ -111,60 +117,62 @@ said bs tag = saidAt bs (placeOf bs tag) tag
 
 -- ---- examples
 
--- TTRT 1, one station of w 1, C 0, D 1, P 1, in a mode, with frames up to F
-abbrev pub smallSet : ℕ → ℕ → Set
-smallSet mode frame =
-    record { head = record { ttrt = 1; mode = mode; frame = frame }; n = 1; w = fill 1 (λ i. 1) zeros; c = zeros; d = fill 1 (λ i. 1) zeros; p = fill 1 (λ i. 1) zeros }
+-- TTRT 1, one station of w 1, C 0, D 1, P 1, in a mode, with frames up to F, on a grid
+abbrev pub smallSet : ℕ → ℕ → ℕ → Set
+smallSet mode frame grid =
+    record { head = record { ttrt = 1; mode = mode; frame = frame; grid = grid }; n = 1; w = fill 1 (λ i. 1) zeros; c = zeros; d = fill 1 (λ i. 1) zeros; p = fill 1 (λ i. 1) zeros }
 
 -- ---- the promises
 
 pub record Promised : Type 0 where
   -- what may stand where is what 01 says of each tag: the table that the reader goes by decides the sentence
   pub may-stand : (p : Passed) (tag size : ℕ) → (isAllowed p tag size ≡ true) ↔ MayStand p tag size
-  -- the header has behind TTRT 4 bytes where the mode is not 1, and 7 where F is not 1
-  pub header-length : (h : Head) → headLength h ≡ cond (eqb (h .mode) 1) 0 4 + cond (eqb (h .frame) 1) 0 7
+  -- the header has behind TTRT 4 bytes where the mode is not 1, 7 where F is not 1, and 7 where g is not 1
+  pub header-length : (h : Head) → headLength h ≡ cond (eqb (h .mode) 1) 0 4 + cond (eqb (h .frame) 1) 0 7 + cond (eqb (h .grid) 1) 0 7
   -- a request sheet has 10 + 19N bytes, a plan sheet 10 + 26N, and these
   pub request-length : (t : Set) → length (requestSheet t) ≡ requestLength t
   pub plan-length : (t : Set) (a : Alloc) → length (planSheet t a) ≡ planLength t
-  -- 29 bytes for one timely-token station without F, 2,442 for 128; 2,453 for 128 stations with both fields, and 3,349 for their plan
-  pub shortest : (t : Set) → t .n ≡ 1 → t .head .mode ≡ timely → t .head .frame ≡ 1 → length (requestSheet t) ≡ 29
-  pub longest-timely : (t : Set) → t .n ≡ 128 → t .head .mode ≡ timely → t .head .frame ≡ 1 → length (requestSheet t) ≡ 2_442
-  pub longest : (t : Set) → t .n ≡ 128 → t .head .mode ≢ timely → t .head .frame ≢ 1 → length (requestSheet t) ≡ 2_453
-  pub longest-plan : (t : Set) (a : Alloc) → t .n ≡ 128 → t .head .mode ≢ timely → t .head .frame ≢ 1 → length (planSheet t a) ≡ 3_349
-  -- the header's fields stand in the order of their tags: TTRT's, the mode's, F's; one whose number is 1 has no byte
-  pub header-fields : (h : Head) → headBytes h ≡ mark 1 4 ++ bytesOf (h .ttrt) ++ furtherBytes 4 (h .mode) ++ furtherBytes 5 (h .frame)
+  -- 29 bytes for one timely-token station without F and g, 2,442 for 128; 2,460 for 128 stations with all three fields, and 3,356 for their plan
+  pub shortest : (t : Set) → t .n ≡ 1 → t .head .mode ≡ timely → t .head .frame ≡ 1 → t .head .grid ≡ 1 → length (requestSheet t) ≡ 29
+  pub longest-timely : (t : Set) → t .n ≡ 128 → t .head .mode ≡ timely → t .head .frame ≡ 1 → t .head .grid ≡ 1 → length (requestSheet t) ≡ 2_442
+  pub longest : (t : Set) → t .n ≡ 128 → t .head .mode ≢ timely → t .head .frame ≢ 1 → t .head .grid ≢ 1 → length (requestSheet t) ≡ 2_460
+  pub longest-plan : (t : Set) (a : Alloc) → t .n ≡ 128 → t .head .mode ≢ timely → t .head .frame ≢ 1 → t .head .grid ≢ 1 → length (planSheet t a) ≡ 3_356
+  -- the header's fields stand in the order of their tags: TTRT's, the mode's, F's, g's; one whose number is 1 has no byte
+  pub header-fields : (h : Head) → headBytes h ≡ mark 1 4 ++ bytesOf (h .ttrt) ++ furtherBytes 4 (h .mode) ++ furtherBytes 5 (h .frame) ++ furtherBytes 6 (h .grid)
   pub field-none : (tag : ℕ) → furtherBytes tag 1 ≡ []
-  -- so a sheet with F 1 has the bytes that it had before there was F
-  pub uncut-sheet : (plan : Bool) (t : Set) (a : Alloc) → t .head .frame ≡ 1
+  -- so a sheet whose header has 1 from the k-th further number on has the bytes of before there were these: with k 2 those without g, with k 1 without F and g, with k 0 TTRT's field, the stations, the allocations and the end alone
+  pub as-before : (plan : Bool) (t : Set) (a : Alloc) (k : ℕ) → k ≤ furtherCount → ((j : ℕ) → k ≤ j → j < furtherCount → headNumber (t .head) (modeTag + j) ≡ 1)
       → sheetOf plan t a
-      ≡ mark 1 4 ++ bytesOf (t .head .ttrt) ++ furtherBytes 4 (t .head .mode)
-      ++ rows (t .n) (stationBytes t) ++ rows (allocationsFor plan (t .n)) (allocationBytes a) ++ mark 255 0
-  -- and one of mode 1 beside it those of before there were modes: TTRT's field, the stations, the allocations, the end
-  pub timely-sheet : (plan : Bool) (t : Set) (a : Alloc) → t .head .mode ≡ timely → t .head .frame ≡ 1
-      → sheetOf plan t a
-      ≡ mark 1 4 ++ bytesOf (t .head .ttrt) ++ rows (t .n) (stationBytes t) ++ rows (allocationsFor plan (t .n)) (allocationBytes a) ++ mark 255 0
+      ≡ headUpTo (t .head) k ++ rows (t .n) (stationBytes t) ++ rows (allocationsFor plan (t .n)) (allocationBytes a) ++ mark 255 0
   -- one sheet written out: TTRT 1, one station of w 1, C 0, D 1, P 1
-  pub written-out : requestSheet (smallSet timely 1)
+  pub written-out : requestSheet (smallSet timely 1 1)
       ≡ 1 ∷ 0 ∷ 4 ∷ 0 ∷ 0 ∷ 0 ∷ 1
       ∷ 2 ∷ 0 ∷ 16 ∷ 0 ∷ 0 ∷ 0 ∷ 1 ∷ 0 ∷ 0 ∷ 0 ∷ 0 ∷ 0 ∷ 0 ∷ 0 ∷ 1 ∷ 0 ∷ 0 ∷ 0 ∷ 1
       ∷ 255 ∷ 0 ∷ 0 ∷ []
   -- the same for FDDI: tag 4, length 1, value 2 directly behind TTRT
-  pub written-out-fddi : requestSheet (smallSet fddi 1)
+  pub written-out-fddi : requestSheet (smallSet fddi 1 1)
       ≡ 1 ∷ 0 ∷ 4 ∷ 0 ∷ 0 ∷ 0 ∷ 1
       ∷ 4 ∷ 0 ∷ 1 ∷ 2
       ∷ 2 ∷ 0 ∷ 16 ∷ 0 ∷ 0 ∷ 0 ∷ 1 ∷ 0 ∷ 0 ∷ 0 ∷ 0 ∷ 0 ∷ 0 ∷ 0 ∷ 1 ∷ 0 ∷ 0 ∷ 0 ∷ 1
       ∷ 255 ∷ 0 ∷ 0 ∷ []
   -- F 40 of a timely-token set: tag 5, length 4 directly behind TTRT
-  pub written-out-frame : requestSheet (smallSet timely 40)
+  pub written-out-frame : requestSheet (smallSet timely 40 1)
       ≡ 1 ∷ 0 ∷ 4 ∷ 0 ∷ 0 ∷ 0 ∷ 1
       ∷ 5 ∷ 0 ∷ 4 ∷ 0 ∷ 0 ∷ 0 ∷ 40
       ∷ 2 ∷ 0 ∷ 16 ∷ 0 ∷ 0 ∷ 0 ∷ 1 ∷ 0 ∷ 0 ∷ 0 ∷ 0 ∷ 0 ∷ 0 ∷ 0 ∷ 1 ∷ 0 ∷ 0 ∷ 0 ∷ 1
       ∷ 255 ∷ 0 ∷ 0 ∷ []
-  -- F 65,535 of an FDDI set: behind the mode
-  pub written-out-both : requestSheet (smallSet fddi 65_535)
+  -- g 5 of a timely-token set: tag 6, length 4 directly behind TTRT
+  pub written-out-grid : requestSheet (smallSet timely 1 5)
+      ≡ 1 ∷ 0 ∷ 4 ∷ 0 ∷ 0 ∷ 0 ∷ 1
+      ∷ 6 ∷ 0 ∷ 4 ∷ 0 ∷ 0 ∷ 0 ∷ 5
+      ∷ 2 ∷ 0 ∷ 16 ∷ 0 ∷ 0 ∷ 0 ∷ 1 ∷ 0 ∷ 0 ∷ 0 ∷ 0 ∷ 0 ∷ 0 ∷ 0 ∷ 1 ∷ 0 ∷ 0 ∷ 0 ∷ 1
+      ∷ 255 ∷ 0 ∷ 0 ∷ []
+  -- F 65,535 and g 1,000 of an FDDI set: behind the mode, F first
+  pub written-out-all : requestSheet (smallSet fddi 65_535 1_000)
       ≡ 1 ∷ 0 ∷ 4 ∷ 0 ∷ 0 ∷ 0 ∷ 1
       ∷ 4 ∷ 0 ∷ 1 ∷ 2
       ∷ 5 ∷ 0 ∷ 4 ∷ 0 ∷ 0 ∷ 255 ∷ 255
+      ∷ 6 ∷ 0 ∷ 4 ∷ 0 ∷ 0 ∷ 3 ∷ 232
       ∷ 2 ∷ 0 ∷ 16 ∷ 0 ∷ 0 ∷ 0 ∷ 1 ∷ 0 ∷ 0 ∷ 0 ∷ 0 ∷ 0 ∷ 0 ∷ 0 ∷ 1 ∷ 0 ∷ 0 ∷ 0 ∷ 1
       ∷ 255 ∷ 0 ∷ 0 ∷ []
   -- read back as written: a request
@@ -204,14 +212,14 @@ pub record Promised : Type 0 where
   pub stations-passed : (plan : Bool) (bs : List ℕ) (w : WholeSheet plan bs) → (setIn plan bs .n ≡ w .passed .stations) × CountAllowed (setIn plan bs)
   -- and in a plan as many allocations passed, in a request none
   pub allocations-passed : (plan : Bool) (bs : List ℕ) (w : WholeSheet plan bs) → w .passed .allocations ≡ allocationsFor plan (w .passed .stations)
-  -- the header's fields behind TTRT, one rule for the mode, tag 4, and F, tag 5
+  -- the header's fields behind TTRT, one rule for the mode, tag 4, F, tag 5, and g, tag 6
   pub by-tag : ByTag
   -- absent means 1
-  pub header-absent : (plan : Bool) (bs : List ℕ) (tag : ℕ) → 4 ≤ tag → tag ≤ 5 → ¬ There bs tag → headNumber (setIn plan bs .head) tag ≡ 1
+  pub header-absent : (plan : Bool) (bs : List ℕ) (tag : ℕ) → 4 ≤ tag → tag ≤ 6 → ¬ There bs tag → headNumber (setIn plan bs .head) tag ≡ 1
   -- a field that is there gives its number, if that is not 1
-  pub header-there : (plan : Bool) (bs : List ℕ) (tag : ℕ) → 4 ≤ tag → tag ≤ 5 → There bs tag → said bs tag ≢ 1 → headNumber (setIn plan bs .head) tag ≡ said bs tag
+  pub header-there : (plan : Bool) (bs : List ℕ) (tag : ℕ) → 4 ≤ tag → tag ≤ 6 → There bs tag → said bs tag ≢ 1 → headNumber (setIn plan bs .head) tag ≡ said bs tag
   -- with any number that is not 2 to the highest, 1 among them, the sheet gets 4
-  pub header-other : (plan : Bool) (bs : List ℕ) → WholeSheet plan bs → (tag : ℕ) → 4 ≤ tag → tag ≤ 5 → There bs tag
+  pub header-other : (plan : Bool) (bs : List ℕ) → WholeSheet plan bs → (tag : ℕ) → 4 ≤ tag → tag ≤ 6 → There bs tag
       → ¬ ((2 ≤ said bs tag) × (said bs tag ≤ mostOf tag)) → readSheet plan bs .number ≡ 4
   -- its number is the judgement of what the bytes hold: 4 or 5, and 7 for plans, or 0
   pub request-judged : (bs : List ℕ) → WholeSheet false bs → readRequest bs .number ≡ judged (setIn false bs)

@@ -12,6 +12,8 @@ pub data MayStand (p : Passed) (tag size : ℕ) : Type 0 where
   a-mode : tag ≡ 4 → size ≡ 1 → 1 ≤ p .head → p .head < 4 → p .stations ≡ 0 → MayStand p tag size
   -- F, tag 5 and length 4: behind TTRT and the mode, if that is there, and before the first station, and once
   a-frame : tag ≡ 5 → size ≡ 4 → 1 ≤ p .head → p .head < 5 → p .stations ≡ 0 → MayStand p tag size
+  -- g, tag 6 and length 4: behind TTRT, the mode and F, if these are there, and before the first station, and once
+  a-grid : tag ≡ 6 → size ≡ 4 → 1 ≤ p .head → p .head < 6 → p .stations ≡ 0 → MayStand p tag size
   -- a station, tag 2 and length 16: behind the header, at most the 128th, and none behind an allocation
   a-station : tag ≡ 2 → size ≡ 16 → 1 ≤ p .head → p .stations < 128 → p .allocations ≡ 0 → MayStand p tag size
   -- an allocation, tag 3 and length 4: in a plan, behind the stations, one for each

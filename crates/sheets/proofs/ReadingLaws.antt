@@ -15,7 +15,7 @@ use Rattle.sets.specs.declared.Set.{Set}
 use Rattle.plans.specs.Planned.{blankAlloc}
 use Rattle.plans.specs.declared.Alloc.{Alloc}
 use Rattle.plans.proofs.Promised.{promised}
-use Rattle.fields.specs.Fields.{modeTag}
+use Rattle.fields.specs.Fields.{modeTag, frameTag}
 use Rattle.fields.proofs.FieldLaws.{allocations-few}
 use Rattle.scan.specs.Scanned.{scanned}
 use Rattle.fields.specs.declared.Passed.{Passed}
@@ -62,7 +62,10 @@ module _ (plan : Bool) (bs : List ℕ) where
 pub head-ranges : (h : Head) → HeadInRange h → (tag : ℕ) → (1 ≤ headNumber h tag) × (headNumber h tag ≤ mostOf tag)
 unfolding headNumber mostOf
 head-ranges h r tag =
-    ⊎-elim (λ (e : eqb tag modeTag ≡ true). rw e (r .mode)) (λ (e : eqb tag modeTag ≡ false). rw e (r .frame)) (true-or-false (eqb tag modeTag))
+    ⊎-elim (λ (e : eqb tag modeTag ≡ true). rw e (r .mode))
+    (λ (e : eqb tag modeTag ≡ false).
+    ⊎-elim (λ (f : eqb tag frameTag ≡ true). rw (e, f) (r .frame)) (λ (f : eqb tag frameTag ≡ false). rw (e, f) (r .grid)) (true-or-false (eqb tag frameTag)))
+    (true-or-false (eqb tag modeTag))
 
 -- a set with one that is not is judged 4
 pub head-out : (plan : Bool) (t : Set) (a : Alloc) (tag : ℕ) → CountAllowed t

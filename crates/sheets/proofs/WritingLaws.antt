@@ -86,11 +86,11 @@ module _ (h : Head) where
   head-long = up-to-length furtherCount
 
   -- all of them, one by one
-  pub head-fields : headBytes h ≡ mark 1 4 ++ bytesOf (h .ttrt) ++ furtherBytes 4 (h .mode) ++ furtherBytes 5 (h .frame)
+  pub head-fields : headBytes h ≡ mark 1 4 ++ bytesOf (h .ttrt) ++ furtherBytes 4 (h .mode) ++ furtherBytes 5 (h .frame) ++ furtherBytes 6 (h .grid)
   unfolding headUpTo headNumber
   head-fields = refl
 
-  pub head-lengths : headLength h ≡ furtherLength 4 (h .mode) + furtherLength 5 (h .frame)
+  pub head-lengths : headLength h ≡ furtherLength 4 (h .mode) + furtherLength 5 (h .frame) + furtherLength 6 (h .grid)
   unfolding sumBelow headNumber
   head-lengths = omega arith
 

@@ -3,7 +3,7 @@ use Prim.Native.Nat.{ℕ, zero, suc, _+_, _*_}
 use mathlib.Core.Bool.{Bool, true, false, cond}
 use mathlib.Core.List.{List, [], _∷_, _++_}
 use lib.Dec.{eqb}
-use Rattle.units.specs.Numbers.{lastMode, mostFrame}
+use Rattle.units.specs.Numbers.{lastMode, mostFrame, mostGrid}
 use Rattle.units.specs.Places.{at, sumBelow}
 use Rattle.sets.specs.declared.Head.{Head}
 use Rattle.sets.specs.declared.Set.{Set}
@@ -11,7 +11,7 @@ use Rattle.plans.specs.Planned.{blankAlloc}
 use Rattle.plans.specs.declared.Alloc.{Alloc}
 use Rattle.fields.specs.Rows.{rows}
 use Rattle.fields.specs.Bytes.{bytesOf, bodyOf}
-use Rattle.fields.specs.Fields.{headTag, headSize, stationTag, stationSize, allocationTag, allocationSize, modeTag, endTag, endSize, furtherSize, allocationsFor}
+use Rattle.fields.specs.Fields.{headTag, headSize, stationTag, stationSize, allocationTag, allocationSize, modeTag, frameTag, endTag, endSize, furtherSize, allocationsFor}
 use Rattle.fields.specs.Header.{furtherCount, absent}
 
 -- the start of a field: one tag byte, two length bytes; no length here is above 255
@@ -20,13 +20,13 @@ mark tag size = tag ∷ 0 ∷ size ∷ []
 
 -- ---- the header
 
--- the number of the header behind TTRT that belongs to a tag: the mode, or F
+-- the number of the header behind TTRT that belongs to a tag: the mode, F or g
 unfoldable pub headNumber : Head → ℕ → ℕ
-headNumber h tag = cond (eqb tag modeTag) (h .mode) (h .frame)
+headNumber h tag = cond (eqb tag modeTag) (h .mode) (cond (eqb tag frameTag) (h .frame) (h .grid))
 
--- the highest that is allowed: 3, the last mode that has a name, or 65,535
+-- the highest that is allowed: 3, the last mode that has a name; 65,535; 1,000
 unfoldable pub mostOf : ℕ → ℕ
-mostOf tag = cond (eqb tag modeTag) lastMode mostFrame
+mostOf tag = cond (eqb tag modeTag) lastMode (cond (eqb tag frameTag) mostFrame mostGrid)
 
 -- its field: the tag, its length, the number; no field where the number is what its absence means
 unfoldable pub furtherBytes : ℕ → ℕ → List ℕ
@@ -41,7 +41,7 @@ unfoldable pub headUpTo : Head → ℕ → List ℕ
 headUpTo h zero = mark headTag headSize ++ bytesOf (h .ttrt)
 headUpTo h (suc k) = headUpTo h k ++ furtherBytes (modeTag + k) (headNumber h (modeTag + k))
 
--- the header: TTRT, the mode, F
+-- the header: TTRT, the mode, F, g
 abbrev pub headBytes : Head → List ℕ
 headBytes h = headUpTo h furtherCount
 
@@ -49,7 +49,7 @@ headBytes h = headUpTo h furtherCount
 abbrev pub lengthUpTo : Head → ℕ → ℕ
 lengthUpTo h k = sumBelow k (λ i. furtherLength (modeTag + i) (headNumber h (modeTag + i)))
 
--- how many bytes the header has behind TTRT: 4 where the mode is not 1, and 7 where F is not 1
+-- how many bytes the header has behind TTRT: 4 where the mode is not 1, 7 where F is not 1, and 7 where g is not 1
 abbrev pub headLength : Head → ℕ
 headLength h = lengthUpTo h furtherCount
 

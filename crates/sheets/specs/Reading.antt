@@ -10,7 +10,7 @@ use Rattle.sets.specs.declared.Set.{Set}
 use Rattle.plans.specs.Planned.{judgedPlan, blankAlloc}
 use Rattle.plans.specs.declared.Alloc.{Alloc}
 use Rattle.fields.specs.Bytes.{numberAt}
-use Rattle.fields.specs.Fields.{modeTag, frameTag, endTag, endSize, isAllowed}
+use Rattle.fields.specs.Fields.{modeTag, frameTag, gridTag, endTag, endSize, isAllowed}
 use Rattle.fields.specs.Header.{placeOf, givenAt}
 use Rattle.fields.specs.declared.Passed.{Passed}
 use Rattle.scan.specs.Scanned.{scanned}
@@ -29,7 +29,7 @@ abbrev pub numberIn : List ℕ → ℕ → ℕ
 numberIn bs tag = givenAt bs (placeOf bs tag) tag
 
 abbrev pub headIn : List ℕ → Head
-headIn bs = record { ttrt = numberAt bs 3; mode = numberIn bs modeTag; frame = numberIn bs frameTag }
+headIn bs = record { ttrt = numberAt bs 3; mode = numberIn bs modeTag; frame = numberIn bs frameTag; grid = numberIn bs gridTag }
 
 -- w, C, D and P of the stations that have passed, 19 bytes each
 abbrev pub setOf : List ℕ → Passed → Set

@@ -75,7 +75,14 @@ fn read_head(bs: &[u8]) -> Head
     let mode = read_further(bs, 7, fields::MODE_TAG);
     let second = behind_further(bs, 7, fields::MODE_TAG);
     let frame = read_further(bs, second, fields::FRAME_TAG);
-    Head { ttrt, mode, frame }
+    let third = behind_further(bs, second, fields::FRAME_TAG);
+    let grid = read_further(bs, third, fields::GRID_TAG);
+    Head {
+        ttrt,
+        mode,
+        frame,
+        grid,
+    }
 }
 
 // The set that the header and the stations hold.

@@ -59,13 +59,17 @@ fn put_head(out: &mut [u8], h: Head)
     put_further(out, 7, fields::MODE_TAG, h.mode);
     let second = 7 + further_length(fields::MODE_TAG, h.mode);
     put_further(out, second, fields::FRAME_TAG, h.frame);
+    let third = second + further_length(fields::FRAME_TAG, h.frame);
+    put_further(out, third, fields::GRID_TAG, h.grid);
 }
 
 // How many bytes the header has behind TTRT.
 fn head_length(h: Head) -> usize
     ensures { λ r. ⌜ r ≡ headLength h ⌝ }
 {
-    further_length(fields::MODE_TAG, h.mode) + further_length(fields::FRAME_TAG, h.frame)
+    let mode = further_length(fields::MODE_TAG, h.mode);
+    let frame = further_length(fields::FRAME_TAG, h.frame);
+    mode + frame + further_length(fields::GRID_TAG, h.grid)
 }
 
 // Writes one station.

@@ -20,7 +20,7 @@ fn put_named(page: &mut [u8], at: usize, word: &[u8], number: u64) -> usize
     text::put_end(page, numbered)
 }
 
-// `mode M` or `frame F`, by the tag, if the number is not what its absence means.
+// `mode M`, `frame F` or `grid G`, by the tag, if the number is not what its absence means.
 fn put_further(page: &mut [u8], at: usize, tag: u8, number: u32) -> usize
     requires { ⌜ at + 42 ≤ length (now page) ⌝ }
     ensures { λ r. ⌜ PutShort 42 (now (page .entry)) at (furtherLine tag number) (now (page .exit)) r ⌝ }
@@ -31,17 +31,21 @@ fn put_further(page: &mut [u8], at: usize, tag: u8, number: u32) -> usize
     if tag == fields::MODE_TAG {
         return put_named(page, at, b"mode", units::wide(number));
     }
-    put_named(page, at, b"frame", units::wide(number))
+    if tag == fields::FRAME_TAG {
+        return put_named(page, at, b"frame", units::wide(number));
+    }
+    put_named(page, at, b"grid", units::wide(number))
 }
 
 // The header's lines: `ttrt N`, then those of the numbers behind it.
 fn put_header(page: &mut [u8], h: Head) -> usize
-    requires { ⌜ 126 ≤ length (now page) ⌝ }
-    ensures { λ r. ⌜ PutShort 126 (now (page .entry)) 0 (headLines h furtherCount) (now (page .exit)) r ⌝ }
+    requires { ⌜ 168 ≤ length (now page) ⌝ }
+    ensures { λ r. ⌜ PutShort 168 (now (page .entry)) 0 (headLines h furtherCount) (now (page .exit)) r ⌝ }
 {
     let first = put_named(page, 0, b"ttrt", units::wide(h.ttrt));
     let second = put_further(page, first, fields::MODE_TAG, h.mode);
-    put_further(page, second, fields::FRAME_TAG, h.frame)
+    let third = put_further(page, second, fields::FRAME_TAG, h.frame);
+    put_further(page, third, fields::GRID_TAG, h.grid)
 }
 
 // S, in a plan; and the line's end.

@@ -11,8 +11,8 @@ use Rattle.plans.specs.Planned.{smallestFor, smallestWith, answered, leastAlloc
 use Rattle.plans.proofs.Promised.{promised}
 use Rattle.stars.specs.Allocations.{Case, CaseHolds, SetCase, SetCaseHolds, places, Allocations}
 
-case-holds : (r : Case) → smallestFor 100 (r .c) (r .d) ≡ r .s → CaseHolds r
-case-holds r e = rw (← e) (promised .smallest 100 (r .c) (r .d))
+case-holds : (r : Case) → smallestFor 1 100 (r .c) (r .d) ≡ r .s → CaseHolds r
+case-holds r e = rw (← e) (promised .every-number 100 (r .c) (r .d) _ .0 (promised .smallest 1 100 (r .c) (r .d) (omega arith)))
 
 set-holds : (r : SetCase) → record { alloc = record { s = places (r .s) }; number = r .number } ≡ planned (r .set) → spareTime (r .set) (at (r .s)) ≡ r .spare → SetCaseHolds r
 set-holds r e spare = record { answer = promised .one-answer (r .set) _ .1 e; spare = λ _. spare }

@@ -6,8 +6,9 @@ use lib.ListN.{length, replicate}
 use Rattle.units.specs.Numbers.{timely}
 use Rattle.units.specs.Places.{at}
 use Rattle.sets.specs.declared.Set.{Set}
-use Rattle.plans.specs.Rules.{IsSmallest, spareTime}
+use Rattle.plans.specs.Rules.{spareTime}
 use Rattle.plans.specs.Answer.{Fitting}
+use Rattle.plans.specs.Promised.{SmallestOfAll}
 
 -- ---- one station: D, C and S at TTRT 100
 
@@ -31,7 +32,7 @@ cases =
 
 -- S is the smallest number that meets the deadline rule
 abbrev pub CaseHolds : Case → Type 0
-CaseHolds r = IsSmallest 100 (r .c) (r .d) (r .s)
+CaseHolds r = SmallestOfAll 100 (r .c) (r .d) (r .s)
 
 -- ---- whole sets: the answer that 01's sentences ask for, and the spare time
 
@@ -42,7 +43,7 @@ places xs = xs ++ replicate (128 - length xs) 0
 -- a timely-token set of TTRT and, station by station, w, C and D; P, which the cases leave open, is D
 abbrev pub setOf : ℕ → List ℕ → List ℕ → List ℕ → Set
 setOf ttrt w c d =
-    record { head = record { ttrt = ttrt; mode = timely; frame = 1 }; n = length w; w = places w; c = places c; d = places d; p = places d }
+    record { head = record { ttrt = ttrt; mode = timely; frame = 1; grid = 1 }; n = length w; w = places w; c = places c; d = places d; p = places d }
 
 pub record SetCase : Type 0 where
   pub set : Set

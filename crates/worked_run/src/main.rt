@@ -61,6 +61,7 @@ fn four_stations() -> Set {
             ttrt: 100,
             mode: numbers::TIMELY,
             frame: 1,
+            grid: 1,
         },
         n: 4,
         w,

@@ -227,7 +227,9 @@ fn slow_plan(random: &mut Random, sort: Sort) -> Plan {
         Station { walk, longest, deadline, gap: deadline }
     };
     let stations = walks.iter().map(station).collect();
-    let head = Head { frame: overrun + 1, ..Head::new(ttrt, sort.mode) };
+    // A step of at most the share leaves room for each S, rounded up to it.
+    let grid = if sort.grid { random.between32(2, share) } else { 1 };
+    let head = Head { frame: overrun + 1, grid, ..Head::new(ttrt, sort.mode) };
     sets::smallest_plan(&Request { head, stations })
 }
 

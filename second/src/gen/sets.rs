@@ -5,7 +5,7 @@ use super::Sort;
 use crate::planner;
 use crate::planted::Planted;
 use crate::rules::{fddi_least_time, least_time, Head, Mode, Plan, Request, Station};
-use crate::rules::{FRAME, MOST_GAP, MOST_STATIONS};
+use crate::rules::{FRAME, GRID, MOST_GAP, MOST_STATIONS};
 
 const MOST_TICKS: u32 = 100_000_000;
 
@@ -136,6 +136,18 @@ fn overrun(random: &mut Random, room: u32) -> u32 {
     near.min(room).min(*FRAME.end() - 1)
 }
 
+/// g, from 2 on: small, as large as there is room for, or larger.
+fn grid(random: &mut Random, room: u32) -> u32 {
+    let near = match random.between(0, 5) {
+        0 => *GRID.end(),
+        1 => random.between32(2, *GRID.end()),
+        2 => random.pick(&[room, room + 1, room / 2, room / 3]),
+        3 => random.between32(2, 2 + room / 4),
+        _ => random.between32(2, 10),
+    };
+    near.clamp(2, *GRID.end())
+}
+
 fn feasible_of(
     random: &mut Random,
     (sort, ttrt): (Sort, u32),
@@ -149,10 +161,13 @@ fn feasible_of(
         _ => random.between32(1, ttrt / 8),
     };
     let room = ttrt - walk_sum;
-    let overrun = if sort.uncut { overrun(random, room) } else { 0 };
+    let uncut = sort.uncut && !(sort.grid && random.once_in(2));
+    let overrun = if uncut { overrun(random, room) } else { 0 };
     let room = room - overrun;
-    let shared = if random.once_in(2) { room } else { random.between32(0, room) };
-    let shares = random.split(shared, count);
+    let grid = if sort.grid { grid(random, room) } else { 1 };
+    let steps = if random.once_in(2) { room / grid } else { random.between32(0, room / grid) };
+    let shared = steps * grid;
+    let shares: Vec<u32> = random.split(steps, count).iter().map(|step| step * grid).collect();
     let walks = walks(random, walk_sum, count);
     let station = |(&walk, &share): (&u32, &u32)| {
         let (longest, deadline) = if sort.is_fddi() {
@@ -164,7 +179,7 @@ fn feasible_of(
         };
         Station { walk, longest, deadline, gap: gap(random, deadline) }
     };
-    let head = Head { frame: overrun + 1, ..Head::new(ttrt, sort.mode) };
+    let head = Head { frame: overrun + 1, grid, ..Head::new(ttrt, sort.mode) };
     Request { head, stations: walks.iter().zip(&shares).map(station).collect() }
 }
 
@@ -239,8 +254,10 @@ fn climbing(random: &mut Random, sort: Sort) -> Request {
         let longest = (rest + random.between32(0, ttrt / 4)).saturating_sub(walk_sum + overrun);
         Station { walk, longest, deadline, gap: deadline }
     };
-    let head = Head { frame: overrun + 1, ..Head::new(ttrt, Mode::Fddi) };
-    Request { head, stations: walks.iter().map(station).collect() }
+    let stations = walks.iter().map(station).collect();
+    let grid = if sort.grid { random.between32(2, 10) } else { 1 };
+    let head = Head { frame: overrun + 1, grid, ..Head::new(ttrt, Mode::Fddi) };
+    Request { head, stations }
 }
 
 /// A tight set with one message longer by one tick; most often impossible by one tick.
@@ -262,6 +279,9 @@ fn wild(random: &mut Random, sort: Sort) -> Request {
     }
     if sort.uncut {
         request.head.frame = random.between32(*FRAME.start(), *FRAME.end());
+    }
+    if sort.grid {
+        request.head.grid = random.between32(*GRID.start(), *GRID.end());
     }
     request
 }
@@ -296,10 +316,11 @@ fn generous_plan(random: &mut Random, request: &Request) -> Plan {
         return smallest;
     }
     let mut plan = smallest.clone();
-    let spare = plan.spare() as u32;
+    let step = request.head.grid;
+    let spare = plan.spare() as u32 / step;
     let given = random.between32(0, spare);
     let extra = random.split(given, plan.allocation.len());
-    plan.allocation.iter_mut().zip(extra).for_each(|(s, more)| *s += more);
+    plan.allocation.iter_mut().zip(extra).for_each(|(s, more)| *s += more * step);
     // In FDDI what one station gets may be missing at another.
     if plan.judge().is_ok() {
         plan
@@ -308,7 +329,7 @@ fn generous_plan(random: &mut Random, request: &Request) -> Plan {
     }
 }
 
-/// A plan in range, now and then with one S too small by a tick, or too large by one.
+/// A plan in range, now and then with one S too small by a tick, too large by one, or off the grid.
 pub fn plan(random: &mut Random, sort: Sort) -> Plan {
     let mut plan = sound_plan(random, sort);
     let index = random.index(plan.allocation.len());
@@ -317,6 +338,10 @@ pub fn plan(random: &mut Random, sort: Sort) -> Plan {
         1 => {
             let spare = plan.spare() as u32;
             plan.allocation[index] += spare + random.between32(0, 1);
+        }
+        2..=4 if sort.grid => {
+            let step = plan.request.head.grid;
+            plan.allocation[index] += random.pick(&[1, step - 1, step, step + 1]);
         }
         _ => (),
     }
@@ -353,6 +378,9 @@ fn head_edges(plan: &Plan) -> Vec<Plan> {
         edges
             .extend(frame_edges(plan).map(|frame| changed(plan, |p| p.request.head.frame = frame)));
     }
+    if plan.request.head.grid > 1 {
+        edges.extend(grid_edges(plan).map(|grid| changed(plan, |p| p.request.head.grid = grid)));
+    }
     edges
 }
 
@@ -361,6 +389,12 @@ pub fn frame_edges(plan: &Plan) -> [u32; 8] {
     let most = plan.request.head.frame.saturating_add(plan.spare() as u32);
     let (last, past) = (*FRAME.end(), *FRAME.end() + 1);
     [0, 1, 2, most, most.saturating_add(1), last, past, u32::MAX]
+}
+
+/// The ends of g's range, those next to the plan's own, and one past them.
+pub fn grid_edges(plan: &Plan) -> [u32; 8] {
+    let (grid, last, past) = (plan.request.head.grid, *GRID.end(), *GRID.end() + 1);
+    [0, 1, 2, grid.saturating_sub(1), grid.saturating_add(1), last, past, u32::MAX]
 }
 
 fn station_edges(plan: &Plan, index: usize) -> Vec<Plan> {

@@ -2,20 +2,35 @@
 
 use super::random::Random;
 use super::{sets, Sort};
-use crate::rules::{Plan, FRAME};
-use crate::sheet::{fields, frame_field, mode_field, FRAME_TAG, STATION_TAG};
+use crate::rules::{Plan, FRAME, GRID};
+use crate::sheet::{fields, mode_field, number_field, FRAME_TAG, GRID_TAG, STATION_TAG};
 
 const TAGS: [u8; 7] = [0, 1, 2, 3, 4, 254, 255];
 /// The same for sheets that have an F.
 const UNCUT_TAGS: [u8; 9] = [0, 1, 2, 3, 4, 5, 6, 254, 255];
 
+/// The same for sheets that have a g.
+const GRID_TAGS: [u8; 10] = [0, 1, 2, 3, 4, 5, 6, 7, 254, 255];
+
 fn tags(sort: Sort) -> &'static [u8] {
-    if sort.uncut {
+    if sort.grid {
+        &GRID_TAGS
+    } else if sort.uncut {
         &UNCUT_TAGS
     } else {
         &TAGS
     }
 }
+
+/// A field of the header with a number of four bytes: its tag, and the last number of its range.
+#[derive(Clone, Copy)]
+struct Wide {
+    tag: u8,
+    last: u32,
+}
+
+const FRAMES: Wide = Wide { tag: FRAME_TAG, last: *FRAME.end() };
+const GRIDS: Wide = Wide { tag: GRID_TAG, last: *GRID.end() };
 
 #[derive(Clone, Copy, Debug, PartialEq, Eq)]
 pub enum SheetKind {
@@ -49,7 +64,8 @@ pub fn sheet(random: &mut Random, kind: SheetKind, sort: Sort) -> Vec<u8> {
         }
         6 if sort.uncut => {
             let fields = sound_fields(random, kind, sort);
-            damaged_frame(random, fields).concat()
+            let wide = if sort.grid { random.pick(&[GRIDS, GRIDS, FRAMES]) } else { FRAMES };
+            damaged_wide(random, fields, wide).concat()
         }
         6 if sort.has_mode() => {
             let fields = sound_fields(random, kind, sort);
@@ -62,34 +78,37 @@ pub fn sheet(random: &mut Random, kind: SheetKind, sort: Sort) -> Vec<u8> {
     }
 }
 
-/// Where a sheet has the field of F, or might have it.
-fn frame_place(fields: &[Vec<u8>]) -> (usize, bool) {
+/// Where a sheet has the field, or might have it.
+fn wide_place(fields: &[Vec<u8>], tag: u8) -> (usize, bool) {
     let behind_ttrt = |tag: u8| fields.iter().position(|field| field[0] == tag);
-    match behind_ttrt(FRAME_TAG) {
+    match behind_ttrt(tag) {
         Some(place) => (place, true),
         None => (behind_ttrt(STATION_TAG).unwrap_or(1), false),
     }
 }
 
-fn any_frame(random: &mut Random) -> u32 {
-    let (last, past) = (*FRAME.end(), *FRAME.end() + 1);
+fn any_number(random: &mut Random, last: u32) -> u32 {
     let inside = random.between32(2, last);
-    random.pick(&[0, 1, 2, inside, last, past, u32::MAX])
+    random.pick(&[0, 1, 2, inside, last, last + 1, u32::MAX])
 }
 
-/// F's field with another value or length, elsewhere, twice, or beside a mode on either side.
-fn damaged_frame(random: &mut Random, mut fields: Vec<Vec<u8>>) -> Vec<Vec<u8>> {
-    let (place, there) = frame_place(&fields);
-    let frame = any_frame(random);
+/// The field with another value or length, elsewhere, twice, or beside a mode on either side.
+fn damaged_wide(random: &mut Random, mut fields: Vec<Vec<u8>>, wide: Wide) -> Vec<Vec<u8>> {
+    let Wide { tag, last } = wide;
+    let (place, there) = wide_place(&fields, tag);
+    let number = any_number(random, last);
     if !there {
-        fields.insert(place, frame_field(frame));
+        fields.insert(place, number_field(tag, number));
     }
     let elsewhere = random.index(fields.len() + 1);
     let near = random.between(0, 1) as usize;
     match random.between(0, 4) {
-        0 => fields[place] = frame_field(frame),
-        1 => fields[place] = [vec![5, 0, random.pick(&[0, 1, 3, 5])], vec![0, 0, 0, 2, 2]].concat(),
-        2 => fields.insert(elsewhere, frame_field(frame)),
+        0 => fields[place] = number_field(tag, number),
+        1 => {
+            let length = random.pick(&[0, 1, 3, 5]);
+            fields[place] = [vec![tag, 0, length], vec![0, 0, 0, 2, 2]].concat();
+        }
+        2 => fields.insert(elsewhere, number_field(tag, number)),
         3 => fields.insert(place + near, mode_field(random.pick(&[0, 1, 2, 3]))),
         _ => {
             let moved = fields.remove(place);
@@ -176,7 +195,10 @@ pub fn every_damage(random: &mut Random, kind: SheetKind, sort: Sort) -> Vec<Vec
         sheets.extend(every_mode_damaged(&fields));
     }
     if sort.uncut {
-        sheets.extend(every_frame_damaged(&fields));
+        sheets.extend(every_wide_damaged(&fields, FRAMES));
+    }
+    if sort.grid {
+        sheets.extend(every_wide_damaged(&fields, GRIDS));
     }
     sheets.extend([0, 1, 3, 255].map(|byte| [&whole[..], &[byte]].concat()));
     sheets.extend(sets::at_edges(&plan).iter().map(|plan| fields_of(kind, plan).concat()));
@@ -209,19 +231,20 @@ fn every_mode_damaged(fields: &[Vec<u8>]) -> Vec<Vec<u8>> {
     sheets
 }
 
-/// F's field with the ends of its range and one past, at every place, alone and as a second one.
-fn every_frame_damaged(fields: &[Vec<u8>]) -> Vec<Vec<u8>> {
-    let (place, there) = frame_place(fields);
+/// The field with the ends of its range and one past, at every place, alone and as a second one.
+fn every_wide_damaged(fields: &[Vec<u8>], wide: Wide) -> Vec<Vec<u8>> {
+    let Wide { tag, last } = wide;
+    let (place, there) = wide_place(fields, tag);
     let behind = place + usize::from(there);
     let others = [&fields[..place], &fields[behind..]].concat();
-    let with = |fields: &[Vec<u8>], at: usize, frame: u32| {
-        [&fields[..at], &[frame_field(frame)], &fields[at..]].concat().concat()
+    let with = |fields: &[Vec<u8>], at: usize, number: u32| {
+        [&fields[..at], &[number_field(tag, number)], &fields[at..]].concat().concat()
     };
-    let values = [0, 1, 2, 3, 255, 256, 65_534, 65_535, 65_536, 65_537, 1 << 24, u32::MAX];
-    let mut sheets: Vec<Vec<u8>> = values.map(|frame| with(&others, place, frame)).to_vec();
-    for frame in [1, 2] {
-        sheets.extend((0..=others.len()).map(|at| with(&others, at, frame)));
-        sheets.extend((0..=fields.len()).map(|at| with(fields, at, frame)));
+    let values = [0, 1, 2, 3, 255, 256, last - 1, last, last + 1, last + 2, 1 << 24, u32::MAX];
+    let mut sheets: Vec<Vec<u8>> = values.map(|number| with(&others, place, number)).to_vec();
+    for number in [1, 2] {
+        sheets.extend((0..=others.len()).map(|at| with(&others, at, number)));
+        sheets.extend((0..=fields.len()).map(|at| with(fields, at, number)));
     }
     sheets
 }

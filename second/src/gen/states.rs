@@ -191,6 +191,7 @@ fn edge(random: &mut Random, sort: Sort, state: &mut State) {
     match random.between(0, 6) {
         4 if sort.has_mode() && random.once_in(2) => mode_edge(random, state),
         5 if sort.uncut && random.once_in(2) => frame_edge(random, state),
+        6 if sort.grid && random.once_in(2) => grid_edge(random, state),
         0 => {
             let count = count as u32;
             let last = u32::MAX;
@@ -225,6 +226,11 @@ fn mode_edge(random: &mut Random, state: &mut State) {
 /// An F at an end of its range, of what the plan leaves room for, or past it.
 fn frame_edge(random: &mut Random, state: &mut State) {
     state.plan.request.head.frame = random.pick(&sets::frame_edges(&state.plan));
+}
+
+/// A g at an end of its range or past it, or one that the plan may be off.
+fn grid_edge(random: &mut Random, state: &mut State) {
+    state.plan.request.head.grid = random.pick(&sets::grid_edges(&state.plan));
 }
 
 fn place_edge(random: &mut Random, sort: Sort, state: &mut State, index: usize) {

@@ -63,6 +63,23 @@ const STRAY_FRAMES: [&str; 15] = [
     "visit 3 0",
 ];
 
+/// The same for texts that have a g.
+const STRAY_GRIDS: [&str; 13] = [
+    "grid",
+    "grid 0",
+    "grid 1",
+    "grid 2",
+    "grid 5",
+    "grid 1000",
+    "grid 1001",
+    "grid 4294967295",
+    "grid 4294967296",
+    "grid 2 2",
+    "frame 2",
+    "mode 1",
+    "mode 2",
+];
+
 /// The same for texts of logs.
 const STRAY_VISITS: [&str; 14] = [
     "visit 0 0 0 0 0",
@@ -160,6 +177,10 @@ fn put_in(random: &mut Random, sort: Sort, lines: &mut Vec<String>, index: usize
         3 => lines[index] = format!("  {} ", lines[index].replace(' ', "  ")),
         4 => lines[index] = lines[index].replace(' ', "\t") + "\r",
         5 => lines[index] = lines[index].replace(' ', " 00"),
+        6 if sort.grid && random.once_in(2) => {
+            let place = random.pick(&[0, 1, 2, 3, 4, index + 1]).min(lines.len());
+            lines.insert(place, random.pick(&STRAY_GRIDS).to_string());
+        }
         6 if sort.uncut && random.once_in(2) => {
             let place = random.pick(&[0, 1, 2, 3, index + 1]).min(lines.len());
             lines.insert(place, random.pick(&STRAY_FRAMES).to_string());

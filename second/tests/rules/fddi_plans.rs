@@ -110,7 +110,7 @@ fn given_vectors() {
 fn numbers_before_and_behind_the_mode() {
     let moded = |mode, ttrt| {
         let mut request = alike(2, 250, 48);
-        request.head = Head { ttrt, mode, frame: 1 };
+        request.head = Head { ttrt, mode, frame: 1, grid: 1 };
         planned(&request)
     };
     assert_eq!(moded(2, 100), Ok(vec![24; 2]));
@@ -118,7 +118,7 @@ fn numbers_before_and_behind_the_mode() {
         assert_eq!([moded(mode, 100), moded(mode, 1)], [Err(4), Err(4)], "mode {mode}");
     }
     assert_eq!(moded(2, 1), Err(5));
-    let none = Request { head: Head { ttrt: 100, mode: 4, frame: 1 }, stations: vec![] };
+    let none = Request { head: Head { ttrt: 100, mode: 4, frame: 1, grid: 1 }, stations: vec![] };
     assert_eq!(planned(&none), Err(2));
 }
 

@@ -46,7 +46,7 @@ fn the_field_stands_behind_ttrt() {
     assert_eq!(write_request(&older().request, 90), Ok(request_sheet()));
     assert_eq!(write_request(&older().request, 89), Err(Refusal::NoRoom));
     assert_eq!(read_any(&plan_sheet()), Ok((Sheet::Plan(older()), vec![])));
-    assert_eq!((REQUEST_READ, PLAN_READ), (2_454, 3_350));
+    assert_eq!((REQUEST_READ, PLAN_READ), (2_461, 3_357));
 }
 
 #[test]
@@ -161,9 +161,9 @@ fn frames() {
     assert_eq!(answered("open 4,2;4,0,1,1,0".to_string()), "0 0,0,0,0;0,0,0,0,0,0,1");
     // Mode 1 may stand in a case as well.
     assert_eq!(answered("open 4,1;4,0,1,1,0".to_string()), "0 0,0,0,0;4,0,0,0,0,0");
-    for line in ["planning 100,;1,0,1,1", "planning 100,2,1,1;1,0,1,1", "planning ,2;1,0,1,1"] {
+    for line in ["planning 100,;1,0,1,1", "planning 100,2,1,1,1;1,0,1,1", "planning ,2;1,0,1,1"] {
         assert_eq!(answered(line.to_string()), "no case", "{line}");
     }
     let judged = |head: Head| Request { head, stations: plan.request.stations.clone() }.judge();
-    assert_eq!(judged(Head { ttrt: 0, mode: 3, frame: 1 }), Err(Refusal::OutOfRange));
+    assert_eq!(judged(Head { ttrt: 0, mode: 3, frame: 1, grid: 1 }), Err(Refusal::OutOfRange));
 }

@@ -6,6 +6,8 @@ mod earlier;
 mod fddi_plans;
 mod fddi_rings;
 mod fddi_sheets;
+mod grid;
+mod grid_sheets;
 mod inspections;
 mod log_texts;
 mod logs;

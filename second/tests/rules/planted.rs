@@ -17,15 +17,33 @@ fn answered(kind: Kind, sort: Sort) -> Vec<(String, String)> {
 /// The kind and the sorts whose cases show an error. A message served ahead shows in every sort, and
 /// so does a frame that begins at the limit: one of one tick is such a frame too.
 fn shown_by(planted: Planted) -> (Kind, &'static [Sort]) {
-    const TIMELY: &[Sort] = &[Sort::TIMELY, Sort::UNCUT, Sort::EARLIER, Sort::EARLIER_UNCUT];
-    const FDDI: &[Sort] = &[Sort::FDDI, Sort::FDDI_UNCUT];
-    const EARLIER: &[Sort] = &[Sort::EARLIER, Sort::EARLIER_UNCUT];
-    const UNCUT: &[Sort] = &[Sort::UNCUT, Sort::FDDI_UNCUT, Sort::EARLIER_UNCUT];
+    const TIMELY: &[Sort] = &[
+        Sort::TIMELY,
+        Sort::UNCUT,
+        Sort::GRID,
+        Sort::EARLIER,
+        Sort::EARLIER_UNCUT,
+        Sort::EARLIER_GRID,
+    ];
+    const FDDI: &[Sort] = &[Sort::FDDI, Sort::FDDI_UNCUT, Sort::FDDI_GRID];
+    const EARLIER: &[Sort] = &[Sort::EARLIER, Sort::EARLIER_UNCUT, Sort::EARLIER_GRID];
+    const UNCUT: &[Sort] = &[
+        Sort::UNCUT,
+        Sort::FDDI_UNCUT,
+        Sort::EARLIER_UNCUT,
+        Sort::GRID,
+        Sort::FDDI_GRID,
+        Sort::EARLIER_GRID,
+    ];
+    const GRID: &[Sort] = &[Sort::GRID, Sort::EARLIER_GRID, Sort::FDDI_GRID];
     match planted {
         Planted::Nothing => (Kind::Runs, &[]),
         Planted::TimeForNobody | Planted::RoundedDown => (Kind::Planning, TIMELY),
         Planted::OthersLeftOut | Planted::OneVisitTooMany => (Kind::Planning, FDDI),
         Planted::OverrunLeftOut => (Kind::Planning, UNCUT),
+        Planted::DownToTheGrid => (Kind::Planning, &GRID[..2]),
+        Planted::ClimbOffTheGrid => (Kind::Planning, &GRID[2..]),
+        Planted::OffGridOutOfRange => (Kind::Openings, GRID),
         Planted::ServedAhead | Planted::FrameAtLimit => (Kind::Runs, &Sort::ALL),
         Planted::CountNotLowered | Planted::TimerResetWhenLate | Planted::HoldingAfterSending => {
             (Kind::Runs, FDDI)
@@ -45,10 +63,14 @@ fn shown_by(planted: Planted) -> (Kind, &'static [Sort]) {
 
 #[test]
 fn comparing_finds_every_planted_error() {
-    let kinds = [Kind::Planning, Kind::Runs, Kind::Inspections];
+    let kinds = [Kind::Planning, Kind::Runs, Kind::Openings, Kind::Inspections];
     for (kind, sort) in kinds.map(|kind| Sort::ALL.map(|sort| (kind, sort))).concat() {
         let answered = answered(kind, sort);
         for planted in Planted::ALL {
+            if kind == Kind::Openings && shown_by(planted).0 != kind {
+                // An error in the ring may show in the one that is opened, too.
+                continue;
+            }
             let differs = |(case, right): &&(String, String)| answer(case, planted) != *right;
             let shown = shown_by(planted).0 == kind && shown_by(planted).1.contains(&sort);
             let tried = if shown { 400 } else { 100 };
@@ -58,9 +80,10 @@ fn comparing_finds_every_planted_error() {
             assert!(as_expected, "{planted:?}: {found} in {kind:?} of {sort:?}");
         }
     }
-    assert_eq!([0, 25].map(Planted::from_number), [None, None]);
+    assert_eq!([0, 28].map(Planted::from_number), [None, None]);
     assert_eq!(Planted::from_number(20), Some(Planted::FirstStartCompared));
     assert_eq!(Planted::from_number(24), Some(Planted::LogByTheLaterEdition));
+    assert_eq!(Planted::from_number(27), Some(Planted::OffGridOutOfRange));
 }
 
 /// Every promise that the runs with the error break.

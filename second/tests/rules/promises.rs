@@ -105,10 +105,13 @@ fn waits_for_asynchronous_time() {
 
 #[test]
 fn a_clock_at_the_last_time() {
+    let answers = |sort, place| answer(&Kind::Late.case(sort, 1, place)[0], Planted::Nothing);
     for place in 0..12 {
-        let case = &Kind::Late.case(Sort::ALL[place as usize / 2], 1, place)[0];
-        let answers = answer(case, Planted::Nothing);
+        let answers = answers(Sort::ALL[place as usize / 2], place);
         assert!(answers.contains("|refused 13"), "{answers}");
+    }
+    for sort in [Sort::GRID, Sort::FDDI_GRID, Sort::EARLIER_GRID] {
+        assert!((0..4).any(|place| answers(sort, place).contains("|refused 13")), "{sort:?}");
     }
 }
 

@@ -60,7 +60,7 @@ fn the_field_stands_behind_ttrt_and_the_mode() {
     }
     assert_eq!(write_request(&uncut().request, 93), Ok(request_sheet()));
     assert_eq!(write_request(&uncut().request, 92), Err(Refusal::NoRoom));
-    assert_eq!((REQUEST_READ, PLAN_READ), (2_454, 3_350));
+    assert_eq!((REQUEST_READ, PLAN_READ), (2_461, 3_357));
 }
 
 #[test]
@@ -74,7 +74,7 @@ fn cut_at_every_place() {
 fn values() {
     let rows = [(0, 4), (1, 4), (2, 0), (19, 0), (20, 0), (65_535, 0), (65_536, 4), (u32::MAX, 4)];
     for (value, expected) in rows {
-        assert_eq!(number(&with_head(&[&frame_field(value)])), expected, "{value}");
+        assert_eq!(number(&with_head(&[&number_field(FRAME_TAG, value)])), expected, "{value}");
     }
     assert_eq!(number(&with_head(&[])), 0);
     // A plan is held to the token rule: F 19 at most.
@@ -97,7 +97,7 @@ fn misplaced_doubled_and_of_a_wrong_length() {
         assert_eq!(number(&with_head(&[head])), 2);
     }
     assert_eq!(number(&with_head(&[&[5, 1, 4, 0, 0, 0, 5]])), 2);
-    assert_eq!(number(&with_head(&[&[6, 0, 4, 0, 0, 0, 5]])), 2);
+    assert_eq!(number(&with_head(&[&[7, 0, 4, 0, 0, 0, 5]])), 2);
     assert_eq!(number(&[FRAME, &request_sheet()[..7], &request_sheet()[14..]].concat()), 2);
     let (without, length) = (with_head(&[]), with_head(&[]).len());
     for place in [26, 45, 64, length - 3] {
@@ -120,7 +120,7 @@ fn misplaced_doubled_and_of_a_wrong_length() {
 /// The first fault from the left, before the value of F; then 4 before 5.
 #[test]
 fn other_faults_beside_the_value() {
-    let wrong = with_head(&[&frame_field(1)]);
+    let wrong = with_head(&[&number_field(FRAME_TAG, 1)]);
     assert_eq!(number(&wrong[..wrong.len() - 1]), 1);
     assert_eq!(number(&[&wrong[..], &[0]].concat()), 3);
     assert_eq!(number(&[&wrong[..14], &[9], &wrong[15..]].concat()), 2);
@@ -202,7 +202,7 @@ fn frames_of_cases() {
     for line in ["visit 1 2 3", "visits 1", "visits 2 1 1 1", "visit", "visit 1 4294967296"] {
         assert_eq!(answered(format!("{run};{line}")), "no case", "{line}");
     }
-    for line in ["planning 100,,2;1,0,1,1", "planning 100,1,2,2;1,0,1,1", "planning ,,;1,0,1,1"] {
+    for line in ["planning 100,,2;1,0,1,1", "planning 100,1,2,2,2;1,0,1,1", "planning ,,;1,0,1,1"] {
         assert_eq!(answered(line.to_string()), "no case", "{line}");
     }
 }

@@ -1,4 +1,4 @@
--- `head_with` is right because it asks for the mode's tag, as the definition does.
+-- `head_with` is right because it asks for the mode's tag and for F's, as the definition does.
 use mathlib.Core.Path.{refl}
 use borrow.Author.Tests.{eq-eqb, ne-eqb}
 use Rattle.drafts.specs.Compose.{headWith}
@@ -11,7 +11,11 @@ returns c = rw (eq-eqb _ _ (c .if1 .taken)) refl
 
 returns-2 : tie.Need-returns-2
 unfolding headWith
-returns-2 c = rw (ne-eqb _ _ (c .if1 .left)) refl
+returns-2 c = rw (ne-eqb _ _ (c .before .if1 .left), eq-eqb _ _ (c .if2 .taken)) refl
+
+returns-3 : tie.Need-returns-3
+unfolding headWith
+returns-3 c = rw (ne-eqb _ _ (c .before .if1 .left), ne-eqb _ _ (c .if2 .left)) refl
 
 pub head-with-spec : {M : Type 1} → statement M
-head-with-spec = tie.close (tie.spec returns returns-2)
+head-with-spec = tie.close (tie.spec returns returns-2 returns-3)

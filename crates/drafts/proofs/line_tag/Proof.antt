@@ -2,7 +2,7 @@
 use mathlib.Core.Path.{_≡_, refl, sym, _∙_}
 use mathlib.Core.Bool.{true, false}
 use Rattle.lines.specs.Scan.{codeOf}
-use Rattle.drafts.specs.Compose.{modeWord, frameWord, isLine, lineTag}
+use Rattle.drafts.specs.Compose.{modeWord, frameWord, gridWord, isLine, lineTag}
 use borrow.Author.Needs.{needs}
 use Rattle.drafts.proofs.line_tag.Statement.{statement}
 use Rattle.drafts.proofs.line_tag.Tie as tie
@@ -28,11 +28,34 @@ returns-2 c =
     let named : isLine (c .before .before .before .before .args .s) (codeOf frameWord) 1 ≡ true = sym (c .before .is-line2 .ensures) ∙ c .if2 .taken in
     rw (no-mode (c .before .before), named) refl
 
+is-line-requires-3 : tie.Need-is-line-requires-3
+is-line-requires-3 c κs = search needs
+
+no-frame : (c : tie.Else2) → isLine (c .before .before .before .before .args .s) (codeOf frameWord) 1 ≡ false
+no-frame c = sym (c .before .is-line2 .ensures) ∙ c .if2 .left
+
 returns-3 : tie.Need-returns-3
 unfolding lineTag
 returns-3 c =
-    let named : isLine (c .before .before .before .before .args .s) (codeOf frameWord) 1 ≡ false = sym (c .before .is-line2 .ensures) ∙ c .if2 .left in
-    rw (no-mode (c .before .before), named) refl
+    let second = c .before .before in
+    let named : isLine (second .before .before .before .before .args .s) (codeOf gridWord) 1 ≡ true = sym (c .before .is-line3 .ensures) ∙ c .if3 .taken in
+    rw (no-mode (second .before .before), no-frame second, named) refl
+
+returns-4 : tie.Need-returns-4
+unfolding lineTag
+returns-4 c =
+    let second = c .before .before in
+    let named : isLine (second .before .before .before .before .args .s) (codeOf gridWord) 1 ≡ false = sym (c .before .is-line3 .ensures) ∙ c .if3 .left in
+    rw (no-mode (second .before .before), no-frame second, named) refl
 
 pub line-tag-spec : {M : Type 1} → statement M
-line-tag-spec = tie.close (tie.spec is-line-requires returns is-line-requires-2 returns-2 returns-3)
+line-tag-spec =
+    tie.close
+    (tie.spec
+    is-line-requires
+    returns
+    is-line-requires-2
+    returns-2
+    is-line-requires-3
+    returns-3
+    returns-4)

@@ -28,13 +28,13 @@ deadlines-fit-requires c κs =
     let fits : sumBelow (stations (args .l)) (at (args .s)) + lost (args .l) ≤ args .l .ttrt = leb-true _ _ (token-kept c) in
     omega arith
 
-grid-fits-requires : tie.Need-grid-fits-requires
-grid-fits-requires c κs = search needs
+all-on-grid-requires : tie.Need-all-on-grid-requires
+all-on-grid-requires c κs = search needs
 
 returns-2 : tie.Need-returns-2
-returns-2 c = rw (token-kept (c .before .before), c .before .deadlines-fit .ensures, c .grid-fits .ensures) refl
+returns-2 c = rw (token-kept (c .before .before), c .before .deadlines-fit .ensures, c .all-on-grid .ensures) refl
 
 pub meets-rules-spec : {M : Type 1} → statement M
 meets-rules-spec =
     tie.close
-    (tie.spec token-fits-requires returns deadlines-fit-requires grid-fits-requires returns-2)
+    (tie.spec token-fits-requires returns deadlines-fit-requires all-on-grid-requires returns-2)

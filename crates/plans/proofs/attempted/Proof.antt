@@ -29,7 +29,7 @@ returns c =
     let mode = eq-eqb _ _ (entry .if1 .taken) in
     let found = climbed (c .before) in
     let alloc = ap (λ (f : Found). record { s = f .s }) found ∙ sym (least-fddi t mode) in
-    let fits = ap (λ (f : Found). f .found) found ∙ climb-fits t mode (entry .before .before .pre .0 .1) in
+    let fits = ap (λ (f : Found). f .found) found ∙ climb-fits t mode (entry .before .before .pre .0 .1) (entry .before .before .pre .1 .header .grid .0) in
     λ i. record { alloc = alloc i; fits = fits i }
 
 smallest-alloc-requires : tie.Need-smallest-alloc-requires
@@ -44,7 +44,7 @@ returns-2 c =
     let t = entry .before .before .args .t in
     let mode = ne-eqb _ _ (entry .if1 .left) in
     let alloc = c .before .smallest-alloc .ensures in
-    let fits = c .token-fits .ensures ∙ ap (λ (a : Alloc). tokenFits t (at (a .s))) alloc ∙ smallest-fits t mode (entry .before .before .pre .0 .1) in
+    let fits = c .token-fits .ensures ∙ ap (λ (a : Alloc). tokenFits t (at (a .s))) alloc ∙ smallest-fits t mode (entry .before .before .pre .0 .1) (entry .before .before .pre .1 .header .grid .0) in
     λ i. record { alloc = (alloc ∙ sym (least-timely t mode)) i; fits = fits i }
 
 pub attempted-spec : {M : Type 1} → statement M

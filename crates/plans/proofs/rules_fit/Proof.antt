@@ -1,8 +1,11 @@
--- `rules_fit` is right because FDDI's test decides the same sentence over the set's load, and a timely-token set's X looks at the stations' own S.
-use mathlib.Core.Path.{refl, ap, _∙_}
+-- `rules_fit` is right because FDDI's test decides the same sentence over the set's load, and a timely-token set's X looks at the stations' own S; the grid is one test for both.
+use Prim.Native.Nat.{ℕ, min}
+use mathlib.Core.Path.{_≡_, refl, ap, _∙_}
+use native.Mathlib.Omega.{arith}
 use borrow.Author.Needs.{needs}
 use borrow.Author.Tests.{eq-eqb, ne-eqb}
-use Rattle.units.specs.Places.{at}
+use Rattle.units.specs.Grid.{onGridAt}
+use Rattle.units.specs.Places.{at, allBelow}
 use Rattle.fddi.specs.Rules.{rulesKept}
 use Rattle.fddi.specs.declared.Load.{Load}
 use Rattle.plans.proofs.LeastLaws.{timely-deadlines, load-rules}
@@ -29,13 +32,18 @@ deadlines-fit-requires c κs = search needs
 token-fits-requires : tie.Need-token-fits-requires
 token-fits-requires c κs = search needs
 
+all-on-grid-requires : tie.Need-all-on-grid-requires
+all-on-grid-requires c κs = search needs
+
 returns-2 : tie.Need-returns-2
 returns-2 c =
-    let entry = c .before .before in
+    let entry = c .before .before .before .before in
     let t = entry .before .before .args .t in
     let s = at (entry .before .before .args .a .s) in
-    let deadlines = c .before .deadlines-fit .ensures ∙ timely-deadlines t s (ne-eqb _ _ (entry .if1 .left)) in
-    rw (deadlines, c .token-fits .ensures) refl
+    let deadlines = c .before .before .deadlines-fit .ensures ∙ timely-deadlines t s (ne-eqb _ _ (entry .if1 .left)) in
+    let few : min (t .n) 128 ≡ t .n = omega (arith, entry .before .before .pre) in
+    let grid = c .all-on-grid .ensures ∙ ap (λ (n : ℕ). allBelow n (onGridAt (t .head .grid) s)) few in
+    rw (deadlines, c .before .token-fits .ensures, grid) refl
 
 pub rules-fit-spec : {M : Type 1} → statement M
 rules-fit-spec =
@@ -46,4 +54,5 @@ rules-fit-spec =
     returns
     deadlines-fit-requires
     token-fits-requires
+    all-on-grid-requires
     returns-2)

@@ -15,10 +15,10 @@ use Rattle.rings.proofs.steps.moved_on.Tie as tie
 -- a ring is the moved one if its fields are: what is stored, and then the four that are called for
 stored : (r : Ring) (sync async by start : ℕ) (timers : Timers) (x : Ring) → x .visits ≡ r .visits + 1 → x .clock ≡ r .clock + by → x .last ≡ set (r .last) (r .token) start
     → x .sent ≡ set (r .sent) (r .token) sync → x .rest ≡ set (r .rest) (r .token) (at (r .rest) (r .token) - sync) → x .set ≡ r .set → x .alloc ≡ r .alloc
-    → x .arrival ≡ r .arrival → x .had ≡ r .had → x .filler ≡ r .filler → x .trt ≡ timers .trt → x .late ≡ timers .late → x .unused ≡ timers .unused
+    → x .arrival ≡ r .arrival → x .had ≡ r .had → x .trt ≡ timers .trt → x .late ≡ timers .late → x .unused ≡ timers .unused
     → by ≡ rise r sync async → start ≡ syncStart r async → timers ≡ timersAfter r sync async → x .token ≡ nextToken r → x ≡ moved r sync async
 unfolding moved
-stored r sync async by start timers x visits clock last sent rest kept alloc arrival had filler trt late unused rises begins moves token =
+stored r sync async by start timers x visits clock last sent rest kept alloc arrival had trt late unused rises begins moves token =
     (λ i. record {
       set = kept i;
       alloc = alloc i;
@@ -32,13 +32,12 @@ stored r sync async by start timers x visits clock last sent rest kept alloc arr
       clock = clock i;
       visits = visits i;
       token = token i;
-      filler = filler i;
       unused = unused i;
     }) ∙ rw (rises, begins, moves)
 
 returns : tie.Need-returns
 returns c =
-    stored _ _ _ _ _ _ _ (omega arith) refl refl refl refl refl refl refl refl refl refl refl refl (search) (search) (search) (search)
+    stored _ _ _ _ _ _ _ (omega arith) refl refl refl refl refl refl refl refl refl refl refl (search) (search) (search) (search)
 
 cast-p : tie.Need-cast-p
 cast-p c = search needs

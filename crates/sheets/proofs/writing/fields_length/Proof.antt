@@ -13,13 +13,13 @@ head-length-requires : tie.Need-head-length-requires
 head-length-requires c κs = search needs
 
 add-result : tie.Need-add-result
-add-result c = omega (arith, head-small (c .before .before .before .args .t .head) 2)
+add-result c = omega (arith, head-small (c .before .before .before .args .t .head) 3)
 
 mul-result : tie.Need-mul-result
 mul-result c = search needs
 
 add-result-2 : tie.Need-add-result-2
-add-result-2 c = omega (arith, head-small (c .before .before .before .args .t .head) 2)
+add-result-2 c = omega (arith, head-small (c .before .before .before .args .t .head) 3)
 
 allocations-for-requires : tie.Need-allocations-for-requires
 allocations-for-requires c κs = search needs
@@ -32,7 +32,7 @@ mul-result-2 c =
 add-result-3 : tie.Need-add-result-3
 add-result-3 c =
     let args = c .before .before .before .before .args in
-    omega (arith, head-small (args .t .head) 2, allocations-few (args .plan) (args .t .n))
+    omega (arith, head-small (args .t .head) 3, allocations-few (args .plan) (args .t .n))
 
 returns : tie.Need-returns
 returns c = search needs

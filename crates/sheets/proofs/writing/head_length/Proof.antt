@@ -11,16 +11,41 @@ further-length-requires c κs = search needs
 further-length-requires-2 : tie.Need-further-length-requires-2
 further-length-requires-2 c κs = search needs
 
+further-length-requires-3 : tie.Need-further-length-requires-3
+further-length-requires-3 c κs = search needs
+
 add-result : tie.Need-add-result
 add-result c =
-    let args = c .before .before .args in
-    omega (arith, c .before .further-length .ensures, c .further-length2 .ensures, length-small 4 (args .h .mode), length-small 5 (args .h .frame))
+    let h = c .before .before .args .h in
+    omega (arith, c .before .further-length .ensures, c .further-length2 .ensures, length-small 4 (h .mode), length-small 5 (h .frame))
+
+add-result-2 : tie.Need-add-result-2
+add-result-2 c =
+    let two = c .before in
+    let h = two .before .before .args .h in
+    omega (
+      arith,
+      two .before .further-length .ensures,
+      two .further-length2 .ensures,
+      c .further-length3 .ensures,
+      length-small 4 (h .mode),
+      length-small 5 (h .frame),
+      length-small 6 (h .grid),
+    )
 
 returns : tie.Need-returns
 returns c =
-    let args = c .before .before .args in
-    omega (arith, c .before .further-length .ensures, c .further-length2 .ensures, head-lengths (args .h))
+    let two = c .before in
+    let h = two .before .before .args .h in
+    omega (arith, two .before .further-length .ensures, two .further-length2 .ensures, c .further-length3 .ensures, head-lengths h)
 
 pub head-length-spec : {M : Type 1} → statement M
 head-length-spec =
-    tie.close (tie.spec further-length-requires further-length-requires-2 add-result returns)
+    tie.close
+    (tie.spec
+    further-length-requires
+    further-length-requires-2
+    add-result
+    further-length-requires-3
+    add-result-2
+    returns)

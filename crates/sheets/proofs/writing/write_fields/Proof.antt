@@ -45,7 +45,7 @@ add-if2 c =
     let args = c .before .before .before .before .args in
     let said = c .fields-length .ensures in
     let n = few (c .before) in
-    omega (arith, said, head-small (args .t .head) 2, allocations-few (args .plan) (args .t .n))
+    omega (arith, said, head-small (args .t .head) 3, allocations-few (args .plan) (args .t .n))
 
 refused-requires-2 : tie.Need-refused-requires-2
 refused-requires-2 c κs = search needs

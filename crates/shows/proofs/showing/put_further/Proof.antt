@@ -4,7 +4,8 @@ use mathlib.Core.List.{[]}
 use native.Mathlib.Omega.{arith}
 use Rattle.text.specs.Text.{PutShort}
 use Rattle.text.specs.TextLaws.{put-none, put-as}
-use Rattle.outputs.proofs.ShowLaws.{line-none, mode-line, frame-line}
+use Rattle.outputs.proofs.ShowLaws.{line-none, word-line, mode-named, frame-named, grid-named}
+use Rattle.drafts.specs.Compose.{modeWord, frameWord, gridWord}
 use borrow.Author.Needs.{needs}
 use Rattle.shows.proofs.showing.put_further.Statement.{statement}
 use Rattle.shows.proofs.showing.put_further.Tie as tie
@@ -33,7 +34,8 @@ returns-2 c =
     let mode = called .before .before .before .before in
     let some = mode .before in
     let args = some .before .before .args in
-    put-as (called .put-named .ensures) (rw (called .before .wide .ensures .same) (mode-line (args .tag) (args .number) (mode .if2 .taken) (some .if1 .left))) (omega arith)
+    let line = word-line (args .tag) (args .number) modeWord (mode-named (args .tag) (mode .if2 .taken)) (some .if1 .left) in
+    put-as (called .put-named .ensures) (rw (called .before .wide .ensures .same) line) (omega arith)
 
 slice-aggregate-put-named-2 : tie.Need-slice-aggregate-put-named-2
 slice-aggregate-put-named-2 c = search needs
@@ -50,10 +52,33 @@ same-length-2 c = search needs
 returns-3 : tie.Need-returns-3
 returns-3 c =
     let called = c .before .before in
-    let other = called .before .before .before .before in
-    let some = other .before in
+    let frame = called .before .before .before .before in
+    let some = frame .before .before in
     let args = some .before .before .args in
-    put-as (called .put-named2 .ensures) (rw (called .before .wide2 .ensures .same) (frame-line (args .tag) (args .number) (other .if2 .left) (some .if1 .left))) (omega arith)
+    let line = word-line (args .tag) (args .number) frameWord (frame-named (args .tag) (frame .if3 .taken)) (some .if1 .left) in
+    put-as (called .put-named2 .ensures) (rw (called .before .wide2 .ensures .same) line) (omega arith)
+
+slice-aggregate-put-named-3 : tie.Need-slice-aggregate-put-named-3
+slice-aggregate-put-named-3 c = search needs
+
+wide-requires-3 : tie.Need-wide-requires-3
+wide-requires-3 c κs = search needs
+
+put-named-requires-3 : tie.Need-put-named-requires-3
+put-named-requires-3 c κs = search needs
+
+same-length-3 : tie.Need-same-length-3
+same-length-3 c = search needs
+
+returns-4 : tie.Need-returns-4
+returns-4 c =
+    let called = c .before .before in
+    let other = called .before .before .before .before in
+    let named = other .before in
+    let some = named .before in
+    let args = some .before .before .args in
+    let line = word-line (args .tag) (args .number) gridWord (grid-named (args .tag) (named .if2 .left) (other .if3 .left)) (some .if1 .left) in
+    put-as (called .put-named3 .ensures) (rw (called .before .wide3 .ensures .same) line) (omega arith)
 
 pub put-further-spec : {M : Type 1} → statement M
 put-further-spec =
@@ -69,4 +94,9 @@ put-further-spec =
     wide-requires-2
     put-named-requires-2
     same-length-2
-    returns-3)
+    returns-3
+    slice-aggregate-put-named-3
+    wide-requires-3
+    put-named-requires-3
+    same-length-3
+    returns-4)

@@ -23,6 +23,9 @@ put-further-requires c κs = search needs
 put-further-requires-2 : tie.Need-put-further-requires-2
 put-further-requires-2 c κs = search needs
 
+put-further-requires-3 : tie.Need-put-further-requires-3
+put-further-requires-3 c κs = search needs
+
 same-length : tie.Need-same-length
 same-length c = search needs
 
@@ -34,12 +37,14 @@ ttrt-put c = put-as (c .put-named .ensures) (rw (c .before .wide .ensures .same)
 
 returns : tie.Need-returns
 returns c =
-    let third = c .before .before in
+    let fourth = c .before .before in
+    let third = fourth .before .before .before .before in
     let second = third .before .before .before .before in
     let first = second .before .before .before .before in
     let start = first .before .before .before .before .before in
     let two = put-short-then (ttrt-put first) (second .put-further .ensures) (omega (arith, start .pre)) in
-    rw (head-lines (start .args .h)) (put-short-then two (third .put-further2 .ensures) (omega (arith, start .pre)))
+    let three = put-short-then two (third .put-further2 .ensures) (omega (arith, start .pre)) in
+    rw (head-lines (start .args .h)) (put-short-then three (fourth .put-further3 .ensures) (omega (arith, start .pre)))
 
 pub put-header-spec : {M : Type 1} → statement M
 put-header-spec =
@@ -50,5 +55,6 @@ put-header-spec =
     put-named-requires
     put-further-requires
     put-further-requires-2
+    put-further-requires-3
     same-length
     returns)
