@@ -109,7 +109,7 @@ enum {
 
 /* A log: the fields of its plan sheet but the end; then for each visit tag 16, length 17, the station in one byte, and
  * start, limit, synchronous and asynchronous in four bytes each, the high byte first; then the end. So it has the bytes
- * of its plan sheet (with those of its mode and frame, where it has these), and so many for each visit. */
+ * of its plan sheet (with those of its mode, frame and grid, where it has these), and so many for each visit. */
 #define OLIVASTRUM_VISIT_BYTES 20u
 
 /* A count of ticks, and a station's number from 0 in ring order. The one is never the other. */

@@ -13,7 +13,7 @@ fn sheets(to: i32) -> bool {
     let name = more(
         true,
         to,
-        b"olivastrum: plans timely-token and FDDI rings, runs them one visit at a time, and inspects their logs\n\n",
+        b"olivastrum: plans timely-token rings of both editions and FDDI rings, runs them one visit at a time, and inspects their logs\n\n",
     );
     let plan = more(
         name,
@@ -114,7 +114,7 @@ pub(crate) fn print(to: i32) -> bool {
     let lines = more(
         calls,
         to,
-        b"A text has lines `ttrt TTRT`, `mode M`, `frame F`, `station W C D P` or `station W C D P S`, and `visit STATION START LIMIT SYNC ASYNC`.\n",
+        b"A text has lines `ttrt TTRT`, `mode M`, `frame F`, `grid G`, `station W C D P` or `station W C D P S`, and `visit STATION START LIMIT SYNC ASYNC`.\n",
     );
     more(
         lines,
