@@ -63,8 +63,8 @@
 /* The version of the header and the library, as `./olivastrum version` prints it. */
 #define OLIVASTRUM_VERSION_MAJOR 0
 #define OLIVASTRUM_VERSION_MINOR 10
-#define OLIVASTRUM_VERSION_PATCH 0
-#define OLIVASTRUM_VERSION "0.10.0"
+#define OLIVASTRUM_VERSION_PATCH 1
+#define OLIVASTRUM_VERSION "0.10.1"
 
 #ifdef __cplusplus
 extern "C" {
@@ -368,7 +368,7 @@ struct olivastrum_next_entry olivastrum_log_entry(const uint8_t *log, size_t len
 /* Inspects a log: whether a run of the published steps from an opened ring could have given its records, with any
  * synchronous amount up to S at each visit and some request in frames; else the first record that breaks a rule, and the
  * first rule that it breaks. Or 1 to 5 or 7, with the rest 0. */
-#define OLIVASTRUM_STACK_INSPECT_LOG 19456
+#define OLIVASTRUM_STACK_INSPECT_LOG 20992
 struct olivastrum_finding olivastrum_inspect_log(const uint8_t *log, size_t length);
 
 /* The most that a call of any of them needs. */

@@ -67,7 +67,7 @@ module _ (s : Inspection) (x : Expected) (e : Entry) (k : ℕ) where
   unfolding comparedBy
   station-compared is = rw is
 
-  pub start-compared : k ≡ 2 → comparedBy k s x e ≡ record { expected = s .span; found = ticksBetween (s .start) (e .start) }
+  pub start-compared : k ≡ 2 → comparedBy k s x e ≡ record { expected = s .course .span; found = ticksBetween (s .course .start) (e .start) }
   unfolding comparedBy
   start-compared is = rw is
 

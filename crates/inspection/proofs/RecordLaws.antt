@@ -1,22 +1,26 @@
 -- Where the token station's timer began; one record more, and the three ways that it can go; and the records of a log, handed out one after another.
-use Prim.Native.Nat.{ℕ, zero, suc, _-_, _≤_, _<_}
+use Prim.Native.Nat.{ℕ, zero, suc, _+_, _-_, _%_, _^_, _≤_, _<_}
 use mathlib.Core.Path.{_≡_, refl, sym, ap, _∙_}
 use mathlib.Core.List.{List, [], _∷_}
 use mathlib.Core.Logic.{_≢_}
 use native.Mathlib.Omega.{arith}
 use borrow.Author.Tests.{eq-eqb, ne-eqb, le-leb, lt-leb}
+use lib.ListN.{set}
 use Rattle.units.specs.Numbers.{fddi}
+use Rattle.units.specs.Places.{at}
 use Rattle.sets.specs.declared.Head.{Head}
 use Rattle.sets.specs.declared.Set.{Set}
 use Rattle.plans.specs.declared.Alloc.{Alloc}
 use Rattle.entries.specs.declared.Entry.{Entry}
 use Rattle.entries.specs.Entry.{nextEntry}
 use Rattle.entries.specs.declared.NextEntry.{NextEntry}
+use Rattle.rings.specs.Timers.{lead}
 use Rattle.logs.specs.Reading.{handedFrom}
 use Rattle.inspection.specs.Counter.{ticksLater, ticksBetween}
 use Rattle.inspection.specs.Opening.{begun}
-use Rattle.inspection.specs.Rules.{expected, brokenRule}
-use Rattle.inspection.specs.Records.{baseWith, movedOn, stoppedAt, judged, inspected, inspectedAll, inspectionOf}
+use Rattle.inspection.specs.Rules.{place, dueWith, expected, brokenRule}
+use Rattle.inspection.specs.Records.{baseWith, courseWith, movedOn, stoppedAt, judged, inspected, inspectedAll, inspectionOf}
+use Rattle.inspection.specs.declared.Course.{Course}
 use Rattle.inspection.specs.declared.Inspection.{Inspection}
 use Rattle.inspection.specs.declared.Expected.{Expected}
 
@@ -39,6 +43,19 @@ module _ (h : Head) (clock base lead : ℕ) where
   base-timely n = rw (ne-eqb (h .mode) fddi n)
 
 -- ---- one record more
+
+module _ (s : Inspection) (t : Set) (a : Alloc) (p : ℕ) (here : p ≡ place s) where
+  -- what is asked with the numbers at the place of the token's station is what the record must say
+  pub asked-there : (start : ℕ) (due : Expected) → due ≡ dueWith (s .course) (s .visits) (t .head) (at (s .base) p) (at (a .s) p) start → due ≡ expected s t a start
+  asked-there start due is = rw here at is
+
+  -- an inspection is the moved one if what is stored in it is
+  pub stored : (e : Entry) (now : Inspection) → now ≡ s → (ahead base visits : ℕ) (course : Course) → ahead ≡ lead t (e .asynchronous)
+      → base ≡ baseWith (t .head) (s .course .clock) (at (s .base) p) ahead
+      → course ≡ courseWith (s .course) (t .n) (at (a .s) p) (at (now .sent) p) (at (t .w) p) e → visits ≡ (now .visits + 1) % 2 ^ 64
+      → record { base = set (now .base) p base; sent = set (now .sent) p (e .synchronous); course = course; visits = visits; rule = now .rule } ≡ movedOn s t a e
+  unfolding movedOn
+  stored e now same ahead base visits course leads is goes counts = rw (is, goes, counts, leads, same, here) refl
 
 judged-broken : (k : ℕ) (s : Inspection) (t : Set) (a : Alloc) (e : Entry) → k ≢ 0 → judged k s t a e ≡ stoppedAt s k
 unfolding judged

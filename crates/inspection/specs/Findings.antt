@@ -21,7 +21,7 @@ use Rattle.inspection.specs.declared.Finding.{Finding}
 unfoldable pub comparedBy : ℕ → Inspection → Expected → Entry → Compared
 comparedBy k s x e =
     cond (eqb k 1) (record { expected = x .station; found = e .station })
-    (cond (eqb k 2) (record { expected = s .span; found = ticksBetween (s .start) (e .start) })
+    (cond (eqb k 2) (record { expected = s .course .span; found = ticksBetween (s .course .start) (e .start) })
     (cond (eqb k 3) (record { expected = x .limit; found = e .limit })
     (cond (eqb k 4) (record { expected = x .share; found = e .synchronous }) (record { expected = x .limit; found = e .asynchronous }))))
 

@@ -18,11 +18,14 @@ begun t a =
     record {
       base = passingTimes (t .n) (t .w);
       sent = zeros;
-      token = 0;
-      clock = tau t % 2 ^ 32;
-      unused = sumBelow (t .n) (at (a .s)) % 2 ^ 32;
-      start = 0;
-      span = 0;
+      course =
+          record {
+            token = 0;
+            clock = tau t % 2 ^ 32;
+            unused = sumBelow (t .n) (at (a .s)) % 2 ^ 32;
+            start = 0;
+            span = 0;
+          };
       visits = 0;
       rule = 0;
     }

@@ -14,7 +14,8 @@ use Rattle.rings.specs.State.{following}
 use Rattle.rings.specs.Timers.{lead}
 use Rattle.inspection.specs.Counter.{ticksLater, ticksBetween}
 use Rattle.inspection.specs.Opening.{begun}
-use Rattle.inspection.specs.Rules.{place, expected, brokenRule}
+use Rattle.inspection.specs.Rules.{placeOf, place, expected, brokenRule}
+use Rattle.inspection.specs.declared.Course.{Course}
 use Rattle.inspection.specs.declared.Inspection.{Inspection}
 
 -- ---- a record that keeps every rule moves the inspection on
@@ -32,19 +33,23 @@ unusedWith unused share before now = ticksLater (unused - (share - before)) (sha
 abbrev pub spanWith : ℕ → ℕ → ℕ → ℕ
 spanWith synchronous asynchronous walk = ticksLater (ticksLater synchronous asynchronous) walk
 
-abbrev pub spanOf : Inspection → Set → Entry → ℕ
-spanOf s t e = spanWith (e .synchronous) (e .asynchronous) (at (t .w) (place s))
+-- the ring as a whole behind the visit, with S, s of before and w of its station
+abbrev pub courseWith : Course → ℕ → ℕ → ℕ → ℕ → Entry → Course
+courseWith c n share before walk e =
+    record {
+      token = following n (placeOf (c .token));
+      clock = ticksLater (c .clock) (spanWith (e .synchronous) (e .asynchronous) walk);
+      unused = unusedWith (c .unused) share before (e .synchronous);
+      start = e .start;
+      span = spanWith (e .synchronous) (e .asynchronous) walk;
+    }
 
 unfoldable pub movedOn : Inspection → Set → Alloc → Entry → Inspection
 movedOn s t a e =
     record {
-      base = set (s .base) (place s) (baseWith (t .head) (s .clock) (at (s .base) (place s)) (lead t (e .asynchronous)));
+      base = set (s .base) (place s) (baseWith (t .head) (s .course .clock) (at (s .base) (place s)) (lead t (e .asynchronous)));
       sent = set (s .sent) (place s) (e .synchronous);
-      token = following (t .n) (place s);
-      clock = ticksLater (s .clock) (spanOf s t e);
-      unused = unusedWith (s .unused) (at (a .s) (place s)) (at (s .sent) (place s)) (e .synchronous);
-      start = e .start;
-      span = spanOf s t e;
+      course = courseWith (s .course) (t .n) (at (a .s) (place s)) (at (s .sent) (place s)) (at (t .w) (place s)) e;
       visits = (s .visits + 1) % 2 ^ 64;
       rule = s .rule;
     }
@@ -56,11 +61,7 @@ stoppedAt s rule =
     record {
       base = s .base;
       sent = s .sent;
-      token = s .token;
-      clock = s .clock;
-      unused = s .unused;
-      start = s .start;
-      span = s .span;
+      course = s .course;
       visits = s .visits;
       rule = rule;
     }

@@ -13,16 +13,20 @@ use Rattle.plans.specs.declared.Alloc.{Alloc}
 use Rattle.entries.specs.declared.Entry.{Entry}
 use Rattle.inspection.specs.Counter.{ticksLater, ticksBetween}
 use Rattle.inspection.specs.Frames.{framesFit}
+use Rattle.inspection.specs.declared.Course.{Course}
 use Rattle.inspection.specs.declared.Inspection.{Inspection}
 use Rattle.inspection.specs.declared.Expected.{Expected}
 
 -- the place of the token's station in the arrays: a token below 128 is its own place
+abbrev pub placeOf : ℕ → ℕ
+placeOf token = token % 128
+
 abbrev pub place : Inspection → ℕ
-place s = s .token % 128
+place s = placeOf (s .course .token)
 
 -- how long the timer of the token's station has run: TRT, or an FDDI timer with TTRT for each time that it is late
 abbrev pub timerRun : Inspection → ℕ
-timerRun s = ticksBetween (at (s .base) (place s)) (s .clock)
+timerRun s = ticksBetween (at (s .base) (place s)) (s .course .clock)
 
 -- the start: of the first record anything, of a later one what the record before took, after its start
 unfoldable pub dueStart : ℕ → ℕ → ℕ → ℕ → ℕ
@@ -32,16 +36,19 @@ dueStart visits last span start = cond (eqb visits 0) start (ticksLater last spa
 unfoldable pub limitWith : Head → ℕ → ℕ → ℕ
 limitWith h unused run = cond (eqb (h .mode) fddi) (h .ttrt - run) (h .ttrt - (h .frame - 1) - unused - run)
 
--- what the next record must say, if it is one that starts so
-abbrev pub expected : Inspection → Set → Alloc → ℕ → Expected
-expected s t a start =
+-- what the next record must say, if it is one that starts so: with the moment and S of the token's station
+abbrev pub dueWith : Course → ℕ → Head → ℕ → ℕ → ℕ → Expected
+dueWith c visits h base share start =
     record {
-      station = place s;
-      start = dueStart (s .visits) (s .start) (s .span) start;
-      limit = limitWith (t .head) (s .unused) (timerRun s);
-      share = at (a .s) (place s);
-      longest = t .head .frame;
+      station = placeOf (c .token);
+      start = dueStart visits (c .start) (c .span) start;
+      limit = limitWith h (c .unused) (ticksBetween base (c .clock));
+      share = share;
+      longest = h .frame;
     }
+
+abbrev pub expected : Inspection → Set → Alloc → ℕ → Expected
+expected s t a start = dueWith (s .course) (s .visits) (t .head) (at (s .base) (place s)) (at (a .s) (place s)) start
 
 -- ---- the five rules
 

@@ -16,12 +16,8 @@ use plans::Alloc;
 use sets::Set;
 use units::numbers;
 
-// How far an inspection has come: what the records so far leave of the ring, and the finding.
-pub struct Inspection {
-    // For each station where the clock stood when its timer was at 0; an FDDI timer counts with TTRT for each time that it is late.
-    pub base: [u32; 128],
-    // s of each station: the synchronous amount of its last record.
-    pub sent: [u32; 128],
+// What the records so far leave of the ring as a whole.
+pub struct Course {
     // The station that has the token.
     pub token: u32,
     // The ring's clock, modulo 2^32, from the beginning of the silent first rotation on.
@@ -31,6 +27,15 @@ pub struct Inspection {
     // The start of the record before, and the ticks that it took.
     pub start: u32,
     pub span: u32,
+}
+
+// How far an inspection has come: what the records so far leave of each station and of the ring, and the finding.
+pub struct Inspection {
+    // For each station where the clock stood when its timer was at 0; an FDDI timer counts with TTRT for each time that it is late.
+    pub base: [u32; 128],
+    // s of each station: the synchronous amount of its last record.
+    pub sent: [u32; 128],
+    pub course: Course,
     // The records so far that keep every rule.
     pub visits: u64,
     // The rule that the record behind these breaks; 0: none so far.
@@ -72,14 +77,17 @@ pub fn begin(set: Set, alloc: Alloc) -> Inspection
     let base = opening::passing_times(walks, set.n);
     let clock = opening::shown(sets::walk_time(set));
     let unused = opening::shown(units::sum_first(shares, set.n));
-    Inspection {
-        base,
-        sent: [0; 128],
+    let course = Course {
         token: 0,
         clock,
         unused,
         start: 0,
         span: 0,
+    };
+    Inspection {
+        base,
+        sent: [0; 128],
+        course,
         visits: 0,
         rule: 0,
     }
@@ -89,18 +97,11 @@ pub fn begin(set: Set, alloc: Alloc) -> Inspection
 pub fn expect(state: Inspection, set: Set, alloc: Alloc, start: u32) -> Expected
     ensures { λ r. ⌜ r ≡ expected state set alloc start ⌝ }
 {
-    let station = state.token % 128;
-    let p = station as usize;
-    let bases = state.base;
-    let shares = alloc.s;
-    let run = counter::between(bases[p], state.clock);
-    Expected {
-        station,
-        start: rules::start_due(state.visits, state.start, state.span, start),
-        limit: rules::limit_at(set.head, state.unused, run),
-        share: shares[p],
-        longest: set.head.frame,
-    }
+    let course = state.course;
+    let p = rules::place(course.token);
+    let base = state.base[p];
+    let share = alloc.s[p];
+    rules::due(course, state.visits, set.head, base, share, start)
 }
 
 // One record more. Behind a broken rule nothing further is looked at.
@@ -123,7 +124,8 @@ pub fn compare(state: Inspection, set: Set, alloc: Alloc, entry: Entry) -> Compa
     ensures { λ r. ⌜ r ≡ compared state set alloc entry ⌝ }
 {
     let due = expect(state, set, alloc, entry.start);
-    let ticks = counter::between(state.start, entry.start);
+    let course = state.course;
+    let ticks = counter::between(course.start, entry.start);
     let rule = state.rule;
     match rule {
         1 => Compared {
@@ -131,7 +133,7 @@ pub fn compare(state: Inspection, set: Set, alloc: Alloc, entry: Entry) -> Compa
             found: entry.station,
         },
         2 => Compared {
-            expected: state.span,
+            expected: course.span,
             found: ticks,
         },
         3 => Compared {

@@ -1,4 +1,5 @@
 // What becomes of an inspection with a record: it stops at a broken rule, or the record's visit moves it on.
+use super::Course;
 use super::Inspection;
 use super::counter;
 use super::rules;
@@ -11,10 +12,10 @@ ghost use mathlib.Core.Path.{_≡_};
 ghost use Prim.Native.Nat.{_<_};
 ghost use Rattle.rings.specs.State.{following};
 ghost use Rattle.rings.specs.Timers.{lead};
-ghost use Rattle.inspection.specs.Records.{baseWith, unusedWith, spanWith, stoppedAt, movedOn};
+ghost use Rattle.inspection.specs.Records.{baseWith, unusedWith, spanWith, courseWith, stoppedAt, movedOn};
 
 // Of the asynchronous amount, what comes before the synchronous part: all of it in the 2002 edition, else nothing.
-fn lead_of(set: Set, asynchronous: u32) -> u32
+pub(crate) fn lead_of(set: Set, asynchronous: u32) -> u32
     ensures { λ r. ⌜ r ≡ lead set asynchronous ⌝ }
 {
     if set.head.mode == numbers::EARLIER {
@@ -24,7 +25,7 @@ fn lead_of(set: Set, asynchronous: u32) -> u32
 }
 
 // Where the clock stands when the token station's timer is at 0, now that the token has come: when its synchronous part starts, but an FDDI timer that has run for TTRT or longer loses just that.
-fn base_after(head: Head, clock: u32, base: u32, lead: u32) -> u32
+pub(crate) fn base_after(head: Head, clock: u32, base: u32, lead: u32) -> u32
     ensures { λ r. ⌜ r ≡ baseWith head clock base lead ⌝ }
 {
     if head.mode == numbers::FDDI {
@@ -70,31 +71,38 @@ pub(crate) fn stopped(state: Inspection, rule: u8) -> Inspection
     next
 }
 
+// The ring as a whole behind a record that keeps every rule, with S, s of before and w of its station.
+pub(crate) fn course_after(
+    course: Course,
+    n: u32,
+    share: u32,
+    before: u32,
+    walk: u32,
+    entry: Entry,
+) -> Course
+    ensures { λ r. ⌜ r ≡ courseWith course n share before walk entry ⌝ }
+{
+    let span = span_of(entry.synchronous, entry.asynchronous, walk);
+    Course {
+        token: next_station(n, course.token % 128),
+        clock: counter::later(course.clock, span),
+        unused: unused_after(course.unused, share, before, entry.synchronous),
+        start: entry.start,
+        span,
+    }
+}
+
 // The visit of a record that keeps every rule.
 pub(crate) fn moved_on(state: Inspection, set: Set, alloc: Alloc, entry: Entry) -> Inspection
     ensures { λ r. ⌜ r ≡ movedOn state set alloc entry ⌝ }
 {
-    let station = state.token % 128;
-    let p = station as usize;
-    let bases = state.base;
-    let amounts = state.sent;
-    let shares = alloc.s;
-    let walks = set.w;
+    let course = state.course;
+    let p = rules::place(course.token);
     let lead = lead_of(set, entry.asynchronous);
-    let base = base_after(set.head, state.clock, bases[p], lead);
-    let unused = unused_after(state.unused, shares[p], amounts[p], entry.synchronous);
-    let span = span_of(entry.synchronous, entry.asynchronous, walks[p]);
-    let token = next_station(set.n, station);
-    let clock = counter::later(state.clock, span);
-    let visits = std::num::wrapping_add_u64(state.visits, 1);
     let mut next = state;
-    next.base[p] = base;
+    next.base[p] = base_after(set.head, course.clock, state.base[p], lead);
+    next.course = course_after(course, set.n, alloc.s[p], state.sent[p], set.w[p], entry);
     next.sent[p] = entry.synchronous;
-    next.token = token;
-    next.clock = clock;
-    next.unused = unused;
-    next.start = entry.start;
-    next.span = span;
-    next.visits = visits;
+    next.visits = std::num::wrapping_add_u64(state.visits, 1);
     next
 }

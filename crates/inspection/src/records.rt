@@ -24,16 +24,24 @@ pub(crate) fn inspect_records(
     'records: while 0 < left {
         let handed = logs::log_entry(log, at);
         let entry = handed.entry;
-        let due = super::expect(state, set, alloc, entry.start);
+        let course = state.course;
+        let p = rules::place(course.token);
+        let base = state.base[p];
+        let share = alloc.s[p];
+        let due = rules::due(course, state.visits, set.head, base, share, entry.start);
         let mut rule: u8 = 1;
         while rule <= 5 {
             if !rules::rule_kept(due, entry, rule) {
-                state = moving::stopped(state, rule);
+                state.rule = rule;
                 break 'records;
             }
             rule += 1;
         }
-        state = moving::moved_on(state, set, alloc, entry);
+        let lead = moving::lead_of(set, entry.asynchronous);
+        state.base[p] = moving::base_after(set.head, course.clock, base, lead);
+        state.course = moving::course_after(course, set.n, share, state.sent[p], set.w[p], entry);
+        state.sent[p] = entry.synchronous;
+        state.visits = std::num::wrapping_add_u64(state.visits, 1);
         at = handed.next;
         left -= 1;
     }

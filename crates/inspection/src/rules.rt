@@ -1,4 +1,5 @@
 // The five rules: station, start, limit, synchronous, asynchronous.
+use super::Course;
 use super::Expected;
 use super::counter;
 use super::frames;
@@ -7,7 +8,7 @@ use sets::Head;
 use units::numbers;
 ghost use mathlib.Core.Path.{_≡_};
 ghost use Prim.Native.Nat.{_-_, _≤_};
-ghost use Rattle.inspection.specs.Rules.{dueStart, limitWith, ruleKept, brokenRule};
+ghost use Rattle.inspection.specs.Rules.{placeOf, dueStart, limitWith, dueWith, ruleKept, brokenRule};
 
 // The larger of a − b and 0.
 pub(crate) fn less(a: u32, b: u32) -> u32
@@ -16,8 +17,15 @@ pub(crate) fn less(a: u32, b: u32) -> u32
     if a < b { 0 } else { a - b }
 }
 
+// The place of the token's station in the arrays: a station below 128 is its own place.
+pub(crate) fn place(token: u32) -> usize
+    ensures { λ r. ⌜ r ≡ placeOf token ⌝ }
+{
+    (token % 128) as usize
+}
+
 // When a record must start: the first one at any moment, a later one as many ticks after the one before as that one took.
-pub(crate) fn start_due(visits: u64, last: u32, span: u32, start: u32) -> u32
+fn start_due(visits: u64, last: u32, span: u32, start: u32) -> u32
     ensures { λ r. ⌜ r ≡ dueStart visits last span start ⌝ }
 {
     if visits == 0 {
@@ -27,13 +35,34 @@ pub(crate) fn start_due(visits: u64, last: u32, span: u32, start: u32) -> u32
 }
 
 // The limit, for a timer that has run so long: FDDI what it leaves of TTRT, timely-token what F − 1, u and it leave.
-pub(crate) fn limit_at(head: Head, unused: u32, run: u32) -> u32
+fn limit_at(head: Head, unused: u32, run: u32) -> u32
     ensures { λ r. ⌜ r ≡ limitWith head unused run ⌝ }
 {
     if head.mode == numbers::FDDI {
         return less(head.ttrt, run);
     }
     less(less(less(head.ttrt, less(head.frame, 1)), unused), run)
+}
+
+// What the next record must say, if it is one that starts so: with the moment and S of the token's station.
+pub(crate) fn due(
+    course: Course,
+    visits: u64,
+    head: Head,
+    base: u32,
+    share: u32,
+    start: u32,
+) -> Expected
+    ensures { λ r. ⌜ r ≡ dueWith course visits head base share start ⌝ }
+{
+    let run = counter::between(base, course.clock);
+    Expected {
+        station: course.token % 128,
+        start: start_due(visits, course.start, course.span, start),
+        limit: limit_at(head, course.unused, run),
+        share,
+        longest: head.frame,
+    }
 }
 
 // The record keeps this one of the rules, from 1 to 5.

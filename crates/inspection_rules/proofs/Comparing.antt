@@ -50,19 +50,19 @@ frames-above limit longest amount some h =
 
 -- ---- by the rule that is broken
 
-module _ (s : Inspection) (x : Expected) (e : Entry) (due : x .start ≡ dueStart (s .visits) (s .start) (s .span) (e .start)) (before : s .start < 2 ^ 32) (now : e .start < 2 ^ 32)
+module _ (s : Inspection) (x : Expected) (e : Entry) (due : x .start ≡ dueStart (s .visits) (s .course .start) (s .course .span) (e .start)) (before : s .course .start < 2 ^ 32) (now : e .start < 2 ^ 32)
     (some : 1 ≤ x .longest) where
   by-rule : (k : ℕ) → 1 ≤ k → k < 6 → getD (rulesKept x e) (k - 1) true ≡ false → Differ k (comparedBy k s x e)
   unfolding comparedBy
   by-rule zero low high h = absurd (omega arith)
   by-rule (suc zero) low high h = (λ _ same. eqb-false (e .station) (x .station) h (sym same), λ l. absurd (omega arith))
-  by-rule (suc (suc zero)) low high h = (λ _. start-differs (s .visits) (s .start) (s .span) (e .start) before now (rw due at h), λ l. absurd (omega arith))
+  by-rule (suc (suc zero)) low high h = (λ _. start-differs (s .visits) (s .course .start) (s .course .span) (e .start) before now (rw due at h), λ l. absurd (omega arith))
   by-rule (suc (suc (suc zero))) low high h = (λ _ same. eqb-false (e .limit) (x .limit) h (sym same), λ l. absurd (omega arith))
   by-rule (suc (suc (suc (suc zero)))) low high h = (λ l. absurd (omega arith), λ _. above (e .synchronous) (x .share) h)
   by-rule (suc (suc (suc (suc (suc zero))))) low high h = (λ l. absurd (omega arith), λ _. frames-above (x .limit) (x .longest) (e .asynchronous) some h)
   by-rule (suc (suc (suc (suc (suc (suc k)))))) low high h = absurd (omega arith)
 
-pub differs : (s : Inspection) (t : Set) (a : Alloc) (e : Entry) → s .rule ≡ 0 → s .start < 2 ^ 32 → e .start < 2 ^ 32 → 1 ≤ t .head .frame → inspected s t a e .rule ≢ 0
+pub differs : (s : Inspection) (t : Set) (a : Alloc) (e : Entry) → s .rule ≡ 0 → s .course .start < 2 ^ 32 → e .start < 2 ^ 32 → 1 ≤ t .head .frame → inspected s t a e .rule ≢ 0
     → Differ (inspected s t a e .rule) (compared (inspected s t a e) t a e)
 unfolding movedOn
 differs s t a e go before now some stops =

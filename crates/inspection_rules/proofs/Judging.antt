@@ -109,12 +109,12 @@ none-last = refl
 
 module _ (counter : ℕ) (r : Ring) (K : Reached r) (s : Inspection) (S : Stands counter r s) (before : List Entry) (counted : r .visits ≡ length before)
     (last : (b : Entry) → lastOf before ≡ some b → (counter + r .clock) % 2 ^ 32 ≡ (b .start + took (r .set) b) % 2 ^ 32) (e : Entry) where
-  start-decides : Decides (eqb (e .start) (dueStart (s .visits) (s .start) (s .span) (e .start))) (StartRule (r .set) before e)
+  start-decides : Decides (eqb (e .start) (dueStart (s .visits) (s .course .start) (s .course .span) (e .start))) (StartRule (r .set) before e)
   unfolding dueStart
   start-decides =
       ⊎-elim (λ (w : (b : Entry) × (lastOf before ≡ some b)).
       let some-visits : s .visits ≢ 0 = λ z. no-visit w (omega (arith, S .visits)) in
-      let due : ticksLater (s .start) (s .span) ≡ (w .0 .start + took (r .set) (w .0)) % 2 ^ 32 = S .due (omega (arith, S .visits, some-visits)) ∙ last (w .0) (w .1) in
+      let due : ticksLater (s .course .start) (s .course .span) ≡ (w .0 .start + took (r .set) (w .0)) % 2 ^ 32 = S .due (omega (arith, S .visits, some-visits)) ∙ last (w .0) (w .1) in
       rw (ne-eqb (s .visits) 0 some-visits, due)
       (λ h b is. let same : w .0 ≡ b = cc (w .1, is) in eqb-true _ _ h ∙ ap (λ (x : Entry). (x .start + took (r .set) x) % 2 ^ 32) same, λ rule. eq-eqb _ _ (rule (w .0) (w .1))))
       (λ (n : before ≡ []).

@@ -33,7 +33,7 @@ use Rattle.promises.proofs.Opening.{plan-of}
 use Rattle.inspection.specs.Counter.{ticksLater, ticksBetween}
 use Rattle.inspection.specs.Opening.{passingTimes, begun}
 use Rattle.inspection.specs.Rules.{place, timerRun, limitWith}
-use Rattle.inspection.specs.Records.{baseWith, spanOf, movedOn}
+use Rattle.inspection.specs.Records.{baseWith, spanWith, movedOn}
 use Rattle.inspection.specs.declared.Inspection.{Inspection}
 use Rattle.inspection_rules.specs.Gives.{Could}
 use Rattle.inspection_rules.proofs.Reaching.{Reached, plan, limit-lapped, passes-short, early-here, early-there, early-unused, lapped-here, lapped-there, reached-next}
@@ -70,17 +70,17 @@ moved-base base run clock top x l e =
 -- ---- what stands for what
 
 pub record Stands (counter : ℕ) (r : Ring) (s : Inspection) : Type 0 where
-  pub token : s .token ≡ r .token
-  pub clock : s .clock ≡ (tau (r .set) + r .clock) % 2 ^ 32
+  pub token : s .course .token ≡ r .token
+  pub clock : s .course .clock ≡ (tau (r .set) + r .clock) % 2 ^ 32
   pub long : length (s .base) ≡ 128
   pub small : (i : ℕ) → i < count r → at (s .base) i < 2 ^ 32
-  pub base : (i : ℕ) → i < count r → (at (s .base) i + runOf r i) % 2 ^ 32 ≡ s .clock
+  pub base : (i : ℕ) → i < count r → (at (s .base) i + runOf r i) % 2 ^ 32 ≡ s .course .clock
   pub sent : s .sent ≡ r .sent
-  pub unused : ¬ Fddi (r .set) → s .unused ≡ r .unused
+  pub unused : ¬ Fddi (r .set) → s .course .unused ≡ r .unused
   pub visits : s .visits ≡ r .visits
   pub rule : s .rule ≡ 0
   -- the record before led to this start
-  pub due : 0 < r .visits → ticksLater (s .start) (s .span) ≡ (counter + r .clock) % 2 ^ 32
+  pub due : 0 < r .visits → ticksLater (s .course .start) (s .course .span) ≡ (counter + r .clock) % 2 ^ 32
 
 module _ (r : Ring) (K : Reached r) where
   -- no timer has run as long as the counter goes round
@@ -105,9 +105,9 @@ module _ (r : Ring) (K : Reached r) where
     pub run-is : timerRun s ≡ runOf r (r .token)
     run-is =
         rw place-is
-        (between-is (at (s .base) (r .token)) (runOf r (r .token)) (s .clock) (S .small (r .token) (K .token)) (run-small (r .token) (K .token)) (S .base (r .token) (K .token)))
+        (between-is (at (s .base) (r .token)) (runOf r (r .token)) (s .course .clock) (S .small (r .token) (K .token)) (run-small (r .token) (K .token)) (S .base (r .token) (K .token)))
 
-    pub limit-is : limitWith (r .set .head) (s .unused) (timerRun s) ≡ limit r
+    pub limit-is : limitWith (r .set .head) (s .course .unused) (timerRun s) ≡ limit r
     unfolding limitWith
     limit-is =
         rw run-is
@@ -115,7 +115,7 @@ module _ (r : Ring) (K : Reached r) where
         (λ (n : ¬ Fddi (r .set)). rw (fddi-false (r .set) n, run-timely r n (r .token), S .unused n) (sym (limit-timely r n)))
         (fddi-or-not (r .set)))
 
-    clock-small : s .clock < 2 ^ 32
+    clock-small : s .course .clock < 2 ^ 32
     clock-small = omega (arith, S .clock)
 
     -- ---- one visit more
@@ -133,12 +133,12 @@ module _ (r : Ring) (K : Reached r) where
 
       -- where the clock stands when the timer of the token's station is at 0
       abbrev moment : ℕ
-      moment = baseWith (r .set .head) (s .clock) (at (s .base) (r .token)) ahead
+      moment = baseWith (r .set .head) (s .course .clock) (at (s .base) (r .token)) ahead
 
       N : Reached (moved r (e .synchronous) (e .asynchronous))
       N = reached-next counter r K e C
 
-      span-is : spanOf s (r .set) e ≡ ticks
+      span-is : spanWith (e .synchronous) (e .asynchronous) (at (r .set .w) (place s)) ≡ ticks
       span-is = rw place-is (omega (arith, passes-short counter r K e C))
 
       -- ---- the timers
@@ -159,7 +159,7 @@ module _ (r : Ring) (K : Reached r) where
       base-here = rw place-is (getD-set-same (s .base) (r .token) _ 0 (omega (arith, S .long, K .token, plan r K .few)))
 
       -- the token's station: its timer is at 0 when the synchronous part starts, or has lost TTRT
-      based : (moment + runOf after (r .token)) % 2 ^ 32 ≡ ticksLater (s .clock) ticks
+      based : (moment + runOf after (r .token)) % 2 ^ 32 ≡ ticksLater (s .course .clock) ticks
       unfolding moved baseWith
       based =
           let p = r .token in
@@ -167,15 +167,15 @@ module _ (r : Ring) (K : Reached r) where
           ⊎-elim (λ (f : Fddi (r .set)).
           let run = run-fddi r f p in
           let goes : runOf after p ≡ runOf r p - ttrt r + ticks = run-fddi after f p ∙ lapped-here counter r K e C f ∙ ap (λ (x : ℕ). x - ttrt r + ticks) (sym run) in
-          let told : ticksBetween (at (s .base) p) (s .clock) ≡ runOf r p = between-is (at (s .base) p) (runOf r p) (s .clock) (S .small p (K .token)) (run-small p (K .token)) was in
+          let told : ticksBetween (at (s .base) p) (s .course .clock) ≡ runOf r p = between-is (at (s .base) p) (runOf r p) (s .course .clock) (S .small p (K .token)) (run-small p (K .token)) was in
           rw (fddi-true (r .set) f, told)
           (⊎-elim (λ (l : runOf r p < ttrt r). rw (lt-leb (ttrt r) (runOf r p) l) (omega (arith, goes)))
-          (λ (l : ttrt r ≤ runOf r p). rw (le-leb (ttrt r) (runOf r p) l, goes) (moved-base (at (s .base) p) (runOf r p) (s .clock) (ttrt r) ticks l was))
+          (λ (l : ttrt r ≤ runOf r p). rw (le-leb (ttrt r) (runOf r p) l, goes) (moved-base (at (s .base) p) (runOf r p) (s .course .clock) (ttrt r) ticks l was))
           (below-or-not (runOf r p) (ttrt r))))
           (λ (n : ¬ Fddi (r .set)).
           let goes : runOf after p ≡ ticks - ahead = run-timely after n p ∙ early-here counter r K e C n in
-          let all : s .clock + ahead + (ticks - ahead) ≡ s .clock + ticks = omega (arith, lead-within (r .set) (e .asynchronous)) in
-          rw (fddi-false (r .set) n, goes) (mod-add-mod (s .clock + ahead) (2 ^ 32) (ticks - ahead) ∙ ap (λ (x : ℕ). x % 2 ^ 32) all))
+          let all : s .course .clock + ahead + (ticks - ahead) ≡ s .course .clock + ticks = omega (arith, lead-within (r .set) (e .asynchronous)) in
+          rw (fddi-false (r .set) n, goes) (mod-add-mod (s .course .clock + ahead) (2 ^ 32) (ticks - ahead) ∙ ap (λ (x : ℕ). x % 2 ^ 32) all))
           (fddi-or-not (r .set))
 
       based-small : moment < 2 ^ 32
@@ -184,20 +184,20 @@ module _ (r : Ring) (K : Reached r) where
           let p = r .token in
           ⊎-elim (λ (f : Fddi (r .set)).
           rw (fddi-true (r .set) f)
-          (⊎-elim (λ (l : ticksBetween (at (s .base) p) (s .clock) < ttrt r). rw (lt-leb (ttrt r) (ticksBetween (at (s .base) p) (s .clock)) l) clock-small)
-          (λ (l : ttrt r ≤ ticksBetween (at (s .base) p) (s .clock)). rw (le-leb (ttrt r) (ticksBetween (at (s .base) p) (s .clock)) l) (omega arith))
-          (below-or-not (ticksBetween (at (s .base) p) (s .clock)) (ttrt r))))
+          (⊎-elim (λ (l : ticksBetween (at (s .base) p) (s .course .clock) < ttrt r). rw (lt-leb (ttrt r) (ticksBetween (at (s .base) p) (s .course .clock)) l) clock-small)
+          (λ (l : ttrt r ≤ ticksBetween (at (s .base) p) (s .course .clock)). rw (le-leb (ttrt r) (ticksBetween (at (s .base) p) (s .course .clock)) l) (omega arith))
+          (below-or-not (ticksBetween (at (s .base) p) (s .course .clock)) (ttrt r))))
           (λ (n : ¬ Fddi (r .set)). rw (fddi-false (r .set) n) (omega arith))
           (fddi-or-not (r .set))
 
-      clock-next : movedOn s (r .set) (r .alloc) e .clock ≡ ticksLater (s .clock) ticks
+      clock-next : movedOn s (r .set) (r .alloc) e .course .clock ≡ ticksLater (s .course .clock) ticks
       unfolding movedOn
       clock-next = rw span-is
 
-      base-next : (i : ℕ) → i < count r → (at (movedOn s (r .set) (r .alloc) e .base) i + runOf after i) % 2 ^ 32 ≡ movedOn s (r .set) (r .alloc) e .clock
+      base-next : (i : ℕ) → i < count r → (at (movedOn s (r .set) (r .alloc) e .base) i + runOf after i) % 2 ^ 32 ≡ movedOn s (r .set) (r .alloc) e .course .clock
       base-next i l =
           ⊎-elim (λ (q : i ≡ r .token). rw (q, base-here) (based ∙ sym clock-next))
-          (λ (d : i ≢ r .token). rw (base-there i l d, run-there i l d) (later-run (at (s .base) i) (runOf r i) (s .clock) ticks (S .base i l) ∙ sym clock-next))
+          (λ (d : i ≢ r .token). rw (base-there i l d, run-there i l d) (later-run (at (s .base) i) (runOf r i) (s .course .clock) ticks (S .base i l) ∙ sym clock-next))
           (same-or-not i (r .token))
 
       small-next : (i : ℕ) → i < count r → at (movedOn s (r .set) (r .alloc) e .base) i < 2 ^ 32
@@ -213,7 +213,7 @@ module _ (r : Ring) (K : Reached r) where
           let less = sum-mono (count r) (unusedAt after) (at (r .alloc .s)) (λ i l. omega arith) in
           omega (arith, plan r K .token, plan r K .rotation .1)
 
-      unused-next : ¬ Fddi (r .set) → movedOn s (r .set) (r .alloc) e .unused ≡ after .unused
+      unused-next : ¬ Fddi (r .set) → movedOn s (r .set) (r .alloc) e .course .unused ≡ after .unused
       unfolding movedOn
       unused-next n =
           let is = early-unused counter r K e C n in

@@ -97,7 +97,7 @@ pub record Promised : Type 0 where
   -- an FDDI log is judged by FDDI's steps
   pub late-log : LateLog
   -- the numbers that are compared at the record that stops an inspection differ, as its rule has it; the starts are 32-bit numbers, and F is at least 1
-  pub differ : (s : Inspection) (t : Set) (a : Alloc) (e : Entry) → s .rule ≡ 0 → s .start < 2 ^ 32 → e .start < 2 ^ 32 → 1 ≤ t .head .frame → inspected s t a e .rule ≢ 0
+  pub differ : (s : Inspection) (t : Set) (a : Alloc) (e : Entry) → s .rule ≡ 0 → s .course .start < 2 ^ 32 → e .start < 2 ^ 32 → 1 ≤ t .head .frame → inspected s t a e .rule ≢ 0
       → Differ (inspected s t a e .rule) (compared (inspected s t a e) t a e)
   -- each edition of timely-token goes by its own steps: there is a run of each that the other's do not allow
   pub editions : Editions

@@ -116,8 +116,13 @@ pub(crate) fn print(to: i32) -> bool {
         to,
         b"A text has lines `ttrt TTRT`, `mode M`, `frame F`, `grid G`, `station W C D P` or `station W C D P S`, and `visit STATION START LIMIT SYNC ASYNC`.\n",
     );
-    more(
+    let modes = more(
         lines,
+        to,
+        b"A mode is 2, FDDI, or 3, the 2002 edition of timely-token; without that line it is the 2003 edition.\n",
+    );
+    more(
+        modes,
         to,
         b"README.md says what the numbers of the refusals and the exit statuses mean.\n",
     )

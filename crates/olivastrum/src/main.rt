@@ -52,7 +52,7 @@ fn plan_sheet() -> Ending {
 
 // `version`: the version, here and nowhere else in the sources.
 fn version() -> Ending {
-    ending::answer(b"0.10.0\n", false)
+    ending::answer(b"0.10.1\n", false)
 }
 
 // `help`.

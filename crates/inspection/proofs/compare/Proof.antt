@@ -15,9 +15,9 @@ between-requires c κs = search needs
 
 -- the numbers by what `expect` gave are those of the definition
 asked : (c : tie.After-between)
-    → let args = c .before .before .args in
-    comparedBy (args .state .rule) (args .state) (c .before .expect .result) (args .entry) ≡ compared (args .state) (args .set) (args .alloc) (args .entry)
-asked c = let args = c .before .before .args in ap (λ (x : Expected). comparedBy (args .state .rule) (args .state) x (args .entry)) (c .before .expect .ensures)
+    → let args = c .before .before .before .args in
+    comparedBy (args .state .rule) (args .state) (c .before .before .expect .result) (args .entry) ≡ compared (args .state) (args .set) (args .alloc) (args .entry)
+asked c = let args = c .before .before .before .args in ap (λ (x : Expected). comparedBy (args .state .rule) (args .state) x (args .entry)) (c .before .before .expect .ensures)
 
 returns : tie.Need-returns
 returns c = sym (station-compared _ _ _ _ (c .match .keys1)) ∙ asked (c .before)

@@ -1,45 +1,16 @@
--- `expect` is right because each of its numbers is the definition's.
+-- `expect` is right because it asks with what the arrays have at the place of the token's station.
 use borrow.Author.Needs.{needs}
+use Rattle.inspection.proofs.RecordLaws.{asked-there}
 use Rattle.inspection.proofs.expect.Statement.{statement}
 use Rattle.inspection.proofs.expect.Tie as tie
 
-cast-p : tie.Need-cast-p
-cast-p c = search needs
-
-mul-between : tie.Need-mul-between
-mul-between c = search needs
-
-array-read-between : tie.Need-array-read-between
-array-read-between c = search needs
-
-between-requires : tie.Need-between-requires
-between-requires c κs = search needs
-
-start-due-requires : tie.Need-start-due-requires
-start-due-requires c κs = search needs
-
-limit-at-requires : tie.Need-limit-at-requires
-limit-at-requires c κs = search needs
-
-mul-t10 : tie.Need-mul-t10
-mul-t10 c = search needs
-
-array-read-t17 : tie.Need-array-read-t17
-array-read-t17 c = search needs
-
 returns : tie.Need-returns
-returns c = (cc)
+returns c =
+    let asked = c .before .before .before in
+    let args = asked .before .before .args in
+    asked-there (args .t1) (args .set) (args .t3) _ (asked .place .ensures) _ _ (c .due .ensures)
 
 pub expect-spec : {M : Type 1} → statement M
 expect-spec =
     tie.close
-    (tie.spec
-    cast-p
-    mul-between
-    array-read-between
-    between-requires
-    start-due-requires
-    limit-at-requires
-    mul-t10
-    array-read-t17
-    returns)
+    (tie.spec (λ c κs. search needs) (λ c. search needs) (λ c. search needs) (λ c. search needs) (λ c. search needs) (λ c κs. search needs) returns)

@@ -1,89 +1,94 @@
 -- `inspect_records` is right because the records that are left always lead to the whole inspection, and at each record the first broken rule is the first of those not yet tried.
 use Prim.Native.Nat.{_-_, _≤_}
 use mathlib.Core.Path.{_≡_, refl, sym, _∙_}
+use lib.ListN.{set}
 use native.Mathlib.Omega.{arith}
 use borrow.Author.Needs.{needs}
 use borrow.Author.Tests.{not-true, not-false}
 use Rattle.logs.specs.Reading.{handedFrom}
-use Rattle.inspection.specs.Rules.{rulesKept, firstFailed, brokenRule}
+use Rattle.inspection.specs.Rules.{expected, rulesKept, firstFailed, brokenRule}
 use Rattle.inspection.specs.Records.{movedOn, inspectionOf}
 use Rattle.inspection.proofs.RuleLaws.{from, failed-later, failed-here, failed-none}
-use Rattle.inspection.proofs.RecordLaws.{Going, going-first, going-next, going-stops, going-ends}
+use Rattle.inspection.proofs.RecordLaws.{asked-there, stored, Going, going-first, going-next, going-stops, going-ends}
 use Rattle.inspection.proofs.records.inspect_records.Statement.{statement}
 use Rattle.inspection.proofs.records.inspect_records.Tie as tie
 
 abbrev Inv-loop : tie.InvT-loop
-Inv-loop set alloc log first visits state₀ at left handed entry due rule₀ state rule =
+Inv-loop log first visits set alloc state₀ at left handed entry course p base share due rule₀ state rule =
     (state ≡ state₀) × (1 ≤ rule) × (rule ≤ 6) × (brokenRule due entry ≡ firstFailed rule (from (rulesKept due entry) rule))
 
 abbrev μ-loop : tie.MeasureT-loop
-μ-loop set alloc log first visits state₀ at left handed entry due rule₀ state rule = 6 - rule
+μ-loop log first visits set alloc state₀ at left handed entry course p base share due rule₀ state rule = 6 - rule
 
 abbrev Inv-records : tie.InvT-records
-Inv-records set alloc log first visits state₀ at₀ left₀ state at left = Going set alloc log (inspectionOf set alloc (handedFrom visits log first)) state at left
+Inv-records log first visits set alloc state₀ at₀ left₀ state at left = Going set alloc log (inspectionOf set alloc (handedFrom visits log first)) state at left
 
 abbrev μ-records : tie.MeasureT-records
-μ-records set alloc log first visits state₀ at₀ left₀ state at left = left
-
-begin-requires : tie.Need-begin-requires Inv-loop μ-loop Inv-records μ-records
-begin-requires c κs = search needs
+μ-records log first visits set alloc state₀ at₀ left₀ state at left = left
 
 records-holds : tie.Need-records-holds Inv-loop μ-loop Inv-records μ-records
 records-holds c = going-first _ _ _ _ _ _ _ (c .begin .ensures) refl
 
-log-entry-requires : tie.Need-log-entry-requires Inv-loop μ-loop Inv-records μ-records
-log-entry-requires c κs = search needs
-
-expect-requires : tie.Need-expect-requires Inv-loop μ-loop Inv-records μ-records
-expect-requires c κs = search needs
-
 loop-holds : tie.Need-loop-holds Inv-loop μ-loop Inv-records μ-records
 loop-holds c = (refl, omega arith, omega arith, refl)
 
-rule-kept-requires : tie.Need-rule-kept-requires Inv-loop μ-loop Inv-records μ-records
-rule-kept-requires c κs = search needs
+-- the record of a turn, and the inspection with which the turn began
+abbrev handing : tie.After-due Inv-loop μ-loop Inv-records μ-records → tie.After-log-entry Inv-loop μ-loop Inv-records μ-records
+handing c = c .before .before .before .before .before .before .before
 
-stopped-requires : tie.Need-stopped-requires Inv-loop μ-loop Inv-records μ-records
-stopped-requires c κs = search needs
-
-add-rule : tie.Need-add-rule Inv-loop μ-loop Inv-records μ-records
-add-rule c = search needs
-
-loop-less : tie.Need-loop-less Inv-loop μ-loop Inv-records μ-records
-loop-less c = search needs
+-- what it must say is asked of that inspection
+asked : (c : tie.After-due Inv-loop μ-loop Inv-records μ-records)
+    → let handed = handing c in
+    let turn = handed .before .before in
+    let args = turn .before .before .before .args in
+    c .due .result ≡ expected (turn .records .state) (args .t1) (args .t2) (handed .log-entry .result .entry .start)
+asked c =
+    let handed = handing c in
+    let turn = handed .before .before in
+    let args = turn .before .before .before .args in
+    asked-there (turn .records .state) (args .t1) (args .t2) _ (c .before .before .before .before .place .ensures) (handed .log-entry .result .entry .start) _ (c .due .ensures)
 
 loop-again : tie.Need-loop-again Inv-loop μ-loop Inv-records μ-records
 loop-again c =
     let loop = c .before .before .before in
     let inv = loop .loop .inv in
-    let tests = rulesKept (loop .before .expect .result) (loop .before .before .before .log-entry .result .entry) in
+    let tests = rulesKept (loop .before .due .result) (handing (loop .before) .log-entry .result .entry) in
     let later = failed-later tests (loop .loop .rule) (inv .1) (omega arith) (sym (c .before .rule-kept .ensures) ∙ not-false _ (c .if1 .left)) in
     (inv .0, omega arith, omega arith, inv .3 ∙ later)
 
-moved-on-requires : tie.Need-moved-on-requires Inv-loop μ-loop Inv-records μ-records
-moved-on-requires c κs = search needs
-
-sub-left : tie.Need-sub-left Inv-loop μ-loop Inv-records μ-records
-sub-left c = search needs
-
-records-less : tie.Need-records-less Inv-loop μ-loop Inv-records μ-records
-records-less c = search needs
-
 -- the visit moves on the inspection with which the turn began
-moved : (c : tie.After-moved-on Inv-loop μ-loop Inv-records μ-records)
-    → let turn = c .before .before .before .before .before .before in
-    let args = turn .before .before .before .before .args in
-    c .moved-on .result ≡ movedOn (turn .before .records .state) (args .set) (args .alloc) (c .before .before .before .before .before .log-entry .result .entry)
-moved c = c .moved-on .ensures ∙ rw (c .before .before .loop .inv .0)
+moved : (c : tie.After-wrapping-add-u64 Inv-loop μ-loop Inv-records μ-records)
+    → let based = c .before .before .before .before in
+    let loop = based .before .before .before .before in
+    let state = loop .loop .state in
+    let p = loop .before .before .before .before .before .place .result in
+    let handed = handing (loop .before) in
+    let turn = handed .before .before in
+    let args = turn .before .before .before .args in
+    let e = handed .log-entry .result .entry in
+    record {
+      base = set (state .base) p (based .base-after .result);
+      sent = set (state .sent) p (e .synchronous);
+      course = c .before .course-after .result;
+      visits = c .wrapping-add-u64 .result;
+      rule = state .rule;
+    } ≡ movedOn (turn .records .state) (args .t1) (args .t2) e
+moved c =
+    let based = c .before .before .before .before in
+    let leads = based .before .before in
+    let loop = leads .before .before in
+    let placed = loop .before .before .before .before .before in
+    stored _ _ _ _ (placed .place .ensures) _ _ (loop .loop .inv .0) (leads .lead-of .result) _ _ _ (leads .lead-of .ensures) (based .base-after .ensures)
+    (c .before .course-after .ensures) (c .wrapping-add-u64 .ensures)
 
 records-again : tie.Need-records-again Inv-loop μ-loop Inv-records μ-records
 records-again c =
-    let loop = c .before .before in
-    let asked = loop .before in
-    let handed = asked .before .before in
+    let tried = c .before .before .before .before .before .before .before in
+    let loop = tried .before in
+    let handed = handing (loop .before) in
     let turn = handed .before in
     let inv = loop .loop .inv in
-    going-next _ _ _ _ _ _ _ (turn .records-test .taken) (turn .before .records .inv) _ (handed .log-entry .ensures) _ (asked .expect .ensures) _ (moved c) (inv .3 ∙ failed-none _ _ (omega arith))
+    going-next _ _ _ _ _ _ _ (turn .records-test .taken) (turn .before .records .inv) _ (handed .log-entry .ensures) _ (asked (loop .before)) _ (moved c) (inv .3 ∙ failed-none _ _ (omega (arith, tried .loop-test .left, inv .2)))
 
 returns : tie.Need-returns Inv-loop μ-loop Inv-records μ-records
 returns c =
@@ -92,15 +97,14 @@ returns c =
 
 returns-2 : tie.Need-returns-2 Inv-loop μ-loop Inv-records μ-records
 returns-2 c =
-    let kept = c .before .before in
+    let kept = c .before in
     let loop = kept .before .before in
-    let asked = loop .before in
-    let handed = asked .before .before in
+    let handed = handing (loop .before) in
     let turn = handed .before in
     let inv = loop .loop .inv in
-    let broken = inv .3 ∙ failed-here _ _ (inv .1) (omega arith) (sym (kept .rule-kept .ensures) ∙ not-true _ (c .before .if1 .taken)) in
-    c .stopped .ensures ∙ rw (inv .0)
-    (going-stops _ _ _ _ _ _ _ (turn .records-test .taken) (turn .before .records .inv) _ (handed .log-entry .ensures) _ (asked .expect .ensures) _ (sym broken) (λ z. omega arith))
+    let broken = inv .3 ∙ failed-here _ _ (inv .1) (omega arith) (sym (kept .rule-kept .ensures) ∙ not-true _ (c .if1 .taken)) in
+    rw (inv .0)
+    (going-stops _ _ _ _ _ _ _ (turn .records-test .taken) (turn .before .records .inv) _ (handed .log-entry .ensures) _ (asked (loop .before)) _ (sym broken) (λ z. omega arith))
 
 pub inspect-records-spec : {M : Type 1} → statement M
 inspect-records-spec =
@@ -110,19 +114,34 @@ inspect-records-spec =
     μ-loop
     Inv-records
     μ-records
-    begin-requires
+    (λ c κs. search needs)
     records-holds
-    log-entry-requires
-    expect-requires
+    (λ c κs. search needs)
+    (λ c κs. search needs)
+    (λ c. search needs)
+    (λ c. search needs)
+    (λ c. search needs)
+    (λ c. search needs)
+    (λ c κs. search needs)
     loop-holds
-    rule-kept-requires
-    stopped-requires
-    add-rule
-    loop-less
+    (λ c κs. search needs)
+    (λ c. search needs)
+    (λ c. search needs)
     loop-again
-    moved-on-requires
-    sub-left
-    records-less
+    (λ c κs. search needs)
+    (λ c κs. search needs)
+    (λ c. search needs)
+    (λ c. search needs)
+    (λ c. search needs)
+    (λ c. search needs)
+    (λ c. search needs)
+    (λ c. search needs)
+    (λ c κs. search needs)
+    (λ c. search needs)
+    (λ c. search needs)
+    (λ c κs. search needs)
+    (λ c. search needs)
+    (λ c. search needs)
     records-again
     returns
     returns-2)
