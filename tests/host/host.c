@@ -350,12 +350,12 @@ static int worked_run(ring_t *ring)
 #define COUNTER 4294967246u
 
 /* Runs the ring and records it; a buffer that is a byte too short takes all but the last visit, and can still be ended. */
-static int recording(struct olivastrum_set set, struct olivastrum_alloc alloc, uint8_t *log)
+static int recording(struct olivastrum_set set, struct olivastrum_alloc alloc, uint32_t counter, uint8_t *log)
 {
     uint8_t shorter[LOG_BYTES - 1];
     ring_t ring = olivastrum_open_ring(set, alloc).ring;
-    struct olivastrum_recorder whole = olivastrum_begin_log(set, alloc, COUNTER, 0, log, LOG_BYTES);
-    struct olivastrum_recorder part = olivastrum_begin_log(set, alloc, COUNTER, 0, shorter, sizeof shorter);
+    struct olivastrum_recorder whole = olivastrum_begin_log(set, alloc, counter, 0, log, LOG_BYTES);
+    struct olivastrum_recorder part = olivastrum_begin_log(set, alloc, counter, 0, shorter, sizeof shorter);
     for (uint64_t i = 0; i < STATIONS; i++)
         CHECK(olivastrum_hand_in(&ring, message(i, 20, 0)) == 0);
     for (size_t k = 0; k < VISITS; k++) {
@@ -423,10 +423,17 @@ static int inspecting(uint8_t *log)
     return 1;
 }
 
+/* With a counter that shows 0 at the opening it is byte for byte the log that the program writes of the same calls. */
+static const uint8_t worked_log[] = {
+#include "worked_log.h"
+};
+
 static int logs(struct olivastrum_set set, struct olivastrum_alloc alloc)
 {
     uint8_t log[LOG_BYTES];
-    return recording(set, alloc, log) && read_back(&set, &alloc, log) && inspecting(log);
+    CHECK(recording(set, alloc, 0, log));
+    CHECK(sizeof worked_log == LOG_BYTES && memcmp(log, worked_log, LOG_BYTES) == 0);
+    return recording(set, alloc, COUNTER, log) && read_back(&set, &alloc, log) && inspecting(log);
 }
 
 /* ---- rings that no opening gives */
