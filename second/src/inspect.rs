@@ -165,8 +165,11 @@ impl Inspector {
         })?;
         let frame = self.plan.request.head.frame;
         unless(in_frames(asynchronous, limit, frame), Rule::Asynchronous, || {
-            let frames = format!("whole frames of one length up to {frame}, begun below {limit}");
-            format!("expected {frames}, found {asynchronous}")
+            let expected = match frame {
+                1 => format!("at most {limit}"),
+                _ => format!("whole frames of one length up to {frame}, begun below {limit}"),
+            };
+            format!("expected {expected}, found {asynchronous}")
         })
     }
 

@@ -1,8 +1,10 @@
 -- The lines of a finding: what stands in them by the rule, and what is printed of an inspection.
 use Prim.Native.Nat.{ℕ}
 use mathlib.Core.Path.{_≡_, refl, sym, _∙_}
+use mathlib.Core.Bool.{true, false, _||_}
 use mathlib.Core.List.{List, [], _∷_, _++_}
 use mathlib.Core.Logic.{_≢_}
+use lib.Dec.{eqb}
 use borrow.Author.Tests.{eq-eqb, ne-eqb}
 use Rattle.text.specs.Text.{newline, space, line, refusedLine}
 use Rattle.text.specs.TextLaws.{line-first, line-next, line-end, text-accepted, text-refused}
@@ -51,13 +53,13 @@ module _ (rule : ℕ) where
   unfolding aimOf
   limit-aim longest e = rw e refl
 
-  pub most-aim : (longest : ℕ) → rule ≡ 4 → mostPart ≡ aimOf rule longest
+  pub most-aim : (longest : ℕ) → rule ≢ 1 → rule ≢ 2 → rule ≢ 3 → (eqb rule 4 || eqb longest 1) ≡ true → mostPart ≡ aimOf rule longest
   unfolding aimOf
-  most-aim longest e = rw e refl
+  most-aim longest a b c e = rw (ne-eqb rule 1 a, ne-eqb rule 2 b, ne-eqb rule 3 c, e) refl
 
-  pub frames-aim : (longest : ℕ) → rule ≢ 1 → rule ≢ 2 → rule ≢ 3 → rule ≢ 4 → framesAim longest ≡ aimOf rule longest
+  pub frames-aim : (longest : ℕ) → rule ≢ 1 → rule ≢ 2 → rule ≢ 3 → (eqb rule 4 || eqb longest 1) ≡ false → framesAim longest ≡ aimOf rule longest
   unfolding aimOf
-  frames-aim longest a b c d = rw (ne-eqb rule 1 a, ne-eqb rule 2 b, ne-eqb rule 3 c, ne-eqb rule 4 d) refl
+  frames-aim longest a b c e = rw (ne-eqb rule 1 a, ne-eqb rule 2 b, ne-eqb rule 3 c, e) refl
 
   pub no-unit : rule ≢ 2 → [] ≡ unitOf rule
   unfolding unitOf

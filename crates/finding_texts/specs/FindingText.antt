@@ -1,6 +1,6 @@
 -- What `inspect` prints of a log: `accepted N`, or `record K RULE` and a line for people, or `refused N`.
 use Prim.Native.Nat.{ℕ}
-use mathlib.Core.Bool.{Bool, cond, _&&_}
+use mathlib.Core.Bool.{Bool, cond, _&&_, _||_}
 use mathlib.Core.List.{List, [], _∷_, _++_}
 use lib.Dec.{eqb}
 use Rattle.text.specs.Text.{newline, space, decimalOf, line, textOr}
@@ -97,13 +97,13 @@ beforePart = 32 ∷ 114 ∷ 101 ∷ 99 ∷ 111 ∷ 114 ∷ 100 ∷ 32 ∷ 98 ∷
 abbrev pub framesAim : ℕ → List ℕ
 framesAim longest = ((wholePart ++ lengthPart) ++ (space ∷ decimalOf longest)) ++ begunPart
 
--- what is expected, by the rule: a station; a number of ticks; a limit; at most S; whole frames begun below the limit
+-- what is expected, by the rule: a station; a number of ticks; a limit; at most S; at most the limit, or with F above 1 whole frames begun below it
 unfoldable pub aimOf : ℕ → ℕ → List ℕ
 aimOf rule longest =
     cond (eqb rule 1) (space ∷ stationWord)
     (cond (eqb rule 2) []
     (cond (eqb rule 3) limitPart
-    (cond (eqb rule 4) mostPart (framesAim longest))))
+    (cond (eqb rule 4 || eqb longest 1) mostPart (framesAim longest))))
 
 -- a start is counted in ticks after the record before
 unfoldable pub unitOf : ℕ → List ℕ

@@ -78,7 +78,8 @@ fn put_aim(page: &mut [u8], at: usize, rule: u8, longest: u32) -> usize
     if rule == 3 {
         return text::put_short(page, at, b" limit");
     }
-    if rule == 4 {
+    let most = (rule == 4) | (longest == 1);
+    if most {
         return text::put_short(page, at, b" at most");
     }
     put_frames(page, at, longest)

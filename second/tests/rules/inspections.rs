@@ -64,13 +64,13 @@ fn each_rule_in_words() {
             2,
             [2, 60, 0, 20, 0],
             [2, 60, 0, 20, 1],
-            "asynchronous\nexpected whole frames of one length up to 1, begun below 0, found 1",
+            "asynchronous\nexpected at most 0, found 1",
         ),
         (
             0,
             [0, 0, 18, 20, 18],
             [0, 0, 18, 20, 19],
-            "asynchronous\nexpected whole frames of one length up to 1, begun below 18, found 19",
+            "asynchronous\nexpected at most 18, found 19",
         ),
     ];
     for (index, was, is, words) in rows {

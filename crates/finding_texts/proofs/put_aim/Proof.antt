@@ -25,7 +25,10 @@ returns-4 : tie.Need-returns-4
 returns-4 c =
     let called = c .before .before in
     let here = called .before .before .before in
-    put-as (called .put-short3 .ensures .put (omega (arith, here .before .before .before .before .before .pre)) (omega arith)) (most-aim _ _ (here .if4 .taken)) (omega arith)
+    let third = here .before in
+    let second = third .before in
+    put-as (called .put-short3 .ensures .put (omega (arith, second .before .before .before .pre)) (omega arith))
+    (most-aim _ _ (second .before .if1 .left) (second .if2 .left) (third .if3 .left) (here .if4 .taken)) (omega arith)
 
 returns-5 : tie.Need-returns-5
 returns-5 c =
