@@ -494,6 +494,26 @@ static int show_rotations(const struct job *first)
     return 1;
 }
 
+/* Opening and a lent visit at 128 stations, in each mode, without a grid and on one. */
+static int show_grids(const struct job *first)
+{
+    static const uint32_t grids[] = {1, 8};
+    printf("\nmode, grid               proved ns   plain C ns   ratio (quartiles)\n");
+    for (uint32_t mode = OLIVASTRUM_TIMELY; mode <= OLIVASTRUM_EARLIER; mode++)
+        for (const struct job *job = first; job < first + 2; job++)
+            for (size_t k = 0; k < sizeof grids / sizeof *grids; k++) {
+                set_t set = stations(OLIVASTRUM_MOST_STATIONS, mode, 1);
+                set.head.grid = grids[k];
+                prepare(set);
+                struct measured m = measure(job);
+                if (!none_refused())
+                    return 0;
+                printf("%u, %u ", mode, grids[k]);
+                show(job->name, m, "");
+            }
+    return 1;
+}
+
 int main(void)
 {
     static const uint32_t counts[] = {8, 16, 32, 64, 128};
@@ -535,5 +555,5 @@ int main(void)
             printf("%8.0f", all[j][k].proved);
         printf("   %10.1f %32.1f\n", all[j][LAST].proved / all[j][0].proved, all[j][LAST].plain / all[j][0].plain);
     }
-    return !show_rotations(&jobs[2]);
+    return !show_rotations(&jobs[2]) || !show_grids(&jobs[3]);
 }

@@ -10,10 +10,12 @@ use borrow.Author.Tests.{leb-true, leb-false, le-leb, lt-leb, eq-eqb, ne-eqb}
 use lib.ListN.{length}
 use Rattle.units.specs.Places.{at, sumBelow}
 use Rattle.units.specs.PlaceLaws.{zero-at, sum-mono, sum-part, sum-same, fill-length, fill-inside, fill-outside}
+use Rattle.units.specs.Vectors.{TokenKept}
+use Rattle.units.specs.VectorLaws.{within-ttrt}
 use Rattle.units.specs.SmallLaws.{below-or-not}
 use Rattle.units.specs.JudgingLaws.{true-or-false}
-use Rattle.units.specs.Grid.{MultipleOf}
-use Rattle.fddi.specs.Rules.{stations, rest, lost, others, timeAt, tokenFits, MeetsFddi}
+use Rattle.units.specs.Grid.{AllOnGrid}
+use Rattle.fddi.specs.Rules.{stations, rest, others, timeAt, termsOf, tokenFits, MeetsFddi}
 use Rattle.fddi.specs.Climb.{holds, rotationsAt, moreAt, nextAt, heldAt, zeros, none, sumOf, after, climbFrom, leastPlan}
 use Rattle.fddi.specs.Answer.{IsLeast}
 use Rattle.fddi.specs.declared.Load.{Load}
@@ -48,35 +50,31 @@ others-mono n f g i l h =
 
 module _ (l : Load) where
   -- the rule at station i of a vector, put another way
-  pub rule-holds : (s : ℕ → ℕ) (i : ℕ) → i < stations l → (at (l .c) i ≤ timeAt l s i) ↔ Holds (rotationsAt l i) (at (l .c) i) (moreAt l (sumBelow (stations l) s + lost l) i) (s i)
+  pub rule-holds : (s : ℕ → ℕ) (i : ℕ) → i < stations l → (at (l .c) i ≤ timeAt l s i) ↔ Holds (rotationsAt l i) (at (l .c) i) (moreAt l (sumBelow (stations l) s + l .lost) i) (s i)
   rule-holds s i b =
-      let e : sumBelow (stations l) s + lost l ≡ lost l + others (stations l) s i + s i = omega (arith, others-own (stations l) s i b) in
-      rw e (time-holds (rotationsAt l i) (rest (l .ttrt) (at (l .d) i)) (lost l + others (stations l) s i) (at (l .c) i) (s i))
-
-  -- no S of a plan is above TTRT
-  pub within-ttrt : (s : ℕ → ℕ) → sumBelow (stations l) s + lost l ≤ l .ttrt → (i : ℕ) → i < stations l → s i ≤ l .ttrt
-  within-ttrt s h i b = omega (arith, sum-part (stations l) s i b)
+      let e : sumBelow (stations l) s + l .lost ≡ l .lost + others (stations l) s i + s i = omega (arith, others-own (stations l) s i b) in
+      rw e (time-holds (rotationsAt l i) (rest (l .ttrt) (at (l .d) i)) (l .lost + others (stations l) s i) (at (l .c) i) (s i))
 
   -- the next S is at most that of every vector that meets the rules and is nowhere smaller
-  pub next-in-plans : (s : List ℕ) (v : ℕ → ℕ) → MeetsFddi l v → ((j : ℕ) → j < stations l → at s j ≤ v j) → (i : ℕ) → i < stations l → nextAt l (sumOf l s + lost l) s i ≤ v i
+  pub next-in-plans : (s : List ℕ) (v : ℕ → ℕ) → MeetsFddi l v → ((j : ℕ) → j < stations l → at s j ≤ v j) → (i : ℕ) → i < stations l → nextAt l (sumOf l s + l .lost) s i ≤ v i
   next-in-plans s v m h i b =
       let n = stations l in
       let q = rotationsAt l i in
-      let away = lost l + others n (at s) i in
-      let e : sumOf l s + lost l ≡ lost l + others (stations l) (at s) i + at s i = omega (arith, others-own (stations l) (at s) i b) in
-      let enough = time-holds q (rest (l .ttrt) (at (l .d) i)) (lost l + others n v i) (at (l .c) i) (v i) .0 (m .deadlines i b) in
-      let wider : lost l + others (stations l) (at s) i ≤ lost l + others (stations l) v i = omega (arith, others-mono (stations l) (at s) v i b h) in
+      let away = l .lost + others n (at s) i in
+      let e : sumOf l s + l .lost ≡ l .lost + others (stations l) (at s) i + at s i = omega (arith, others-own (stations l) (at s) i b) in
+      let enough = time-holds q (rest (l .ttrt) (at (l .d) i)) (l .lost + others n v i) (at (l .c) i) (v i) .0 (m .deadlines i b) in
+      let wider : l .lost + others (stations l) (at s) i ≤ l .lost + others (stations l) v i = omega (arith, others-mono (stations l) (at s) v i b h) in
       rw e
-      (next-below (l .ttrt) (l .grid) q (rest (l .ttrt) (at (l .d) i)) (at (l .c) i) away (lost l + others n v i) (at s i) (v i) wider (h i b) (m .grid i b)
-      (within-ttrt v (m .token) i b) enough)
+      (next-below (l .ttrt) (l .grid) q (rest (l .ttrt) (at (l .d) i)) (at (l .c) i) away (l .lost + others n v i) (at s i) (v i) wider (h i b) (m .grid i b)
+      (within-ttrt (termsOf l) v (m .token) i b) enough)
 
 -- ---- what the climb keeps
 
 pub record Climbing (l : Load) (s : List ℕ) : Type 0 where
   pub places : length s ≡ 128
   pub past : (i : ℕ) → stations l ≤ i → at s i ≡ 0
-  pub grid : (i : ℕ) → i < stations l → MultipleOf (l .grid) (at s i)
-  pub token : sumOf l s + lost l ≤ l .ttrt
+  pub grid : AllOnGrid (l .grid) (stations l) (at s)
+  pub token : TokenKept (l .ttrt) (l .lost) (stations l) (at s)
   -- no S is above that of any vector that meets the rules
   pub below : (v : ℕ → ℕ) → MeetsFddi l v → (i : ℕ) → i < stations l → at s i ≤ v i
 
@@ -96,58 +94,61 @@ module _ (l : Load) where
 
   module _ (s : List ℕ) (now : Climbing l s) where
     -- S never falls
-    up-at : (i : ℕ) → i < stations l → at s i ≤ nextAt l (sumOf l s + lost l) s i
-    up-at i b = next-up (l .ttrt) (l .grid) (rotationsAt l i) (at (l .c) i) (moreAt l (sumOf l s + lost l) i) (at s i) (within-ttrt l (at s) (now .token) i b)
+    up-at : (i : ℕ) → i < stations l → at s i ≤ nextAt l (sumOf l s + l .lost) s i
+    up-at i b = next-up (l .ttrt) (l .grid) (rotationsAt l i) (at (l .c) i) (moreAt l (sumOf l s + l .lost) i) (at s i) (within-ttrt (termsOf l) (at s) (now .token) i b)
 
     pub after-up : sumOf l s ≤ after l s .sum
-    after-up = sum-mono (stations l) (at s) (nextAt l (sumOf l s + lost l) s) up-at
+    after-up = sum-mono (stations l) (at s) (nextAt l (sumOf l s + l .lost) s) up-at
 
     -- the sum after a round is at most that of every vector that meets the rules
     pub after-below : (v : ℕ → ℕ) → MeetsFddi l v → after l s .sum ≤ sumBelow (stations l) v
-    after-below v m = sum-mono (stations l) (nextAt l (sumOf l s + lost l) s) v (next-in-plans l s v m (now .below v m))
+    after-below v m = sum-mono (stations l) (nextAt l (sumOf l s + l .lost) s) v (next-in-plans l s v m (now .below v m))
 
     -- where the sum stays, every rule holds
-    stays-holds : after l s .sum ≡ sumOf l s → (i : ℕ) → i < stations l → holds (rotationsAt l i) (at (l .c) i) (moreAt l (sumOf l s + lost l) i) (at s i) ≡ true
+    stays-holds : after l s .sum ≡ sumOf l s → (i : ℕ) → i < stations l → holds (rotationsAt l i) (at (l .c) i) (moreAt l (sumOf l s + l .lost) i) (at s i) ≡ true
     stays-holds stays i b =
         ⊎-elim (λ h. h)
         (λ h.
-        let above = next-above (l .ttrt) (l .grid) (rotationsAt l i) (at (l .c) i) (moreAt l (sumOf l s + lost l) i) (at s i) h (within-ttrt l (at s) (now .token) i b) in
-        absurd (omega (arith, sum-strict (stations l) (at s) (nextAt l (sumOf l s + lost l) s) up-at i b above)))
-        (true-or-false (holds (rotationsAt l i) (at (l .c) i) (moreAt l (sumOf l s + lost l) i) (at s i)))
+        let above = next-above (l .ttrt) (l .grid) (rotationsAt l i) (at (l .c) i) (moreAt l (sumOf l s + l .lost) i) (at s i) h (within-ttrt (termsOf l) (at s) (now .token) i b) in
+        absurd (omega (arith, sum-strict (stations l) (at s) (nextAt l (sumOf l s + l .lost) s) up-at i b above)))
+        (true-or-false (holds (rotationsAt l i) (at (l .c) i) (moreAt l (sumOf l s + l .lost) i) (at s i)))
 
     pub stays-least : after l s .sum ≡ sumOf l s → IsLeast l s
     stays-least stays =
         record {
-          meets =
-              record {
-                deadlines = λ i b. rule-holds l (at s) i b .1 (decides-holds _ _ _ _ .0 (stays-holds stays i b));
-                token = now .token;
-                grid = now .grid;
-              };
-          least = now .below;
           places = now .places;
+          least =
+              record {
+                meets =
+                    record {
+                      deadlines = λ i b. rule-holds l (at s) i b .1 (decides-holds _ _ _ _ .0 (stays-holds stays i b));
+                      token = now .token;
+                      grid = now .grid;
+                    };
+                least = now .below;
+              };
           past = now .past;
         }
 
-    module _ (fits : after l s .sum + lost l ≤ l .ttrt) where
+    module _ (fits : after l s .sum + l .lost ≤ l .ttrt) where
       -- within the token rule no S is held at TTRT
-      held-at : (i : ℕ) → i < stations l → at (after l s .s) i ≡ nextAt l (sumOf l s + lost l) s i
+      held-at : (i : ℕ) → i < stations l → at (after l s .s) i ≡ nextAt l (sumOf l s + l .lost) s i
       held-at i b =
-          fill-inside (stations l) (heldAt l (sumOf l s + lost l) s) zeros i b (omega arith) ∙
-          omega (arith, sum-part (stations l) (nextAt l (sumOf l s + lost l) s) i b)
+          fill-inside (stations l) (heldAt l (sumOf l s + l .lost) s) zeros i b (omega arith) ∙
+          omega (arith, sum-part (stations l) (nextAt l (sumOf l s + l .lost) s) i b)
 
       pub after-sum : sumOf l (after l s .s) ≡ after l s .sum
-      after-sum = sum-same (stations l) (at (after l s .s)) (nextAt l (sumOf l s + lost l) s) held-at
+      after-sum = sum-same (stations l) (at (after l s .s)) (nextAt l (sumOf l s + l .lost) s) held-at
 
       pub after-climbing : Climbing l (after l s .s)
       after-climbing =
           record {
-            places = fill-length (stations l) (heldAt l (sumOf l s + lost l) s) zeros;
-            past = λ i b. fill-outside (stations l) (heldAt l (sumOf l s + lost l) s) zeros i b ∙ zero-at i;
+            places = fill-length (stations l) (heldAt l (sumOf l s + l .lost) s) zeros;
+            past = λ i b. fill-outside (stations l) (heldAt l (sumOf l s + l .lost) s) zeros i b ∙ zero-at i;
             grid = λ i b.
-                let small : nextAt l (sumOf l s + lost l) s i ≤ l .ttrt = omega (arith, sum-part (stations l) (nextAt l (sumOf l s + lost l) s) i b) in
+                let small : nextAt l (sumOf l s + l .lost) s i ≤ l .ttrt = omega (arith, sum-part (stations l) (nextAt l (sumOf l s + l .lost) s) i b) in
                 rw (held-at i b)
-                (next-multiple (l .ttrt) (l .grid) (rotationsAt l i) (at (l .c) i) (moreAt l (sumOf l s + lost l) i) (at s i) (now .grid i b) small);
+                (next-multiple (l .ttrt) (l .grid) (rotationsAt l i) (at (l .c) i) (moreAt l (sumOf l s + l .lost) i) (at s i) (now .grid i b) small);
             token = rw after-sum fits;
             below = λ v m i b. rw (held-at i b) (next-in-plans l s v m (now .below v m) i b);
           }
@@ -155,17 +156,17 @@ module _ (l : Load) where
 -- ---- all rounds, test by test
 
 module _ (k : ℕ) (l : Load) (s : List ℕ) where
-  pub climb-breaks : l .ttrt < after l s .sum + lost l → climbFrom (suc k) l s ≡ none
+  pub climb-breaks : l .ttrt < after l s .sum + l .lost → climbFrom (suc k) l s ≡ none
   unfolding climbFrom
-  climb-breaks h = rw (lt-leb (after l s .sum + lost l) (l .ttrt) h)
+  climb-breaks h = rw (lt-leb (after l s .sum + l .lost) (l .ttrt) h)
 
-  pub climb-stays : after l s .sum + lost l ≤ l .ttrt → after l s .sum ≡ sumOf l s → climbFrom (suc k) l s ≡ record { s = s; found = true }
+  pub climb-stays : after l s .sum + l .lost ≤ l .ttrt → after l s .sum ≡ sumOf l s → climbFrom (suc k) l s ≡ record { s = s; found = true }
   unfolding climbFrom
-  climb-stays h e = rw (le-leb (after l s .sum + lost l) (l .ttrt) h, eq-eqb (after l s .sum) (sumOf l s) e)
+  climb-stays h e = rw (le-leb (after l s .sum + l .lost) (l .ttrt) h, eq-eqb (after l s .sum) (sumOf l s) e)
 
-  pub climb-rises : after l s .sum + lost l ≤ l .ttrt → (after l s .sum ≡ sumOf l s → ⊥) → climbFrom (suc k) l s ≡ climbFrom k l (after l s .s)
+  pub climb-rises : after l s .sum + l .lost ≤ l .ttrt → (after l s .sum ≡ sumOf l s → ⊥) → climbFrom (suc k) l s ≡ climbFrom k l (after l s .s)
   unfolding climbFrom
-  climb-rises h e = rw (le-leb (after l s .sum + lost l) (l .ttrt) h, ne-eqb (after l s .sum) (sumOf l s) e)
+  climb-rises h e = rw (le-leb (after l s .sum + l .lost) (l .ttrt) h, ne-eqb (after l s .sum) (sumOf l s) e)
 
 -- ---- the climb is right
 
@@ -183,15 +184,15 @@ equal-or-not a b =
 pub climb-right : (k : ℕ) (l : Load) (s : List ℕ) → Climbing l s → l .ttrt < k + sumOf l s → Right l (climbFrom k l s)
 climb-right zero l s now enough = absurd (omega (arith, now .token))
 climb-right (suc k) l s now enough =
-    ⊎-elim (λ (breaks : l .ttrt < after l s .sum + lost l).
+    ⊎-elim (λ (breaks : l .ttrt < after l s .sum + l .lost).
     rw (climb-breaks k l s breaks) (inr (refl, λ v m. omega (arith, after-below l s now v m, m .token))))
-    (λ (fits : after l s .sum + lost l ≤ l .ttrt).
+    (λ (fits : after l s .sum + l .lost ≤ l .ttrt).
     ⊎-elim (λ (stays : after l s .sum ≡ sumOf l s). rw (climb-stays k l s fits stays) (inl (refl, stays-least l s now stays)))
     (λ (rises : after l s .sum ≡ sumOf l s → ⊥).
     rw (climb-rises k l s fits rises)
     (climb-right k l (after l s .s) (after-climbing l s now fits) (omega (arith, after-sum l s now fits, after-up l s now))))
     (equal-or-not (after l s .sum) (sumOf l s)))
-    (below-or-not (l .ttrt) (after l s .sum + lost l))
+    (below-or-not (l .ttrt) (after l s .sum + l .lost))
 
 -- no vector sums to less than zeros
 zero-below : (l : Load) (v : ℕ → ℕ) → sumOf l zeros ≤ sumBelow (stations l) v
@@ -208,7 +209,7 @@ pub plan-right : (l : Load) → Right l (leastPlan l)
 plan-right l =
     ⊎-elim (λ h. rw (plan-starts l h) (climb-right (l .ttrt + 1) l zeros (climbing-start l h) (omega arith)))
     (λ h.
-    let breaks : l .ttrt < sumOf l zeros + lost l = leb-false _ _ h in
+    let breaks : l .ttrt < sumOf l zeros + l .lost = leb-false _ _ h in
     rw (plan-none l h) (inr (refl, λ v m. omega (arith, zero-below l v, m .token))))
     (true-or-false (tokenFits l (at zeros)))
 
@@ -239,13 +240,13 @@ module _ (l : Load) (s : List ℕ) (sum : ℕ) (u : Underway l s sum) where
   plan-from : leastPlan l ≡ climbFrom (suc (one-left .0)) l s
   plan-from = u .plan ∙ ap (λ (k : ℕ). climbFrom k l s) (one-left .1)
 
-  pub underway-breaks : l .ttrt < after l s .sum + lost l → leastPlan l ≡ none
+  pub underway-breaks : l .ttrt < after l s .sum + l .lost → leastPlan l ≡ none
   underway-breaks h = plan-from ∙ climb-breaks (one-left .0) l s h
 
-  pub underway-stays : after l s .sum + lost l ≤ l .ttrt → after l s .sum ≡ sum → leastPlan l ≡ record { s = s; found = true }
+  pub underway-stays : after l s .sum + l .lost ≤ l .ttrt → after l s .sum ≡ sum → leastPlan l ≡ record { s = s; found = true }
   underway-stays h e = plan-from ∙ climb-stays (one-left .0) l s h (e ∙ u .is)
 
-  pub underway-rises : after l s .sum + lost l ≤ l .ttrt → (after l s .sum ≡ sum → ⊥) → Underway l (after l s .s) (after l s .sum)
+  pub underway-rises : after l s .sum + l .lost ≤ l .ttrt → (after l s .sum ≡ sum → ⊥) → Underway l (after l s .s) (after l s .sum)
   underway-rises h e =
       let k = one-left in
       record {

@@ -2,7 +2,6 @@
 use Prim.Native.Nat.{ℕ, _*_, _/_, _≤_, _<_, _^_}
 use mathlib.Core.Path.{_≡_}
 use mathlib.Core.List.{List}
-use Rattle.fddi.specs.Rules.{lost}
 use Rattle.fddi.specs.Climb.{wanted, next, rotationsOf, raised}
 use Rattle.fddi.specs.declared.Load.{Load}
 use Rattle.fddi.specs.declared.climb.Raised.{Raised}
@@ -12,11 +11,6 @@ pub record Whole (a b r : ℕ) : Type 0 where
   pub is : r ≡ a / b
   pub small : r ≤ a
   pub within : r * b ≤ a
-
--- r is the time lost
-pub record Lost (l : Load) (r : ℕ) : Type 0 where
-  pub is : r ≡ lost l
-  pub small : r < 2 ^ 33
 
 -- the numbers of a station are small enough to raise it
 pub record Raisable (ttrt q more : ℕ) : Type 0 where

@@ -3,6 +3,7 @@ use Prim.Native.Nat.{ℕ, _-_}
 use mathlib.Core.Bool.{true}
 use mathlib.Core.List.{List, [], _∷_, _++_}
 use lib.ListN.{length, replicate}
+use Rattle.units.specs.Vectors.{lostTime}
 use Rattle.fddi.specs.Climb.{none}
 use Rattle.fddi.specs.Answer.{Fitting}
 use Rattle.fddi.specs.declared.Load.{Load}
@@ -15,7 +16,7 @@ places xs = xs ++ replicate (128 - length xs) 0
 -- TTRT, τ, F and the grid, and station by station C and D
 abbrev pub loadOf : ℕ → ℕ → ℕ → ℕ → List ℕ → List ℕ → Load
 loadOf ttrt tau frame grid c d =
-    record { n = length c; ttrt = ttrt; frame = frame; grid = grid; tau = tau; c = places c; d = places d }
+    record { n = length c; ttrt = ttrt; lost = lostTime tau frame; grid = grid; c = places c; d = places d }
 
 pub record Case : Type 0 where
   pub load : Load

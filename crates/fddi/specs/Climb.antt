@@ -6,7 +6,8 @@ use lib.Dec.{leb, ltb, eqb}
 use Rattle.units.specs.Grid.{stepped}
 use Rattle.units.specs.Places.{at, sumBelow, fill}
 pub use Rattle.units.specs.Places.{zeros}
-use Rattle.fddi.specs.Rules.{stations, wholeRotations, lost, tokenFits}
+use Rattle.units.specs.Vectors.{wholeRotations}
+use Rattle.fddi.specs.Rules.{stations, tokenFits}
 use Rattle.fddi.specs.declared.Load.{Load}
 use Rattle.fddi.specs.declared.Found.{Found}
 use Rattle.fddi.specs.declared.climb.Raised.{Raised}
@@ -81,13 +82,13 @@ abbrev pub sumOf : Load → List ℕ → ℕ
 sumOf l s = sumBelow (stations l) (at s)
 
 abbrev pub after : Load → List ℕ → Raised
-after l s = raised l (sumOf l s + lost l) s
+after l s = raised l (sumOf l s + l .lost) s
 
 -- the climb from a vector, with this many rounds left
 unfoldable pub climbFrom : ℕ → Load → List ℕ → Found
 climbFrom zero l s = none
 climbFrom (suc k) l s =
-    cond (leb (after l s .sum + lost l) (l .ttrt))
+    cond (leb (after l s .sum + l .lost) (l .ttrt))
     (cond (eqb (after l s .sum) (sumOf l s)) (record { s = s; found = true }) (climbFrom k l (after l s .s)))
     none
 

@@ -5,7 +5,8 @@ use mathlib.Core.Bool.{true, false}
 use mathlib.Core.Logic.{_⊎_, _↔_}
 use Rattle.units.specs.Places.{at, sumBelow}
 use Rattle.units.specs.JudgingLaws.{Decides}
-use Rattle.fddi.specs.Rules.{stations, wholeRotations, rest, leastTime, lost, others, timeAt, MeetsFddi, tokenFits, rulesKept, SameLoad}
+use Rattle.units.specs.Vectors.{wholeRotations, SameTerms, rulesKept}
+use Rattle.fddi.specs.Rules.{stations, rest, leastTime, others, timeAt, termsOf, MeetsFddi, tokenFits, SameLoad}
 use Rattle.fddi.specs.Climb.{holds, rotationsAt, moreAt, zeros, none, climbFrom, leastPlan}
 use Rattle.fddi.specs.Answer.{IsLeast, Fitting}
 use Rattle.fddi.specs.declared.Load.{Load}
@@ -30,12 +31,10 @@ pub record Promised : Type 0 where
       → (at (l .c) i ≤ timeAt l s i) ↔
       ((at (l .c) i ≤ rotationsAt l i * s i)
       × ((at (l .c) i ≤ (rotationsAt l i - 1) * s i)
-      ⊎ (at (l .c) i + (sumBelow (stations l) s + lost l) ≤ rotationsAt l i * s i + rest (l .ttrt) (at (l .d) i))))
+      ⊎ (at (l .c) i + (sumBelow (stations l) s + l .lost) ≤ rotationsAt l i * s i + rest (l .ttrt) (at (l .d) i))))
   -- the test by products that the climb makes decides it
   pub another-way : (l : Load) (s : ℕ → ℕ) (i : ℕ) → i < stations l
-      → Decides (holds (rotationsAt l i) (at (l .c) i) (moreAt l (sumBelow (stations l) s + lost l) i) (s i)) (at (l .c) i ≤ timeAt l s i)
-  -- the test of a given vector decides the rules
-  pub test : (l : Load) (s : ℕ → ℕ) → Decides (rulesKept l s) (MeetsFddi l s)
+      → Decides (holds (rotationsAt l i) (at (l .c) i) (moreAt l (sumBelow (stations l) s + l .lost) i) (s i)) (at (l .c) i ≤ timeAt l s i)
   -- a plan that is found meets the rules, and is at most every vector that does, at every station
   pub found : (l : Load) → leastPlan l .found ≡ true → IsLeast l (leastPlan l .s)
   -- none is found exactly if no vector whatever meets the rules
@@ -43,12 +42,12 @@ pub record Promised : Type 0 where
   -- then the answer is zeros
   pub blank : (l : Load) → leastPlan l .found ≡ false → leastPlan l ≡ none
   -- a plan that is found passes the test
-  pub kept : (l : Load) → leastPlan l .found ≡ true → rulesKept l (at (leastPlan l .s)) ≡ true
+  pub kept : (l : Load) → leastPlan l .found ≡ true → rulesKept (termsOf l) (at (leastPlan l .s)) ≡ true
   -- 02's sentences allow exactly one answer for each load, and it is planning's
   pub one-answer : (l : Load) (a : Found) → Fitting l a ↔ (a ≡ leastPlan l)
   -- any number of rounds above TTRT leads to the same answer: TTRT + 1 are enough
   pub enough : (l : Load) (k : ℕ) → tokenFits l (at zeros) ≡ true → l .ttrt < k → climbFrom k l zeros ≡ leastPlan l
   -- places from N on are never looked at, in planning
   pub first-places : (a b : Load) → SameLoad a b → leastPlan a ≡ leastPlan b
-  -- and in the test of a given vector
-  pub first-places-test : (a b : Load) (s v : ℕ → ℕ) → SameLoad a b → ((i : ℕ) → i < stations a → s i ≡ v i) → rulesKept a s ≡ rulesKept b v
+  -- and in what a vector is held to: so neither in the rules nor in their test
+  pub first-places-terms : (a b : Load) → SameLoad a b → SameTerms (termsOf a) (termsOf b)

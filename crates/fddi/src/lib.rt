@@ -5,17 +5,16 @@ mod shares;
 ghost use mathlib.Core.Path.{_≡_};
 ghost use Prim.Native.Nat.{_≤_};
 ghost use Rattle.units.specs.Places.{at};
-ghost use Rattle.fddi.specs.Rules.{leastTime, lost, deadlinesFit, tokenFits, rulesKept};
+ghost use Rattle.units.specs.Vectors.{deadlinesKept, rulesKept};
+ghost use Rattle.fddi.specs.Rules.{leastTime, termsOf, tokenFits};
 ghost use Rattle.fddi.specs.Climb.{none, leastPlan};
-ghost use Rattle.fddi.specs.Bounds.{Lost};
 
-// What a plan is made for: TTRT, F, the grid, τ, and C and D at each station. Only the first N places are ever looked at.
+// What a plan is made for: TTRT, what no station may plan with (τ and F − 1), the grid, and C and D at each station. Only the first N places are ever looked at.
 pub struct Load {
     pub n: u32,
     pub ttrt: u32,
-    pub frame: u32,
     pub grid: u32,
-    pub tau: u64,
+    pub lost: u64,
     pub c: [u32; 128],
     pub d: [u32; 128],
 }
@@ -41,31 +40,19 @@ pub fn least_time(ttrt: u32, d: u32, away: u64, s: u32) -> u64
     (q - 1) * own + units::least(units::room(rest, away), own)
 }
 
-// τ and F − 1: what no station may plan with.
-fn lost(l: Load) -> u64
-    requires { ⌜ l .tau ≤ l .ttrt ⌝ }
-    ensures { λ r. ⌜ Lost l r ⌝ }
-{
-    l.tau + units::room(units::wide(l.frame), 1)
-}
-
 // The token rule holds.
 fn token_fits(l: Load, s: [u32; 128]) -> bool
     ensures { λ r. ⌜ r ≡ tokenFits l (at s) ⌝ }
 {
-    if units::wide(l.ttrt) < l.tau {
-        return false;
-    }
-    let sum = units::sum_first(s, l.n);
-    sum + lost(l) <= units::wide(l.ttrt)
+    units::token_kept(l.ttrt, l.lost, l.n, s)
 }
 
 // The deadline rule holds at every station.
 fn deadlines_fit(l: Load, s: [u32; 128]) -> bool
-    requires { ⌜ l .tau ≤ l .ttrt ⌝ }
-    ensures { λ r. ⌜ r ≡ deadlinesFit l (at s) ⌝ }
+    requires { ⌜ l .lost ≤ l .ttrt ⌝ }
+    ensures { λ r. ⌜ r ≡ deadlinesKept (termsOf l) (at s) ⌝ }
 {
-    let taken = units::sum_first(s, l.n) + lost(l);
+    let taken = units::sum_first(s, l.n) + l.lost;
     let end = units::places(l.n);
     let mut all = true;
     let mut i: usize = 0;
@@ -81,7 +68,7 @@ fn deadlines_fit(l: Load, s: [u32; 128]) -> bool
 
 // The test of a given vector: the token rule, the deadline rule at every station, and the grid.
 pub fn meets_rules(l: Load, s: [u32; 128]) -> bool
-    ensures { λ r. ⌜ r ≡ rulesKept l (at s) ⌝ }
+    ensures { λ r. ⌜ r ≡ rulesKept (termsOf l) (at s) ⌝ }
 {
     if !token_fits(l, s) {
         return false;
@@ -108,7 +95,7 @@ pub fn least_plan(l: Load) -> Found
     if !token_fits(l, s) {
         return none();
     }
-    let away = lost(l);
+    let away = l.lost;
     let q = climb::rotations(l);
     let mut sum: u64 = 0;
     loop {

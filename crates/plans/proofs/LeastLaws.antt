@@ -1,32 +1,26 @@
 -- What planning tries is the least vector, in every mode: at each station at most every vector that meets the rules, and it meets them wherever any vector does. So 6 is right where it breaks one, and it is the plan where it does not.
 use Prim.Native.Nat.{ℕ, _≤_, _<_}
 use mathlib.Core.Path.{_≡_, refl, sym, _∙_}
-use mathlib.Core.Bool.{Bool, true, false, true≢false}
+use mathlib.Core.Bool.{true, false}
 use mathlib.Core.Logic.{_≢_, ⊎-elim}
 use native.Mathlib.Omega.{arith}
-use lib.ListN.{length, getD-replicate, List·getD-eq-default}
-use Rattle.units.specs.Places.{at, sumBelow, allBelow}
-use Rattle.units.specs.PlaceLaws.{sum-mono, sum-part, all-same, fill-length, fill-inside, fill-outside}
+use lib.ListN.{length}
+use Rattle.units.specs.Places.{at, allBelow}
+use Rattle.units.specs.PlaceLaws.{zero-at, sum-mono, all-same, fill-length, fill-inside, fill-outside}
 use Rattle.units.specs.Judging.{orElse}
-use Rattle.units.specs.JudgingLaws.{true-or-false, true-and, Decides, held, failed}
-use Rattle.units.specs.SmallLaws.{below-or-not}
+use Rattle.units.specs.JudgingLaws.{true-or-false, true-and, same-test, held, failed}
+use Rattle.units.specs.Vectors.{wholeRotations, LeastPlaces, SameTerms, deadlineKeptAt, deadlinesKept, rulesKept}
+use Rattle.units.specs.VectorLaws.{decides-token, decides-rules, within-ttrt, terms-back, rules-same, test-same, least-same}
 use Rattle.sets.specs.Judged.{judged, zeros}
 use Rattle.sets.specs.SetLaws.{decides-count, decides-numbers, decides-walk, allowed, judged-rest, judged-keeps}
 use Rattle.sets.specs.declared.Set.{Set}
-use Rattle.fddi.specs.Rules.{stations, MeetsFddi, rulesKept}
+use Rattle.fddi.specs.Rules as fddi-rules
 use Rattle.fddi.specs.Climb.{none, leastPlan}
-use Rattle.fddi.specs.Answer as fddi-answer
 use Rattle.fddi.proofs.Promised as fddi-plans
-use Rattle.plans.specs.Rules.{wholeRotations, alpha, isFddi, loadOf, MeetsToken, MeetsRules, IsSmallest, AllocInRange, deadlineFitsAt, deadlinesFit, tokenFits, rulesFit, timelyFitsAt}
+use Rattle.plans.specs.Rules.{lost, alpha, isFddi, loadOf, termsOf, MeetsToken, MeetsRules, IsSmallest, AllocInRange, tokenFits, rulesFit, timelyFitsAt}
 use Rattle.plans.specs.Planned.{smallestAt, smallestAlloc, leastAlloc, leastFits, judgedPlan, blankAlloc, planned}
 use Rattle.plans.specs.Answer.{IsPlan}
-use Rattle.plans.specs.PlanLaws.{smallest-is, smallest-least, time-timely, time-fddi, decides-alloc, decides-token, decides-rules, given-0, answered-refused, answered-plan}
-
-zeros-at : (i : ℕ) → at zeros i ≡ 0
-zeros-at i =
-    ⊎-elim (λ (b : i < 128). getD-replicate 128 i 0 0 b)
-    (λ (b : 128 ≤ i). List·getD-eq-default zeros 0 b)
-    (below-or-not i 128)
+use Rattle.plans.specs.PlanLaws.{smallest-is, smallest-least, time-timely, time-fddi, decides-alloc, given-0, answered-refused, answered-plan}
 
 -- ---- timely-token: the smallest S at each station by itself
 
@@ -64,30 +58,37 @@ smallest-rules t h few some v m =
 -- ---- FDDI: the rules of the load are the set's, and the climb finds the least vector
 
 module _ (t : Set) (h : isFddi t ≡ true) (few : t .n ≤ 128) where
-  sums-all : (s : ℕ → ℕ) → sumBelow (stations (loadOf t)) s ≡ sumBelow (t .n) s
-  sums-all s = let e : stations (loadOf t) ≡ t .n = omega arith in rw e
-
-  pub from-load : (s : ℕ → ℕ) → MeetsFddi (loadOf t) s → MeetsRules t s
-  from-load s m =
+  -- what a vector is held to is the same
+  load-terms : SameTerms (fddi-rules.termsOf (loadOf t)) (termsOf t)
+  load-terms =
+      let own : fddi-rules.SameLoad (loadOf t) (loadOf t) =
+      record { count = refl; ttrt = refl; lost = refl; grid = refl; longest = λ i l. refl; deadline = λ i l. refl } in
       record {
-        deadlines = λ i l. rw (time-fddi t s i h) (m .deadlines i (omega arith));
-        token = omega (arith, sums-all s, m .token);
-        grid = λ i l. m .grid i (omega arith);
+        count = omega arith;
+        ttrt = refl;
+        lost = refl;
+        grid = refl;
+        longest = λ i l. refl;
+        time = λ s v each i l. fddi-plans.promised .first-places-terms (loadOf t) (loadOf t) own .time s v each i l ∙ sym (time-fddi t v i h);
       }
 
-  pub to-load : (s : ℕ → ℕ) → MeetsRules t s → MeetsFddi (loadOf t) s
-  to-load s m =
-      record {
-        deadlines = λ i l. rw (time-fddi t s i h) at (m .deadlines i (omega arith));
-        token = omega (arith, sums-all s, m .token);
-        grid = λ i l. m .grid i (omega arith);
-      }
+  pub from-load : (s : ℕ → ℕ) → fddi-rules.MeetsFddi (loadOf t) s → MeetsRules t s
+  from-load s = rules-same _ _ load-terms s s (λ i l. refl)
 
-  -- where a vector meets the rules, the climb finds the least one
-  climb-found : (v : ℕ → ℕ) → MeetsRules t v → fddi-answer.IsLeast (loadOf t) (leastPlan (loadOf t) .s)
+  pub to-load : (s : ℕ → ℕ) → MeetsRules t s → fddi-rules.MeetsFddi (loadOf t) s
+  to-load s = rules-same _ _ (terms-back _ _ load-terms) s s (λ i l. refl)
+
+  pub load-rules : (s : ℕ → ℕ) → rulesKept (fddi-rules.termsOf (loadOf t)) s ≡ rulesFit t s
+  load-rules s = test-same _ _ load-terms s s (λ i l. refl)
+
+  -- what the climb finds is the set's least vector
+  climb-least : leastPlan (loadOf t) .found ≡ true → LeastPlaces (termsOf t) (leastPlan (loadOf t) .s)
+  climb-least e = least-same _ _ load-terms _ (fddi-plans.promised .found (loadOf t) e)
+
+  -- where a vector meets the rules, it finds one
+  climb-found : (v : ℕ → ℕ) → MeetsRules t v → leastPlan (loadOf t) .found ≡ true
   climb-found v m =
-      fddi-plans.promised .found (loadOf t)
-      (⊎-elim (λ e. e) (λ e. absurd (fddi-plans.promised .missing (loadOf t) .0 e v (to-load v m))) (true-or-false (leastPlan (loadOf t) .found)))
+      ⊎-elim (λ e. e) (λ e. absurd (fddi-plans.promised .missing (loadOf t) .0 e v (to-load v m))) (true-or-false (leastPlan (loadOf t) .found))
 
 -- what the climb answers has 128 places, and 0 in those from N on
 climb-long : (t : Set) → length (leastPlan (loadOf t) .s) ≡ 128
@@ -99,7 +100,7 @@ climb-long t =
 climb-past : (t : Set) (i : ℕ) → t .n ≤ i → at (leastPlan (loadOf t) .s) i ≡ 0
 climb-past t i l =
     ⊎-elim (λ e. fddi-plans.promised .found (loadOf t) e .past i (omega arith))
-    (λ e. rw (fddi-plans.promised .blank (loadOf t) e) (zeros-at i))
+    (λ e. rw (fddi-plans.promised .blank (loadOf t) e) (zero-at i))
     (true-or-false (leastPlan (loadOf t) .found))
 
 -- ---- what planning tries, in every mode
@@ -121,50 +122,37 @@ least-long t =
 pub least-past : (t : Set) (i : ℕ) → t .n ≤ i → at (leastAlloc t .s) i ≡ 0
 least-past t i l =
     ⊎-elim (λ h. rw (least-fddi t h) (climb-past t i l))
-    (λ h. rw (least-timely t h) (fill-outside (t .n) (smallestAt t) zeros i l ∙ zeros-at i))
+    (λ h. rw (least-timely t h) (fill-outside (t .n) (smallestAt t) zeros i l ∙ zero-at i))
     (true-or-false (isFddi t))
 
 -- a vector that meets the rules is at least as large at every station
 pub least-below : (t : Set) → t .n ≤ 128 → (v : ℕ → ℕ) → MeetsRules t v → (i : ℕ) → i < t .n → at (leastAlloc t .s) i ≤ v i
 least-below t few v m i l =
-    ⊎-elim (λ h. rw (least-fddi t h) (climb-found t h few v m .least v (to-load t h few v m) i (omega arith)))
+    ⊎-elim (λ h. rw (least-fddi t h) (climb-least t h few (climb-found t h few v m) .least .least v m i l))
     (λ h. rw (least-timely t h) (smallest-below t h few v m i l))
     (true-or-false (isFddi t))
 
 -- where a vector meets the rules, what planning tries does
 pub least-needed : (t : Set) → t .n ≤ 128 → 0 < t .head .grid → (v : ℕ → ℕ) → MeetsRules t v → leastFits t ≡ true
 least-needed t few some v m =
-    decides-rules t (at (leastAlloc t .s)) .1
-    (⊎-elim (λ h. rw (least-fddi t h) (from-load t h few (at (leastPlan (loadOf t) .s)) (climb-found t h few v m .meets)))
+    decides-rules (termsOf t) (at (leastAlloc t .s)) .1
+    (⊎-elim (λ h. rw (least-fddi t h) (climb-least t h few (climb-found t h few v m) .least .meets))
     (λ h. rw (least-timely t h) (smallest-rules t h few some v m))
     (true-or-false (isFddi t)))
 
 -- ---- what the code asks is what the rules say
 
--- two tests that decide the same are the same
-same-test : (a b : Bool) (P Q : Type 0) → Decides a P → Decides b Q → (P → Q) → (Q → P) → a ≡ b
-same-test a b P Q p q there back =
-    ⊎-elim (λ h. h ∙ sym (q .1 (there (p .0 h))))
-    (λ h. ⊎-elim (λ k. absurd (true≢false (sym (p .1 (back (q .0 k))) ∙ h))) (λ k. h ∙ sym k) (true-or-false b))
-    (true-or-false a)
-
-pub timely-deadlines : (t : Set) (s : ℕ → ℕ) → isFddi t ≡ false → allBelow (t .n) (timelyFitsAt t s) ≡ deadlinesFit t s
-timely-deadlines t s h = all-same (t .n) (timelyFitsAt t s) (deadlineFitsAt t s) (λ i l. rw (time-timely t s i h))
-
-pub load-rules : (t : Set) (s : ℕ → ℕ) → isFddi t ≡ true → t .n ≤ 128 → rulesKept (loadOf t) s ≡ rulesFit t s
-load-rules t s h few =
-    same-test _ _ _ _ (fddi-plans.promised .test (loadOf t) s) (decides-rules t s) (from-load t h few s) (to-load t h few s)
+pub timely-deadlines : (t : Set) (s : ℕ → ℕ) → isFddi t ≡ false → allBelow (t .n) (timelyFitsAt t s) ≡ deadlinesKept (termsOf t) s
+timely-deadlines t s h = all-same (t .n) (timelyFitsAt t s) (deadlineKeptAt (termsOf t) s) (λ i l. rw (time-timely t s i h))
 
 -- FDDI: the climb finds a vector exactly where what planning tries meets the rules
 pub climb-fits : (t : Set) → isFddi t ≡ true → t .n ≤ 128 → 0 < t .head .grid → leastPlan (loadOf t) .found ≡ leastFits t
 climb-fits t h few some =
     let found = leastPlan (loadOf t) .found in
-    ⊎-elim (λ e.
-    let meets = fddi-plans.promised .found (loadOf t) e .meets in
-    e ∙ sym (least-needed t few some (at (leastPlan (loadOf t) .s)) (from-load t h few (at (leastPlan (loadOf t) .s)) meets)))
+    ⊎-elim (λ e. e ∙ sym (least-needed t few some (at (leastPlan (loadOf t) .s)) (climb-least t h few e .least .meets)))
     (λ e.
     let none : (m : leastFits t ≡ true) → ⊥ = λ m.
-    fddi-plans.promised .missing (loadOf t) .0 e (at (leastAlloc t .s)) (to-load t h few (at (leastAlloc t .s)) (decides-rules t (at (leastAlloc t .s)) .0 m)) in
+    fddi-plans.promised .missing (loadOf t) .0 e (at (leastAlloc t .s)) (to-load t h few (at (leastAlloc t .s)) (decides-rules (termsOf t) (at (leastAlloc t .s)) .0 m)) in
     ⊎-elim (λ k. absurd (none k)) (λ k. e ∙ sym k) (true-or-false (leastFits t)))
     (true-or-false found)
 
@@ -172,11 +160,7 @@ climb-fits t h few some =
 pub smallest-fits : (t : Set) → isFddi t ≡ false → t .n ≤ 128 → 0 < t .head .grid → tokenFits t (at (smallestAlloc t .s)) ≡ leastFits t
 smallest-fits t h few some =
     rw (least-timely t h)
-    (same-test _ _ _ _ (decides-token t (at (smallestAlloc t .s))) (decides-rules t (at (smallestAlloc t .s))) (smallest-token t h few some) (λ m. m .token))
-
--- each S of an allocation that meets the rules is at most TTRT
-pub alloc-small : (t : Set) (v : ℕ → ℕ) → MeetsRules t v → (i : ℕ) → i < t .n → v i ≤ t .head .ttrt
-alloc-small t v m i l = omega (arith, sum-part (t .n) v i l, m .token)
+    (same-test _ _ _ _ (decides-token (t .head .ttrt) (lost t) (t .n) (at (smallestAlloc t .s))) (decides-rules (termsOf t) (at (smallestAlloc t .s))) (smallest-token t h few some) (λ m. m .token))
 
 -- ---- planning, test by test
 
@@ -195,9 +179,12 @@ pub is-plan : (t : Set) → t .n ≤ 128 → leastFits t ≡ true → IsPlan t (
 is-plan t few f =
     record {
       accepted = refl;
-      places = least-long t;
-      least = record { meets = decides-rules t (at (leastAlloc t .s)) .0 f; least = least-below t few };
-      past = least-past t;
+      plan =
+          record {
+            places = least-long t;
+            least = record { meets = decides-rules (termsOf t) (at (leastAlloc t .s)) .0 f; least = least-below t few };
+            past = least-past t;
+          };
     }
 
 pub smallest-each : (t : Set) → t .n ≤ 128 → 0 < t .head .grid → isFddi t ≡ false → (i : ℕ) → i < t .n → IsSmallest (t .head .grid) (t .head .ttrt) (at (t .c) i) (at (t .d) i) (at (leastAlloc t .s) i)
@@ -206,8 +193,8 @@ smallest-each t few some h i l = rw (least-timely t h) (smallest-stands t few so
 pub plan-judged : (t : Set) → judged t ≡ 0 → leastFits t ≡ true → judgedPlan t (leastAlloc t) ≡ 0
 plan-judged t h f =
     let all = allowed t .0 h in
-    let meets = decides-rules t (at (leastAlloc t .s)) .0 f in
-    let small : AllocInRange t (at (leastAlloc t .s)) = λ i l. omega (arith, alloc-small t (at (leastAlloc t .s)) meets i l, all .1 .0 .header .ttrt .1) in
+    let meets = decides-rules (termsOf t) (at (leastAlloc t .s)) .0 f in
+    let small : AllocInRange t (at (leastAlloc t .s)) = λ i l. omega (arith, within-ttrt (termsOf t) (at (leastAlloc t .s)) (meets .token) i l, all .1 .0 .header .ttrt .1) in
     given-0 t (leastAlloc t) (decides-count t .1 (all .0))
     (true-and _ _ (decides-numbers t .1 (all .1 .0)) (decides-alloc t (at (leastAlloc t .s)) .1 small))
     (decides-walk t .1 (all .1 .1))

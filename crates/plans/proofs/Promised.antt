@@ -7,25 +7,25 @@ use mathlib.Core.Logic.{_↔_, _≢_, ⊎-elim}
 use native.Mathlib.Omega.{arith}
 use native.Mathlib.Nat.{div-zero, one-mul, mul-zero, mul-le-mul-left}
 use borrow.Author.Tests.{ne-eqb}
-use lib.Seq.{ext-getD}
 use Rattle.units.specs.Numbers.{fddi}
 use Rattle.units.specs.Small.{roundedUp}
 use Rattle.units.specs.Grid.{stepped}
 use Rattle.units.specs.GridLaws.{every-multiple, step-enough, step-least}
 use Rattle.units.specs.Places.{at}
-use Rattle.units.specs.SmallLaws.{below-or-not}
 use Rattle.units.specs.JudgingLaws.{true-or-false, decides-not, given, given-later}
 use Rattle.sets.specs.Rules.{countAllowed, numbersAllowed, walkTimeAllowed}
 use Rattle.sets.specs.Judged.{judged}
 use Rattle.sets.specs.SetLaws.{decides-count, decides-numbers, decides-walk, allowed, judged-two, judged-four, judged-five, judged-later}
 use Rattle.sets.specs.declared.Set.{Set}
-use Rattle.plans.specs.Rules.{wholeRotations, alpha, leastTime, timeAt, MeetsDeadline, MeetsDeadlines, MeetsToken, MeetsRules, IsSmallest}
+use Rattle.units.specs.Vectors.{wholeRotations}
+use Rattle.units.specs.VectorLaws.{decides-rules, least-one}
+use Rattle.plans.specs.Rules.{alpha, leastTime, timeAt, termsOf, MeetsDeadline, MeetsDeadlines, MeetsToken, MeetsRules, IsSmallest}
 use Rattle.plans.specs.Planned.{smallestFor, leastAlloc, leastFits, blankAlloc, planNumber, planned}
 use Rattle.plans.specs.Answer.{IsPlan, Fitting}
 use Rattle.plans.specs.Promised.{fddiTime, SmallestOfAll, KeptBy, Promised}
 use Rattle.plans.specs.PlanLaws as laws
-use Rattle.plans.specs.PlanLaws.{smallest-multiple, smallest-meets, smallest-least, smallest-is, smallest-one, decides-rules, answered-number, answered-refused, given-two, given-four, given-five, given-seven, given-none}
-use Rattle.plans.proofs.LeastLaws.{from-load, to-load, least-past, least-long, least-needed, smallest-each, plan-refused-set, plan-none, plan-found, plan-judged, is-plan}
+use Rattle.plans.specs.PlanLaws.{smallest-multiple, smallest-meets, smallest-least, smallest-is, smallest-one, answered-number, answered-refused, given-two, given-four, given-five, given-seven, given-none}
+use Rattle.plans.proofs.LeastLaws.{from-load, to-load, least-needed, smallest-each, plan-refused-set, plan-none, plan-found, plan-judged, is-plan}
 use Rattle.plans.proofs.SameLaws.{planned-same, judged-plan-same}
 use Rattle.plans.specs.declared.Planned.{Planned}
 
@@ -88,19 +88,19 @@ module _ (t : Set) where
   six-says : planned t .number ≡ 6 → (judged t ≡ 0) × (leastFits t ≡ false)
   six-says h =
       let said = judged-later t _ 6 (omega arith) (omega arith) (omega arith) .0 (sym (answered-number (planNumber t) (leastAlloc t)) ∙ h) in
-      let d = decides-rules t (at (leastAlloc t .s)) in
+      let d = decides-rules (termsOf t) (at (leastAlloc t .s)) in
       (said .0, decides-not _ _ d .1 (given _ _ 6 0 d (omega arith) .0 (said .1)))
 
   plan-says : planned t .number ≡ 0 → (judged t ≡ 0) × (leastFits t ≡ true)
   plan-says h =
       let said = judged-later t _ 0 (omega arith) (omega arith) (omega arith) .0 (sym (answered-number (planNumber t) (leastAlloc t)) ∙ h) in
-      let d = decides-rules t (at (leastAlloc t .s)) in
+      let d = decides-rules (termsOf t) (at (leastAlloc t .s)) in
       (said .0, d .1 (given-later _ _ 6 0 0 d (omega arith) .0 (said .1) .0))
 
   -- where no vector meets the rules, what planning tries does not
   none-token : judged t ≡ 0 → ((s : List ℕ) → ¬ MeetsRules t (at s)) → leastFits t ≡ false
   none-token h none =
-      ⊎-elim (λ f. absurd (none (leastAlloc t .s) (decides-rules t (at (leastAlloc t .s)) .0 f))) (λ f. f)
+      ⊎-elim (λ f. absurd (none (leastAlloc t .s) (decides-rules (termsOf t) (at (leastAlloc t .s)) .0 f))) (λ f. f)
       (true-or-false (leastFits t))
 
   six : (planned t .number ≡ 6) ↔ ((judged t ≡ 0) × ((s : List ℕ) → ¬ MeetsRules t (at s)))
@@ -132,13 +132,7 @@ module _ (t : Set) where
   -- a plan in 01's words is the least allocation: each is at most the other
   one-plan : t .n ≤ 128 → leastFits t ≡ true → (a : Planned) → IsPlan t a → a ≡ record { alloc = leastAlloc t; number = 0 }
   one-plan few token a p =
-      let own = is-plan t few token .least in
-      let same : a .alloc .s ≡ leastAlloc t .s =
-      ext-getD 0 (a .alloc .s) (leastAlloc t .s) (p .places ∙ sym (least-long t)) (λ i _.
-      ⊎-elim (λ (b : i < t .n).
-      omega (arith, p .least .least (at (leastAlloc t .s)) (own .meets) i b, own .least (at (a .alloc .s)) (p .least .meets) i b))
-      (λ (b : t .n ≤ i). p .past i b ∙ sym (least-past t i b))
-      (below-or-not i (t .n))) in
+      let same = least-one (termsOf t) (a .alloc .s) (leastAlloc t .s) (p .plan) (is-plan t few token .plan) in
       λ i. record { alloc = record { s = same i }; number = p .accepted i }
 
   fitting : Fitting t (planned t)
@@ -171,7 +165,7 @@ module _ (t : Set) where
       let walk = decides-walk t .0 w in
       let j = allowed t .1 (count, (numbers, walk)) in
       ⊎-elim (λ token.
-      one-plan (count .1) token a (f .plan count numbers walk (leastAlloc t .s, decides-rules t (at (leastAlloc t .s)) .0 token)) ∙ sym (plan-found t j token))
+      one-plan (count .1) token a (f .plan count numbers walk (leastAlloc t .s, decides-rules (termsOf t) (at (leastAlloc t .s)) .0 token)) ∙ sym (plan-found t j token))
       (λ token.
       f .six count numbers walk (λ some. true≢false (sym (least-needed t (count .1) (numbers .header .grid .0) (at (some .0)) (some .1)) ∙ token)) ∙ sym (plan-none t j token))
       (true-or-false (leastFits t)))

@@ -6,11 +6,12 @@ use mathlib.Core.Logic.{⊎-elim}
 use native.Mathlib.Omega.{arith}
 use lib.Dec.{eqb}
 use Rattle.units.specs.Numbers.{fddi}
-use Rattle.units.specs.Grid.{onGridAt}
-use Rattle.units.specs.Places.{at, sumBelow, allBelow, fill}
+use Rattle.units.specs.Places.{at, allBelow, fill}
 use Rattle.units.specs.PlaceLaws.{all-same, fill-same, sum-same}
 use Rattle.units.specs.Judging.{orElse}
 use Rattle.units.specs.JudgingLaws.{true-or-false}
+use Rattle.units.specs.Vectors.{SameTerms}
+use Rattle.units.specs.VectorLaws.{test-same}
 use Rattle.sets.specs.Rules.{SameSet}
 use Rattle.sets.specs.Judged.{zeros}
 use Rattle.sets.specs.SetLaws.{judged-same, tau-same, stations-same}
@@ -19,7 +20,7 @@ use Rattle.sets.specs.declared.Set.{Set}
 use Rattle.fddi.specs.Rules as fddi-rules
 use Rattle.fddi.specs.declared.Found.{Found}
 use Rattle.fddi.proofs.Promised as fddi-plans
-use Rattle.plans.specs.Rules.{isFddi, loadOf, lost, timeAt, inRangeS, deadlineFitsAt, deadlinesFit, tokenFits, gridFits, rulesFit, allocInRange}
+use Rattle.plans.specs.Rules.{isFddi, loadOf, lost, timeAt, termsOf, inRangeS, rulesFit, allocInRange}
 use Rattle.plans.specs.Planned.{smallestAt, smallestAlloc, leastAlloc, leastFits, judgedPlan, planned}
 use Rattle.plans.specs.PlanLaws.{time-timely, time-fddi}
 use Rattle.plans.specs.declared.Alloc.{Alloc}
@@ -43,9 +44,8 @@ module _ (a b : Set) (same : SameSet a b) where
       record {
         count = same .count;
         ttrt = ttrt-same;
-        frame = ap (λ (h : Head). h .frame) (same .header);
+        lost = lost-same;
         grid = grid-same;
-        tau = tau-same a b same;
         longest = λ i l. same .longest i (omega arith);
         deadline = λ i l. same .deadline i (omega arith);
       }
@@ -67,23 +67,19 @@ module _ (a b : Set) (same : SameSet a b) where
         time-timely a s i h ∙ rw (ttrt-same, same .deadline i l, each i l) (sym (time-timely b v i (sym mode-same ∙ h))))
         (true-or-false (isFddi a))
 
-    token-same : tokenFits a s ≡ tokenFits b v
-    token-same =
-        let sums : sumBelow (a .n) s ≡ sumBelow (b .n) v = sum-same (a .n) s v each ∙ ap (λ (n : ℕ). sumBelow n v) (same .count) in
-        rw (sums, lost-same, ttrt-same)
+  terms-same : SameTerms (termsOf a) (termsOf b)
+  terms-same =
+      record {
+        count = same .count;
+        ttrt = ttrt-same;
+        lost = lost-same;
+        grid = grid-same;
+        longest = same .longest;
+        time = time-same;
+      }
 
-    deadlines-same : deadlinesFit a s ≡ deadlinesFit b v
-    deadlines-same =
-        all-same (a .n) (deadlineFitsAt a s) (deadlineFitsAt b v) (λ i l. rw (same .longest i l, time-same i l)) ∙
-        ap (λ (n : ℕ). allBelow n (deadlineFitsAt b v)) (same .count)
-
-    multiples-same : gridFits a s ≡ gridFits b v
-    multiples-same =
-        all-same (a .n) (onGridAt (a .head .grid) s) (onGridAt (b .head .grid) v) (λ i l. rw (each i l, grid-same)) ∙
-        ap (λ (n : ℕ). allBelow n (onGridAt (b .head .grid) v)) (same .count)
-
-    rules-same : rulesFit a s ≡ rulesFit b v
-    rules-same = rw (deadlines-same, token-same, multiples-same)
+  rules-same : (s v : ℕ → ℕ) → ((i : ℕ) → i < a .n → s i ≡ v i) → rulesFit a s ≡ rulesFit b v
+  rules-same = test-same (termsOf a) (termsOf b) terms-same
 
   smallest-same : smallestAlloc a ≡ smallestAlloc b
   smallest-same =

@@ -1,12 +1,12 @@
 -- Planning as 01's sentences have it, with no way to compute it: what each answer needs, and no more. `Promised` says that just one answer fits, and that it is planning's.
-use Prim.Native.Nat.{ℕ, _≤_}
+use Prim.Native.Nat.{ℕ}
 use mathlib.Core.Path.{_≡_}
 use mathlib.Core.List.{List}
-use lib.ListN.{length}
 use Rattle.units.specs.Places.{at}
+use Rattle.units.specs.Vectors.{LeastPlaces}
 use Rattle.sets.specs.Rules.{CountAllowed, NumbersAllowed, WalkTimeAllowed}
 use Rattle.sets.specs.declared.Set.{Set}
-use Rattle.plans.specs.Rules.{MeetsRules, IsLeast}
+use Rattle.plans.specs.Rules.{termsOf, MeetsRules}
 use Rattle.plans.specs.Planned.{blankAlloc}
 use Rattle.plans.specs.declared.Planned.{Planned}
 
@@ -21,9 +21,7 @@ Refused number a = a ≡ record { alloc = blankAlloc; number = number }
 -- the answer is the plan: the least vector that meets the rules, and 0 in the places from N on
 pub record IsPlan (t : Set) (a : Planned) : Type 0 where
   pub accepted : a .number ≡ 0
-  pub places : length (a .alloc .s) ≡ 128
-  pub least : IsLeast t (at (a .alloc .s))
-  pub past : (i : ℕ) → t .n ≤ i → at (a .alloc .s) i ≡ 0
+  pub plan : LeastPlaces (termsOf t) (a .alloc .s)
 
 -- the answer fits the set
 pub record Fitting (t : Set) (a : Planned) : Type 0 where

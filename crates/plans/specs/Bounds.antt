@@ -1,7 +1,8 @@
 -- What the quotient of planning hands back: the definitions' numbers and, for whoever adds and multiplies on, how large they can be.
 use Prim.Native.Nat.{ℕ, _*_, _≤_, _<_, _^_}
 use mathlib.Core.Path.{_≡_}
-use Rattle.plans.specs.Rules.{lost, wholeRotations, alpha}
+use Rattle.units.specs.Vectors.{wholeRotations}
+use Rattle.plans.specs.Rules.{lost, alpha}
 use Rattle.sets.specs.declared.Set.{Set}
 use Rattle.plans.specs.declared.shares.Turns.{Turns}
 

@@ -1,5 +1,5 @@
 -- What a plan is: the rules of 01, "Allocations", the judgement of a given plan, planning, and what is promised of them.
---     Rules       the deadline rule, the token rule, A*, and what "the smallest S" means; and the rules as tests
+--     Rules       X by the mode, and with it what a vector is held to: the rules are those of `units`, for every mode; A*, and what "the smallest S" means
 --     Planned     the smallest S as a formula, the judgement of a given plan, and planning
 --     Bounds      how large the numbers of the divisions are
 --     Answer      planning as a relation from 01's sentences alone, with no way to compute it

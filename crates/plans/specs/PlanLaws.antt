@@ -7,9 +7,9 @@ use native.Mathlib.Omega.{arith}
 use native.Mathlib.Nat.{mul-le-mul-left, div-mul-le-self, zero-mul}
 use borrow.Author.Tests.{le-leb, lt-leb}
 use Rattle.units.specs.Numbers.{mostS}
-use Rattle.units.specs.Grid.{MultipleOf, onGridAt, stepped}
-use Rattle.units.specs.GridLaws.{decides-grid, step-multiple, step-enough, step-least, step-small}
-use Rattle.units.specs.Places.{at, sumBelow}
+use Rattle.units.specs.Grid.{MultipleOf, stepped}
+use Rattle.units.specs.GridLaws.{step-multiple, step-enough, step-least, step-small}
+use Rattle.units.specs.Places.{at}
 use Rattle.units.specs.PlaceLaws.{decides-all}
 use Rattle.units.specs.JudgingLaws.{Decides, decides-le, decides-both, held, failed, given, given-later, not-given, iff-then, iff-under}
 use Rattle.sets.specs.Rules.{CountAllowed, WalkTimeAllowed, countAllowed, numbersAllowed, walkTimeAllowed}
@@ -17,7 +17,9 @@ use Rattle.sets.specs.SetLaws.{decides-count, decides-numbers, decides-walk}
 use Rattle.sets.specs.declared.Set.{Set}
 use Rattle.units.specs.SmallLaws.{below-or-not, one-more}
 use Rattle.fddi.specs.Rules as fddi-rules
-use Rattle.plans.specs.Rules.{lost, wholeRotations, alpha, timeWith, leastTime, isFddi, loadOf, timeAt, MeetsDeadlines, MeetsToken, MeetsRules, AllocInRange, IsSmallest, InRange, KeepsRules, inRangeS, deadlineFitsAt, deadlinesFit, tokenFits, gridFits, rulesFit, allocInRange}
+use Rattle.units.specs.Vectors.{wholeRotations}
+use Rattle.units.specs.VectorLaws.{decides-rules}
+use Rattle.plans.specs.Rules.{alpha, timeWith, leastTime, isFddi, loadOf, termsOf, timeAt, AllocInRange, IsSmallest, InRange, KeepsRules, inRangeS, rulesFit, allocInRange}
 use Rattle.plans.specs.Planned.{smallestWith, smallestFor, judgedPlan, blankAlloc, answered}
 use Rattle.plans.specs.declared.Alloc.{Alloc}
 
@@ -111,26 +113,8 @@ pub time-fddi : (t : Set) (s : ℕ → ℕ) (i : ℕ) → isFddi t ≡ true → 
 unfolding timeAt
 time-fddi t s i h = rw h
 
--- ---- each test decides its rule
-
 pub decides-alloc : (t : Set) (s : ℕ → ℕ) → Decides (allocInRange t s) (AllocInRange t s)
 decides-alloc t s = decides-all (t .n) (inRangeS s) (λ i. s i ≤ mostS) (λ i. decides-le (s i) mostS)
-
-pub decides-deadlines : (t : Set) (s : ℕ → ℕ) → Decides (deadlinesFit t s) (MeetsDeadlines t s)
-decides-deadlines t s =
-    decides-all (t .n) (deadlineFitsAt t s) (λ i. at (t .c) i ≤ timeAt t s i) (λ i. decides-le (at (t .c) i) (timeAt t s i))
-
-pub decides-token : (t : Set) (s : ℕ → ℕ) → Decides (tokenFits t s) (MeetsToken t s)
-decides-token t s = decides-le (sumBelow (t .n) s + lost t) (t .head .ttrt)
-
-pub decides-rules : (t : Set) (s : ℕ → ℕ) → Decides (rulesFit t s) (MeetsRules t s)
-decides-rules t s =
-    let grid = decides-all (t .n) (onGridAt (t .head .grid) s) (λ i. MultipleOf (t .head .grid) (s i)) (λ i. decides-grid (t .head .grid) (s i)) in
-    let both = decides-both (deadlinesFit t s) (tokenFits t s) _ _ (decides-deadlines t s) (decides-token t s) in
-    let all = decides-both (deadlinesFit t s && tokenFits t s) (gridFits t s) _ _ both grid in (
-      λ h. let f = all .0 h in record { deadlines = f .0 .0; token = f .0 .1; grid = f .1 },
-      λ m. all .1 ((m .deadlines, m .token), m .grid),
-    )
 
 -- ---- the judgement of a given plan, test by test
 
@@ -205,7 +189,7 @@ module _ (t : Set) (a : Alloc) where
       (iff-then (given-later _ _ 4 _ 7 decides-given (omega arith))
       (iff-under
       (iff-then (given-later _ _ 5 _ 7 (decides-walk t) (omega arith))
-      (iff-under (given _ _ 7 0 (decides-rules t (at (a .s))) (omega arith)))))))
+      (iff-under (given _ _ 7 0 (decides-rules (termsOf t) (at (a .s))) (omega arith)))))))
 
   pub given-none : (judgedPlan t a ≡ 0) ↔ (CountAllowed t × (InRange t a × (WalkTimeAllowed t × KeepsRules t a)))
   unfolding judgedPlan
@@ -216,4 +200,4 @@ module _ (t : Set) (a : Alloc) where
       (iff-under
       (iff-then (given-later _ _ 5 _ 0 (decides-walk t) (omega arith))
       (iff-under
-      (iff-then (given-later _ _ 7 0 0 (decides-rules t (at (a .s))) (omega arith)) ((λ h. h .0), λ m. (m, refl))))))))
+      (iff-then (given-later _ _ 7 0 0 (decides-rules (termsOf t) (at (a .s))) (omega arith)) ((λ h. h .0), λ m. (m, refl))))))))

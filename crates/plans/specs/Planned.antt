@@ -10,7 +10,8 @@ use Rattle.sets.specs.Rules.{countAllowed, numbersAllowed, walkTimeAllowed}
 use Rattle.sets.specs.Judged.{judgedThen, zeros}
 use Rattle.sets.specs.declared.Set.{Set}
 use Rattle.fddi.specs.Climb.{leastPlan}
-use Rattle.plans.specs.Rules.{wholeRotations, alpha, isFddi, loadOf, rulesFit, allocInRange}
+use Rattle.units.specs.Vectors.{wholeRotations}
+use Rattle.plans.specs.Rules.{alpha, isFddi, loadOf, rulesFit, allocInRange}
 use Rattle.plans.specs.declared.Alloc.{Alloc}
 use Rattle.plans.specs.declared.Planned.{Planned}
 

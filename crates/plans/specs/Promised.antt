@@ -10,7 +10,8 @@ use Rattle.sets.specs.Rules.{tau, CountAllowed, WalkTimeAllowed, SameSet}
 use Rattle.sets.specs.Judged.{judged}
 use Rattle.sets.specs.declared.Set.{Set}
 use Rattle.fddi.specs.Rules.{timeWith, rest, others, MeetsFddi}
-use Rattle.plans.specs.Rules.{lost, wholeRotations, leastTime, timeAt, MeetsDeadline, MeetsDeadlines, MeetsToken, MeetsRules, IsSmallest, InRange, KeepsRules, loadOf}
+use Rattle.units.specs.Vectors.{wholeRotations}
+use Rattle.plans.specs.Rules.{lost, leastTime, timeAt, MeetsDeadline, MeetsDeadlines, MeetsToken, MeetsRules, IsSmallest, InRange, KeepsRules, loadOf}
 use Rattle.plans.specs.Planned.{smallestFor, judgedPlan, planned, blankAlloc}
 use Rattle.plans.specs.Answer.{Fitting, IsPlan}
 use Rattle.plans.specs.declared.Alloc.{Alloc}

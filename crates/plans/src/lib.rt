@@ -106,8 +106,7 @@ fn token_fits(t: Set, a: Alloc) -> bool
     ensures { λ r. ⌜ r ≡ tokenFits t (at (a .s)) ⌝ }
 {
     let s = a.s;
-    let sum = units::sum_first(s, t.n);
-    sum + lost(t) <= units::wide(t.head.ttrt)
+    units::token_kept(t.head.ttrt, lost(t), t.n, s)
 }
 
 // What FDDI's rules look at.
@@ -119,9 +118,8 @@ fn load_of(t: Set) -> Load
     Load {
         n: t.n,
         ttrt: t.head.ttrt,
-        frame: t.head.frame,
         grid: t.head.grid,
-        tau: sets::walk_time(t),
+        lost: lost(t),
         c,
         d,
     }

@@ -5,7 +5,8 @@ use mathlib.Core.Logic.{⊎-elim}
 use native.Mathlib.Omega.{arith}
 use native.Mathlib.Nat.{mul-le-mul-left}
 use Rattle.units.specs.SmallLaws.{below-or-not, one-more}
-use Rattle.plans.specs.Rules.{wholeRotations, alpha, timeWith, leastTime}
+use Rattle.units.specs.Vectors.{wholeRotations}
+use Rattle.plans.specs.Rules.{alpha, timeWith, leastTime}
 use Rattle.plans.specs.PlanLaws.{rotations-within}
 
 -- k visits to come are enough for the remainder, and the last of them ends its synchronous part by the deadline: `clock + sent` less `trt` is when the last synchronous part ended

@@ -6,7 +6,7 @@ use native.Mathlib.Numerals.{add-one}
 use native.Mathlib.Nat.{mod-lt, div-zero, mod-zero, mul-comm, add-mul, two-pow-succ, dvd-iff-mod-eq-zero, le-div-iff-mul-le, div-lt-iff-lt-mul}
 use Rattle.units.specs.SmallLaws.{shares-enough, shares-least}
 use Rattle.units.specs.Grid.{stepped}
-use Rattle.units.specs.GridLaws.{decides-grid, step-multiple, step-enough, step-least, step-none}
+use Rattle.units.specs.GridLaws.{decides-grid, decides-grids, step-multiple, step-enough, step-least, step-none}
 use Rattle.quotients.specs.Steps.{SmallestMultiple}
 use Rattle.quotients.specs.Promised.{Promised}
 use Rattle.quotients.proofs.Laws.{kept-last, together}
@@ -40,4 +40,5 @@ promised =
           omega (arith, h .least (stepped g q x) (own .multiple) (own .enough), own .least r (h .multiple) (h .enough));
       no-multiple = step-none;
       on-grid = decides-grid;
+      all-on-grid = decides-grids;
     }

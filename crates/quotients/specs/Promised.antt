@@ -5,7 +5,7 @@ use mathlib.Core.Logic.{_↔_}
 use Rattle.quotients.specs.Division.{Divided, Share}
 use Rattle.quotients.specs.Turns.{Raised}
 use Rattle.quotients.specs.Steps.{SmallestMultiple}
-use Rattle.units.specs.Grid.{MultipleOf, onGrid, stepped}
+use Rattle.units.specs.Grid.{MultipleOf, onGrid, AllOnGrid, allOnGrid, stepped}
 use Rattle.units.specs.JudgingLaws.{Decides}
 
 pub record Promised : Type 0 where
@@ -35,3 +35,5 @@ pub record Promised : Type 0 where
   pub no-multiple : (grid shares need : ℕ) → shares * grid ≡ 0 → stepped grid shares need ≡ 0
   -- the test finds the multiples of the grid and no other number; on a grid of 0 there is 0 alone
   pub on-grid : (grid x : ℕ) → Decides (onGrid grid x) (MultipleOf grid x)
+  -- and the test of a vector finds the vectors of multiples
+  pub all-on-grid : (grid n : ℕ) (s : ℕ → ℕ) → Decides (allOnGrid grid n s) (AllOnGrid grid n s)

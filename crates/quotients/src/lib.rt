@@ -1,8 +1,8 @@
 // Quotients by shifting and subtracting: the whole quotient with its remainder, the share rounded up, and multiples of a grid. No function here divides.
 ghost use mathlib.Core.Path.{_≡_};
 ghost use Prim.Native.Nat.{_<_, _≤_, min};
-ghost use Rattle.units.specs.Grid.{onGrid, onGridAt};
-ghost use Rattle.units.specs.Places.{at, allBelow};
+ghost use Rattle.units.specs.Grid.{onGrid, allOnGrid};
+ghost use Rattle.units.specs.Places.{at};
 ghost use Rattle.quotients.specs.Division.{Divided, Share};
 ghost use Rattle.quotients.specs.Steps.{Stepped};
 ghost use Rattle.quotients.specs.Turns.{Raised};
@@ -128,7 +128,7 @@ fn on_grid(grid: u32, number: u32) -> bool
 
 // Each of the first n numbers is a multiple of the grid.
 pub fn all_on_grid(grid: u32, n: u32, numbers: [u32; 128]) -> bool
-    ensures { λ r. ⌜ r ≡ allBelow (min n 128) (onGridAt grid (at numbers)) ⌝ }
+    ensures { λ r. ⌜ r ≡ allOnGrid grid (min n 128) (at numbers) ⌝ }
 {
     let end = units::places(n);
     let mut all = true;

@@ -6,22 +6,20 @@ use borrow.Author.Needs.{needs}
 use lib.ListN.{length}
 use Rattle.units.specs.Places.{at, allBelow}
 use Rattle.units.specs.PlaceLaws.{all-step, all-none}
-use Rattle.fddi.specs.Rules.{stations, lost, others, leastTime, timeAt, deadlineFitsAt}
+use Rattle.units.specs.Vectors.{deadlineKeptAt}
+use Rattle.fddi.specs.Rules.{stations, others, leastTime, timeAt, termsOf}
 use Rattle.fddi.proofs.Laws.{others-own, sum-stations}
 use Rattle.fddi.proofs.deadlines_fit.Statement.{statement}
 use Rattle.fddi.proofs.deadlines_fit.Tie as tie
 
 abbrev Inv-loop : tie.InvT-loop
-Inv-loop l s taken end all₀ i₀ all i = (i ≤ end) × (all ≡ allBelow i (deadlineFitsAt l (at s)))
+Inv-loop l s taken end all₀ i₀ all i = (i ≤ end) × (all ≡ allBelow i (deadlineKeptAt (termsOf l) (at s)))
 
 abbrev μ-loop : tie.MeasureT-loop
 μ-loop l s taken end all₀ i₀ all i = end - i
 
 sum-first-requires : tie.Need-sum-first-requires Inv-loop μ-loop
 sum-first-requires c κs = search needs
-
-lost-requires : tie.Need-lost-requires Inv-loop μ-loop
-lost-requires c κs = search needs
 
 add-taken : tie.Need-add-taken Inv-loop μ-loop
 add-taken c = search needs
@@ -77,36 +75,36 @@ loop-less c = search needs
 -- what is away from a station: the time lost, and the others' S
 away-is : (c : tie.After-room Inv-loop μ-loop) →
     let at-loop = c .before .before .before in
-    let args = at-loop .before .before .before .before .args in
-    c .room .result ≡ lost (args .t1) + others (stations (args .t1)) (at (args .t2)) (at-loop .loop .i)
+    let args = at-loop .before .before .before .args in
+    c .room .result ≡ args .t1 .lost + others (stations (args .t1)) (at (args .t2)) (at-loop .loop .i)
 away-is c =
     let at-loop = c .before .before .before in
-    let start = at-loop .before .before .before .before in
+    let start = at-loop .before .before .before in
     let long : length (start .args .t2) ≡ 128 = search needs in
     omega (arith, c .room .ensures, sum-stations (start .args .t1) (start .args .t2) long, others-own (stations (start .args .t1)) (at (start .args .t2)) (at-loop .loop .i) (omega arith))
 
 -- so the time that the code asks for is X at the station
 time-is : (c : tie.After-least-time Inv-loop μ-loop) →
     let at-loop = c .before .before .before .before .before in
-    let args = at-loop .before .before .before .before .args in
+    let args = at-loop .before .before .before .args in
     c .least-time .result ≡ timeAt (args .t1) (at (args .t2)) (at-loop .loop .i)
 time-is c =
     let at-loop = c .before .before .before .before .before in
-    let l = at-loop .before .before .before .before .args .t1 in
-    let s = at-loop .before .before .before .before .args .t2 in
+    let l = at-loop .before .before .before .args .t1 in
+    let s = at-loop .before .before .before .args .t2 in
     c .least-time .ensures ∙
     ap (λ (away : ℕ). leastTime (l .ttrt) (at (l .d) (at-loop .loop .i)) away (at s (at-loop .loop .i))) (away-is (c .before .before))
 
 loop-again : tie.Need-loop-again Inv-loop μ-loop
 loop-again c =
     let at-loop = c .before .before .before .before .before .before .before in
-    let start = at-loop .before .before .before .before in
-    let all : at-loop .loop .all ≡ allBelow (at-loop .loop .i) (deadlineFitsAt (start .args .t1) (at (start .args .t2))) = at-loop .loop .inv .1 in
+    let start = at-loop .before .before .before in
+    let all : at-loop .loop .all ≡ allBelow (at-loop .loop .i) (deadlineKeptAt (termsOf (start .args .t1)) (at (start .args .t2))) = at-loop .loop .inv .1 in
     (omega arith, rw (all-step, all, c .wide2 .ensures .same, time-is (c .before .before)) refl)
 
 returns : tie.Need-returns Inv-loop μ-loop
 returns c =
-    let end : c .before .loop .i ≡ stations (c .before .before .before .before .before .args .t1) = omega arith in
+    let end : c .before .loop .i ≡ stations (c .before .before .before .before .args .t1) = omega arith in
     c .before .loop .inv .1 ∙ rw end refl
 
 pub deadlines-fit-spec : {M : Type 1} → statement M
@@ -116,7 +114,6 @@ deadlines-fit-spec =
     Inv-loop
     μ-loop
     sum-first-requires
-    lost-requires
     add-taken
     places-requires
     loop-holds

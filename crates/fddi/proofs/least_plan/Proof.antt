@@ -4,9 +4,9 @@ use mathlib.Core.Path.{_≡_, refl, sym, ap, _∙_}
 use mathlib.Core.Bool.{true, false}
 use native.Mathlib.Omega.{arith}
 use borrow.Author.Needs.{needs}
-use borrow.Author.Tests.{not-true, not-false, leb-true}
-use Rattle.units.specs.Places.{at, sumBelow}
-use Rattle.fddi.specs.Rules.{stations, lost, tokenFits}
+use borrow.Author.Tests.{not-true, not-false}
+use Rattle.units.specs.Places.{at}
+use Rattle.fddi.specs.Rules.{tokenFits}
 use Rattle.fddi.specs.Climb.{zeros, after}
 use Rattle.fddi.specs.declared.climb.Raised.{Raised}
 use Rattle.fddi.proofs.Rounds.{Underway, underway-start, underway-breaks, underway-stays, underway-rises, underway-up, plan-none}
@@ -37,63 +37,58 @@ kept c = sym (c .before .token-fits .ensures) ∙ not-false _ (c .if1 .left)
 returns : tie.Need-returns Inv-loop μ-loop
 returns c = c .none .ensures ∙ sym (plan-none (c .before .before .before .before .args .l) (broken (c .before)))
 
-lost-requires : tie.Need-lost-requires Inv-loop μ-loop
-lost-requires c κs =
-    let fits : sumBelow (stations (c .before .before .before .args .l)) (at zeros) + lost (c .before .before .before .args .l) ≤ c .before .before .before .args .l .ttrt = leb-true _ _ (kept c) in
-    omega arith
-
 rotations-requires : tie.Need-rotations-requires Inv-loop μ-loop
 rotations-requires c κs = search needs
 
 loop-holds : tie.Need-loop-holds Inv-loop μ-loop
-loop-holds c = underway-start (c .before .before .before .before .before .args .l) (kept (c .before .before))
+loop-holds c = underway-start (c .before .before .before .before .args .l) (kept (c .before))
 
 add-round : tie.Need-add-round Inv-loop μ-loop
-add-round c = omega (arith, c .loop .inv .is, c .loop .inv .now .token, c .before .before .lost .ensures .is)
+add-round c = omega (arith, c .loop .inv .is, c .loop .inv .now .token)
 
 round-requires : tie.Need-round-requires Inv-loop μ-loop
-round-requires c κs = record { rotations = c .before .rotations .ensures; fits = omega (arith, c .loop .inv .is, c .loop .inv .now .token, c .before .before .lost .ensures .is) }
+round-requires c κs = record { rotations = c .before .rotations .ensures; fits = omega (arith, c .loop .inv .is, c .loop .inv .now .token) }
 
 add-if2 : tie.Need-add-if2 Inv-loop μ-loop
-add-if2 c = omega (arith, c .before .round .ensures .small, c .before .before .before .before .lost .ensures .small)
+add-if2 c = omega (arith, c .before .round .ensures .small, c .before .before .loop .inv .now .token)
 
 none-requires-2 : tie.Need-none-requires-2 Inv-loop μ-loop
 none-requires-2 c κs = search needs
 
 -- the round that the code makes is the definition's
-after-is : (c : tie.After-round Inv-loop μ-loop) → c .round .result ≡ after (c .before .before .before .before .before .before .before .args .l) (c .before .loop .s)
-after-is c = c .round .ensures .is ∙ rw (c .before .before .before .lost .ensures .is, c .before .loop .inv .is) refl
+after-is : (c : tie.After-round Inv-loop μ-loop) → c .round .result ≡ after (c .before .before .before .before .before .before .args .l) (c .before .loop .s)
+after-is c = c .round .ensures .is ∙ rw (c .before .loop .inv .is) refl
 
-sum-after : (c : tie.After-round Inv-loop μ-loop) → c .round .result .sum ≡ after (c .before .before .before .before .before .before .before .args .l) (c .before .loop .s) .sum
+sum-after : (c : tie.After-round Inv-loop μ-loop) → c .round .result .sum ≡ after (c .before .before .before .before .before .before .args .l) (c .before .loop .s) .sum
 sum-after c = ap (λ (r : Raised). r .sum) (after-is c)
 
 -- past the second test the token rule holds after the round
 fits : (c : tie.Else2 Inv-loop μ-loop) →
     let at-loop = c .before .before .before in
-    let l = at-loop .before .before .before .before .before .before .args .l in
-    after l (at-loop .loop .s) .sum + lost l ≤ l .ttrt
-fits c = omega (arith, sum-after (c .before .before), c .before .before .before .before .before .lost .ensures .is, c .if2 .left)
+    let l = at-loop .before .before .before .before .before .args .l in
+    after l (at-loop .loop .s) .sum + l .lost ≤ l .ttrt
+fits c = omega (arith, sum-after (c .before .before), c .if2 .left)
 
 returns-2 : tie.Need-returns-2 Inv-loop μ-loop
 returns-2 c =
     let at-round = c .before .before .before in
     let at-loop = at-round .before in
-    let l = at-loop .before .before .before .before .before .before .args .l in
-    let breaks : l .ttrt < after l (at-loop .loop .s) .sum + lost l = omega (arith, sum-after at-round, at-loop .before .before .lost .ensures .is, c .before .if2 .taken) in
+    let l = at-loop .before .before .before .before .before .args .l in
+    let breaks : l .ttrt < after l (at-loop .loop .s) .sum + l .lost = omega (arith, sum-after at-round, c .before .if2 .taken) in
     c .none2 .ensures ∙ sym (underway-breaks l (at-loop .loop .s) (at-loop .loop .sum) (at-loop .loop .inv) breaks)
 
 returns-3 : tie.Need-returns-3 Inv-loop μ-loop
 returns-3 c =
     let at-round = c .before .before .before .before in
     let at-loop = at-round .before in
-    let l = at-loop .before .before .before .before .before .before .args .l in
+    let l = at-loop .before .before .before .before .before .args .l in
     sym (underway-stays l (at-loop .loop .s) (at-loop .loop .sum) (at-loop .loop .inv) (fits (c .before .before)) (sym (sum-after at-round) ∙ c .if3 .taken))
 
 loop-less : tie.Need-loop-less Inv-loop μ-loop
 loop-less c =
     let at-round = c .before .before .before .before .before in
     let at-loop = at-round .before in
-    let l = at-loop .before .before .before .before .before .before .args .l in
+    let l = at-loop .before .before .before .before .before .args .l in
     let up = underway-up l (at-loop .loop .s) (at-loop .loop .sum) (at-loop .loop .inv) (λ e. c .before .if3 .left (sum-after at-round ∙ e)) in
     omega (arith, sum-after at-round, at-loop .loop .inv .is, at-loop .loop .inv .now .token)
 
@@ -101,7 +96,7 @@ loop-again : tie.Need-loop-again Inv-loop μ-loop
 loop-again c =
     let at-round = c .before .before .before .before .before in
     let at-loop = at-round .before in
-    let l = at-loop .before .before .before .before .before .before .args .l in
+    let l = at-loop .before .before .before .before .before .args .l in
     rw (after-is at-round) (underway-rises l (at-loop .loop .s) (at-loop .loop .sum) (at-loop .loop .inv) (fits (c .before .before .before)) (λ e. c .before .if3 .left (sum-after at-round ∙ e)))
 
 pub least-plan-spec : {M : Type 1} → statement M
@@ -114,7 +109,6 @@ least-plan-spec =
     token-fits-requires
     none-requires
     returns
-    lost-requires
     rotations-requires
     loop-holds
     add-round

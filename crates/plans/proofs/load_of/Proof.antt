@@ -1,14 +1,14 @@
--- `load_of` is right because it hands over the set's own numbers, with τ as the sum of its w.
+-- `load_of` is right because it hands over the set's own numbers, and what no station may plan with.
 use mathlib.Core.Path.{refl}
 use borrow.Author.Needs.{needs}
 use Rattle.plans.proofs.load_of.Statement.{statement}
 use Rattle.plans.proofs.load_of.Tie as tie
 
-walk-time-requires : tie.Need-walk-time-requires
-walk-time-requires c κs = search needs
+lost-requires : tie.Need-lost-requires
+lost-requires c κs = search needs
 
 returns : tie.Need-returns
-returns c = rw (c .walk-time .ensures .sum) refl
+returns c = rw (c .lost .ensures .is) refl
 
 pub load-of-spec : {M : Type 1} → statement M
-load-of-spec = tie.close (tie.spec walk-time-requires returns)
+load-of-spec = tie.close (tie.spec lost-requires returns)

@@ -4,9 +4,10 @@ use mathlib.Core.Path.{_≡_, refl, ap, _∙_}
 use native.Mathlib.Omega.{arith}
 use borrow.Author.Needs.{needs}
 use borrow.Author.Tests.{eq-eqb, ne-eqb}
-use Rattle.units.specs.Grid.{onGridAt}
-use Rattle.units.specs.Places.{at, allBelow}
-use Rattle.fddi.specs.Rules.{rulesKept}
+use Rattle.units.specs.Grid.{allOnGrid}
+use Rattle.units.specs.Places.{at}
+use Rattle.units.specs.Vectors.{rulesKept}
+use Rattle.fddi.specs.Rules as fddi-rules
 use Rattle.fddi.specs.declared.Load.{Load}
 use Rattle.plans.proofs.LeastLaws.{timely-deadlines, load-rules}
 use Rattle.plans.proofs.rules_fit.Statement.{statement}
@@ -24,7 +25,7 @@ returns c =
     let t = entry .before .before .args .t in
     let s = at (entry .before .before .args .a .s) in
     let few = entry .before .before .pre in
-    c .meets-rules .ensures ∙ ap (λ (l : Load). rulesKept l s) (c .before .load-of .ensures) ∙ load-rules t s (eq-eqb _ _ (entry .if1 .taken)) few
+    c .meets-rules .ensures ∙ ap (λ (l : Load). rulesKept (fddi-rules.termsOf l) s) (c .before .load-of .ensures) ∙ load-rules t (eq-eqb _ _ (entry .if1 .taken)) few s
 
 deadlines-fit-requires : tie.Need-deadlines-fit-requires
 deadlines-fit-requires c κs = search needs
@@ -42,7 +43,7 @@ returns-2 c =
     let s = at (entry .before .before .args .a .s) in
     let deadlines = c .before .before .deadlines-fit .ensures ∙ timely-deadlines t s (ne-eqb _ _ (entry .if1 .left)) in
     let few : min (t .n) 128 ≡ t .n = omega (arith, entry .before .before .pre) in
-    let grid = c .all-on-grid .ensures ∙ ap (λ (n : ℕ). allBelow n (onGridAt (t .head .grid) s)) few in
+    let grid = c .all-on-grid .ensures ∙ ap (λ (n : ℕ). allOnGrid (t .head .grid) n s) few in
     rw (deadlines, c .before .token-fits .ensures, grid) refl
 
 pub rules-fit-spec : {M : Type 1} → statement M

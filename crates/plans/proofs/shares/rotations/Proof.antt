@@ -6,7 +6,8 @@ use borrow.Author.Needs.{needs}
 use Rattle.units.specs.SmallLaws.{one-more}
 use Rattle.quotients.proofs.Promised.{promised}
 use Rattle.plans.specs.PlanLaws.{rotations-within, alpha-small}
-use Rattle.plans.specs.Rules.{wholeRotations, alpha}
+use Rattle.units.specs.Vectors.{wholeRotations}
+use Rattle.plans.specs.Rules.{alpha}
 use Rattle.plans.proofs.shares.rotations.Statement.{statement}
 use Rattle.plans.proofs.shares.rotations.Tie as tie
 
