@@ -97,17 +97,21 @@ due-in-plan plan stations allocations e l = rw e l
 
 module _ (p : Passed) (tag size : ℕ) where
   -- a further field of the header is the mode, F or g
+  mode-says : Further p tag size → tag ≡ 4 → MayStand p tag size
+  mode-says f e = a-mode e (f .0 .1 ∙ ap furtherSize e ∙ further-one) (f .1 .0 .0) (omega (arith, f .1 .0 .1)) (f .1 .1)
+
+  frame-says : Further p tag size → tag ≡ 5 → MayStand p tag size
+  frame-says f e = a-frame e (f .0 .1 ∙ further-four tag (λ d. omega arith)) (f .1 .0 .0) (omega (arith, f .1 .0 .1)) (f .1 .1)
+
+  grid-says : Further p tag size → tag ≡ 6 → MayStand p tag size
+  grid-says f e = a-grid e (f .0 .1 ∙ further-four tag (λ d. omega arith)) (f .1 .0 .0) (omega (arith, f .1 .0 .1)) (f .1 .1)
+
   further-says : Further p tag size → MayStand p tag size
   further-says f =
       let low = f .0 .0 .0 in
-      let above = f .1 .0 .1 in
       let high = f .0 .0 .1 in
-      ⊎-elim (λ (b : tag < 5). let e : tag ≡ 4 = omega arith in a-mode e (f .0 .1 ∙ ap furtherSize e ∙ further-one) (f .1 .0 .0) (omega arith) (f .1 .1))
-      (λ (b : 5 ≤ tag).
-      let four = f .0 .1 ∙ further-four tag (λ e. omega arith) in
-      ⊎-elim (λ (d : tag < 6). a-frame (omega arith) four (f .1 .0 .0) (omega arith) (f .1 .1))
-      (λ (d : 6 ≤ tag). a-grid (omega arith) four (f .1 .0 .0) (omega arith) (f .1 .1))
-      (below-or-not tag 6))
+      ⊎-elim (λ (b : tag < 5). mode-says f (omega arith))
+      (λ (b : 5 ≤ tag). ⊎-elim (λ (d : tag < 6). frame-says f (omega arith)) (λ (d : 6 ≤ tag). grid-says f (omega arith)) (below-or-not tag 6))
       (below-or-not tag 5)
 
   rows-say : Rows p tag size → MayStand p tag size
