@@ -3,11 +3,11 @@ use Prim.Native.Nat.{ℕ, _+_, _-_, _≤_, _<_}
 use mathlib.Core.Path.{_≡_, refl, sym, ap, _∙_}
 use mathlib.Core.Bool.{true, false}
 use mathlib.Core.List.{List, [], _++_, append-nil}
-use mathlib.Core.Logic.{⊎-elim, _≢_}
+use mathlib.Core.Logic.{_⊎_, inl, inr, ⊎-elim, _≢_}
 use native.Mathlib.Omega.{arith}
 use borrow.Author.Tests.{eq-eqb}
 use lib.ListN.{length, drop, take-append-drop}
-use lib.Seq.{length-take-le, take-all, drop-nil, drop-append-le, drop-append-add, getD-take}
+use lib.Seq.{length-take-le, drop-length, drop-nil, drop-drop, drop-append-le}
 use Rattle.units.specs.SmallLaws.{below-or-not}
 use Rattle.units.specs.JudgingLaws.{true-or-false, and-true}
 use Rattle.plans.specs.Planned.{judgedPlan}
@@ -33,6 +33,7 @@ use Rattle.pieces.specs.Pieces.{nothingRead, numberOf, readOver, handedOver}
 use Rattle.pieces.specs.declared.Visits.{Visits}
 use Rattle.pieces.proofs.FieldLaws.{read-append, handed-append}
 use Rattle.pieces.proofs.WholeLaws.{whole-read}
+use Rattle.pieces.proofs.HeadLaws.{start-same, stays, start-at, start-inside}
 use Rattle.text.specs.Text.{refusedLine, textOr}
 use Rattle.text.specs.TextLaws.{text-accepted, text-refused}
 use Rattle.outputs.specs.ShowText.{sheetText, planLinesOf, showPrinted}
@@ -42,7 +43,7 @@ use Rattle.log_shows.specs.LogShown.{shownWith, firstSize, firstPart, vi
 use Rattle.log_shows.specs.Promised.{Promised}
 use Rattle.log_shows.specs.declared.Showing.{Showing}
 use Rattle.log_shows.proofs.ShowLaws.{lines-append, lines-accepted, plan-lines, plain-ever, plain-read, head-plain, head-log}
-use Rattle.log_shows.proofs.FirstLaws.{start-at, Begins, start-same, start-inside, log-same, text-same}
+use Rattle.log_shows.proofs.FirstLaws.{log-same, text-same}
 
 -- ---- pieces
 
@@ -62,9 +63,6 @@ module _ (bs : List ℕ) (log : isLog bs ≡ true) where
   unfolding planStart
   start-number = rw all-passed refl
 
-  inside : planStart bs .at ≤ length bs
-  inside = omega (arith, visit-there bs (planStart bs .at) (and-true (planStart bs .passed) _ log .1) .inside)
-
   -- the walk over the log is the walk over its visits
   walk-same : logWalked bs .number ≡ walked bs (planStart bs .at) .number
   unfolding logWalked
@@ -76,11 +74,11 @@ module _ (bs : List ℕ) (log : isLog bs ≡ true) where
 
   last : lastNumber (showAfter (showFrom bs) (visitsPart bs)) ≡ logNumber bs
   last =
-      ap (λ (n : ℕ). thenNumber n (planStart bs .number)) (whole-read bs (planStart bs .at) inside .ends ∙ sym walk-same)
+      ap (λ (n : ℕ). thenNumber n (planStart bs .number)) (whole-read bs (planStart bs .at) (start-inside bs) .ends ∙ sym walk-same)
       ∙ ap (thenNumber (logWalked bs .number)) start-number
 
   lines : shownOver (showFrom bs) (visitsPart bs) ≡ linesFor (planStart bs .number) (handedFrom (walked bs (planStart bs .at) .visits) bs (planStart bs .at))
-  lines = ap (linesFor (planStart bs .number)) (whole-read bs (planStart bs .at) inside .hands)
+  lines = ap (linesFor (planStart bs .number)) (whole-read bs (planStart bs .at) (start-inside bs) .hands)
 
   log-said : shownOf bs ≡ planText (planStart bs .number) (planStart bs .set) (planStart bs .alloc)
       ++ linesFor (planStart bs .number) (handedFrom (walked bs (planStart bs .at) .visits) bs (planStart bs .at)) ++ textOr (logNumber bs) []
@@ -210,57 +208,52 @@ module _ (bs : List ℕ) (accepted : readPlan bs .number ≡ 0) where
 
 -- ---- the first bytes are enough
 
-record FirstEnough (bs : List ℕ) : Type 0 where
-  start : planStart (firstPart bs) ≡ planStart bs
-  log : isLog (firstPart bs) ≡ isLog bs
-  text : headText (firstPart bs) ≡ headText bs
-  visits : visitsRead bs ≡ visitsPart bs
-
 module _ (bs : List ℕ) where
-  -- more bytes follow
-  enough-of-more : firstSize ≤ length bs → FirstEnough bs
-  enough-of-more large =
-      let first = firstPart bs in
-      let long : length (firstPart bs) ≡ firstSize = length-take-le firstSize bs large in
-      let b : Begins (firstPart bs) bs = record { same = λ i l. getD-take firstSize bs i 0 (omega arith); within = omega arith; enough = omega arith } in
-      record {
-        start = start-same first bs b;
-        log = log-same first bs b;
-        text = text-same first bs b;
-        visits = ap (λ (s : PlanStart). drop (s .at) first ++ drop firstSize bs) (start-same first bs b)
-            ∙ sym (drop-append-le (planStart bs .at) first (drop firstSize bs) (start-inside first bs b))
-            ∙ ap (drop (planStart bs .at)) (take-append-drop firstSize bs);
-      }
+  abbrev first : List ℕ
+  first = firstPart bs
 
-  -- they are all
-  enough-of-all : length bs ≤ firstSize → FirstEnough bs
-  enough-of-all small =
-      let all : firstPart bs ≡ bs = take-all firstSize bs small in
+  abbrev rest : List ℕ
+  rest = drop firstSize bs
+
+  first-rest : first ++ rest ≡ bs
+  first-rest = take-append-drop firstSize bs
+
+  enough : (rest ≡ []) ⊎ (3_400 ≤ length first)
+  enough =
+      let more = firstSize - length bs in
+      ⊎-elim (λ (l : length bs < firstSize).
       let size : firstSize ≡ length bs + (firstSize - length bs) = omega arith in
-      let none : drop firstSize bs ≡ [] =
-      ap (λ (n : ℕ). drop n bs) size ∙ ap (drop (length bs + (firstSize - length bs))) (sym (append-nil bs)) ∙ drop-append-add bs [] (firstSize - length bs) ∙ drop-nil (firstSize - length bs) in
-      record {
-        start = ap planStart all;
-        log = ap (λ (x : List ℕ). isLog x) all;
-        text = ap headText all;
-        visits = ap (λ (x : List ℕ). visitsPart x ++ drop firstSize bs) all ∙ ap (λ (x : List ℕ). visitsPart bs ++ x) none ∙ append-nil (visitsPart bs);
-      }
+      inl (ap (λ (n : ℕ). drop n bs) size ∙ sym (drop-drop more (length bs) bs) ∙ ap (drop more) (drop-length bs) ∙ drop-nil more))
+      (λ (l : firstSize ≤ length bs). inr (omega (arith, length-take-le firstSize bs l)))
+      (below-or-not (length bs) firstSize)
 
-  enough : FirstEnough bs
-  enough = ⊎-elim (λ (l : length bs < firstSize). enough-of-all (omega arith)) (λ (l : firstSize ≤ length bs). enough-of-more l) (below-or-not (length bs) firstSize)
+  of-first : {A : Type 0} (f : List ℕ → A) → (3_400 ≤ length first → f (first ++ rest) ≡ f first) → f first ≡ f bs
+  of-first f same = sym (stays first rest enough f same) ∙ ap f first-rest
+
+  start : planStart first ≡ planStart bs
+  start = of-first planStart (start-same first rest)
+
+  log-first : isLog first ≡ isLog bs
+  log-first = of-first (λ x. isLog x) (log-same first rest)
+
+  text-first : headText first ≡ headText bs
+  text-first = of-first headText (text-same first rest)
+
+  visits-first : visitsRead bs ≡ visitsPart bs
+  visits-first =
+      sym (drop-append-le (planStart first .at) first rest (start-inside first))
+      ∙ ap (λ (s : PlanStart). drop (s .at) (first ++ rest)) start
+      ∙ ap (drop (planStart bs .at)) first-rest
 
   shown-in-pieces : shownWith (firstPart bs) (visitsRead bs) ≡ shownOf bs
   unfolding shownOf
-  shown-in-pieces =
-      let e = enough in
-      rw (e .log, e .text, e .visits, e .start) refl
+  shown-in-pieces = rw (log-first, text-first, visits-first, start) refl
 
   last-in-pieces : isLog (firstPart bs) ≡ true → lastNumber (showAfter (showFrom (firstPart bs)) (visitsRead bs)) ≡ logNumber bs
   last-in-pieces log =
-      let e = enough in
-      ap (λ (v : List ℕ). lastNumber (showAfter (showFrom (firstPart bs)) v)) (e .visits)
-      ∙ ap (λ (s : PlanStart). thenNumber (numberOf (readOver nothingRead (visitsPart bs))) (s .number)) (e .start)
-      ∙ last bs (sym (e .log) ∙ log)
+      ap (λ (v : List ℕ). lastNumber (showAfter (showFrom (firstPart bs)) v)) visits-first
+      ∙ ap (λ (s : PlanStart). thenNumber (numberOf (readOver nothingRead (visitsPart bs))) (s .number)) start
+      ∙ last bs (sym log-first ∙ log)
 
 pub promised : Promised
 promised =
@@ -273,7 +266,7 @@ promised =
       as-ever = ever;
       plan-as-ever = plan-ever;
       plain-refused = refused-said;
-      first-log = λ bs. enough bs .log;
+      first-log = log-first;
       in-pieces = shown-in-pieces;
       number-in-pieces = last-in-pieces;
     }

@@ -1,14 +1,13 @@
 -- A log with a visit is printed as its text by what `log_shows` promises, one without as its plan; `compose` makes of that text the log that was read, and that is the bytes themselves.
 use Prim.Native.Nat.{ℕ}
 use mathlib.Core.Path.{_≡_, refl, sym, ap, subst, _∙_}
-use mathlib.Core.Bool.{Bool, true, false, _&&_}
+use mathlib.Core.Bool.{true, false}
 use mathlib.Core.Logic.{⊎-elim}
 use mathlib.Core.List.{List, [], _++_, append-nil}
 use Rattle.units.specs.JudgingLaws.{true-or-false}
 use Rattle.fields.specs.Bytes.{AllBytes}
 use Rattle.scan.specs.Scanned.{scanned}
 use Rattle.sheets.specs.Reading.{planPassed, planStart}
-use Rattle.entries.specs.Entry.{visitStands}
 use Rattle.logs.specs.Layout.{logOf}
 use Rattle.logs.specs.Walked.{walkFrom, walked, logWalked}
 use Rattle.logs.specs.Reading.{readLog, handedFrom, entriesIn}
@@ -22,7 +21,7 @@ use Rattle.outputs.specs.LogText.{visitLines, logText}
 use Rattle.outputs.proofs.Promised as outputs
 use Rattle.log_shows.specs.LogShown.{isLog, plainText, shownOf}
 use Rattle.log_shows.proofs.ShowLaws.{plan-lines, head-plain}
-use Rattle.log_shows.proofs.FirstLaws.{start-at}
+use Rattle.log_shows.proofs.FirstLaws.{no-visit}
 use Rattle.log_shows.proofs.Promised as shows
 use Rattle.log_texts.specs.Promised.{Promised}
 
@@ -36,12 +35,9 @@ module _ (bs : List ℕ) (h : readLog bs .number ≡ 0) where
 
   -- no visit stands behind them
   module _ (plain : isLog bs ≡ false) where
-    no-visit : visitStands bs (scanned true bs .at) ≡ false
-    no-visit = ap (visitStands bs) (sym (start-at bs)) ∙ ap (λ (b : Bool). b && visitStands bs (planStart bs .at)) (sym passed) ∙ plain
-
     no-visits : logWalked bs .visits ≡ 0
     unfolding logWalked walked walkFrom
-    no-visits = rw (all-passed, no-visit) refl
+    no-visits = rw (all-passed, no-visit bs passed plain) refl
 
     no-entries : entriesIn bs ≡ []
     unfolding handedFrom

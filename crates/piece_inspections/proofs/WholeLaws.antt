@@ -19,12 +19,14 @@ use Rattle.logs.specs.Walked.{walked}
 use Rattle.logs.specs.Reading.{readLog, handedFrom, entriesIn}
 use Rattle.logs.specs.declared.ReadLog.{ReadLog}
 use Rattle.logs.specs.declared.Walked.{Walked}
-use Rattle.logs.proofs.ReadingLaws.{log-not-all, log-fault, log-judged, log-whole}
+use Rattle.logs.proofs.WalkLaws.{not-all-fault}
+use Rattle.logs.proofs.ReadingLaws.{start-says, log-not-all, log-fault, log-judged, log-whole}
 use Rattle.pieces.specs.Pieces.{nothingRead, faulty, numberOf, readOver, handedOver}
 use Rattle.pieces.specs.declared.Visits.{Visits}
 use Rattle.pieces.proofs.StepLaws.{step-stopped}
 use Rattle.pieces.proofs.FieldLaws.{read-append, handed-append}
 use Rattle.pieces.proofs.WholeLaws.{whole-read}
+use Rattle.pieces.proofs.HeadLaws.{start-stays, start-inside}
 use Rattle.inspection.specs.Opening.{begun}
 use Rattle.inspection.specs.Records.{inspectionOf}
 use Rattle.inspection.specs.Findings.{brokenRecord, foundIn, findingIn}
@@ -36,7 +38,6 @@ use Rattle.piece_inspections.specs.Promised.{Enough, Breaks}
 use Rattle.piece_inspections.specs.declared.Looked.{Looked}
 use Rattle.piece_inspections.specs.declared.Inspecting.{Inspecting}
 use Rattle.piece_inspections.proofs.LookLaws.{look-append, all-inspects, broken-from, all-counted}
-use Rattle.piece_inspections.proofs.HeadLaws.{start-stays, start-inside, not-passed-fault}
 
 -- ---- pieces
 
@@ -86,10 +87,17 @@ stopped-number : (k : ℕ) (bs : List ℕ) → k ≢ 0 → numberOf (readOver (f
 stopped-number k bs some = ap numberOf (read-stopped (faulty nothingRead k) bs some) ∙ then-keeps k _ some
 
 module _ (bs : List ℕ) where
+  -- it has a number
+  not-passed-fault : planStart bs .passed ≡ false → planStart bs .number ≢ 0
+  unfolding planStart
+  not-passed-fault e =
+      let h = sym (start-says bs) ∙ e in
+      rw h (not-all-fault bs h)
+
   number-not : planStart bs .passed ≡ false → inspectNumber (inspectStart bs) ≡ readLog bs .number
   number-not h =
       let k = planStart bs .number in
-      let some : planStart bs .number ≢ 0 = not-passed-fault bs h in
+      let some : planStart bs .number ≢ 0 = not-passed-fault h in
       let number : numberOf (inspectStart bs .visits) ≡ planStart bs .number =
       ap (λ (v : Visits). numberOf (readOver v (drop (planStart bs .at) bs))) (from-not (planStart bs .passed) k h) ∙ stopped-number k (drop (planStart bs .at) bs) some in
       ap (λ (n : ℕ). thenNumber n k) number ∙ then-keeps k k some ∙ sym (ap (λ (r : ReadLog). r .number) (log-not-all bs (planStart bs) refl h))
