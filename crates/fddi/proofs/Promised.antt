@@ -8,11 +8,11 @@ use native.Mathlib.Nat.{suc-mul, mul-le-mul-right}
 use Rattle.units.specs.Places.{at, sumBelow}
 use Rattle.units.specs.PlaceLaws.{sum-same}
 use Rattle.units.specs.JudgingLaws.{iff-then}
-use Rattle.units.specs.Vectors.{wholeRotations, SameTerms}
+use Rattle.units.specs.Vectors.{wholeRotations, LeastPlaces, SameTerms}
 use Rattle.units.specs.VectorLaws.{decides-rules, terms-back, rules-same, least-same, least-one}
 use Rattle.fddi.specs.Rules.{stations, rest, others, termsOf, MeetsFddi, SameLoad, tokenFits}
 use Rattle.fddi.specs.Climb.{rotationsAt, zeros, none, climbFrom, leastPlan}
-use Rattle.fddi.specs.Answer.{IsLeast, Fitting}
+use Rattle.fddi.specs.Answer.{Fitting}
 use Rattle.fddi.specs.Promised.{Regions, Promised}
 use Rattle.fddi.specs.declared.Load.{Load}
 use Rattle.fddi.specs.declared.Found.{Found}
@@ -46,7 +46,7 @@ products q c r z s =
 
 -- ---- the least vector, or none
 
-found : (l : Load) → leastPlan l .found ≡ true → IsLeast l (leastPlan l .s)
+found : (l : Load) → leastPlan l .found ≡ true → LeastPlaces (termsOf l) (leastPlan l .s)
 found l h =
     ⊎-elim (λ r. r .1) (λ r. absurd (false≢true (sym (ap (λ (a : Found). a .found) (r .0)) ∙ h))) (plan-right l)
 

@@ -10,14 +10,13 @@ use borrow.Author.Tests.{leb-true, leb-false, le-leb, lt-leb, eq-eqb, ne-eqb}
 use lib.ListN.{length}
 use Rattle.units.specs.Places.{at, sumBelow}
 use Rattle.units.specs.PlaceLaws.{zero-at, sum-mono, sum-part, sum-same, fill-length, fill-inside, fill-outside}
-use Rattle.units.specs.Vectors.{TokenKept}
+use Rattle.units.specs.Vectors.{TokenKept, LeastPlaces}
 use Rattle.units.specs.VectorLaws.{within-ttrt}
 use Rattle.units.specs.SmallLaws.{below-or-not}
 use Rattle.units.specs.JudgingLaws.{true-or-false}
 use Rattle.units.specs.Grid.{AllOnGrid}
 use Rattle.fddi.specs.Rules.{stations, rest, others, timeAt, termsOf, tokenFits, MeetsFddi}
 use Rattle.fddi.specs.Climb.{holds, rotationsAt, moreAt, nextAt, heldAt, zeros, none, sumOf, after, climbFrom, leastPlan}
-use Rattle.fddi.specs.Answer.{IsLeast}
 use Rattle.fddi.specs.declared.Load.{Load}
 use Rattle.fddi.specs.declared.Found.{Found}
 use Rattle.fddi.proofs.Laws.{others-own}
@@ -113,7 +112,7 @@ module _ (l : Load) where
         absurd (omega (arith, sum-strict (stations l) (at s) (nextAt l (sumOf l s + l .lost) s) up-at i b above)))
         (true-or-false (holds (rotationsAt l i) (at (l .c) i) (moreAt l (sumOf l s + l .lost) i) (at s i)))
 
-    pub stays-least : after l s .sum ≡ sumOf l s → IsLeast l s
+    pub stays-least : after l s .sum ≡ sumOf l s → LeastPlaces (termsOf l) s
     stays-least stays =
         record {
           places = now .places;
@@ -172,7 +171,7 @@ module _ (k : ℕ) (l : Load) (s : List ℕ) where
 
 -- the answer is the least vector, or there is none
 abbrev pub Right : Load → Found → Type 0
-Right l a = ((a .found ≡ true) × IsLeast l (a .s)) ⊎ ((a ≡ none) × ((v : ℕ → ℕ) → ¬ MeetsFddi l v))
+Right l a = ((a .found ≡ true) × LeastPlaces (termsOf l) (a .s)) ⊎ ((a ≡ none) × ((v : ℕ → ℕ) → ¬ MeetsFddi l v))
 
 equal-or-not : (a b : ℕ) → (a ≡ b) ⊎ (a ≡ b → ⊥)
 equal-or-not a b =

@@ -2,7 +2,6 @@
 use Prim.Native.Nat.{ℕ}
 use mathlib.Core.Path.{_≡_}
 use mathlib.Core.Bool.{true}
-use mathlib.Core.List.{List}
 use Rattle.units.specs.Vectors.{LeastPlaces}
 use Rattle.fddi.specs.Rules.{termsOf, MeetsFddi}
 use Rattle.fddi.specs.Climb.{none}
@@ -13,13 +12,9 @@ use Rattle.fddi.specs.declared.Found.{Found}
 abbrev pub PlanExists : Load → Type 0
 PlanExists l = (s : ℕ → ℕ) × MeetsFddi l s
 
--- the least vector, in 128 places
-abbrev pub IsLeast : Load → List ℕ → Type 0
-IsLeast l = LeastPlaces (termsOf l)
-
 -- the answer fits the load
 pub record Fitting (l : Load) (a : Found) : Type 0 where
   -- no vector meets the rules: none, with zeros
   pub missing : ¬ PlanExists l → a ≡ none
   -- else the least vector
-  pub found : PlanExists l → (a .found ≡ true) × IsLeast l (a .s)
+  pub found : PlanExists l → (a .found ≡ true) × LeastPlaces (termsOf l) (a .s)

@@ -5,10 +5,10 @@ use mathlib.Core.Bool.{true, false}
 use mathlib.Core.Logic.{_⊎_, _↔_}
 use Rattle.units.specs.Places.{at, sumBelow}
 use Rattle.units.specs.JudgingLaws.{Decides}
-use Rattle.units.specs.Vectors.{wholeRotations, SameTerms, rulesKept}
+use Rattle.units.specs.Vectors.{wholeRotations, LeastPlaces, SameTerms, rulesKept}
 use Rattle.fddi.specs.Rules.{stations, rest, leastTime, others, timeAt, termsOf, MeetsFddi, tokenFits, SameLoad}
 use Rattle.fddi.specs.Climb.{holds, rotationsAt, moreAt, zeros, none, climbFrom, leastPlan}
-use Rattle.fddi.specs.Answer.{IsLeast, Fitting}
+use Rattle.fddi.specs.Answer.{Fitting}
 use Rattle.fddi.specs.declared.Load.{Load}
 use Rattle.fddi.specs.declared.Found.{Found}
 
@@ -36,7 +36,7 @@ pub record Promised : Type 0 where
   pub another-way : (l : Load) (s : ℕ → ℕ) (i : ℕ) → i < stations l
       → Decides (holds (rotationsAt l i) (at (l .c) i) (moreAt l (sumBelow (stations l) s + l .lost) i) (s i)) (at (l .c) i ≤ timeAt l s i)
   -- a plan that is found meets the rules, and is at most every vector that does, at every station
-  pub found : (l : Load) → leastPlan l .found ≡ true → IsLeast l (leastPlan l .s)
+  pub found : (l : Load) → leastPlan l .found ≡ true → LeastPlaces (termsOf l) (leastPlan l .s)
   -- none is found exactly if no vector whatever meets the rules
   pub missing : (l : Load) → (leastPlan l .found ≡ false) ↔ ((v : ℕ → ℕ) → ¬ MeetsFddi l v)
   -- then the answer is zeros

@@ -24,10 +24,6 @@ placeOf token = token % 128
 abbrev pub place : Inspection → ℕ
 place s = placeOf (s .course .token)
 
--- how long the timer of the token's station has run: TRT, or an FDDI timer with TTRT for each time that it is late
-abbrev pub timerRun : Inspection → ℕ
-timerRun s = ticksBetween (at (s .base) (place s)) (s .course .clock)
-
 -- the start: of the first record anything, of a later one what the record before took, after its start
 unfoldable pub dueStart : ℕ → ℕ → ℕ → ℕ → ℕ
 dueStart visits last span start = cond (eqb visits 0) start (ticksLater last span)
@@ -36,7 +32,7 @@ dueStart visits last span start = cond (eqb visits 0) start (ticksLater last spa
 unfoldable pub limitWith : Head → ℕ → ℕ → ℕ
 limitWith h unused run = cond (eqb (h .mode) fddi) (h .ttrt - run) (h .ttrt - (h .frame - 1) - unused - run)
 
--- what the next record must say, if it is one that starts so: with the moment and S of the token's station
+-- what the next record must say, if it is one that starts so: by the moment and S of the token's station. Since that moment its timer has run: TRT, or an FDDI timer with TTRT for each time that it is late
 abbrev pub dueWith : Course → ℕ → Head → ℕ → ℕ → ℕ → Expected
 dueWith c visits h base share start =
     record {
@@ -47,6 +43,7 @@ dueWith c visits h base share start =
       longest = h .frame;
     }
 
+-- the same, with the moment and S that the arrays have at the station's place
 abbrev pub expected : Inspection → Set → Alloc → ℕ → Expected
 expected s t a start = dueWith (s .course) (s .visits) (t .head) (at (s .base) (place s)) (at (a .s) (place s)) start
 

@@ -50,7 +50,8 @@ frames-above limit longest amount some h =
 
 -- ---- by the rule that is broken
 
-module _ (s : Inspection) (x : Expected) (e : Entry) (due : x .start ≡ dueStart (s .visits) (s .course .start) (s .course .span) (e .start)) (before : s .course .start < 2 ^ 32) (now : e .start < 2 ^ 32)
+module _ (s : Inspection) (x : Expected) (e : Entry) (due : x .start ≡ dueStart (s .visits) (s .course .start) (s .course .span) (e .start))
+    (before : s .course .start < 2 ^ 32) (now : e .start < 2 ^ 32)
     (some : 1 ≤ x .longest) where
   by-rule : (k : ℕ) → 1 ≤ k → k < 6 → getD (rulesKept x e) (k - 1) true ≡ false → Differ k (comparedBy k s x e)
   unfolding comparedBy

@@ -32,7 +32,7 @@ use Rattle.promises.proofs.Course.{Plan, same-or-not}
 use Rattle.promises.proofs.Opening.{plan-of}
 use Rattle.inspection.specs.Counter.{ticksLater, ticksBetween}
 use Rattle.inspection.specs.Opening.{passingTimes, begun}
-use Rattle.inspection.specs.Rules.{place, timerRun, limitWith}
+use Rattle.inspection.specs.Rules.{place, limitWith}
 use Rattle.inspection.specs.Records.{baseWith, spanWith, movedOn}
 use Rattle.inspection.specs.declared.Inspection.{Inspection}
 use Rattle.inspection_rules.specs.Gives.{Could}
@@ -102,12 +102,12 @@ module _ (r : Ring) (K : Reached r) where
     pub place-is : place s ≡ r .token
     place-is = omega (arith, S .token, K .token, plan r K .few)
 
-    pub run-is : timerRun s ≡ runOf r (r .token)
+    pub run-is : ticksBetween (at (s .base) (place s)) (s .course .clock) ≡ runOf r (r .token)
     run-is =
         rw place-is
         (between-is (at (s .base) (r .token)) (runOf r (r .token)) (s .course .clock) (S .small (r .token) (K .token)) (run-small (r .token) (K .token)) (S .base (r .token) (K .token)))
 
-    pub limit-is : limitWith (r .set .head) (s .course .unused) (timerRun s) ≡ limit r
+    pub limit-is : limitWith (r .set .head) (s .course .unused) (ticksBetween (at (s .base) (place s)) (s .course .clock)) ≡ limit r
     unfolding limitWith
     limit-is =
         rw run-is

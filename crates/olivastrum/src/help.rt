@@ -114,7 +114,7 @@ pub(crate) fn print(to: i32) -> bool {
     let lines = more(
         calls,
         to,
-        b"A text has lines `ttrt TTRT`, `mode M`, `frame F`, `grid G`, `station W C D P` or `station W C D P S`, and `visit STATION START LIMIT SYNC ASYNC`.\n",
+        b"A text has, in this order, lines `ttrt TTRT`, `mode M`, `frame F`, `grid G`, `station W C D P` or `station W C D P S`, and `visit STATION START LIMIT SYNC ASYNC`.\n",
     );
     let modes = more(
         lines,
@@ -124,6 +124,6 @@ pub(crate) fn print(to: i32) -> bool {
     more(
         modes,
         to,
-        b"README.md says what the numbers of the refusals and the exit statuses mean.\n",
+        b"README.md says what the letters, the numbers of the refusals and the exit statuses mean.\n",
     )
 }

@@ -113,6 +113,8 @@ pub time-fddi : (t : Set) (s : ℕ → ℕ) (i : ℕ) → isFddi t ≡ true → 
 unfolding timeAt
 time-fddi t s i h = rw h
 
+-- ---- the test of the range of S decides it
+
 pub decides-alloc : (t : Set) (s : ℕ → ℕ) → Decides (allocInRange t s) (AllocInRange t s)
 decides-alloc t s = decides-all (t .n) (inRangeS s) (λ i. s i ≤ mostS) (λ i. decides-le (s i) mostS)
 

@@ -88,7 +88,8 @@ records-again c =
     let handed = handing (loop .before) in
     let turn = handed .before in
     let inv = loop .loop .inv in
-    going-next _ _ _ _ _ _ _ (turn .records-test .taken) (turn .before .records .inv) _ (handed .log-entry .ensures) _ (asked (loop .before)) _ (moved c) (inv .3 ∙ failed-none _ _ (omega (arith, tried .loop-test .left, inv .2)))
+    let none = inv .3 ∙ failed-none _ _ (omega (arith, tried .loop-test .left, inv .2)) in
+    going-next _ _ _ _ _ _ _ (turn .records-test .taken) (turn .before .records .inv) _ (handed .log-entry .ensures) _ (asked (loop .before)) _ (moved c) none
 
 returns : tie.Need-returns Inv-loop μ-loop Inv-records μ-records
 returns c =
