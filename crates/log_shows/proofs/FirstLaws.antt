@@ -15,6 +15,7 @@ use Rattle.entries.specs.Entry.{visitStands}
 use Rattle.logs.specs.Walked.{stopNumber, walkFrom, walked, logWalked}
 use Rattle.logs.specs.Reading.{readLog}
 use Rattle.logs.proofs.ReadingLaws.{start-says}
+use Rattle.pieces.specs.Pieces.{firstSize}
 use Rattle.pieces.proofs.HeadLaws.{stops-early, at-same, size-same, scan-same, set-same, alloc-same, start-same, start-at}
 use Rattle.outputs.specs.ShowText.{showPrinted}
 use Rattle.log_shows.specs.LogShown.{isLog, plainText, headText}
@@ -23,7 +24,7 @@ use Rattle.log_shows.specs.LogShown.{isLog, plainText, headText}
 pub no-visit : (bs : List ℕ) → planStart bs .passed ≡ true → isLog bs ≡ false → visitStands bs (scanned true bs .at) ≡ false
 no-visit bs all plain = ap (visitStands bs) (sym (start-at bs)) ∙ ap (λ (b : Bool). b && visitStands bs (planStart bs .at)) (sym all) ∙ plain
 
-module _ (head rest : List ℕ) (long : 3_400 ≤ length head) where
+module _ (head rest : List ℕ) (long : firstSize ≤ length head) where
   -- ---- behind the plan's fields
 
   module _ (a : ℕ) (short : a ≤ 3_370) where

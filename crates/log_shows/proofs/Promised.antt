@@ -29,7 +29,7 @@ use Rattle.logs.specs.declared.Walked.{Walked}
 use Rattle.logs.specs.declared.ReadLog.{ReadLog}
 use Rattle.logs.proofs.WalkLaws.{not-all-fault, log-end-there}
 use Rattle.logs.proofs.ReadingLaws.{read-number, read-accepted, number-judged, start-says, log-whole}
-use Rattle.pieces.specs.Pieces.{nothingRead, numberOf, readOver, handedOver}
+use Rattle.pieces.specs.Pieces.{firstSize, nothingRead, numberOf, readOver, handedOver}
 use Rattle.pieces.specs.declared.Visits.{Visits}
 use Rattle.pieces.proofs.FieldLaws.{read-append, handed-append}
 use Rattle.pieces.proofs.WholeLaws.{whole-read}
@@ -39,7 +39,7 @@ use Rattle.text.specs.TextLaws.{text-accepted, text-refused}
 use Rattle.outputs.specs.ShowText.{sheetText, planLinesOf, showPrinted}
 use Rattle.outputs.specs.LogText.{visitLines, logText}
 use Rattle.log_shows.specs.LogShown.{isLog, planText, plainText, headText, showFrom, linesFor, showAfter, shownOver, lastNumber, endText, visitsPart, shownOf}
-use Rattle.log_shows.specs.LogShown.{shownWith, firstSize, firstPart, visitsRead}
+use Rattle.log_shows.specs.LogShown.{shownWith, firstPart, visitsRead}
 use Rattle.log_shows.specs.Promised.{Promised}
 use Rattle.log_shows.specs.declared.Showing.{Showing}
 use Rattle.log_shows.proofs.ShowLaws.{lines-append, lines-accepted, plan-lines, plain-ever, plain-read, head-plain, head-log}
@@ -218,7 +218,7 @@ module _ (bs : List ℕ) where
   first-rest : first ++ rest ≡ bs
   first-rest = take-append-drop firstSize bs
 
-  enough : (rest ≡ []) ⊎ (3_400 ≤ length first)
+  enough : (rest ≡ []) ⊎ (firstSize ≤ length first)
   enough =
       let more = firstSize - length bs in
       ⊎-elim (λ (l : length bs < firstSize).
@@ -227,7 +227,7 @@ module _ (bs : List ℕ) where
       (λ (l : firstSize ≤ length bs). inr (omega (arith, length-take-le firstSize bs l)))
       (below-or-not (length bs) firstSize)
 
-  of-first : {A : Type 0} (f : List ℕ → A) → (3_400 ≤ length first → f (first ++ rest) ≡ f first) → f first ≡ f bs
+  of-first : {A : Type 0} (f : List ℕ → A) → (firstSize ≤ length first → f (first ++ rest) ≡ f first) → f first ≡ f bs
   of-first f same = sym (stays first rest enough f same) ∙ ap f first-rest
 
   start : planStart first ≡ planStart bs

@@ -11,7 +11,7 @@ use Rattle.sheets.specs.Reading.{thenNumber, planStart}
 use Rattle.entries.specs.Entry.{visitStands}
 use Rattle.entries.specs.declared.Entry.{Entry}
 use Rattle.logs.specs.Reading.{readLog}
-use Rattle.pieces.specs.Pieces.{nothingRead, numberOf, readOver, handedOver}
+use Rattle.pieces.specs.Pieces.{firstSize, nothingRead, numberOf, readOver, handedOver}
 use Rattle.text.specs.Text.{textOr, pageSize, PutShort, Printed}
 use Rattle.outputs.specs.ShowText.{planLinesOf, showPrinted}
 use Rattle.outputs.specs.LogText.{visitLines}
@@ -80,10 +80,7 @@ shownOf bs = shownWith bs (visitsPart bs)
 
 -- ---- how the program reads them
 
--- so many bytes first. The fields of the longest plan are 3,353 bytes, and a visit behind them 20
-abbrev pub firstSize : ℕ
-firstSize = 3_400
-
+-- so many bytes first, for the plan and a visit
 abbrev pub firstPart : List ℕ → List ℕ
 firstPart bs = take firstSize bs
 

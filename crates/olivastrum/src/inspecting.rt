@@ -64,14 +64,14 @@ fn finish(inspecting: Inspecting) -> Ending {
 
 // The first 3,400 bytes are enough for every plan: what they say of it is what the whole log says.
 pub(crate) fn inspect() -> Ending {
-    let mut head: [u8; 3_400] = [0; 3_400];
+    let mut head: [u8; pieces::FIRST_SIZE] = [0; pieces::FIRST_SIZE];
     let filled = reading::fill(STDIN_FILENO, &mut head);
     if filled.failed {
         return ending::unread_input();
     }
     let read = filled.length;
     let begun = piece_inspections::inspect_start(&head[..read]);
-    if read < 3_400 {
+    if read < pieces::FIRST_SIZE {
         return finish(begun);
     }
     let all = look_on(begun);

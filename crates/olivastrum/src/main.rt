@@ -20,7 +20,7 @@ const STATUS_FILENO: i32 = 3;
 
 // `plan`: the plan of the request sheet on standard input, or the refusal. The longest, of 128 stations with a mode, F and g, has 2,460 bytes; one more tells that a byte follows it.
 fn plan() -> Ending {
-    let mut sheet: [u8; 2_461] = [0; 2_461];
+    let mut sheet: [u8; sheets::REQUEST_READ] = [0; sheets::REQUEST_READ];
     let filled = reading::fill(STDIN_FILENO, &mut sheet);
     if filled.failed {
         return ending::unread_input();
@@ -34,7 +34,7 @@ fn plan() -> Ending {
 
 // `plan-sheet`: the plan sheet of the request sheet on standard input; refused, no byte is written.
 fn plan_sheet() -> Ending {
-    let mut sheet: [u8; 2_461] = [0; 2_461];
+    let mut sheet: [u8; sheets::REQUEST_READ] = [0; sheets::REQUEST_READ];
     let filled = reading::fill(STDIN_FILENO, &mut sheet);
     if filled.failed {
         return ending::unread_input();

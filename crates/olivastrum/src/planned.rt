@@ -24,7 +24,7 @@ fn fail(log: bool, path: &[u8]) -> Ending {
 
 // Reads the plan sheet in an open file: the longest, of 128 stations with a mode, F and g, has 3,356 bytes; one more tells that a byte follows it.
 fn read_plan(log: bool, file: i32, path: &[u8]) -> Ending {
-    let mut sheet: [u8; 3_357] = [0; 3_357];
+    let mut sheet: [u8; sheets::PLAN_READ] = [0; sheets::PLAN_READ];
     let filled = reading::fill(file, &mut sheet);
     if filled.failed {
         return fail(log, path);

@@ -110,7 +110,7 @@ fn show_log(showing: Showing, head: &[u8], from: usize, more: bool) -> Ending {
 
 // The longest plan has 3,353 bytes without its end, and a visit 20: both lie in the first 3,400, if the input has them.
 pub(crate) fn show() -> Ending {
-    let mut head: [u8; 3_400] = [0; 3_400];
+    let mut head: [u8; pieces::FIRST_SIZE] = [0; pieces::FIRST_SIZE];
     let filled = reading::fill(STDIN_FILENO, &mut head);
     if filled.failed {
         return ending::unread_input();
@@ -127,5 +127,5 @@ pub(crate) fn show() -> Ending {
         return ending::failed();
     }
     let showing = begun.showing;
-    show_log(showing, &head[..read], begun.at, read == 3_400)
+    show_log(showing, &head[..read], begun.at, read == pieces::FIRST_SIZE)
 }

@@ -9,6 +9,7 @@ use Rattle.plans.specs.declared.Alloc.{Alloc}
 use Rattle.sheets.specs.Reading.{planStart}
 use Rattle.entries.specs.declared.Entry.{Entry}
 use Rattle.logs.specs.Reading.{readLog, entriesIn}
+use Rattle.pieces.specs.Pieces.{firstSize}
 use Rattle.inspection.specs.Records.{inspectionOf}
 use Rattle.inspection.specs.Findings.{findingIn, brokenRecord}
 use Rattle.piece_inspections.specs.Inspecting.{inspectOver, inspectStart, inspectNumber}
@@ -16,7 +17,7 @@ use Rattle.piece_inspections.specs.declared.Inspecting.{Inspecting}
 
 -- the first bytes are enough: they are the whole log, or as many as a plan's fields and one field more can have
 abbrev pub Enough : List ℕ → List ℕ → Type 0
-Enough head rest = (rest ≡ []) ⊎ (3_400 ≤ length head)
+Enough head rest = (rest ≡ []) ⊎ (firstSize ≤ length head)
 
 -- the record with this number, counted from 1, is e, and it is the first that breaks a rule
 pub record Breaks (t : Set) (a : Alloc) (es : List Entry) (number : ℕ) (e : Entry) : Type 0 where
