@@ -14,10 +14,10 @@ use Rattle.sets.specs.declared.Set.{Set}
 use Rattle.plans.specs.Planned.{judgedPlan}
 use Rattle.plans.specs.declared.Alloc.{Alloc}
 use Rattle.timers.specs.Timers.{ticks, startedAt, visited as tokenAt}
-use Rattle.rings.specs.State.{count, ttrt, overrun, share, unusedAt, Shaped}
-use Rattle.rings.specs.Timers.{Fddi, Earlier, lead, timerOf, timersOf, TimersSound}
+use Rattle.rings.specs.State.{count, ttrt, overrun, share, unusedAt, Shaped, timersOf, blankRing, withTimers}
+use Rattle.rings.specs.Timers.{Fddi, Earlier, lead, timerOf, TimersSound}
 use Rattle.rings.specs.Frames.{framesSent}
-use Rattle.rings.specs.Opening.{blankRing, opening}
+use Rattle.rings.specs.Opening.{opening}
 use Rattle.rings.specs.Sound.{Sound, isSound}
 use Rattle.rings.specs.Steps.{Ask, LengthNamed, blankRecord, visited}
 use Rattle.rings.specs.HandingIn.{Known, LengthAllowed, Free, ArrivalAllowed, Takes, handedIn}
@@ -214,41 +214,11 @@ pub record SameRing (a b : Ring) : Type 0 where
 
 -- the ring with other late counts
 abbrev pub withLate : List ℕ → Ring → Ring
-withLate late r =
-    record {
-      set = r .set;
-      alloc = r .alloc;
-      trt = r .trt;
-      late = late;
-      sent = r .sent;
-      rest = r .rest;
-      token = r .token;
-      arrival = r .arrival;
-      had = r .had;
-      last = r .last;
-      clock = r .clock;
-      visits = r .visits;
-      unused = r .unused;
-    }
+withLate late r = withTimers (record { trt = r .trt; late = late; unused = r .unused }) r
 
 -- the ring with another u
 abbrev pub withUnused : ℕ → Ring → Ring
-withUnused unused r =
-    record {
-      set = r .set;
-      alloc = r .alloc;
-      trt = r .trt;
-      late = r .late;
-      sent = r .sent;
-      rest = r .rest;
-      token = r .token;
-      arrival = r .arrival;
-      had = r .had;
-      last = r .last;
-      clock = r .clock;
-      visits = r .visits;
-      unused = unused;
-    }
+withUnused unused r = withTimers (record { trt = r .trt; late = r .late; unused = unused }) r
 
 -- what is so changed at a ring changes no answer, and is there after each call as it was before
 pub record LeftAlone (change : Ring → Ring) (r : Ring) : Type 0 where
