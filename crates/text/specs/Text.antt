@@ -3,6 +3,7 @@ use Prim.Native.Nat.{ℕ, zero, suc, _+_, _/_, _%_, _≤_, _<_}
 use mathlib.Core.Path.{_≡_}
 use mathlib.Core.Bool.{cond}
 use mathlib.Core.List.{List, [], _∷_, _++_}
+use mathlib.Core.Logic.{_≢_}
 use lib.Dec.{ltb}
 use lib.ListN.{length, take, drop}
 use Rattle.units.specs.Numbers.{bufferTooShort}
@@ -128,3 +129,13 @@ numberOn number page = cond (ltb (length page) pageSize) bufferTooShort number
 pub record Says (text : List ℕ) (refusal : ℕ) (before after : List ℕ) (r : Said) : Type 0 where
   pub printed : Printed text before after (r .length)
   pub number : r .number ≡ numberOn refusal before
+
+-- a text ends with `refused` and the number
+pub record EndsRefused (text : List ℕ) (number : ℕ) : Type 0 where
+  pub front : List ℕ
+  pub whole : text ≡ front ++ refusedLine number
+
+-- a text and its number tell the same: it ends with `refused N` if the number N is not 0, and with no refusal if it is
+pub record Tells (text : List ℕ) (number : ℕ) : Type 0 where
+  pub refused : number ≢ 0 → EndsRefused text number
+  pub accepted : number ≡ 0 → (other : ℕ) → ¬ EndsRefused text other
