@@ -3,8 +3,6 @@ use Prim.Native.Nat.{ℕ}
 use mathlib.Core.Bool.{Bool, false, cond, not, _&&_, _||_}
 use mathlib.Core.List.{List, [], _∷_}
 use lib.Dec.{eqb}
-use Rattle.units.specs.Places.{at}
-use Rattle.sheets.specs.Reading.{readRequest, readPlan}
 use Rattle.text.specs.Text.{newline}
 use Rattle.lines.specs.Scan.{isEmptyLine}
 use Rattle.lines.specs.declared.Scan.{Scan}
@@ -15,14 +13,6 @@ use Rattle.calls.specs.declared.Run.{Run}
 unfoldable pub statusOf : Bool → Bool → ℕ
 statusOf failed refused = cond failed 2 (cond refused 1 0)
 
--- "r": a refusal begins with it
-abbrev pub letterR : ℕ
-letterR = 114
-
--- what `plan` or `show` printed is a refusal
-abbrev pub isRefusal : List ℕ → Bool
-isRefusal text = eqb (at text 0) letterR
-
 -- ":": it stands in `line N: cannot be read`, and in no other answer of a run
 abbrev pub colon : ℕ
 colon = 58
@@ -32,15 +22,7 @@ unfoldable pub hasColon : List ℕ → Bool
 hasColon [] = false
 hasColon (b ∷ bs) = eqb b colon || hasColon bs
 
--- ---- what these tests decide
-
--- a number other than 0 is a refusal
-abbrev pub isRefused : ℕ → Bool
-isRefused number = not (eqb number 0)
-
--- the number of a sheet that is shown: the request's; where that is 2, the plan's
-abbrev pub shownNumber : List ℕ → ℕ
-shownNumber sheet = cond (eqb (readRequest sheet .number) 2) (readPlan sheet .number) (readRequest sheet .number)
+-- ---- what this test decides
 
 -- a line that is neither empty nor a call
 abbrev pub isUnread : Scan → Bool
