@@ -9,7 +9,6 @@ use borrow.Author.Tests.{lt-ltb, le-ltb, ne-eqb}
 use lib.Dec.{eqb}
 use lib.IntN.{ℤ, pos, negsuc}
 use Rattle.units.specs.SmallLaws.{below-or-not}
-use Rattle.sheets.specs.Reading.{readRequest, readPlan}
 use Rattle.rings.specs.declared.Ring.{Ring}
 use Rattle.rings.specs.declared.VisitRecord.{VisitRecord}
 use Rattle.rings.specs.Steps.{visited}
@@ -17,30 +16,11 @@ use Rattle.rings.specs.HandingIn.{handedIn}
 use Rattle.text.specs.Text.{newline, digit, decimalWithin, decimalOf, lineOn, line, textOr, cannotBeRead, unreadLine}
 use Rattle.lines.specs.Scan.{isEmptyLine}
 use Rattle.lines.specs.declared.Scan.{Scan}
-use Rattle.outputs.specs.ShowText.{headLines, sheetText, showPrinted}
 use Rattle.calls.specs.RunText.{isVisit, askIn, isMessage, messageIn, signOf, signedOf, withoutSign, completion, visitLine, takenText, answerText, saidAt, saidOver, runOn}
 use Rattle.calls.specs.declared.Run.{Run}
-use Rattle.usage.specs.Endings.{isRefusal, colon, hasColon, isRefused, shownNumber, isUnread, someUnread}
+use Rattle.usage.specs.Endings.{colon, hasColon, isUnread, someUnread}
 use Rattle.usage.specs.Promised.{Promised}
 use Rattle.usage.proofs.ColonLaws.{colon-append}
-
--- ---- a refusal begins with `r`, and nothing else does
-
--- a text that does not begin with `r`, or the refusal
-refusal-or : (k : ℕ) (text : List ℕ) → isRefusal text ≡ false → isRefusal (textOr k text) ≡ isRefused k
-unfolding textOr line
-refusal-or zero text none = none
-refusal-or (suc k) text none = rw (ne-eqb (suc k) 0 (omega arith)) refl
-
--- the request's text, or the plan's, as `show` chooses
-shown-told : (b : Bool) (j k : ℕ) (plan request : List ℕ) → isRefusal plan ≡ false → isRefusal request ≡ false
-    → isRefusal (cond b (textOr j plan) (textOr k request)) ≡ isRefused (cond b j k)
-shown-told true j k plan request p r = refusal-or j plan p
-shown-told false j k plan request p r = refusal-or k request r
-
-show-told : (sheet : List ℕ) → isRefusal (showPrinted sheet) ≡ isRefused (shownNumber sheet)
-unfolding showPrinted sheetText headLines line
-show-told sheet = shown-told (eqb (readRequest sheet .number) 2) (readPlan sheet .number) (readRequest sheet .number) _ _ refl refl
 
 -- ---- where no colon stands
 
@@ -146,4 +126,4 @@ run-told u [] = refl
 run-told u (b ∷ bs) = colon-append (saidAt u b) (saidOver (runOn u b) bs) ∙ rw (byte-told u b, run-told (runOn u b) bs) refl
 
 pub promised : Promised
-promised = record { show-refused = show-told; run-unread = run-told }
+promised = record { run-unread = run-told }

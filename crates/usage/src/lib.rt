@@ -2,7 +2,7 @@
 pub mod words;
 
 ghost use mathlib.Core.Path.{_≡_};
-ghost use Rattle.usage.specs.Endings.{statusOf, isRefusal};
+ghost use Rattle.usage.specs.Endings.{statusOf, hasColon};
 
 // What was asked for was done.
 pub const DONE: u8 = 0;
@@ -26,12 +26,16 @@ pub fn status_of(failed: bool, refused: bool) -> u8
     DONE
 }
 
-// What `plan` or `show` printed is a refusal.
-pub fn is_refusal(text: &[u8]) -> bool
-    ensures { λ r. ⌜ r ≡ isRefusal (now (text .entry)) ⌝ }
+// One of the answers of `run` names a line that cannot be read.
+pub fn names_a_line(text: &[u8]) -> bool
+    ensures { λ r. ⌜ r ≡ hasColon (now (text .entry)) ⌝ }
 {
-    if text.len() == 0 {
-        return false;
+    let mut found = false;
+    let mut i: usize = 0;
+    while i < text.len() {
+        let one = text[i] == b':';
+        found = found | one;
+        i += 1;
     }
-    text[0] == b'r'
+    found
 }
