@@ -16,7 +16,7 @@ use Rattle.lines.specs.Scan.{freshScan, letterRead, characterRead, stepped, cod
 use Rattle.lines.specs.ScanLaws.{steppedOver, withNumbers, wordScan, typed, AllSmall, small-none, small-and, typed-read, line-typed, hasNoEnd, no-end-typed}
 use Rattle.calls.specs.Calls.{visitWord, messageWord, visitCalled, messageCalled, called}
 use Rattle.calls.specs.RunText.{visitText, takenText, answerText}
-use Rattle.calls.proofs.RunLaws.{called-visit, called-message, run-line, said-line}
+use Rattle.calls.proofs.RunLaws.{called-visit, called-message, line-said}
 use Rattle.calls.specs.Promised.{Says}
 use Rattle.calls.specs.declared.Called.{Called}
 use Rattle.calls.specs.declared.Run.{Run}
@@ -41,9 +41,10 @@ typed-says u word ns c fresh e w inside few small done =
     let read : steppedOver (u .scan) (typed word ns) ≡ withNumbers (wordScan word) ns = rw fresh (typed-read word ns e w few small) in
     let one = no-end-typed word ns inside in
     let all : called (u .ring) (steppedOver (u .scan) (typed word ns)) ≡ c = rw (read, done) refl in
+    let ended = line-said u (typed word ns) one in
     record {
-      says = said-line u (typed word ns) one ∙ ap (λ (x : Called). answerText (x .answer) (u .line)) all;
-      behind = run-line u (typed word ns) one ∙ ap (λ (x : Called). record { ring = x .ring; scan = freshScan; line = nextLine (u .line) }) all;
+      says = ended .1 ∙ ap (λ (x : Called). answerText (x .answer) (u .line)) all;
+      behind = ended .0 ∙ ap (λ (x : Called). record { ring = x .ring; scan = freshScan; line = nextLine (u .line) }) all;
     }
 
 -- ---- `visit FRAMES` and `visit FRAMES LENGTH`

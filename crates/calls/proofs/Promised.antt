@@ -10,26 +10,26 @@ use lib.Dec.{eqb}
 use Rattle.units.specs.JudgingLaws.{true-or-false}
 use Rattle.rings.specs.declared.Ring.{Ring}
 use Rattle.text.specs.Text.{newline}
-use Rattle.lines.specs.Scan.{isEmptyLine, stepped}
+use Rattle.lines.specs.Scan.{isEmptyLine}
 use Rattle.lines.specs.declared.Scan.{Scan}
 use Rattle.calls.specs.Bytes.{movedOver}
-use Rattle.calls.specs.Calls.{isVisit, isMessage, called, isUnread}
-use Rattle.calls.specs.Runs.{runFrom, lineEnd, runOn, unreadAt, runAfter, linesIn}
+use Rattle.calls.specs.Calls.{isVisit, isMessage, called}
+use Rattle.calls.specs.Runs.{runFrom, lineEnds, lineGoesOn, runOn, unreadAt, runAfter, linesIn}
 use Rattle.calls.specs.RunText.{answerText, saidAt}
 use Rattle.calls.specs.Promised.{Promised}
 use Rattle.calls.specs.declared.Called.{Called}
 use Rattle.calls.specs.declared.Run.{Run}
 use Rattle.calls.proofs.ByteLaws.{moved-append, out-append, some-append}
-use Rattle.calls.proofs.RunLaws.{goes-on, line-ends, called-visit, called-message, called-unread}
+use Rattle.calls.proofs.RunLaws.{goes-on, line-ends, did, called-visit, called-message, called-unread}
 use Rattle.calls.proofs.CallLaws.{visit-called, visit-length-called, message-called}
 
 -- what was called at the line's end is said, and its ring stands behind it
 ended : (u : Run) (c : Called) → c ≡ called (u .ring) (u .scan) → (saidAt u newline ≡ answerText (c .answer) (u .line)) × (runOn u newline .ring ≡ c .ring)
 ended u c e =
-    let ends = line-ends u newline refl in
+    let ends = did u newline (line-ends u newline refl) in
     (rw (← ends .1, e) refl, rw (← ends .0, e) refl)
 
-told : (ring : Ring) (s : Scan) → isUnread (called ring s .answer) ≡ (not (isEmptyLine s) && (not (isVisit s) && not (isMessage s)))
+told : (ring : Ring) (s : Scan) → called ring s .unread ≡ (not (isEmptyLine s) && (not (isVisit s) && not (isMessage s)))
 unfolding called
 told ring s =
     ⊎-elim (λ (e : isEmptyLine s ≡ true). rw e refl)
@@ -47,13 +47,12 @@ counted u [] l = omega arith
 counted u (b ∷ text) l =
     ⊎-elim
     (λ (n : eqb b newline ≡ true).
-    let rest = counted (lineEnd u .run) text (omega arith) in
-    let more : runAfter (runOn u b) text .line ≡ min (u .line + (1 + linesIn text)) 18_446_744_073_709_551_615 = rw (← line-ends u b (eqb-true b newline n) .0) (omega (arith, rest)) in
+    let rest = counted (lineEnds u .run) text (omega arith) in
+    let more : runAfter (runOn u b) text .line ≡ min (u .line + (1 + linesIn text)) 18_446_744_073_709_551_615 = rw (← did u b (line-ends u b (eqb-true b newline n)) .0) (omega (arith, rest)) in
     rw n more)
     (λ (n : eqb b newline ≡ false).
-    let on = goes-on u b (eqb-false b newline n) .0 in
-    let rest = counted (record { ring = u .ring; scan = stepped (u .scan) b; line = u .line }) text l in
-    let more : runAfter (runOn u b) text .line ≡ min (u .line + (0 + linesIn text)) 18_446_744_073_709_551_615 = rw (← on) (omega (arith, rest)) in
+    let rest = counted (lineGoesOn u b .run) text l in
+    let more : runAfter (runOn u b) text .line ≡ min (u .line + (0 + linesIn text)) 18_446_744_073_709_551_615 = rw (← did u b (goes-on u b (eqb-false b newline n)) .0) (omega (arith, rest)) in
     rw n more)
     (true-or-false (eqb b newline))
 

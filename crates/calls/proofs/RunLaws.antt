@@ -24,14 +24,15 @@ use Rattle.rings.specs.declared.Taken.{Taken}
 use Rattle.text.specs.Text.{line, lineOn, space, newline, decimalOf, pageSize}
 use Rattle.text.specs.TextLaws.{line-first, line-next, take-piece, printed, not-printed}
 use Rattle.calls.specs.Bytes.{movedOver, outOver, someOver}
-use Rattle.calls.specs.Calls.{isVisit, askIn, isMessage, messageIn, noCall, visitCalled, messageCalled, called}
-use Rattle.calls.specs.Runs.{runFrom, openedRun, lineEnd, runOn, answerAt, runAfter, someUnread, pieceSize, pieceOf}
+use Rattle.calls.specs.Calls.{isVisit, askIn, isMessage, messageIn, answered, visitCalled, messageCalled, unreadable, called}
+use Rattle.calls.specs.Runs.{runFrom, openedRun, lineEnds, lineGoesOn, byteOn, runOn, answerAt, unreadAt, runAfter, someUnread, pieceSize, pieceOf}
 use Rattle.calls.specs.RunText.{dash, signOf, signedOf, completion, answerText, saidAt, saidOver, RanPiece, RanOn}
 use Rattle.calls.specs.declared.Answer.{Answer}
-use Rattle.calls.specs.declared.Answer.the-variants.{Nothing, Unread}
+use Rattle.calls.specs.declared.Answer.the-variants.{Nothing}
 use Rattle.lines.specs.ScanLaws.{steppedOver, hasNoEnd, first-and-rest}
-use Rattle.lines.specs.Scan.{isReadable, isEmptyLine, stepped}
+use Rattle.lines.specs.Scan.{isReadable, isEmptyLine}
 use Rattle.calls.specs.declared.Run.{Run}
+use Rattle.calls.specs.declared.LineStep.{LineStep}
 use Rattle.calls.specs.declared.Ran.{Ran}
 use Rattle.lines.specs.declared.Scan.{Scan}
 
@@ -65,7 +66,7 @@ completion-some (suc k) finish margin e = refl
 -- ---- what one line does
 
 module _ (ring : Ring) (s : Scan) where
-  pub called-empty : isEmptyLine s ≡ true → noCall ring Nothing ≡ called ring s
+  pub called-empty : isEmptyLine s ≡ true → answered ring Nothing ≡ called ring s
   unfolding called
   called-empty e = rw e
 
@@ -77,7 +78,7 @@ module _ (ring : Ring) (s : Scan) where
   unfolding called
   called-message t e i j m = rw (e, i, j) (ap messageCalled m)
 
-  pub called-unread : isEmptyLine s ≡ false → isVisit s ≡ false → isMessage s ≡ false → noCall ring Unread ≡ called ring s
+  pub called-unread : isEmptyLine s ≡ false → isVisit s ≡ false → isMessage s ≡ false → unreadable ring ≡ called ring s
   unfolding called
   called-unread e i j = rw (e, i, j)
 
@@ -107,15 +108,21 @@ ask-named s e = rw (ne-eqb (s .count) 1 e)
 
 -- ---- the run
 
--- one byte more: the line goes on
-pub goes-on : (u : Run) (b : ℕ) → b ≢ newline → (record { ring = u .ring; scan = stepped (u .scan) b; line = u .line } ≡ runOn u b) × (Nothing ≡ answerAt u b)
-unfolding runOn answerAt
-goes-on u b e = (rw (ne-eqb b newline e), rw (ne-eqb b newline e))
+-- a byte lets the line go on, or ends it
+pub goes-on : (u : Run) (b : ℕ) → b ≢ newline → lineGoesOn u b ≡ byteOn u b
+unfolding byteOn
+goes-on u b e = rw (ne-eqb b newline e)
 
--- one byte more: the line ends
-pub line-ends : (u : Run) (b : ℕ) → b ≡ newline → (lineEnd u .run ≡ runOn u b) × (lineEnd u .answer ≡ answerAt u b)
-unfolding runOn answerAt
-line-ends u b e = (rw (eq-eqb b newline e), rw (eq-eqb b newline e))
+pub line-ends : (u : Run) (b : ℕ) → b ≡ newline → lineEnds u ≡ byteOn u b
+unfolding byteOn
+line-ends u b e = rw (eq-eqb b newline e)
+
+-- what it did, part by part
+abbrev pub Did : Run → ℕ → LineStep → Type 0
+Did u b s = (s .run ≡ runOn u b) × (s .answer ≡ answerAt u b) × (s .unread ≡ unreadAt u b)
+
+pub did : (u : Run) (b : ℕ) {s : LineStep} → s ≡ byteOn u b → Did u b s
+did u b e = (ap (λ (x : LineStep). x .run) e, ap (λ (x : LineStep). x .answer) e, ap (λ (x : LineStep). x .unread) e)
 
 -- ---- a whole line
 
@@ -123,22 +130,25 @@ line-ends u b e = (rw (eq-eqb b newline e), rw (eq-eqb b newline e))
 abbrev pub scannedOn : Run → List ℕ → Run
 scannedOn u bs = record { ring = u .ring; scan = steppedOver (u .scan) bs; line = u .line }
 
-pub run-line : (u : Run) (bs : List ℕ) → hasNoEnd bs ≡ true → runAfter u (bs ++ (newline ∷ [])) ≡ lineEnd (scannedOn u bs) .run
-unfolding movedOver steppedOver
-run-line u [] h = sym (line-ends u newline refl .0)
-run-line u (b ∷ bs) h =
-    let inside = first-and-rest b bs h in
-    ap (λ (x : Run). runAfter x (bs ++ (newline ∷ []))) (sym (goes-on u b (inside .0) .0))
-    ∙ run-line (record { ring = u .ring; scan = stepped (u .scan) b; line = u .line }) bs (inside .1)
+-- the same, of a line that goes on
+abbrev SaidOn : Run → List ℕ → Type 0
+SaidOn u bs =
+    (runAfter u (bs ++ (newline ∷ [])) ≡ lineEnds (scannedOn u bs) .run)
+    × (saidOver u (bs ++ (newline ∷ [])) ≡ answerText (lineEnds (scannedOn u bs) .answer) (u .line))
 
-pub said-line : (u : Run) (bs : List ℕ) → hasNoEnd bs ≡ true → saidOver u (bs ++ (newline ∷ [])) ≡ answerText (lineEnd (scannedOn u bs) .answer) (u .line)
-unfolding outOver steppedOver answerText
-said-line u [] h = append-nil (saidAt u newline) ∙ ap (λ (a : Answer). answerText a (u .line)) (sym (line-ends u newline refl .1))
-said-line u (b ∷ bs) h =
+pub line-said : (u : Run) (bs : List ℕ) → hasNoEnd bs ≡ true → SaidOn u bs
+unfolding movedOver outOver steppedOver answerText
+line-said u [] h =
+    let ends = did u newline (line-ends u newline refl) in
+    (sym (ends .0), append-nil (saidAt u newline) ∙ rw (← ends .1) refl)
+line-said u (b ∷ bs) h =
     let inside = first-and-rest b bs h in
-    let on = goes-on u b (inside .0) in
-    rw (← on .1) (ap (λ (x : Run). saidOver x (bs ++ (newline ∷ []))) (sym (on .0)))
-    ∙ said-line (record { ring = u .ring; scan = stepped (u .scan) b; line = u .line }) bs (inside .1)
+    let on = did u b (goes-on u b (inside .0)) in
+    let rest = line-said (lineGoesOn u b .run) bs (inside .1) in
+    let more = bs ++ (newline ∷ []) in (
+      ap (λ (x : Run). runAfter x more) (sym (on .0)) ∙ rest .0,
+      ap (λ (a : Answer). answerText a (u .line) ++ saidOver (runOn u b) more) (sym (on .1)) ∙ ap (λ (x : Run). saidOver x more) (sym (on .0)) ∙ rest .1,
+    )
 
 -- ---- a piece of the text
 

@@ -54,27 +54,24 @@ messageIn s =
 
 -- ---- what a line does
 
--- the ring stays, and this is the answer
-abbrev pub noCall : Ring → Answer → Called
-noCall ring answer = record { ring = ring; answer = answer }
+-- a line that can be read: the ring behind it, and the answer
+abbrev pub answered : Ring → Answer → Called
+answered ring answer = record { ring = ring; answer = answer; unread = false }
 
--- what the ring answers to a visit, and to a handing in
+-- a visit, and a handing in
 abbrev pub visitCalled : Visited → Called
-visitCalled v = record { ring = v .ring; answer = Visit (v .answer) }
+visitCalled v = answered (v .ring) (Visit (v .answer))
 
 abbrev pub messageCalled : Taken → Called
-messageCalled t = record { ring = t .ring; answer = HandIn (t .number) }
+messageCalled t = answered (t .ring) (HandIn (t .number))
+
+-- a line that cannot be read leaves the ring as it was
+abbrev pub unreadable : Ring → Called
+unreadable ring = record { ring = ring; answer = Unread; unread = true }
 
 -- an empty line asks for nothing, a call is the ring's own, and any other line cannot be read
 unfoldable pub called : Ring → Scan → Called
 called ring s =
-    cond (isEmptyLine s) (noCall ring Nothing)
+    cond (isEmptyLine s) (answered ring Nothing)
     (cond (isVisit s) (visitCalled (visited ring (askIn s)))
-    (cond (isMessage s) (messageCalled (handedIn ring (messageIn s))) (noCall ring Unread)))
-
--- the line cannot be read
-abbrev pub isUnread : Answer → Bool
-isUnread Nothing = false
-isUnread (Visit a) = false
-isUnread (HandIn k) = false
-isUnread Unread = true
+    (cond (isMessage s) (messageCalled (handedIn ring (messageIn s))) (unreadable ring)))

@@ -9,7 +9,7 @@ use Rattle.rings.specs.declared.Ring.{Ring}
 use Rattle.rings.specs.declared.Message.{Message}
 use Rattle.text.specs.Text.{newline, decimalOf, line, unreadLine}
 use Rattle.lines.specs.Scan.{freshScan, isEmptyLine, nextLine}
-use Rattle.calls.specs.Calls.{visitWord, messageWord, isVisit, askIn, isMessage, messageIn, called, isUnread}
+use Rattle.calls.specs.Calls.{visitWord, messageWord, isVisit, askIn, isMessage, messageIn, called}
 use Rattle.calls.specs.Runs.{runFrom, runOn, runAfter, someUnread, linesIn}
 use Rattle.calls.specs.RunText.{visitText, takenText, saidAt, saidOver}
 use Rattle.lines.specs.declared.Scan.{Scan}
@@ -28,7 +28,7 @@ pub record Promised : Type 0 where
   -- lines are numbered from 1
   pub numbered : (ring : Ring) (text : List ℕ) → runAfter (runFrom ring) text .line ≡ nextLine (linesIn text)
   -- a line cannot be read exactly if it is neither empty nor a call; a call that the ring refuses is an answer
-  pub unread-told : (ring : Ring) (s : Scan) → isUnread (called ring s .answer) ≡ (not (isEmptyLine s) && (not (isVisit s) && not (isMessage s)))
+  pub unread-told : (ring : Ring) (s : Scan) → called ring s .unread ≡ (not (isEmptyLine s) && (not (isVisit s) && not (isMessage s)))
   -- the run's lines are the model's answers: a line that is a visit is answered by the ring's visit, and the ring moves
   pub visit-answered : (u : Run) → isEmptyLine (u .scan) ≡ false → isVisit (u .scan) ≡ true
       → (saidAt u newline ≡ visitText (visited (u .ring) (askIn (u .scan)) .answer))

@@ -1,6 +1,6 @@
 -- A run: the calls are read byte after byte, and a newline ends a line.
 use Prim.Native.Nat.{ℕ, _+_, _≤_}
-use mathlib.Core.Bool.{Bool, cond}
+use mathlib.Core.Bool.{Bool, false, cond}
 use mathlib.Core.List.{List, [], _∷_, _++_}
 use lib.Dec.{ltb, eqb}
 use lib.ListN.{length, take}
@@ -11,11 +11,11 @@ use Rattle.rings.specs.declared.Ring.{Ring}
 use Rattle.text.specs.Text.{newline, pageSize}
 use Rattle.lines.specs.Scan.{freshScan, stepped, nextLine}
 use Rattle.calls.specs.Bytes.{movedOver, someOver}
-use Rattle.calls.specs.Calls.{called, isUnread}
+use Rattle.calls.specs.Calls.{called}
 use Rattle.calls.specs.declared.Answer.{Answer}
 use Rattle.calls.specs.declared.Answer.the-variants.{Nothing}
 use Rattle.calls.specs.declared.Run.{Run}
-use Rattle.calls.specs.declared.LineEnd.{LineEnd}
+use Rattle.calls.specs.declared.LineStep.{LineStep}
 use Rattle.calls.specs.declared.OpenedRun.{OpenedRun}
 
 -- ---- how a run begins
@@ -34,25 +34,32 @@ openedRun p =
 
 -- ---- byte after byte
 
--- the line ends: the run on the next line, and the answer
-abbrev pub lineEnd : Run → LineEnd
-lineEnd u =
+-- the line ends: the run on the next line, and what the line did
+abbrev pub lineEnds : Run → LineStep
+lineEnds u =
     record {
       run = record { ring = called (u .ring) (u .scan) .ring; scan = freshScan; line = nextLine (u .line) };
       answer = called (u .ring) (u .scan) .answer;
+      unread = called (u .ring) (u .scan) .unread;
     }
 
--- the run behind one byte
-unfoldable pub runOn : Run → ℕ → Run
-runOn u b = cond (eqb b newline) (lineEnd u .run) (record { ring = u .ring; scan = stepped (u .scan) b; line = u .line })
+-- the line goes on
+abbrev pub lineGoesOn : Run → ℕ → LineStep
+lineGoesOn u b = record { run = record { ring = u .ring; scan = stepped (u .scan) b; line = u .line }; answer = Nothing; unread = false }
 
--- the answer at that byte: where no line ends, nothing
-unfoldable pub answerAt : Run → ℕ → Answer
-answerAt u b = cond (eqb b newline) (lineEnd u .answer) Nothing
+-- one byte more: a newline ends the line
+unfoldable pub byteOn : Run → ℕ → LineStep
+byteOn u b = cond (eqb b newline) (lineEnds u) (lineGoesOn u b)
 
--- a line ends there that cannot be read
+-- the run behind it, the answer there, and whether a line ends there that cannot be read
+abbrev pub runOn : Run → ℕ → Run
+runOn u b = byteOn u b .run
+
+abbrev pub answerAt : Run → ℕ → Answer
+answerAt u b = byteOn u b .answer
+
 abbrev pub unreadAt : Run → ℕ → Bool
-unreadAt u b = isUnread (answerAt u b)
+unreadAt u b = byteOn u b .unread
 
 -- the run behind all the bytes
 abbrev pub runAfter : Run → List ℕ → Run

@@ -6,8 +6,8 @@ ghost use Prim.Native.Nat.{_+_, _≤_, min};
 ghost use lib.ListN.{length};
 ghost use Rattle.sheets.specs.Reading.{readPlan};
 ghost use Rattle.text.specs.Text.{PutShort, space, lineOn};
-ghost use Rattle.calls.specs.Calls.{isVisit, askIn, isMessage, messageIn, called, isUnread};
-ghost use Rattle.calls.specs.Runs.{runFrom, openedRun, lineEnd, pieceSize, Piece};
+ghost use Rattle.calls.specs.Calls.{isVisit, askIn, isMessage, messageIn, called};
+ghost use Rattle.calls.specs.Runs.{runFrom, openedRun, lineEnds, pieceSize, Piece};
 ghost use Rattle.calls.specs.RunText.{withoutSign, signedOf, completion, arrivalWords, amountWords, visitLine, visitText, takenText, answerText, RanPiece, RanOn};
 use lines::Scan;
 use rings::Ask;
@@ -49,16 +49,18 @@ pub enum Answer {
     Unread,
 }
 
-// What a line did: the ring behind it, and the answer.
+// What a line did: the ring behind it, the answer, and whether the line cannot be read.
 pub(crate) struct Called {
     ring: Ring,
     answer: Answer,
+    unread: bool,
 }
 
-// A line has ended: the run at the start of the next one, and the answer.
-pub struct LineEnd {
+// What a byte did: where the run stands behind it, and of a line that ended there the answer, and whether it cannot be read.
+pub struct LineStep {
     pub run: Run,
     pub answer: Answer,
+    pub unread: bool,
 }
 
 // A run that begins, and 0; or the run of a blank ring, and the refusal.
@@ -240,18 +242,6 @@ fn put_answer(page: &mut [u8], at: usize, answer: Answer, line: u64) -> usize
     }
 }
 
-// The line cannot be read.
-pub fn is_unread(answer: Answer) -> bool
-    ensures { λ r. ⌜ r ≡ isUnread answer ⌝ }
-{
-    match answer {
-        Answer::Nothing => false,
-        Answer::Visit(_) => false,
-        Answer::HandIn(_) => false,
-        Answer::Unread => true,
-    }
-}
-
 // ---- one line
 
 // What a line asks for, and what the ring does.
@@ -262,6 +252,7 @@ fn call_line(ring: Ring, s: Scan) -> Called
         return Called {
             ring,
             answer: Answer::Nothing,
+            unread: false,
         };
     }
     if is_visit(s) {
@@ -271,6 +262,7 @@ fn call_line(ring: Ring, s: Scan) -> Called
         return Called {
             ring: moved,
             answer: Answer::Visit(told),
+            unread: false,
         };
     }
     if is_message(s) {
@@ -279,17 +271,19 @@ fn call_line(ring: Ring, s: Scan) -> Called
         return Called {
             ring: held,
             answer: Answer::HandIn(taken.number),
+            unread: false,
         };
     }
     Called {
         ring,
         answer: Answer::Unread,
+        unread: true,
     }
 }
 
-// The line ends: the run on the next line, and the answer.
-pub fn end_line(run: Run) -> LineEnd
-    ensures { λ r. ⌜ r ≡ lineEnd run ⌝ }
+// The line ends: the run on the next line, and what the line did.
+pub fn end_line(run: Run) -> LineStep
+    ensures { λ r. ⌜ r ≡ lineEnds run ⌝ }
 {
     let ring = run.ring;
     let read = run.scan;
@@ -302,7 +296,11 @@ pub fn end_line(run: Run) -> LineEnd
         scan: fresh,
         line: lines::next_line(run.line),
     };
-    LineEnd { run: next, answer }
+    LineStep {
+        run: next,
+        answer,
+        unread: called.unread,
+    }
 }
 
 // ---- the run
@@ -373,7 +371,7 @@ fn run_piece(run: Run, text: &[u8], end: usize, page: &mut [u8]) -> Ran
             let ended = end_line(stands);
             let answer = ended.answer;
             next = put_answer(page, next, answer, stands.line);
-            unread = unread | is_unread(answer);
+            unread = unread | ended.unread;
             let behind = ended.run;
             stands = behind;
         } else {

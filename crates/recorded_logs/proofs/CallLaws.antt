@@ -5,7 +5,7 @@ use mathlib.Core.Bool.{true, false, cond}
 use mathlib.Core.List.{List, [], _∷_, _++_, reverse, reverseAux}
 use mathlib.Core.Logic.{⊎-elim}
 use native.Mathlib.Omega.{arith}
-use borrow.Author.Tests.{ne-eqb}
+use borrow.Author.Tests.{eqb-true, eqb-false, ne-eqb}
 use lib.Dec.{eqb}
 use Rattle.units.specs.JudgingLaws.{true-or-false}
 use Rattle.rings.specs.Steps.{visited}
@@ -17,8 +17,9 @@ use Rattle.lines.specs.Scan.{isEmptyLine}
 use Rattle.lines.specs.declared.Scan.{Scan}
 use Rattle.calls.specs.Bytes.{movedOver, outOver}
 use Rattle.calls.specs.Calls.{isVisit, askIn, isMessage, called}
-use Rattle.calls.specs.Runs.{runOn, answerAt, runAfter}
+use Rattle.calls.specs.Runs.{runOn, runAfter}
 use Rattle.calls.specs.declared.Run as calls
+use Rattle.calls.proofs.RunLaws.{goes-on, line-ends, did}
 use Rattle.recordings.specs.LogText.{acceptedIn, recordsIn, recordsAt}
 use Rattle.recorded_logs.specs.Calls.{callsIn, scanOn, callsAt, callsOver, recordsOver}
 
@@ -67,13 +68,22 @@ line-done scan s =
 
 -- what is read of the line, by the text alone
 byte-scan : (u : calls.Run) (b : ℕ) → runOn u b .scan ≡ scanOn (u .scan) b
-unfolding runOn scanOn
-byte-scan u b = ⊎-elim (λ (n : eqb b newline ≡ true). rw n refl) (λ (n : eqb b newline ≡ false). rw n refl) (true-or-false (eqb b newline))
+unfolding scanOn
+byte-scan u b =
+    ⊎-elim (λ (n : eqb b newline ≡ true). rw (← did u b (line-ends u b (eqb-true b newline n)) .0, n) refl)
+    (λ (n : eqb b newline ≡ false). rw (← did u b (goes-on u b (eqb-false b newline n)) .0, n) refl)
+    (true-or-false (eqb b newline))
 
 byte-done : (u : calls.Run) (b : ℕ) (s : Run) → u .ring ≡ s .ring → Done (callsAt (u .scan) b) (runOn u b .ring) (recordsAt u b) s
-unfolding callsAt runOn answerAt recordsIn run
+unfolding callsAt recordsIn run
 byte-done u b s e =
-    ⊎-elim (λ (n : eqb b newline ≡ true). rw (n, e) (line-done (u .scan) s)) (λ (n : eqb b newline ≡ false). rw n (sym e, refl)) (true-or-false (eqb b newline))
+    ⊎-elim (λ (n : eqb b newline ≡ true).
+    let ends = did u b (line-ends u b (eqb-true b newline n)) in
+    rw (← ends .0, ← ends .1, n, e) (line-done (u .scan) s))
+    (λ (n : eqb b newline ≡ false).
+    let on = did u b (goes-on u b (eqb-false b newline n)) in
+    rw (← on .0, ← on .1, n) (sym e, refl))
+    (true-or-false (eqb b newline))
 
 -- ---- a text
 

@@ -13,6 +13,7 @@ use Rattle.calls.specs.Bytes.{movedOver, someOver}
 use Rattle.calls.specs.Runs.{runOn, unreadAt, runAfter, someUnread}
 use Rattle.calls.specs.declared.Run.{Run}
 use Rattle.calls.proofs.ByteLaws.{moved-append}
+use Rattle.calls.proofs.RunLaws.{goes-on, line-ends, did}
 use Rattle.recordings.specs.LogText.{firstUnread, recordOn, recordAfter}
 use Rattle.recordings.specs.declared.Recording.{Recording}
 use Rattle.recorded_logs.proofs.LoggedLaws.{run-same}
@@ -44,8 +45,10 @@ on-some k b l t z =
 
 -- a line's number is at least 1
 on-counted : (u : Run) (b : ℕ) → 1 ≤ u .line → 1 ≤ runOn u b .line
-unfolding runOn
-on-counted u b l = ⊎-elim (λ (e : eqb b newline ≡ true). rw e (omega arith)) (λ (e : eqb b newline ≡ false). rw e l) (true-or-false (eqb b newline))
+on-counted u b l =
+    ⊎-elim (λ (n : eqb b newline ≡ true). rw (← did u b (line-ends u b (eqb-true b newline n)) .0) (omega arith))
+    (λ (n : eqb b newline ≡ false). rw (← did u b (goes-on u b (eqb-false b newline n)) .0) l)
+    (true-or-false (eqb b newline))
 
 -- ---- a text
 

@@ -27,12 +27,10 @@ use Rattle.logs.specs.declared.Recorder.{Recorder}
 use Rattle.text.specs.Text.{pageSize}
 use Rattle.text.specs.TextLaws.{put-none, printed, not-printed}
 use Rattle.calls.specs.Bytes.{movedOver}
-use Rattle.calls.specs.Calls.{isUnread}
-use Rattle.calls.specs.Runs.{runOn, answerAt, openedRun, pieceSize}
-use Rattle.calls.proofs.RunLaws.{piece-none, piece-whole}
-use Rattle.calls.specs.declared.Answer.{Answer}
+use Rattle.calls.specs.Runs.{byteOn, openedRun, pieceSize}
+use Rattle.calls.proofs.RunLaws.{did, piece-none, piece-whole}
+use Rattle.calls.specs.declared.LineStep.{LineStep}
 use Rattle.calls.specs.declared.OpenedRun.{OpenedRun}
-use Rattle.calls.specs.declared.Run.{Run}
 use Rattle.recordings.specs.LogText.{recordFrom, acceptedIn, recordsIn, clockAfter, counterAfter, fieldsBy, firstUnread, recordOn, loggedAt, recordAfter, loggedOver}
 use Rattle.recordings.specs.LogText.{Records, RecordedPiece, RecordedOn, openNumber, OpenedOn}
 use Rattle.recordings.specs.declared.Recording.{Recording}
@@ -40,18 +38,20 @@ use Rattle.recordings.specs.declared.Recorded.{Recorded}
 
 -- ---- one byte more
 
--- the recording behind it, and what goes out, by the run behind it and the answer there
-pub record-byte : (k : Recording) (b : ℕ) (u : Run) (a : Answer) → u ≡ runOn (k .run) b → a ≡ answerAt (k .run) b
+-- the recording behind it, and what goes out, by what the byte did
+pub record-byte : (k : Recording) (b : ℕ) (s : LineStep) → s ≡ byteOn (k .run) b
     → (record {
-      run = u;
-      clock = clockAfter (k .clock) (recordsIn a);
-      counter = counterAfter (k .counter) (k .clock) (recordsIn a);
-      unread = firstUnread (k .unread) (k .run .line) (isUnread a);
+      run = s .run;
+      clock = clockAfter (k .clock) (recordsIn (s .answer));
+      counter = counterAfter (k .counter) (k .clock) (recordsIn (s .answer));
+      unread = firstUnread (k .unread) (k .run .line) (s .unread);
     }
     ≡ recordOn k b)
-    × (fieldsBy (k .counter) (k .clock) (recordsIn a) ≡ loggedAt k b)
+    × (fieldsBy (k .counter) (k .clock) (recordsIn (s .answer)) ≡ loggedAt k b)
 unfolding recordOn loggedAt
-record-byte k b u a e f = (rw (e, f) refl, rw f refl)
+record-byte k b s e =
+    let it = did (k .run) b e in
+    rw (← it .0, ← it .1, ← it .2) (refl, refl)
 
 -- ---- one visit into the page
 

@@ -133,7 +133,7 @@ fn record_piece(recording: Recording, text: &[u8], end: usize, page: &mut [u8]) 
             let ended = calls::end_line(stands);
             let answer = ended.answer;
             recorder = record_answer(recorder, answer, page);
-            unread = first_unread(unread, stands.line, calls::is_unread(answer));
+            unread = first_unread(unread, stands.line, ended.unread);
             let behind = ended.run;
             stands = behind;
         } else {

@@ -19,20 +19,11 @@ a-visit c = sym (c .before .is-visit .ensures) ∙ c .if2 .taken
 no-visit : (c : tie.Else2) → isVisit (c .before .before .before .before .args .s) ≡ false
 no-visit c = sym (c .before .is-visit .ensures) ∙ c .if2 .left
 
-is-empty-line-requires : tie.Need-is-empty-line-requires
-is-empty-line-requires c κs = search needs
-
 returns : tie.Need-returns
 returns c = called-empty _ _ (sym (c .before .is-empty-line .ensures) ∙ c .if1 .taken)
 
-is-visit-requires : tie.Need-is-visit-requires
-is-visit-requires c κs = search needs
-
 ask-in-requires : tie.Need-ask-in-requires
 ask-in-requires c κs = a-visit c
-
-visit-requires : tie.Need-visit-requires
-visit-requires c κs = search needs
 
 returns-2 : tie.Need-returns-2
 returns-2 c =
@@ -41,15 +32,6 @@ returns-2 c =
     let here = asked .before in
     let start = here .before .before .before .before in
     called-visit (start .args .ring) (start .args .s) _ (some-line (here .before .before)) (a-visit here) (done .visit .ensures ∙ ap (visited (start .args .ring)) (asked .ask-in .ensures))
-
-is-message-requires : tie.Need-is-message-requires
-is-message-requires c κs = search needs
-
-message-in-requires : tie.Need-message-in-requires
-message-in-requires c κs = search needs
-
-hand-in-requires : tie.Need-hand-in-requires
-hand-in-requires c κs = search needs
 
 returns-3 : tie.Need-returns-3
 returns-3 c =
@@ -69,15 +51,5 @@ returns-4 c =
 pub call-line-spec : {M : Type 1} → statement M
 call-line-spec =
     tie.close
-    (tie.spec
-    is-empty-line-requires
-    returns
-    is-visit-requires
-    ask-in-requires
-    visit-requires
-    returns-2
-    is-message-requires
-    message-in-requires
-    hand-in-requires
-    returns-3
-    returns-4)
+    (tie.spec (λ c κs. search needs) returns (λ c κs. search needs) ask-in-requires (λ c κs. search needs) returns-2 (λ c κs. search needs)
+    (λ c κs. search needs) (λ c κs. search needs) returns-3 returns-4)

@@ -4,12 +4,6 @@ use borrow.Author.Needs.{needs}
 use Rattle.calls.proofs.open_plan.Statement.{statement}
 use Rattle.calls.proofs.open_plan.Tie as tie
 
-open-requires : tie.Need-open-requires
-open-requires c κs = search needs
-
-start-requires : tie.Need-start-requires
-start-requires c κs = search needs
-
 returns : tie.Need-returns
 returns c =
     let begun = c .before .before in
@@ -23,4 +17,4 @@ returns-2 c =
     opened-accepted _ _ _ (opened .«open» .ensures) (begun .start .ensures) (c .if1 .left)
 
 pub open-plan-spec : {M : Type 1} → statement M
-open-plan-spec = tie.close (tie.spec open-requires start-requires returns returns-2)
+open-plan-spec = tie.close (tie.spec (λ c κs. search needs) (λ c κs. search needs) returns returns-2)

@@ -5,14 +5,8 @@ use borrow.Author.Needs.{needs}
 use Rattle.calls.proofs.open_run.Statement.{statement}
 use Rattle.calls.proofs.open_run.Tie as tie
 
-read-plan-requires : tie.Need-read-plan-requires
-read-plan-requires c κs = search needs
-
-open-plan-requires : tie.Need-open-plan-requires
-open-plan-requires c κs = search needs
-
 returns : tie.Need-returns
 returns c = c .open-plan .ensures ∙ ap openedRun (c .before .read-plan .ensures)
 
 pub open-run-spec : {M : Type 1} → statement M
-open-run-spec = tie.close (tie.spec read-plan-requires open-plan-requires returns)
+open-run-spec = tie.close (tie.spec (λ c κs. search needs) (λ c κs. search needs) returns)

@@ -1,18 +1,16 @@
 -- `run_piece` is right because after i turns the run stands behind the first i bytes, and their answers are put.
 use Prim.Native.Nat.{_+_, _*_, _-_, _≤_, _<_}
-use mathlib.Core.Path.{_≡_, refl, sym, ap, _∙_}
+use mathlib.Core.Path.{_≡_, refl, sym, _∙_}
 use mathlib.Core.Logic.{⊎-elim}
 use native.Mathlib.Omega.{arith}
 use lib.ListN.{length, take}
 use Rattle.units.specs.Places.{at}
 use Rattle.text.specs.TextLaws.{put-as}
 use Rattle.calls.specs.Bytes.{someOver}
-use Rattle.calls.specs.Runs.{runOn, answerAt, unreadAt, someUnread}
+use Rattle.calls.specs.Runs.{runOn, unreadAt, someUnread}
 use Rattle.calls.specs.RunText.{answerText, saidAt}
-use Rattle.calls.specs.declared.Answer.{Answer}
-use Rattle.calls.specs.declared.LineEnd.{LineEnd}
 use Rattle.calls.proofs.ByteLaws.{or-false, Behind, behind-none, behind-more, behind-quiet, some-more}
-use Rattle.calls.proofs.RunLaws.{goes-on, line-ends}
+use Rattle.calls.proofs.RunLaws.{goes-on, line-ends, did}
 use borrow.Author.Needs.{needs}
 use Rattle.calls.proofs.run_piece.Statement.{statement}
 use Rattle.calls.proofs.run_piece.Tie as tie
@@ -28,27 +26,6 @@ loop-holds : tie.Need-loop-holds Inv-loop μ-loop
 unfolding someOver
 loop-holds c = (omega arith, behind-none _ _ _, refl)
 
-shared-slice-read-byte : tie.Need-shared-slice-read-byte Inv-loop μ-loop
-shared-slice-read-byte c = search needs
-
-end-line-requires : tie.Need-end-line-requires Inv-loop μ-loop
-end-line-requires c κs = search needs
-
-put-answer-requires : tie.Need-put-answer-requires Inv-loop μ-loop
-put-answer-requires c κs = search needs
-
-is-unread-requires : tie.Need-is-unread-requires Inv-loop μ-loop
-is-unread-requires c κs = search needs
-
-step-requires : tie.Need-step-requires Inv-loop μ-loop
-step-requires c κs = search needs
-
-add-i : tie.Need-add-i Inv-loop μ-loop
-add-i c = search needs
-
-loop-less : tie.Need-loop-less Inv-loop μ-loop
-loop-less c = search needs
-
 loop-again : tie.Need-loop-again Inv-loop μ-loop
 unfolding answerText
 loop-again c =
@@ -63,25 +40,20 @@ loop-again c =
     let seen = some-more runOn unreadAt text (start .args .run) u i inside (inv .1 .stands) in
     ⊎-elim
     (λ w.
-    let ends = line-ends u (at text i) (w .0 .taken) in
-    let answered : w .1 .result .answer ≡ answerAt u (at text i) = ap (λ (e : LineEnd). e .answer) (w .1 .ensures) ∙ ends .1 in
+    let ended = did u (at text i) (w .1 .ensures ∙ line-ends u (at text i) (w .0 .taken)) in
     rw (w .8, w .9, w .10, w .11, seen) (
       omega arith,
-      behind-more (inv .1) inside room (ap (λ (e : LineEnd). e .run) (w .1 .ensures) ∙ ends .0)
-          (put-as {more = 240} (w .3 .ensures) (ap (λ (a : Answer). answerText a (u .line)) answered) (omega arith)) (w .3 .kept .0),
-      rw (w .6 .ensures, answered, inv .2) refl,
+      behind-more (inv .1) inside room (ended .0) (put-as {more = 240} (w .3 .ensures) (rw (ended .1) refl) (omega arith)) (w .3 .kept .0),
+      rw (ended .2, inv .2) refl,
     ))
     (λ v.
-    let on = goes-on u (at text i) (v .0 .left) in
+    let on = did u (at text i) (goes-on u (at text i) (v .0 .left)) in
     rw (v .3, v .4, v .5, v .6, seen) (
       omega arith,
-      behind-quiet (inv .1) inside room (rw (v .2 .ensures) (on .0)) (ap (λ (a : Answer). answerText a (u .line)) (on .1)),
-      rw (← on .1, inv .2) (sym (or-false _)),
+      behind-quiet (inv .1) inside room (rw (v .2 .ensures) (on .0)) (rw (← on .1) refl),
+      rw (← on .2, inv .2) (sym (or-false _)),
     ))
     (c .if1 .came)
-
-same-length : tie.Need-same-length Inv-loop μ-loop
-same-length c = search needs
 
 returns : tie.Need-returns Inv-loop μ-loop
 returns c =
@@ -98,17 +70,5 @@ returns c =
 pub run-piece-spec : {M : Type 1} → statement M
 run-piece-spec =
     tie.close
-    (tie.spec
-    Inv-loop
-    μ-loop
-    loop-holds
-    shared-slice-read-byte
-    end-line-requires
-    put-answer-requires
-    is-unread-requires
-    step-requires
-    add-i
-    loop-less
-    loop-again
-    same-length
-    returns)
+    (tie.spec Inv-loop μ-loop loop-holds (λ c. search needs) (λ c κs. search needs) (λ c κs. search needs) (λ c κs. search needs)
+    (λ c. search needs) (λ c. search needs) loop-again (λ c. search needs) returns)

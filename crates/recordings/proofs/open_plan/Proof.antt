@@ -4,23 +4,11 @@ use borrow.Author.Needs.{needs}
 use Rattle.recordings.proofs.open_plan.Statement.{statement}
 use Rattle.recordings.proofs.open_plan.Tie as tie
 
-open-plan-requires : tie.Need-open-plan-requires
-open-plan-requires c κs = search needs
-
-start-requires : tie.Need-start-requires
-start-requires c κs = search needs
-
 returns : tie.Need-returns
 returns c =
     let begun = c .before .before in
     let opened = begun .before .before in
     opened-refused _ _ _ (opened .open-plan .ensures) (begun .start .ensures) _ (c .if1 .taken)
-
-write-plan-fields-requires : tie.Need-write-plan-fields-requires
-write-plan-fields-requires c κs = search needs
-
-same-length : tie.Need-same-length
-same-length c = search needs
 
 returns-2 : tie.Need-returns-2
 returns-2 c =
@@ -33,10 +21,4 @@ returns-2 c =
 pub open-plan-spec : {M : Type 1} → statement M
 open-plan-spec =
     tie.close
-    (tie.spec
-    open-plan-requires
-    start-requires
-    returns
-    write-plan-fields-requires
-    same-length
-    returns-2)
+    (tie.spec (λ c κs. search needs) (λ c κs. search needs) returns (λ c κs. search needs) (λ c. search needs) returns-2)

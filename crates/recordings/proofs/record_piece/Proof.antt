@@ -1,6 +1,6 @@
 -- `record_piece` is right because after i turns the recording stands behind the first i bytes, and the fields of their visits are put.
 use Prim.Native.Nat.{ℕ, _+_, _*_, _-_, _≤_, _<_}
-use mathlib.Core.Path.{_≡_, ap, _∙_}
+use mathlib.Core.Path.{_≡_, _∙_}
 use mathlib.Core.Logic.{⊎-elim}
 use native.Mathlib.Omega.{arith}
 use lib.ListN.{length}
@@ -8,8 +8,6 @@ use Rattle.units.specs.Places.{at}
 use Rattle.text.specs.TextLaws.{put-as}
 use Rattle.logs.specs.Layout.{visitsBytes}
 use Rattle.logs.specs.declared.Recorder.{Recorder}
-use Rattle.calls.specs.Runs.{runOn, answerAt}
-use Rattle.calls.specs.declared.LineEnd.{LineEnd}
 use Rattle.calls.specs.declared.Run.{Run}
 use Rattle.calls.proofs.ByteLaws.{Behind, behind-none, behind-more, behind-quiet}
 use Rattle.calls.proofs.RunLaws.{goes-on, line-ends}
@@ -34,9 +32,6 @@ abbrev μ-loop : tie.MeasureT-loop
 loop-holds : tie.Need-loop-holds Inv-loop μ-loop
 loop-holds c = (omega arith, behind-none _ _ _)
 
-record-answer-requires : tie.Need-record-answer-requires Inv-loop μ-loop
-record-answer-requires c κs = search needs
-
 loop-again : tie.Need-loop-again Inv-loop μ-loop
 unfolding recordsIn clockAfter counterAfter firstUnread visitsBytes
 loop-again c =
@@ -51,16 +46,12 @@ loop-again c =
     let room : 20 * (at-loop .loop .i + 1) ≤ length (start .args .page .now) = omega (arith, start .pre .few, start .pre .large, c .before .before .loop-test .taken) in
     ⊎-elim
     (λ w.
-    let ends = line-ends u (at text i) (w .0 .taken) in
-    let run : w .1 .result .run ≡ runOn u (at text i) = ap (λ (e : LineEnd). e .run) (w .1 .ensures) ∙ ends .0 in
-    let answer : w .1 .result .answer ≡ answerAt u (at text i) = ap (λ (e : LineEnd). e .answer) (w .1 .ensures) ∙ ends .1 in
-    let on = record-byte k (at text i) _ _ run answer in
+    let on = record-byte k (at text i) (w .1 .result) (w .1 .ensures ∙ line-ends u (at text i) (w .0 .taken)) in
     let kept = w .3 .ensures in
-    let e : heldBy (w .1 .result .run) (w .7 .result) (w .3 .result) ≡ recordOn k (at text i) = rw (kept .clock, kept .counter, w .7 .ensures, w .6 .ensures) (on .0) in
-    rw (w .9, w .10, w .11, w .12) (omega arith, behind-more (inv .1) inside room e (put-as {more = 20} (kept .put) (on .1) (omega arith)) (w .3 .kept .1 .1 .0)))
+    let e : heldBy (w .1 .result .run) (w .6 .result) (w .3 .result) ≡ recordOn k (at text i) = rw (kept .clock, kept .counter, w .6 .ensures) (on .0) in
+    rw (w .8, w .9, w .10, w .11) (omega arith, behind-more (inv .1) inside room e (put-as {more = 20} (kept .put) (on .1) (omega arith)) (w .3 .kept .1 .1 .0)))
     (λ v.
-    let ends = goes-on u (at text i) (v .0 .left) in
-    let on = record-byte k (at text i) _ _ (ends .0) (ends .1) in
+    let on = record-byte k (at text i) _ (goes-on u (at text i) (v .0 .left)) in
     rw (v .3, v .4, v .5, v .6) (omega arith, behind-quiet (inv .1) inside room (rw (v .2 .ensures) (on .0)) (on .1)))
     (c .if1 .came)
 
@@ -75,5 +66,5 @@ returns c =
 pub record-piece-spec : {M : Type 1} → statement M
 record-piece-spec =
     tie.close
-    (tie.spec Inv-loop μ-loop loop-holds (λ c. search needs) (λ c κs. search needs) record-answer-requires (λ c κs. search needs)
-    (λ c κs. search needs) (λ c κs. search needs) (λ c. search needs) (λ c. search needs) loop-again (λ c. search needs) returns)
+    (tie.spec Inv-loop μ-loop loop-holds (λ c. search needs) (λ c κs. search needs) (λ c κs. search needs) (λ c κs. search needs)
+    (λ c κs. search needs) (λ c. search needs) (λ c. search needs) loop-again (λ c. search needs) returns)
