@@ -264,7 +264,7 @@ pub record Promised : Type 0 where
   pub visit-unchanged : (r : Ring) (ask : Ask) → visited r ask .answer .number ≢ 0 → visited r ask .ring ≡ r
   -- and a blank record
   pub visit-blank : (r : Ring) (ask : Ask) → visited r ask .answer .number ≢ 0 → visited r ask .answer .«record» ≡ blankRecord
-  -- an accepted visit does the five steps, and the record says so
+  -- an accepted visit does the five steps, and the record says so. `Shaped` holds of any ring of the code, and so of any that is lent: `rings::count_places` ensures it
   pub visit-done : (r : Ring) (ask : Ask) → Shaped r → visited r ask .answer .number ≡ 0 → Done r ask (visited r ask .ring) (visited r ask .answer .«record»)
   -- a set without F and an ask of length 1 go as the rule of before
   pub uncut-visit : (r : Ring) (ask : Ask) → Shaped r → r .set .head .frame ≡ 1 → ask .length ≡ 1 → UncutVisit r ask
@@ -287,7 +287,7 @@ pub record Promised : Type 0 where
   pub message-only : (r : Ring) (m : Message) → (handedIn r m .number ≡ 0) ⊎ ((8 ≤ handedIn r m .number) × (handedIn r m .number ≤ 12))
   -- a refused handing in gives back the very ring
   pub message-unchanged : (r : Ring) (m : Message) → handedIn r m .number ≢ 0 → handedIn r m .ring ≡ r
-  -- an accepted message is held, and nothing else in the ring changes
+  -- an accepted message is held, and nothing else in the ring changes; this too of any ring that is lent, and so the others that ask for `Shaped`
   pub message-held : (r : Ring) (m : Message) → Shaped r → handedIn r m .number ≡ 0 → Held r m (handedIn r m .ring)
   -- and the ring is as sound as before
   pub message-sound : (r : Ring) (m : Message) → Shaped r → handedIn r m .number ≡ 0 → Sound (handedIn r m .ring)
