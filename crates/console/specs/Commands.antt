@@ -5,7 +5,7 @@ use mathlib.Core.List.{List, [], _∷_}
 use lib.Dec.{eqb}
 use lib.ListN.{length}
 use Rattle.units.specs.Places.{at, allBelow}
-use Rattle.outputs.specs.PlanText.{planWord}
+use Rattle.command_plan.specs.PlanText.{planWord}
 
 -- two words are the same: as long, and the same byte at each place
 unfoldable pub sameBytes : List ℕ → List ℕ → Bool

@@ -27,9 +27,9 @@ fn plan() -> Ending {
     }
     let read = filled.length;
     let mut page = io::large_buffer();
-    let length = console::plan_text(&sheet[..read], &mut page);
-    let refused = usage::is_refusal(&page[..length]);
-    ending::answer(&page[..length], refused)
+    let said = command_plan::plan_text(&sheet[..read], &mut page);
+    let length = said.length;
+    ending::answer(&page[..length], said.number != 0)
 }
 
 // `plan-sheet`: the plan sheet of the request sheet on standard input; refused, no byte is written.
@@ -41,7 +41,7 @@ fn plan_sheet() -> Ending {
     }
     let read = filled.length;
     let mut out = io::large_buffer();
-    let written = console::plan_sheet(&sheet[..read], &mut out);
+    let written = command_plan::plan_sheet(&sheet[..read], &mut out);
     let length = written.length;
     let number = written.number;
     if number != 0 {

@@ -9,8 +9,7 @@ use borrow.Author.Tests.{lt-ltb, le-ltb, ne-eqb}
 use lib.Dec.{eqb}
 use lib.IntN.{ℤ, pos, negsuc}
 use Rattle.units.specs.SmallLaws.{below-or-not}
-use Rattle.sheets.specs.Reading.{readRequest, readPlan, thenNumber}
-use Rattle.plans.specs.Planned.{planned}
+use Rattle.sheets.specs.Reading.{readRequest, readPlan}
 use Rattle.rings.specs.declared.Ring.{Ring}
 use Rattle.rings.specs.declared.VisitRecord.{VisitRecord}
 use Rattle.rings.specs.Steps.{visited}
@@ -18,8 +17,6 @@ use Rattle.rings.specs.HandingIn.{handedIn}
 use Rattle.text.specs.Text.{newline, digit, decimalWithin, decimalOf, lineOn, line, textOr, cannotBeRead, unreadLine}
 use Rattle.lines.specs.Scan.{isEmptyLine}
 use Rattle.lines.specs.declared.Scan.{Scan}
-use Rattle.outputs.specs.PlanText.{planLines, planPrinted}
-use Rattle.outputs.specs.PlanSheet.{planningNumber}
 use Rattle.outputs.specs.ShowText.{headLines, sheetText, showPrinted}
 use Rattle.calls.specs.RunText.{isVisit, askIn, isMessage, messageIn, signOf, signedOf, withoutSign, completion, visitLine, takenText, answerText, saidAt, saidOver, runOn}
 use Rattle.calls.specs.declared.Run.{Run}
@@ -34,16 +31,6 @@ refusal-or : (k : ℕ) (text : List ℕ) → isRefusal text ≡ false → isRefu
 unfolding textOr line
 refusal-or zero text none = none
 refusal-or (suc k) text none = rw (ne-eqb (suc k) 0 (omega arith)) refl
-
--- the first of two refusals
-refusal-then : (k j : ℕ) (text : List ℕ) → isRefusal text ≡ false → isRefusal (textOr k (textOr j text)) ≡ isRefused (thenNumber k j)
-unfolding textOr thenNumber line
-refusal-then zero j text none = refusal-or j text none
-refusal-then (suc k) j text none = rw (ne-eqb (suc k) 0 (omega arith)) refl
-
-plan-told : (sheet : List ℕ) → isRefusal (planPrinted sheet) ≡ isRefused (planningNumber (readRequest sheet))
-unfolding planLines line
-plan-told sheet = refusal-then (readRequest sheet .number) (planned (readRequest sheet .set) .number) _ refl
 
 -- the request's text, or the plan's, as `show` chooses
 shown-told : (b : Bool) (j k : ℕ) (plan request : List ℕ) → isRefusal plan ≡ false → isRefusal request ≡ false
@@ -159,4 +146,4 @@ run-told u [] = refl
 run-told u (b ∷ bs) = colon-append (saidAt u b) (saidOver (runOn u b) bs) ∙ rw (byte-told u b, run-told (runOn u b) bs) refl
 
 pub promised : Promised
-promised = record { plan-refused = plan-told; show-refused = show-told; run-unread = run-told }
+promised = record { show-refused = show-told; run-unread = run-told }

@@ -4,7 +4,7 @@ ghost use lib.ListN.{length};
 ghost use Rattle.units.specs.Places.{at as placeAt};
 ghost use Rattle.fields.specs.Rows.{rows};
 ghost use Rattle.text.specs.Text.{PutShort};
-ghost use Rattle.outputs.specs.PlanText.{planLine, shareLine, planLines};
+ghost use Rattle.command_plan.specs.PlanText.{planLine, shareLine, planLines};
 use plans::Alloc;
 use sets::Set;
 

@@ -2,8 +2,8 @@
 use native.Mathlib.Omega.{arith}
 use Rattle.text.specs.TextLaws.{field-then, end-then, line-first, line-next, line-end}
 use borrow.Author.Needs.{needs}
-use Rattle.console.proofs.planning.put_plan_line.Statement.{statement}
-use Rattle.console.proofs.planning.put_plan_line.Tie as tie
+use Rattle.command_plan.proofs.planning.put_plan_line.Statement.{statement}
+use Rattle.command_plan.proofs.planning.put_plan_line.Tie as tie
 
 slice-aggregate-put-short : tie.Need-slice-aggregate-put-short
 slice-aggregate-put-short c = search needs

@@ -8,11 +8,16 @@ use Rattle.plans.specs.Planned.{planned}
 use Rattle.sheets.specs.Reading.{thenNumber}
 use Rattle.sheets.specs.Writing.{refusedWriting, writtenAnswer, writtenBuffer}
 use Rattle.sheets.specs.declared.ReadRequest.{ReadRequest}
+use Rattle.sheets.specs.declared.ReadPlan.{ReadPlan}
 use Rattle.sheets.specs.declared.Written.{Written}
 
 -- the number of reading, or else that of planning
 abbrev pub planningNumber : ReadRequest → ℕ
 planningNumber r = thenNumber (r .number) (planned (r .set) .number)
+
+-- the plan of a request that was read: its set, the least allocation, and that number
+abbrev pub planOf : ReadRequest → ReadPlan
+planOf r = record { set = r .set; alloc = planned (r .set) .alloc; number = planningNumber r }
 
 -- what writing answers, if nothing was refused before
 unfoldable pub answerOr : ℕ → Written → Written

@@ -7,11 +7,11 @@ use Rattle.units.specs.Places.{at as placeAt}
 use Rattle.fields.specs.Rows.{rows}
 use Rattle.fields.specs.RowLaws.{rows-none, rows-step}
 use Rattle.text.specs.Text.{PutShort}
-use Rattle.outputs.specs.PlanText.{shareLine}
+use Rattle.command_plan.specs.PlanText.{shareLine}
 use Rattle.text.specs.TextLaws.{put-none, put-short-then, put-as}
 use borrow.Author.Needs.{needs}
-use Rattle.console.proofs.planning.put_shares.Statement.{statement}
-use Rattle.console.proofs.planning.put_shares.Tie as tie
+use Rattle.command_plan.proofs.planning.put_shares.Statement.{statement}
+use Rattle.command_plan.proofs.planning.put_shares.Tie as tie
 
 abbrev Inv-loop : tie.InvT-loop
 Inv-loop page₀ at n s end next₀ i₀ page next i =

@@ -1,11 +1,11 @@
 -- `put_plan` is right because the stations' lines stand behind the first line.
 use mathlib.Core.Path.{refl}
 use native.Mathlib.Omega.{arith}
-use Rattle.outputs.specs.PlanText.{planLines}
+use Rattle.command_plan.specs.PlanText.{planLines}
 use Rattle.text.specs.TextLaws.{put-short-then, put-as}
 use borrow.Author.Needs.{needs}
-use Rattle.console.proofs.planning.put_plan.Statement.{statement}
-use Rattle.console.proofs.planning.put_plan.Tie as tie
+use Rattle.command_plan.proofs.planning.put_plan.Statement.{statement}
+use Rattle.command_plan.proofs.planning.put_plan.Tie as tie
 
 wide-requires : tie.Need-wide-requires
 wide-requires c κs = search needs

@@ -2,8 +2,8 @@
 use native.Mathlib.Omega.{arith}
 use Rattle.text.specs.TextLaws.{decimal-short, field-then, end-then, line-first, line-next, line-end}
 use borrow.Author.Needs.{needs}
-use Rattle.console.proofs.planning.put_share_line.Statement.{statement}
-use Rattle.console.proofs.planning.put_share_line.Tie as tie
+use Rattle.command_plan.proofs.planning.put_share_line.Statement.{statement}
+use Rattle.command_plan.proofs.planning.put_share_line.Tie as tie
 
 put-number-requires : tie.Need-put-number-requires
 put-number-requires c κs = search needs
