@@ -17,13 +17,12 @@ fn hear(run: Run, text: &[u8]) -> Heard {
     let mut page = io::large_buffer();
     let ran = calls::run_on(run, text, &mut page);
     let length = ran.length;
-    let unread = usage::names_a_line(&page[..length]);
     let wrote = ending::say(&page[..length]);
     let behind = ran.run;
     Heard {
         run: behind,
         more: wrote,
-        unread,
+        unread: ran.unread,
         failed: !wrote,
     }
 }

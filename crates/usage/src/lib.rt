@@ -2,7 +2,7 @@
 pub mod words;
 
 ghost use mathlib.Core.Path.{_≡_};
-ghost use Rattle.usage.specs.Endings.{statusOf, isRefusal, hasColon};
+ghost use Rattle.usage.specs.Endings.{statusOf, isRefusal};
 
 // What was asked for was done.
 pub const DONE: u8 = 0;
@@ -34,18 +34,4 @@ pub fn is_refusal(text: &[u8]) -> bool
         return false;
     }
     text[0] == b'r'
-}
-
-// One of the answers of `run` names a line that cannot be read.
-pub fn names_a_line(text: &[u8]) -> bool
-    ensures { λ r. ⌜ r ≡ hasColon (now (text .entry)) ⌝ }
-{
-    let mut found = false;
-    let mut i: usize = 0;
-    while i < text.len() {
-        let one = text[i] == b':';
-        found = found | one;
-        i += 1;
-    }
-    found
 }

@@ -1,5 +1,5 @@
 -- `run_on` is right because it reads the first 256 bytes, or all if they are fewer.
-use Rattle.calls.specs.RunLaws.{ran-none, ran-piece}
+use Rattle.calls.proofs.RunLaws.{ran-none, ran-piece}
 use borrow.Author.Needs.{needs}
 use Rattle.calls.proofs.run_on.Statement.{statement}
 use Rattle.calls.proofs.run_on.Tie as tie

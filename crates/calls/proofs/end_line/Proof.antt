@@ -1,0 +1,22 @@
+-- `end_line` is right because the line's call gives the ring and the answer, and the next line begins with nothing read.
+use mathlib.Core.Path.{refl}
+use borrow.Author.Needs.{needs}
+use Rattle.calls.proofs.end_line.Statement.{statement}
+use Rattle.calls.proofs.end_line.Tie as tie
+
+call-line-requires : tie.Need-call-line-requires
+call-line-requires c κs = search needs
+
+fresh-requires : tie.Need-fresh-requires
+fresh-requires c κs = search needs
+
+next-line-requires : tie.Need-next-line-requires
+next-line-requires c κs = search needs
+
+returns : tie.Need-returns
+returns c =
+    let begun = c .before .before .before in
+    rw (c .next-line .ensures, c .before .fresh .ensures, begun .call-line .ensures) refl
+
+pub end-line-spec : {M : Type 1} → statement M
+end-line-spec = tie.close (tie.spec call-line-requires fresh-requires next-line-requires returns)
