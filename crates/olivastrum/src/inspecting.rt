@@ -57,9 +57,9 @@ fn look_on(inspecting: Inspecting) -> Looked {
 // Says what was found.
 fn finish(inspecting: Inspecting) -> Ending {
     let mut page = io::large_buffer();
-    let length = finding_texts::put_finding(inspecting, &mut page);
-    let accepted = finding_texts::is_accepted(inspecting);
-    ending::answer(&page[..length], !accepted)
+    let found = finding_texts::put_finding(inspecting, &mut page);
+    let length = found.length;
+    ending::answer(&page[..length], !found.accepted)
 }
 
 // The first 3,400 bytes are enough for every plan: what they say of it is what the whole log says.

@@ -85,9 +85,9 @@ fn see_head(showing: Showing, head: &[u8], from: usize) -> Seen {
 // The refusal, if there is one.
 fn finish(showing: Showing) -> Ending {
     let mut page = io::large_buffer();
-    let length = log_shows::show_end(showing, &mut page);
-    let refused = log_shows::number_of(showing) != 0;
-    ending::answer(&page[..length], refused)
+    let said = log_shows::show_end(showing, &mut page);
+    let length = said.length;
+    ending::answer(&page[..length], said.number != 0)
 }
 
 // The rest of a log whose first bytes are these.
@@ -120,8 +120,7 @@ pub(crate) fn show() -> Ending {
     let begun = log_shows::show_start(&head[..read], &mut page);
     let length = begun.length;
     if !begun.log {
-        let refused = usage::is_refusal(&page[..length]);
-        return ending::answer(&page[..length], refused);
+        return ending::answer(&page[..length], begun.number != 0);
     }
     if !ending::say(&page[..length]) {
         return ending::failed();

@@ -3,10 +3,12 @@
 --     DraftLaws      the draft of the text that `show` prints
 --     ShownLaws      `show`, then `compose`, is the identity on accepted sheets
 --     LogTextLaws    the text of a log makes its bytes
+--     PlainLaws      the texts of accepted sheets and logs end with no refusal
 --     HeaderLineLaws   a further line of the header in a text
 pub mod ShowLaws
 pub mod DraftLaws
 pub mod ShownLaws
 pub mod LogTextLaws
 pub mod HeaderLineLaws
+pub mod PlainLaws
 pub mod Promised

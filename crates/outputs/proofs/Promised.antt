@@ -27,6 +27,7 @@ use Rattle.outputs.specs.Promised.{Promised, olderSheet, olderText, fram
 use Rattle.outputs.specs.ShowText.{furtherLine, headLines, shareWords, stationLine, sheetText, showPrinted}
 use Rattle.outputs.proofs.ShowLaws.{shown-request}
 use Rattle.outputs.proofs.ShownLaws.{shown-composed}
+use Rattle.outputs.proofs.PlainLaws.{show-tells}
 use Rattle.outputs.proofs.LogTextLaws.{log-composed, refused-ends}
 use Rattle.outputs.proofs.HeaderLineLaws.{line-given, other-four, second-broken, late-broken}
 
@@ -79,6 +80,7 @@ promised =
       older = shown-set olderSheet (olderSet 1 1) older-read ∙ older-lines;
       framed = shown-set framedSheet (olderSet 40 1) framed-read ∙ framed-lines;
       gridded = shown-set griddedSheet (olderSet 40 5) gridded-read ∙ gridded-lines;
+      show-refused = show-tells;
       header-line = line-given;
       header-other = λ d tag number out e outside whole count.
           other-four d tag out whole count (subst (λ (n : ℕ). ¬ ((1 ≤ n) × (n ≤ mostOf tag))) (sym e) (header-out (mostOf tag) number outside));

@@ -15,14 +15,14 @@ use Rattle.fields.specs.Header.{headerNumber}
 use Rattle.sheets.specs.Layout.{headNumber, mostOf}
 use Rattle.sheets.specs.Reading.{readSheet}
 use Rattle.sheets.specs.Writing.{refusedWriting}
-use Rattle.text.specs.Text.{newline}
+use Rattle.text.specs.Text.{newline, Tells}
 use Rattle.lines.specs.Scan.{isEmptyLine}
 use Rattle.lines.specs.declared.Scan.{Scan}
 use Rattle.drafts.specs.Compose.{isVisitLine, withFurther, withVisit, lineDrafted, composeStart, composeAfter, isWhole, composedAnswer, composedBuffer, draftOf}
 use Rattle.drafts.specs.Sent.{sentOver, endAnswer, endBuffer, sentOf, Composes, Makes, noVisit, Broken}
 use Rattle.drafts.specs.declared.Draft.{Draft}
 use Rattle.drafts.specs.declared.Composing.{Composing}
-use Rattle.outputs.specs.ShowText.{showPrinted}
+use Rattle.outputs.specs.ShowText.{showPrinted, shownNumber}
 use Rattle.outputs.specs.LogText.{logText}
 
 -- an older set's request sheet: TTRT 100, mode 2, one station of w 2, C 20, D 200, P 200; and the text of it
@@ -69,6 +69,8 @@ pub record Promised : Type 0 where
   pub framed : showPrinted framedSheet ≡ framedText
   -- and `grid 5` behind both
   pub gridded : showPrinted griddedSheet ≡ griddedText
+  -- the number that goes with what `show` prints of a sheet: it ends with `refused N` if the number N is not 0, and with no refusal if it is
+  pub show-refused : (sheet : List ℕ) → Tells (showPrinted sheet) (shownNumber sheet)
   -- a further line of the header in a text, `mode M` by tag 4, `frame F` by tag 5 and `grid G` by tag 6: behind TTRT's, before the first station and above those with lower tags it gives the number that its field on a sheet gives
   pub header-line : (d : Draft) (tag number : ℕ) → 1 ≤ d .head → d .head < tag → d .set .n ≡ 0 → headNumber (withFurther d tag number .set .head) tag ≡ headerNumber true number
   -- so a text with a number there that is not 2 to the highest, 1 among them, is refused with 4, if its lines make a sheet of 1 to 128 stations

@@ -80,9 +80,20 @@ not-refused text p n e = omega (arith, ap countU (e .whole), loud (e .front) n)
 pub tells-of : (text : List ℕ) (number : ℕ) → (number ≢ 0 → EndsRefused text number) → (number ≡ 0 → Plain text) → Tells text number
 tells-of text number refused plain = record { refused = refused; accepted = λ z n. not-refused text (plain z) n }
 
+plain-none : Plain []
+unfolding countU
+plain-none = refl
+
 -- a text, or the refusal
 pub tells-or : (text : List ℕ) (number : ℕ) → Plain text → Tells (textOr number text) number
 tells-or text number p =
     tells-of (textOr number text) number
     (λ some. record { front = []; whole = text-refused number text some })
     (λ z. ap countU (text-accepted number text z) ∙ p)
+
+-- a text, and the refusal behind it
+pub tells-behind : (text : List ℕ) (number : ℕ) → Plain text → Tells (text ++ textOr number []) number
+tells-behind text number p =
+    tells-of (text ++ textOr number []) number
+    (λ some. record { front = text; whole = ap (λ (end : List ℕ). text ++ end) (text-refused number [] some) })
+    (λ z. plain-append text (textOr number []) p (ap countU (text-accepted number [] z) ∙ plain-none))

@@ -111,6 +111,10 @@ pub says-nothing : {text before : List ℕ} {number : ℕ} → length before < p
 unfolding numberOn
 says-nothing {text} {before} small = record { printed = not-printed small; number = rw (lt-ltb (length before) pageSize small) refl }
 
+-- the same text and the same number under other names
+pub says-as : {s t before after : List ℕ} {r : Said} {k n : ℕ} → Says s k before after r → s ≡ t → k ≡ n → Says t n before after r
+says-as p same told = rw (← same, ← told) p
+
 -- ---- a piece of a text: its first bytes, or all if they are fewer
 
 pub take-piece : (text : List ℕ) (k : ℕ) → take (min (length text) k) text ≡ take k text

@@ -2,7 +2,7 @@
 pub mod words;
 
 ghost use mathlib.Core.Path.{_≡_};
-ghost use Rattle.usage.specs.Endings.{statusOf, isRefusal};
+ghost use Rattle.usage.specs.Endings.{statusOf};
 
 // What was asked for was done.
 pub const DONE: u8 = 0;
@@ -24,14 +24,4 @@ pub fn status_of(failed: bool, refused: bool) -> u8
         return REFUSED;
     }
     DONE
-}
-
-// What `plan` or `show` printed is a refusal.
-pub fn is_refusal(text: &[u8]) -> bool
-    ensures { λ r. ⌜ r ≡ isRefusal (now (text .entry)) ⌝ }
-{
-    if text.len() == 0 {
-        return false;
-    }
-    text[0] == b'r'
 }

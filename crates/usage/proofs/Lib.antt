@@ -1,2 +1,0 @@
--- The promises of this layer, proved.
-pub mod Promised
