@@ -1,10 +1,10 @@
 -- Words, by their bytes.
-use Prim.Native.Nat.{ℕ, _≤_}
+use Prim.Native.Nat.{ℕ, _-_, _≤_}
 use mathlib.Core.Path.{_≡_}
 use mathlib.Core.Bool.{Bool, cond, _&&_}
 use mathlib.Core.List.{List, [], _∷_, map}
 use lib.Dec.{eqb, leb}
-use lib.ListN.{length, take}
+use lib.ListN.{length, take, drop, replicate}
 use Rattle.units.specs.Places.{at, allBelow}
 
 -- two words are the same: as long, and the same byte at each place
@@ -23,9 +23,10 @@ shownByte b = cond (leb 33 b && leb b 126) b 63
 unfoldable pub nameOf : List ℕ → List ℕ
 nameOf word = map shownByte (take 64 word)
 
--- the first r of the bytes are the word's name
+-- the first r of the 64 bytes are the word's name, and the others are 0
 pub record Named (word bytes : List ℕ) (r : ℕ) : Type 0 where
   pub name : take r bytes ≡ nameOf word
+  pub rest : drop r bytes ≡ replicate (64 - r) 0
   -- they are there; both lines say so, for whoever lends the first r bytes
   pub fits : r ≤ length bytes
   pub counts : r ≡ length (take r bytes)

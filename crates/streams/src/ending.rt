@@ -96,12 +96,7 @@ pub fn name_line(number: u64) -> u8
     complain(&line[..length])
 }
 
-// Tells the status, one digit.
+// Tells the status: a digit, since there are three.
 pub fn tell(status: u8) {
-    match status {
-        status::DONE => io::write_all(STATUS_FILENO, b"0"),
-        status::REFUSED => io::write_all(STATUS_FILENO, b"1"),
-        _ => io::write_all(STATUS_FILENO, b"2"),
-    }
-    ;
+    io::print_decimal(STATUS_FILENO, status as u64);
 }
