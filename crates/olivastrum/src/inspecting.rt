@@ -1,9 +1,9 @@
 // `inspect`: whether a run could have given the records of the log on standard input, or its first fault.
-use crate::ending;
-use crate::ending::Ending;
-use crate::reading;
+use commands::status;
 use libc::STDIN_FILENO;
 use piece_inspections::Inspecting;
+use streams::ending;
+use streams::reading;
 
 // The log behind one reading, whether the input goes on, and whether reading failed.
 struct Looked {
@@ -55,15 +55,18 @@ fn look_on(inspecting: Inspecting) -> Looked {
 }
 
 // Says what was found.
-fn finish(inspecting: Inspecting) -> Ending {
+fn finish(inspecting: Inspecting) -> u8 {
     let mut page = io::large_buffer();
     let found = finding_texts::put_finding(inspecting, &mut page);
     let length = found.length;
-    ending::answer(&page[..length], !found.accepted)
+    if found.accepted {
+        return ending::answer(&page[..length], status::DONE);
+    }
+    ending::answer(&page[..length], status::REFUSED)
 }
 
 // The first 3,400 bytes are enough for every plan: what they say of it is what the whole log says.
-pub(crate) fn inspect() -> Ending {
+pub(crate) fn inspect() -> u8 {
     let mut head: [u8; pieces::FIRST_SIZE] = [0; pieces::FIRST_SIZE];
     let filled = reading::fill(STDIN_FILENO, &mut head);
     if filled.failed {
@@ -76,7 +79,7 @@ pub(crate) fn inspect() -> Ending {
     }
     let all = look_on(begun);
     if all.failed {
-        return ending::failed();
+        return status::FAILED;
     }
     let behind = all.inspecting;
     finish(behind)
