@@ -7,8 +7,7 @@ use mathlib.Core.Logic.{_⊎_, inl, inr, ⊎-elim, _≢_}
 use native.Mathlib.Omega.{arith}
 use borrow.Author.Tests.{eq-eqb, ne-eqb}
 use lib.ListN.{length, drop, take-append-drop}
-use lib.Seq.{length-take-le, drop-length, drop-nil, drop-drop, drop-append-le}
-use Rattle.units.specs.SmallLaws.{below-or-not}
+use lib.Seq.{drop-append-le}
 use Rattle.units.specs.JudgingLaws.{true-or-false, and-true}
 use Rattle.sets.specs.declared.Set.{Set}
 use Rattle.plans.specs.Planned.{judgedPlan}
@@ -22,6 +21,7 @@ use Rattle.sheets.specs.Reading.{thenNumber, judgedSheet, setIn, allocIn, planP
 use Rattle.sheets.specs.ReadLaws.{then-none, sheet-accepted, read-number as sheet-number}
 use Rattle.sheets.specs.declared.ReadPlan.{ReadPlan}
 use Rattle.sheets.specs.declared.PlanStart.{PlanStart}
+use Rattle.sheets.proofs.FirstLaws.{start-same, stays, take-or-all, start-at, start-inside}
 use Rattle.sheet_rules.proofs.Promised.{promised as sheet-rules}
 use Rattle.entries.specs.declared.Entry.{Entry}
 use Rattle.entries.proofs.EntryLaws.{visit-there}
@@ -36,7 +36,6 @@ use Rattle.pieces.specs.Pieces.{firstSize, readOver, handedOver}
 use Rattle.pieces.specs.declared.Visits.{Visits}
 use Rattle.pieces.proofs.FieldLaws.{read-append, handed-append}
 use Rattle.pieces.proofs.WholeLaws.{whole-read}
-use Rattle.pieces.proofs.HeadLaws.{start-same, stays, start-at, start-inside}
 use Rattle.text.specs.Text.{refusedLine, textOr, Tells}
 use Rattle.text.proofs.RefusalLaws.{countU, Plain, plain-append, tells-or, tells-behind}
 use Rattle.text.specs.TextLaws.{text-accepted, text-refused}
@@ -262,19 +261,13 @@ module _ (bs : List ℕ) where
   first-rest = take-append-drop firstSize bs
 
   enough : (rest ≡ []) ⊎ (firstSize ≤ length first)
-  enough =
-      let more = firstSize - length bs in
-      ⊎-elim (λ (l : length bs < firstSize).
-      let size : firstSize ≡ length bs + (firstSize - length bs) = omega arith in
-      inl (ap (λ (n : ℕ). drop n bs) size ∙ sym (drop-drop more (length bs) bs) ∙ ap (drop more) (drop-length bs) ∙ drop-nil more))
-      (λ (l : firstSize ≤ length bs). inr (omega (arith, length-take-le firstSize bs l)))
-      (below-or-not (length bs) firstSize)
+  enough = ⊎-elim (λ e. inl e) (λ e. inr (omega arith)) (take-or-all firstSize bs)
 
   of-first : {A : Type 0} (f : List ℕ → A) → (firstSize ≤ length first → f (first ++ rest) ≡ f first) → f first ≡ f bs
-  of-first f same = sym (stays first rest enough f same) ∙ ap f first-rest
+  of-first f same = sym (stays f firstSize first rest enough same) ∙ ap f first-rest
 
   start : planStart first ≡ planStart bs
-  start = of-first planStart (start-same first rest)
+  start = of-first planStart (λ l. start-same first rest (omega arith))
 
   log-first : isLog first ≡ isLog bs
   log-first = of-first (λ x. isLog x) (log-same first rest)

@@ -6,6 +6,7 @@ use mathlib.Core.List.{List}
 use native.Mathlib.Omega.{arith}
 use Rattle.units.specs.Places.{sumBelow, allBelow, fill}
 use Rattle.units.specs.Judging.{orElse, allHold}
+use Rattle.sets.specs.Header.{headNumber}
 use Rattle.sets.specs.Rules.{headInRange, stationInRange}
 use Rattle.sets.specs.Judged.{judgedThen, zeros}
 use Rattle.sets.specs.declared.Set.{Set}
@@ -15,7 +16,7 @@ use Rattle.fields.specs.Bytes.{shortAt, numberAt, bodyAt}
 use Rattle.fields.specs.Header.{headerNumber, behindTag, furtherPlace}
 use Rattle.fields.proofs.HeaderLaws.{header-out}
 use Rattle.fields.specs.Fields.{furtherSize, isAllowed, fieldNumber, handedOut}
-use Rattle.sheets.specs.Layout.{headNumber, mostOf}
+use Rattle.sheets.specs.Layout.{mostOf}
 use Rattle.scan.specs.Cursor.{cursorAfter}
 use Rattle.scan.specs.Scanned.{withField, stopsAt, stopNumber, scanFrom, scanned}
 use Rattle.sheets.specs.Reading.{readRequest, thenNumber, judgedSheet, readAnswer, readSheet}

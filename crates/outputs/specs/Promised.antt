@@ -4,6 +4,7 @@ use mathlib.Core.Path.{_≡_}
 use mathlib.Core.Bool.{Bool, true, false}
 use mathlib.Core.List.{List, [], _∷_, _++_}
 use mathlib.Core.Logic.{_≢_}
+use Rattle.sets.specs.Header.{headNumber}
 use Rattle.sets.specs.Rules.{CountAllowed}
 use Rattle.sets.specs.declared.Set.{Set}
 use Rattle.plans.specs.Planned.{judgedPlan}
@@ -12,7 +13,7 @@ use Rattle.entries.specs.declared.Entry.{Entry}
 use Rattle.logs.specs.Layout.{logOf, AllFit}
 use Rattle.fields.specs.Bytes.{AllBytes}
 use Rattle.fields.specs.Header.{headerNumber}
-use Rattle.sheets.specs.Layout.{headNumber, mostOf}
+use Rattle.sheets.specs.Layout.{mostOf}
 use Rattle.sheets.specs.Reading.{readSheet}
 use Rattle.sheets.specs.Writing.{refusedWriting}
 use Rattle.text.specs.Text.{newline, Tells}

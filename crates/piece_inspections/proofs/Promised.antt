@@ -1,7 +1,6 @@
 -- Everything that `specs/Promised.antt` lists, proved.
-use Rattle.pieces.proofs.HeadLaws.{start-stays}
 use Rattle.piece_inspections.specs.Promised.{Promised}
-use Rattle.piece_inspections.proofs.WholeLaws.{over-append, first-then, number-whole, fault-stays, plan-read, inspection-read, rule-read, record-read, visits-read, broken-read}
+use Rattle.piece_inspections.proofs.WholeLaws.{over-append, start-stays, first-then, number-whole, fault-stays, plan-read, inspection-read, rule-read, record-read, visits-read, broken-read}
 
 pub promised : Promised
 promised =

@@ -15,6 +15,7 @@ use Rattle.scan.proofs.ScanLaws.{zero-or-not}
 use Rattle.sheets.specs.Reading.{thenNumber, planStart}
 use Rattle.sheets.specs.ReadLaws.{then-rest, then-keeps, then-none}
 use Rattle.sheets.specs.declared.PlanStart.{PlanStart}
+use Rattle.sheets.proofs.FirstLaws.{stays, start-same, start-inside}
 use Rattle.logs.specs.Walked.{walked}
 use Rattle.logs.specs.Reading.{readLog, handedFrom, entriesIn}
 use Rattle.logs.specs.declared.ReadLog.{ReadLog}
@@ -25,7 +26,6 @@ use Rattle.pieces.specs.Pieces.{nothingRead, faulty, numberOf, readOver, handed
 use Rattle.pieces.specs.declared.Visits.{Visits}
 use Rattle.pieces.proofs.FieldLaws.{read-append, handed-append, read-stopped}
 use Rattle.pieces.proofs.WholeLaws.{whole-read}
-use Rattle.pieces.proofs.HeadLaws.{start-stays, start-inside}
 use Rattle.inspection.specs.Opening.{begun}
 use Rattle.inspection.specs.Records.{inspectionOf}
 use Rattle.inspection.specs.Findings.{brokenRecord, foundIn, findingIn}
@@ -53,6 +53,10 @@ over-append k first rest =
     let handed : lookedAll t a l (handedOver (k .visits) (first ++ rest)) ≡ lookedAll t a (lookedAll t a l (handedOver (k .visits) first)) (handedOver (readOver (k .visits) first) rest) =
     ap (lookedAll t a l) (handed-append (k .visits) first rest) ∙ look-append t a l (handedOver (k .visits) first) (handedOver (readOver (k .visits) first) rest) in
     kept-as (k .start) read handed
+
+-- first bytes that are enough give the plan
+pub start-stays : (head rest : List ℕ) → Enough head rest → planStart (head ++ rest) ≡ planStart head
+start-stays head rest enough = stays planStart _ head rest enough (λ l. start-same head rest (omega arith))
 
 pub first-then : (head rest : List ℕ) → Enough head rest → inspectOver (inspectStart head) rest ≡ inspectStart (head ++ rest)
 first-then head rest enough =
