@@ -95,7 +95,7 @@ unfolding workedSet answered leastAlloc timeAt smallestWith orElse fill judgedTh
 worked-planned = refl
 
 worked-lines : planLines workedSet (record { s = fill 4 (λ i. 20) zeros }) ≡ workedText
-unfolding workedSet planLines rows line lineOn decimalWithin fill sumBelow
+unfolding workedSet planLines rows line lineOn decimalWithin fill sumBelow spareTime
 worked-lines = refl
 
 worked-said : planPrinted workedSheet ≡ workedText
