@@ -234,9 +234,20 @@ impl Plan {
         self.reserved() <= u64::from(self.request.head.ttrt)
     }
 
-    /// The spare time A*; 0 where the token rule is broken.
-    pub fn spare(&self) -> u64 {
+    /// What the token rule leaves of TTRT; 0 where it is broken.
+    pub fn left_over(&self) -> u64 {
         u64::from(self.request.head.ttrt).saturating_sub(self.reserved())
+    }
+
+    /// The spare time A* of a judged set: timely-token subtracts F − 1 in it, FDDI does not.
+    pub fn spare(&self) -> u64 {
+        match self.request.mode() {
+            Mode::Timely | Mode::Earlier => self.left_over(),
+            Mode::Fddi => {
+                let taken = self.request.walk_sum() + self.allocated();
+                u64::from(self.request.head.ttrt).saturating_sub(taken)
+            }
+        }
     }
 
     /// Numbers 2, 4, 5 and 7, in this order.

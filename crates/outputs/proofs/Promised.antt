@@ -10,7 +10,7 @@ use Rattle.units.specs.Judging.{orElse, allHold}
 use Rattle.sets.specs.Rules.{headInRange, stationInRange}
 use Rattle.sets.specs.Judged.{judgedThen, zeros}
 use Rattle.sets.specs.declared.Set.{Set}
-use Rattle.plans.specs.Rules.{timeAt}
+use Rattle.plans.specs.Rules.{timeAt, spareTime}
 use Rattle.plans.specs.Planned.{planned, smallestWith, answered, leastAlloc, blankAlloc}
 use Rattle.fields.specs.Rows.{rows}
 use Rattle.fields.specs.Bytes.{shortAt, numberAt, bodyAt}
@@ -97,7 +97,7 @@ unfolding workedSet answered leastAlloc timeAt smallestWith orElse fill judgedTh
 worked-planned = refl
 
 worked-lines : planLines workedSet (record { s = fill 4 (λ i. 20) zeros }) ≡ workedText
-unfolding workedSet planLines rows line lineOn decimalWithin fill sumBelow
+unfolding workedSet planLines rows line lineOn decimalWithin fill sumBelow spareTime
 worked-lines = refl
 
 worked-said : planPrinted workedSheet ≡ workedText

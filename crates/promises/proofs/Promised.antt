@@ -167,7 +167,7 @@ module _ (t : Set) (a : Alloc) (plan : Plan t a) (mode : ¬ Fddi t) where
   limits-kept =
       record {
         limits = λ calls. each (λ v before k. k .limit) calls;
-        spare = omega (arith, plan .token);
+        spare = omega (arith, plan .token, plans-promised .spare-timely t (at (a .s)) mode);
         ticks = λ one calls. each (λ v before k. tick-limit t a (lookBack t) one v before k) calls;
       }
 
