@@ -1,7 +1,7 @@
 -- What is promised of a run of calls beside the contracts; `proofs/Promised.antt` proves it.
 use Prim.Native.Nat.{ℕ, _<_, _^_}
 use mathlib.Core.Path.{_≡_}
-use mathlib.Core.Bool.{true, false}
+use mathlib.Core.Bool.{true, false, not, _&&_, _||_}
 use mathlib.Core.List.{List, [], _∷_, _++_}
 use Rattle.rings.specs.Steps.{Ask, visited}
 use Rattle.rings.specs.HandingIn.{handedIn}
@@ -9,7 +9,10 @@ use Rattle.rings.specs.declared.Ring.{Ring}
 use Rattle.rings.specs.declared.Message.{Message}
 use Rattle.text.specs.Text.{newline, decimalOf, line, unreadLine}
 use Rattle.lines.specs.Scan.{freshScan, isEmptyLine, nextLine}
-use Rattle.calls.specs.RunText.{visitWord, messageWord, isVisit, askIn, isMessage, messageIn, visitText, takenText, runOn, saidAt, runAfter, saidOver}
+use Rattle.calls.specs.Calls.{visitWord, messageWord, isVisit, askIn, isMessage, messageIn, called}
+use Rattle.calls.specs.Runs.{runFrom, runOn, runAfter, someUnread, linesIn}
+use Rattle.calls.specs.RunText.{visitText, takenText, saidAt, saidOver}
+use Rattle.lines.specs.declared.Scan.{Scan}
 use Rattle.calls.specs.declared.Run.{Run}
 
 -- at this line of text the run says this, and the ring behind it is this one; the run stands at the start of the next line
@@ -21,6 +24,11 @@ pub record Promised : Type 0 where
   -- a run may be read in pieces of any length: the ring stands where it would, and the same is said
   pub pieces-behind : (u : Run) (first rest : List ℕ) → runAfter u (first ++ rest) ≡ runAfter (runAfter u first) rest
   pub pieces-said : (u : Run) (first rest : List ℕ) → saidOver u (first ++ rest) ≡ saidOver u first ++ saidOver (runAfter u first) rest
+  pub pieces-unread : (u : Run) (first rest : List ℕ) → someUnread u (first ++ rest) ≡ (someUnread u first || someUnread (runAfter u first) rest)
+  -- lines are numbered from 1
+  pub numbered : (ring : Ring) (text : List ℕ) → runAfter (runFrom ring) text .line ≡ nextLine (linesIn text)
+  -- a line cannot be read exactly if it is neither empty nor a call; a call that the ring refuses is an answer
+  pub unread-told : (ring : Ring) (s : Scan) → called ring s .unread ≡ (not (isEmptyLine s) && (not (isVisit s) && not (isMessage s)))
   -- the run's lines are the model's answers: a line that is a visit is answered by the ring's visit, and the ring moves
   pub visit-answered : (u : Run) → isEmptyLine (u .scan) ≡ false → isVisit (u .scan) ≡ true
       → (saidAt u newline ≡ visitText (visited (u .ring) (askIn (u .scan)) .answer))

@@ -5,16 +5,17 @@ ghost use mathlib.Core.List.{_∷_};
 ghost use Prim.Native.Nat.{_+_, _≤_, min};
 ghost use lib.ListN.{length};
 ghost use Rattle.sheets.specs.Reading.{readPlan};
-ghost use Rattle.rings.specs.Steps.{visited};
-ghost use Rattle.rings.specs.HandingIn.{handedIn};
 ghost use Rattle.text.specs.Text.{PutShort, space, lineOn};
-ghost use Rattle.calls.specs.RunText.{isVisit, askIn, isMessage, messageIn, withoutSign, signedOf, completion, arrivalWords, amountWords, visitLine, visitText, takenText, answerText, ringAfter, noVisit, called, runFrom, openedRun, Answers, Piece, RanPiece, RanOn};
+ghost use Rattle.calls.specs.Calls.{isVisit, askIn, isMessage, messageIn, called};
+ghost use Rattle.calls.specs.Runs.{runFrom, openedRun, lineEnds, pieceSize, Piece};
+ghost use Rattle.calls.specs.RunText.{withoutSign, signedOf, completion, arrivalWords, amountWords, visitLine, visitText, takenText, answerText, RanPiece, RanOn};
 use lines::Scan;
 use rings::Ask;
 use rings::Message;
 use rings::Ring;
 use rings::VisitAnswer;
 use rings::VisitRecord;
+use sheets::ReadPlan;
 use text::PAGE_SIZE;
 use units::Station;
 use units::Ticks;
@@ -36,22 +37,29 @@ pub struct Run {
     pub line: u64,
 }
 
-// A line was answered: the ring behind it, and the place behind the answer.
-#[repr(C)]
-pub(crate) struct Answered {
-    ring: Ring,
-    next: usize,
+// What a line was answered.
+pub enum Answer {
+    // The line is empty.
+    Nothing,
+    // A visit: its record and 0, or the refusal.
+    Visit(VisitAnswer),
+    // A message was handed in: 0, or the refusal.
+    HandIn(u8),
+    // The line is neither empty nor a call.
+    Unread,
 }
 
-// What a line does: the ring behind it, the record of a visit that was accepted, and whether the line cannot be read.
-#[repr(C)]
-pub struct Called {
-    pub ring: Ring,
-    // The blank record where no visit was accepted.
-    pub record: VisitRecord,
-    // A visit was accepted.
-    pub visited: bool,
-    // The line is neither empty nor a call.
+// What a line did: the ring behind it, the answer, and whether the line cannot be read.
+pub(crate) struct Called {
+    ring: Ring,
+    answer: Answer,
+    unread: bool,
+}
+
+// What a byte did: where the run stands behind it, and of a line that ended there the answer, and whether it cannot be read.
+pub struct LineStep {
+    pub run: Run,
+    pub answer: Answer,
     pub unread: bool,
 }
 
@@ -62,11 +70,12 @@ pub struct OpenedRun {
     pub number: u8,
 }
 
-// The run goes on: where it stands, and how many bytes of the page are its answers.
+// The run goes on: where it stands, how many bytes of the page are its answers, and whether one of its lines cannot be read.
 #[repr(C)]
 pub struct Ran {
     pub run: Run,
     pub length: usize,
+    pub unread: bool,
 }
 
 // ---- the calls
@@ -220,98 +229,78 @@ fn put_taken(page: &mut [u8], at: usize, number: u8) -> usize
     text::put_end(page, taken)
 }
 
+// What is printed of an answer; a line that cannot be read is named.
+fn put_answer(page: &mut [u8], at: usize, answer: Answer, line: u64) -> usize
+    requires { ⌜ at + 240 ≤ length (now page) ⌝ }
+    ensures { λ r. ⌜ PutShort 240 (now (page .entry)) at (answerText answer line) (now (page .exit)) r ⌝ }
+{
+    match answer {
+        Answer::Nothing => at,
+        Answer::Visit(visit) => put_visit(page, at, visit),
+        Answer::HandIn(number) => put_taken(page, at, number),
+        Answer::Unread => text::put_unread(page, at, line),
+    }
+}
+
 // ---- one line
 
-// The answer to a visit, and the ring behind it.
-fn answer_visit(page: &mut [u8], at: usize, ring: Ring, ask: Ask) -> Answered
-    requires { ⌜ at + 240 ≤ length (now page) ⌝ }
-    ensures { λ r. ⌜ Answers (visitText (visited ring ask .answer)) (visited ring ask .ring) (now (page .entry)) at (now (page .exit)) r ⌝ }
-{
-    let visited = ring.visit(ask);
-    let answer = visited.answer;
-    let next = put_visit(page, at, answer);
-    let moved = visited.ring;
-    Answered { ring: moved, next }
-}
-
-// The answer to a handing in, and the ring behind it.
-fn answer_message(page: &mut [u8], at: usize, ring: Ring, message: Message) -> Answered
-    requires { ⌜ at + 240 ≤ length (now page) ⌝ }
-    ensures { λ r. ⌜ Answers (takenText (handedIn ring message .number)) (handedIn ring message .ring) (now (page .entry)) at (now (page .exit)) r ⌝ }
-{
-    let taken = ring.hand_in(message);
-    let next = put_taken(page, at, taken.number);
-    let held = taken.ring;
-    Answered { ring: held, next }
-}
-
-// The answer to a line, and the ring behind it.
-fn answer_line(page: &mut [u8], at: usize, ring: Ring, s: Scan, line: u64) -> Answered
-    requires { ⌜ at + 240 ≤ length (now page) ⌝ }
-    ensures { λ r. ⌜ Answers (answerText ring s line) (ringAfter ring s) (now (page .entry)) at (now (page .exit)) r ⌝ }
-{
-    if lines::is_empty_line(s) {
-        return Answered { ring, next: at };
-    }
-    if is_visit(s) {
-        return answer_visit(page, at, ring, ask_in(s));
-    }
-    if is_message(s) {
-        return answer_message(page, at, ring, message_in(s));
-    }
-    let next = text::put_unread(page, at, line);
-    Answered { ring, next }
-}
-
-// ---- what a line does, for whoever prints no answers
-
-// No visit was accepted.
-fn no_visit(ring: Ring, unread: bool) -> Called
-    ensures { λ r. ⌜ r ≡ noVisit ring unread ⌝ }
-{
-    let record = VisitRecord {
-        station: Station(0),
-        start: Ticks(0),
-        trt: Ticks(0),
-        limit: Ticks(0),
-        synchronous: Ticks(0),
-        asynchronous: Ticks(0),
-        finish: Ticks(0),
-        margin: 0,
-        completed: 0,
-    };
-    Called {
-        ring,
-        record,
-        visited: false,
-        unread,
-    }
-}
-
-// What a line does.
-pub fn call_line(ring: Ring, s: Scan) -> Called
+// What a line asks for, and what the ring does.
+fn call_line(ring: Ring, s: Scan) -> Called
     ensures { λ r. ⌜ r ≡ called ring s ⌝ }
 {
     if lines::is_empty_line(s) {
-        return no_visit(ring, false);
+        return Called {
+            ring,
+            answer: Answer::Nothing,
+            unread: false,
+        };
     }
     if is_visit(s) {
         let visited = ring.visit(ask_in(s));
-        let behind = visited.ring;
-        let record = visited.answer.record;
+        let moved = visited.ring;
+        let told = visited.answer;
         return Called {
-            ring: behind,
-            record,
-            visited: visited.answer.number == numbers::ACCEPTED,
+            ring: moved,
+            answer: Answer::Visit(told),
             unread: false,
         };
     }
     if is_message(s) {
         let taken = ring.hand_in(message_in(s));
         let held = taken.ring;
-        return no_visit(held, false);
+        return Called {
+            ring: held,
+            answer: Answer::HandIn(taken.number),
+            unread: false,
+        };
     }
-    no_visit(ring, true)
+    Called {
+        ring,
+        answer: Answer::Unread,
+        unread: true,
+    }
+}
+
+// The line ends: the run on the next line, and what the line did.
+pub fn end_line(run: Run) -> LineStep
+    ensures { λ r. ⌜ r ≡ lineEnds run ⌝ }
+{
+    let ring = run.ring;
+    let read = run.scan;
+    let called = call_line(ring, read);
+    let behind = called.ring;
+    let answer = called.answer;
+    let fresh = lines::fresh();
+    let next = Run {
+        ring: behind,
+        scan: fresh,
+        line: lines::next_line(run.line),
+    };
+    LineStep {
+        run: next,
+        answer,
+        unread: called.unread,
+    }
 }
 
 // ---- the run
@@ -328,11 +317,10 @@ pub(crate) fn start(ring: Ring) -> Run
     }
 }
 
-// The run of a plan sheet, or the number of the refusal.
-pub fn open_run(sheet: &[u8]) -> OpenedRun
-    ensures { λ r. ⌜ r ≡ openedRun (readPlan (now (sheet .entry))) ⌝ }
+// The run of a plan that was read, or the number of the refusal.
+pub fn open_plan(plan: ReadPlan) -> OpenedRun
+    ensures { λ r. ⌜ r ≡ openedRun plan ⌝ }
 {
-    let plan = sheets::read_plan(sheet);
     let set = plan.set;
     let alloc = plan.alloc;
     let opened = rings::open(set, alloc);
@@ -350,9 +338,16 @@ pub fn open_run(sheet: &[u8]) -> OpenedRun
     }
 }
 
+// The run of a plan sheet, or the number of the refusal.
+pub fn open_run(sheet: &[u8]) -> OpenedRun
+    ensures { λ r. ⌜ r ≡ openedRun (readPlan (now (sheet .entry))) ⌝ }
+{
+    open_plan(sheets::read_plan(sheet))
+}
+
 // How many of the bytes are read at once.
-fn piece_length(text: &[u8]) -> usize
-    ensures { λ r. ⌜ r ≡ min (length (now (text .entry))) 256 ⌝ }
+pub fn piece_length(text: &[u8]) -> usize
+    ensures { λ r. ⌜ r ≡ min (length (now (text .entry))) pieceSize ⌝ }
 {
     if text.len() < PIECE_SIZE {
         text.len()
@@ -366,33 +361,30 @@ fn run_piece(run: Run, text: &[u8], end: usize, page: &mut [u8]) -> Ran
     requires { ⌜ Piece (now text) end (now page) ⌝ }
     ensures { λ r. ⌜ RanPiece run (now (text .entry)) end (now (page .entry)) (now (page .exit)) r ⌝ }
 {
-    let mut ring = run.ring;
-    let mut read = run.scan;
-    let mut line = run.line;
+    let mut stands = run;
     let mut next: usize = 0;
+    let mut unread = false;
     let mut i: usize = 0;
     while i < end {
         let byte = text[i];
         if byte == b'\n' {
-            let answered = answer_line(page, next, ring, read, line);
-            let behind = answered.ring;
-            ring = behind;
-            next = answered.next;
-            read = lines::fresh();
-            line = lines::next_line(line);
+            let ended = end_line(stands);
+            let answer = ended.answer;
+            next = put_answer(page, next, answer, stands.line);
+            unread = unread | ended.unread;
+            let behind = ended.run;
+            stands = behind;
         } else {
-            read = lines::step(read, byte);
+            let read = stands.scan;
+            let more = lines::step(read, byte);
+            stands.scan = more;
         }
         i += 1;
     }
-    let stands = Run {
-        ring,
-        scan: read,
-        line,
-    };
     Ran {
         run: stands,
         length: next,
+        unread,
     }
 }
 
@@ -401,7 +393,11 @@ pub fn run_on(run: Run, text: &[u8], page: &mut [u8]) -> Ran
     ensures { λ r. ⌜ RanOn run (now (text .entry)) (now (page .entry)) (now (page .exit)) r ⌝ }
 {
     if page.len() < PAGE_SIZE {
-        return Ran { run, length: 0 };
+        return Ran {
+            run,
+            length: 0,
+            unread: false,
+        };
     }
     let end = piece_length(text);
     run_piece(run, text, end, page)

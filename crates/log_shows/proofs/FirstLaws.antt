@@ -15,15 +15,16 @@ use Rattle.entries.specs.Entry.{visitStands}
 use Rattle.logs.specs.Walked.{stopNumber, walkFrom, walked, logWalked}
 use Rattle.logs.specs.Reading.{readLog}
 use Rattle.logs.proofs.ReadingLaws.{start-says}
+use Rattle.pieces.specs.Pieces.{firstSize}
 use Rattle.pieces.proofs.HeadLaws.{stops-early, at-same, size-same, scan-same, set-same, alloc-same, start-same, start-at}
-use Rattle.outputs.specs.ShowText.{showPrinted}
-use Rattle.log_shows.specs.LogShown.{isLog, plainText, headText}
+use Rattle.outputs.specs.ShowText.{showPrinted, shownNumber}
+use Rattle.log_shows.specs.LogShown.{isLog, plainText, shownNumberOf, headText, firstNumber}
 
 -- no visit stands behind the fields of a plan, where all have passed and it is no log
 pub no-visit : (bs : List ℕ) → planStart bs .passed ≡ true → isLog bs ≡ false → visitStands bs (scanned true bs .at) ≡ false
 no-visit bs all plain = ap (visitStands bs) (sym (start-at bs)) ∙ ap (λ (b : Bool). b && visitStands bs (planStart bs .at)) (sym all) ∙ plain
 
-module _ (head rest : List ℕ) (long : 3_400 ≤ length head) where
+module _ (head rest : List ℕ) (long : firstSize ≤ length head) where
   -- ---- behind the plan's fields
 
   module _ (a : ℕ) (short : a ≤ 3_370) where
@@ -80,6 +81,16 @@ module _ (head rest : List ℕ) (long : 3_400 ≤ length head) where
       ⊎-elim (λ (all : planStart head .passed ≡ true). rw (start-same head rest long, all, read-same all plain) refl)
       (λ (e : planStart head .passed ≡ false). rw (start-same head rest long, e, sheet-same false, sheet-same true) refl)
       (true-or-false (planStart head .passed))
+
+  pub number-same : firstNumber (head ++ rest) ≡ firstNumber head
+  unfolding firstNumber shownNumberOf shownNumber
+  number-same =
+      ⊎-elim (λ (e : isLog head ≡ true). rw (log-same, e) refl)
+      (λ (e : isLog head ≡ false).
+      ⊎-elim (λ (all : planStart head .passed ≡ true). rw (log-same, e, start-same head rest long, all, read-same all e) refl)
+      (λ (none : planStart head .passed ≡ false). rw (log-same, e, start-same head rest long, none, sheet-same false, sheet-same true) refl)
+      (true-or-false (planStart head .passed)))
+      (true-or-false (isLog head))
 
   pub text-same : headText (head ++ rest) ≡ headText head
   unfolding headText

@@ -1,8 +1,8 @@
 // `run PLAN`: the calls on standard input, answered line by line.
-use crate::ending;
-use crate::ending::Ending;
 use calls::Run;
+use commands::status;
 use libc::STDIN_FILENO;
+use streams::ending;
 
 // The run behind one reading: whether the input goes on, whether a line could not be read, and whether reading or writing failed.
 struct Heard {
@@ -17,13 +17,12 @@ fn hear(run: Run, text: &[u8]) -> Heard {
     let mut page = io::large_buffer();
     let ran = calls::run_on(run, text, &mut page);
     let length = ran.length;
-    let unread = usage::names_a_line(&page[..length]);
     let wrote = ending::say(&page[..length]);
     let behind = ran.run;
     Heard {
         run: behind,
         more: wrote,
-        unread,
+        unread: ran.unread,
         failed: !wrote,
     }
 }
@@ -77,7 +76,7 @@ fn hear_all(run: Run) -> Heard {
 }
 
 // Opens the ring of a plan sheet, and answers the calls.
-pub(crate) fn start(sheet: &[u8]) -> Ending {
+pub(crate) fn start(sheet: &[u8]) -> u8 {
     let opened = calls::open_run(sheet);
     let number = opened.number;
     if number != 0 {
@@ -86,13 +85,14 @@ pub(crate) fn start(sheet: &[u8]) -> Ending {
     let run = opened.run;
     let heard = hear_all(run);
     if heard.failed {
-        return ending::failed();
+        return status::FAILED;
     }
     // A last line may lack its newline.
     let behind = heard.run;
     let last = hear(behind, b"\n");
-    Ending {
-        failed: heard.unread | (last.unread | last.failed),
-        refused: false,
+    let failed = heard.unread | (last.unread | last.failed);
+    if failed {
+        return status::FAILED;
     }
+    status::DONE
 }

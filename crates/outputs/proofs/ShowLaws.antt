@@ -17,7 +17,7 @@ use Rattle.sheets.specs.Layout.{headNumber}
 use Rattle.text.specs.Text.{decimalOf, line, refusedLine}
 use Rattle.drafts.specs.Compose.{modeWord, frameWord, gridWord, wordOf}
 use Rattle.text.specs.TextLaws.{text-accepted, text-refused}
-use Rattle.outputs.specs.ShowText.{ttrtLine, furtherLine, headLines, sheetText, planReadText, requestReadText, planShown, showPrinted}
+use Rattle.outputs.specs.ShowText.{ttrtLine, furtherLine, headLines, sheetText, planReadText, requestReadText, planShown, showPrinted, shownNumber}
 
 -- a further line of the header: none where the number is what its absence means
 pub line-none : (tag number : ℕ) → number ≡ absent → furtherLine tag number ≡ []
@@ -78,3 +78,12 @@ module _ (r : ReadRequest) (sheet : List ℕ) (e : r ≡ readRequest sheet) wher
 
   pub shown-request : r .number ≢ 2 → r .number ≡ 0 → sheetText false (r .set) blankAlloc ≡ showPrinted sheet
   shown-request k z = sym (text-accepted (r .number) _ z) ∙ shown-as-request k
+
+  -- the number that goes with it
+  pub number-as-plan : r .number ≡ 2 → readPlan sheet .number ≡ shownNumber sheet
+  unfolding shownNumber
+  number-as-plan k = rw (eq-eqb (readRequest sheet .number) 2 (sym number ∙ k))
+
+  pub number-as-request : r .number ≢ 2 → r .number ≡ shownNumber sheet
+  unfolding shownNumber
+  number-as-request k = rw (ne-eqb (readRequest sheet .number) 2 (λ z. k (number ∙ z))) number

@@ -67,3 +67,7 @@ planShown sheet = planReadText (readPlan sheet)
 -- what `show` prints of any bytes: the request; or, where a request's reading finds the wrong shape, the plan; or the refusal
 unfoldable pub showPrinted : List ℕ → List ℕ
 showPrinted sheet = cond (eqb (readRequest sheet .number) wrongShape) (planShown sheet) (requestReadText (readRequest sheet))
+
+-- the number that goes with it: the request's; or, where that is the wrong shape, the plan's
+unfoldable pub shownNumber : List ℕ → ℕ
+shownNumber sheet = cond (eqb (readRequest sheet .number) wrongShape) (readPlan sheet .number) (readRequest sheet .number)

@@ -23,8 +23,7 @@ use Rattle.logs.proofs.WalkLaws.{not-all-fault}
 use Rattle.logs.proofs.ReadingLaws.{start-says, log-not-all, log-fault, log-judged, log-whole}
 use Rattle.pieces.specs.Pieces.{nothingRead, faulty, numberOf, readOver, handedOver}
 use Rattle.pieces.specs.declared.Visits.{Visits}
-use Rattle.pieces.proofs.StepLaws.{step-stopped}
-use Rattle.pieces.proofs.FieldLaws.{read-append, handed-append}
+use Rattle.pieces.proofs.FieldLaws.{read-append, handed-append, read-stopped}
 use Rattle.pieces.proofs.WholeLaws.{whole-read}
 use Rattle.pieces.proofs.HeadLaws.{start-stays, start-inside}
 use Rattle.inspection.specs.Opening.{begun}
@@ -34,7 +33,7 @@ use Rattle.inspection.specs.declared.Inspection.{Inspection}
 use Rattle.inspection.specs.declared.Finding.{Finding}
 use Rattle.inspection.proofs.FindingLaws.{one-named, handed-length, finding-read}
 use Rattle.piece_inspections.specs.Inspecting.{noneLooked, lookedAll, visitsFrom, inspectFrom, inspectOver, inspectStart, inspectNumber}
-use Rattle.piece_inspections.specs.Promised.{Enough, Breaks}
+use Rattle.piece_inspections.specs.Promised.{Enough, Breaks, Refused}
 use Rattle.piece_inspections.specs.declared.Looked.{Looked}
 use Rattle.piece_inspections.specs.declared.Inspecting.{Inspecting}
 use Rattle.piece_inspections.proofs.LookLaws.{look-append, all-inspects, broken-from, all-counted}
@@ -77,11 +76,6 @@ module _ (passed : Bool) (number : ℕ) where
   from-fault v e h = ap (λ (w : Visits). faulty w number) e ∙ sym (from-not h)
 
 -- ---- a plan whose fields have not all passed
-
-read-stopped : (v : Visits) (bs : List ℕ) → v .number ≢ 0 → readOver v bs ≡ v
-unfolding readOver
-read-stopped v [] some = refl
-read-stopped v (b ∷ bs) some = ap (λ (w : Visits). readOver w bs) (sym (step-stopped v b some)) ∙ read-stopped v bs some
 
 stopped-number : (k : ℕ) (bs : List ℕ) → k ≢ 0 → numberOf (readOver (faulty nothingRead k) bs) ≡ k
 stopped-number k bs some = ap numberOf (read-stopped (faulty nothingRead k) bs some) ∙ then-keeps k _ some
@@ -134,6 +128,17 @@ module _ (bs : List ℕ) (h : planStart bs .passed ≡ true) where
 
 pub number-whole : (bs : List ℕ) → inspectNumber (inspectStart bs) ≡ readLog bs .number
 number-whole bs = ⊎-elim (number-passed bs) (number-not bs) (true-or-false (planStart bs .passed))
+
+-- ---- behind a fault
+
+then-fault : (k j : ℕ) → k ≢ 0 → thenNumber k j ≢ 0
+then-fault k j some = λ z. some (sym (then-keeps k j some) ∙ z)
+
+pub fault-stays : (k : Inspecting) (bs : List ℕ) → k .visits .number ≢ 0 → Refused k bs
+fault-stays k bs n = (
+  omega (arith, ap (λ (v : Visits). thenNumber (numberOf v) (k .start .number)) (read-stopped (k .visits) bs n)),
+  then-fault (numberOf (k .visits)) (k .start .number) (then-fault (k .visits .number) _ n),
+)
 
 -- ---- a log that is read
 

@@ -21,6 +21,7 @@ use Rattle.scan.specs.Scanned.{scanned}
 use Rattle.scan.specs.FirstFault.{WellFormed, start, more, Fault, no-start, not-allowed, cut-body, follows}
 use Rattle.scan.proofs.ScanLaws.{fault-there, stopped}
 use Rattle.scan.proofs.PassedLaws.{Headed, ttrt-first, and-further, Header, no-header, a-header, through, end-short}
+use Rattle.pieces.specs.Pieces.{firstSize}
 use Rattle.sheets.specs.Reading.{column, numberIn, headIn, setOf, allocOf, planPassed, planStart}
 
 -- ---- how far the fields of a sheet go
@@ -86,7 +87,7 @@ module _ (head rest : List ℕ) where
       let next = more (formed-same plan p a before .0) (whole-same a p w) (λ e. other (sym tag ∙ e)) in
       (rw (tag, size) at next, inside)
 
-  module _ (long : 3_400 ≤ length head) where
+  module _ (long : firstSize ≤ length head) where
     -- ---- the header
 
     -- each field has the same place, at most 7 bytes behind the one before
@@ -166,8 +167,8 @@ module _ (head rest : List ℕ) where
     start-same = rw (scan-same true, set-same true, alloc-same true) refl
 
   -- the first bytes are all, or enough
-  module _ (enough : (rest ≡ []) ⊎ (3_400 ≤ length head)) where
-    pub stays : {A : Type 0} (f : List ℕ → A) → (3_400 ≤ length head → f (head ++ rest) ≡ f head) → f (head ++ rest) ≡ f head
+  module _ (enough : (rest ≡ []) ⊎ (firstSize ≤ length head)) where
+    pub stays : {A : Type 0} (f : List ℕ → A) → (firstSize ≤ length head → f (head ++ rest) ≡ f head) → f (head ++ rest) ≡ f head
     stays f same = ⊎-elim (λ (e : rest ≡ []). ap (λ (x : List ℕ). f (head ++ x)) e ∙ ap f (append-nil head)) same enough
 
     pub start-stays : planStart (head ++ rest) ≡ planStart head

@@ -1,9 +1,11 @@
 -- The proofs of what `specs/Promised.antt` promises.
 --     LoggedLaws   what goes out, byte after byte
+--     UnreadLaws   the first line that cannot be read
 --     CallLaws     the calls of a text are a run
 --     PlanLaws     what was read of a sheet has 0 past its places
 --     Promised     the promises
 pub mod LoggedLaws
+pub mod UnreadLaws
 pub mod CallLaws
 pub mod PlanLaws
 pub mod Promised

@@ -2,6 +2,7 @@
 use Prim.Native.Nat.{ℕ, _-_}
 use mathlib.Core.Path.{_≡_, refl, sym, ap, _∙_}
 use mathlib.Core.List.{List, map, reverse}
+use native.Mathlib.Omega.{arith}
 use borrow.Author.Tests.{eq-eqb, ne-eqb}
 use lib.ListN.{length, length-map}
 use Rattle.plans.specs.Planned.{judgedPlan}
@@ -18,11 +19,14 @@ use Rattle.log_rules.specs.Recorded.{tells, entriesOf}
 use Rattle.log_rules.specs.Promised.{GivesBack}
 use Rattle.log_rules.proofs.RunLaws.{run-entries}
 use Rattle.log_rules.proofs.Promised as logs
-use Rattle.calls.specs.RunLaws.{called-ring}
-use Rattle.calls.specs.RunText.{openedRun}
+use Rattle.calls.specs.Runs.{openedRun, withEnd}
+use Rattle.calls.proofs.Promised as calls
+use Rattle.calls.proofs.ByteLaws.{moved-append, out-append}
+use Rattle.recordings.specs.LogText.{recordFrom, recordOn, loggedAt}
 use Rattle.recorded_logs.specs.Calls.{callsOf}
 use Rattle.recorded_logs.specs.Promised.{setFrom, allocFrom, runFor, written, visitsFor, entriesFor, ReadsBack, Promised}
-use Rattle.recorded_logs.proofs.LoggedLaws.{behind, logged, run-same, whole-log, recorded-visit, not-recorded}
+use Rattle.recorded_logs.proofs.LoggedLaws.{run-same, whole-log, recorded-visit, not-recorded}
+use Rattle.recorded_logs.proofs.UnreadLaws.{none-named, first-named}
 use Rattle.recorded_logs.proofs.CallLaws.{Runs, text-runs, twice}
 use Rattle.recorded_logs.proofs.PlanLaws.{first-set, first-alloc}
 
@@ -37,9 +41,9 @@ module _ (sheet : List ℕ) (h : readPlan sheet .number ≡ 0) where
   is-opened = then-rest _ _ h ∙ opening-0
 
   module _ (text : List ℕ) where
-    its-run : Runs text (runFor sheet) (opened (setFrom sheet) (allocFrom sheet))
+    its-run : Runs (withEnd text) (runFor sheet) (opened (setFrom sheet) (allocFrom sheet))
     unfolding run
-    its-run = text-runs text (runFor sheet) (opened (setFrom sheet) (allocFrom sheet)) (runs.promised .opened (setFrom sheet) (allocFrom sheet) opening-0)
+    its-run = text-runs (withEnd text) (runFor sheet) (opened (setFrom sheet) (allocFrom sheet)) (runs.promised .opened (setFrom sheet) (allocFrom sheet) opening-0)
 
     its-records : recordsOf (setFrom sheet) (allocFrom sheet) (callsOf text) ≡ reverse (visitsFor sheet text)
     its-records = its-run .1
@@ -54,7 +58,7 @@ module _ (sheet : List ℕ) (h : readPlan sheet .number ≡ 0) where
     its-log =
         let t = setFrom sheet in
         let a = allocFrom sheet in
-        whole-log t a (runFor sheet) text
+        whole-log t a (runFor sheet) (withEnd text)
         ∙ ap (λ (vs : List VisitRecord). logOf t a (map (entryOf 0 0) vs)) in-order
         ∙ ap (logOf t a) (run-entries t a 0 (callsOf text))
         ∙ ap (logOf t a) (sym its-entries)
@@ -74,13 +78,15 @@ module _ (sheet : List ℕ) (h : readPlan sheet .number ≡ 0) where
 pub promised : Promised
 promised =
     record {
-      pieces-behind = behind;
-      pieces-logged = logged;
+      pieces-behind = moved-append recordOn;
+      pieces-logged = out-append recordOn loggedAt;
       same-run = run-same;
       visit-recorded = λ ring s e i z. recorded-visit ring s e i ∙ rw (eq-eqb _ 0 z) refl;
       refused-not = λ ring s e i z. recorded-visit ring s e i ∙ rw (ne-eqb _ 0 z) refl;
       other-not = not-recorded;
-      same-ring = called-ring;
+      unread-none = λ sheet text. none-named (recordFrom (runFor sheet)) (withEnd text) refl (omega arith);
+      unread-first = λ sheet text first rest e quiet there.
+          first-named (recordFrom (runFor sheet)) (withEnd text) first rest refl (omega arith) e quiet there ∙ calls.promised .numbered (runFor sheet .ring) first;
       opens = is-opened;
       run-records = λ sheet text h. its-records sheet h text;
       run-ring = λ sheet text h. its-run sheet h text .0;

@@ -1,23 +1,24 @@
 -- What `log` writes: the calls are those of `run`, and each visit that the ring accepted goes out as a field of the log. No answer is printed.
-use Prim.Native.Nat.{ℕ, _+_, _*_, _≤_}
+use Prim.Native.Nat.{ℕ, _*_, _≤_}
 use mathlib.Core.Path.{_≡_}
 use mathlib.Core.Bool.{Bool, true, cond, _&&_}
-use mathlib.Core.List.{List, [], _∷_, _++_}
+use mathlib.Core.List.{List, [], _∷_, map}
 use lib.Dec.{eqb}
 use lib.ListN.{length, take}
 use Rattle.sheets.specs.Layout.{fieldsOf, fieldsLength}
 use Rattle.sheets.specs.Reading.{thenNumber}
 use Rattle.sheets.specs.Writing.{writeNumber, writeAnswer, bufferAfter}
 use Rattle.sheets.specs.declared.ReadPlan.{ReadPlan}
+use Rattle.rings.specs.declared.VisitAnswer.{VisitAnswer}
 use Rattle.rings.specs.declared.VisitRecord.{VisitRecord}
-use Rattle.entries.specs.Entry.{entryBytes}
-use Rattle.entries.specs.declared.Entry.{Entry}
 use Rattle.logs.specs.Layout.{visitsBytes}
-use Rattle.logs.specs.Writing.{counterAt, entryOf, entryBy}
+use Rattle.logs.specs.Writing.{counterAt, entryOf}
 use Rattle.logs.specs.declared.Recorder.{Recorder}
-use Rattle.text.specs.Text.{newline, PutShort, Printed}
-use Rattle.calls.specs.RunText.{called, runOn, openedRun, pieceSize, pieceOf}
-use Rattle.calls.specs.declared.Called.{Called}
+use Rattle.text.specs.Text.{PutShort, Printed}
+use Rattle.calls.specs.Bytes.{movedOver, outOver}
+use Rattle.calls.specs.Runs.{runOn, answerAt, unreadAt, openedRun, pieceSize, pieceOf}
+use Rattle.calls.specs.declared.Answer.{Answer}
+use Rattle.calls.specs.declared.Answer.the-variants.{Nothing, Visit, HandIn, Unread}
 use Rattle.calls.specs.declared.Run.{Run}
 use Rattle.recordings.specs.declared.Recording.{Recording}
 use Rattle.recordings.specs.declared.Recorded.{Recorded}
@@ -29,62 +30,72 @@ use Rattle.recordings.specs.declared.OpenedLog.{OpenedLog}
 abbrev pub recordFrom : Run → Recording
 recordFrom u = record { run = u; clock = 0; counter = 0; unread = 0 }
 
--- ---- one line: what goes out, and what is kept behind it
+-- ---- what is recorded of an answer
 
--- the entry of a record; its start is what the recorder's counter shows then
-abbrev pub entryFor : Recording → VisitRecord → Entry
-entryFor k v = entryOf (k .counter) (k .clock) v
+-- the record of a visit that was accepted
+unfoldable pub acceptedIn : VisitAnswer → List VisitRecord
+acceptedIn a = cond (eqb (a .number) 0) (a .«record» ∷ []) []
 
--- the entries of a line
-unfoldable pub entriesOf : Recording → Called → List Entry
-entriesOf k c = cond (c .visited) (entryFor k (c .«record») ∷ []) []
+-- no other answer has one
+unfoldable pub recordsIn : Answer → List VisitRecord
+recordsIn Nothing = []
+recordsIn (Visit a) = acceptedIn a
+recordsIn (HandIn number) = []
+recordsIn Unread = []
 
--- and their fields
-unfoldable pub fieldsBy : Recording → Called → List ℕ
-fieldsBy k c = visitsBytes (entriesOf k c)
+-- the recorder's clock behind a line that has this record, or none
+unfoldable pub clockAfter : ℕ → List VisitRecord → ℕ
+clockAfter clock [] = clock
+clockAfter clock (v ∷ vs) = v .start .0
+
+-- and what its counter shows then: it moves on with the clock
+unfoldable pub counterAfter : ℕ → ℕ → List VisitRecord → ℕ
+counterAfter counter clock [] = counter
+counterAfter counter clock (v ∷ vs) = counterAt counter clock (v .start .0)
+
+-- the fields of the records; a start is what the recorder's counter shows then
+abbrev pub fieldsBy : ℕ → ℕ → List VisitRecord → List ℕ
+fieldsBy counter clock vs = visitsBytes (map (entryOf counter clock) vs)
 
 -- the first line that cannot be read
 unfoldable pub firstUnread : ℕ → ℕ → Bool → ℕ
 firstUnread before n unread = cond (unread && eqb before 0) n before
 
--- what is kept behind a line: the run as ever; the counter moves on with the clock at an accepted visit
-unfoldable pub recordLine : Recording → Called → Run → Recording
-recordLine k c behind =
-    cond (c .visited)
-    (record { run = behind; clock = c .«record» .start .0; counter = counterAt (k .counter) (k .clock) (c .«record» .start .0); unread = firstUnread (k .unread) (k .run .line) (c .unread) })
-    (record { run = behind; clock = k .clock; counter = k .counter; unread = firstUnread (k .unread) (k .run .line) (c .unread) })
-
 -- ---- byte after byte, as `run` reads them
 
--- what the line that was read does
-abbrev pub lineCalled : Recording → Called
-lineCalled k = called (k .run .ring) (k .run .scan)
+-- what is recorded at a byte
+abbrev pub recordsAt : Run → ℕ → List VisitRecord
+recordsAt u b = recordsIn (answerAt u b)
 
+-- what is kept behind it: the run as ever, the clock and the counter, and the first line that cannot be read
 unfoldable pub recordOn : Recording → ℕ → Recording
 recordOn k b =
-    cond (eqb b newline) (recordLine k (lineCalled k) (runOn (k .run) b)) (record { run = runOn (k .run) b; clock = k .clock; counter = k .counter; unread = k .unread })
+    record {
+      run = runOn (k .run) b;
+      clock = clockAfter (k .clock) (recordsAt (k .run) b);
+      counter = counterAfter (k .counter) (k .clock) (recordsAt (k .run) b);
+      unread = firstUnread (k .unread) (k .run .line) (unreadAt (k .run) b);
+    }
 
 -- what goes out at that byte
 unfoldable pub loggedAt : Recording → ℕ → List ℕ
-loggedAt k b = cond (eqb b newline) (fieldsBy k (lineCalled k)) []
+loggedAt k b = fieldsBy (k .counter) (k .clock) (recordsAt (k .run) b)
 
 -- the recording behind all the bytes
-unfoldable pub recordAfter : Recording → List ℕ → Recording
-recordAfter k [] = k
-recordAfter k (b ∷ bs) = recordAfter (recordOn k b) bs
+abbrev pub recordAfter : Recording → List ℕ → Recording
+recordAfter k text = movedOver recordOn k text
 
 -- and all that goes out
-unfoldable pub loggedOver : Recording → List ℕ → List ℕ
-loggedOver k [] = []
-loggedOver k (b ∷ bs) = loggedAt k b ++ loggedOver (recordOn k b) bs
+abbrev pub loggedOver : Recording → List ℕ → List ℕ
+loggedOver k text = outOver recordOn loggedAt k text
 
 -- ---- what the functions hand back
 
--- a line was recorded
-pub record RecordedLine (r : Recorder) (visited : Bool) (v : VisitRecord) (before after : List ℕ) (next : Recorder) : Type 0 where
-  pub put : PutShort 20 before (r .at) (cond visited (entryBytes (entryBy r v)) []) after (next .at)
-  pub clock : next .clock ≡ cond visited (v .start .0) (r .clock)
-  pub counter : next .counter ≡ cond visited (counterAt (r .counter) (r .clock) (v .start .0)) (r .counter)
+-- what a line has to record, one record or none, was recorded
+pub record Records (r : Recorder) (vs : List VisitRecord) (before after : List ℕ) (next : Recorder) : Type 0 where
+  pub put : PutShort 20 before (r .at) (fieldsBy (r .counter) (r .clock) vs) after (next .at)
+  pub clock : next .clock ≡ clockAfter (r .clock) vs
+  pub counter : next .counter ≡ counterAfter (r .counter) (r .clock) vs
 
 -- the recording over the first bytes of the text
 pub record RecordedPiece (k : Recording) (text : List ℕ) (end : ℕ) (before after : List ℕ) (r : Recorded) : Type 0 where

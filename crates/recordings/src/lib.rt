@@ -1,20 +1,17 @@
 // What `log` writes: the calls are read line by line, and each visit that the ring accepted goes out as a field of the log.
 ghost use mathlib.Core.Path.{_≡_};
-ghost use Prim.Native.Nat.{_+_, _≤_, min};
+ghost use Prim.Native.Nat.{_+_, _≤_};
 ghost use lib.ListN.{length};
 ghost use Rattle.sheets.specs.Reading.{readPlan};
-ghost use Rattle.calls.specs.RunText.{Piece};
-ghost use Rattle.recordings.specs.LogText.{recordFrom, firstUnread, RecordedLine, RecordedPiece, RecordedOn, OpenedOn};
+ghost use Rattle.calls.specs.Runs.{Piece};
+ghost use Rattle.recordings.specs.LogText.{recordFrom, acceptedIn, recordsIn, firstUnread, Records, RecordedPiece, RecordedOn, OpenedOn};
+use calls::Answer;
 use calls::Run;
-use lines::Scan;
 use logs::Recorder;
-use rings::Ring;
-use rings::VisitRecord;
+use rings::VisitAnswer;
+use sheets::ReadPlan;
 use text::PAGE_SIZE;
 use units::numbers;
-
-// How many bytes are read at once.
-const PIECE_SIZE: usize = 256;
 
 // A run that is recorded: where it stands; the recorder's counter, as it was at this clock of the ring; and the first line that cannot be read, 0 where each can.
 #[repr(C)]
@@ -52,11 +49,11 @@ fn start(run: Run) -> Recording
     }
 }
 
-// The plan of a sheet, and the first bytes of its log: all fields of the plan but the end. Refused, no byte is written.
-pub fn open_log(sheet: &[u8], out: &mut [u8]) -> OpenedLog
-    ensures { λ r. ⌜ OpenedOn (readPlan (now (sheet .entry))) (now (out .entry)) (now (out .exit)) r ⌝ }
+// The first bytes of the log of a plan that was read: all fields of the plan but the end. Refused, no byte is written.
+fn open_plan(plan: ReadPlan, out: &mut [u8]) -> OpenedLog
+    ensures { λ r. ⌜ OpenedOn plan (now (out .entry)) (now (out .exit)) r ⌝ }
 {
-    let opened = calls::open_run(sheet);
+    let opened = calls::open_plan(plan);
     let run = opened.run;
     let recording = start(run);
     if opened.number != numbers::ACCEPTED {
@@ -66,7 +63,6 @@ pub fn open_log(sheet: &[u8], out: &mut [u8]) -> OpenedLog
             number: opened.number,
         };
     }
-    let plan = sheets::read_plan(sheet);
     let set = plan.set;
     let alloc = plan.alloc;
     let written = sheets::write_plan_fields(set, alloc, out);
@@ -77,6 +73,13 @@ pub fn open_log(sheet: &[u8], out: &mut [u8]) -> OpenedLog
     }
 }
 
+// The plan of a sheet, and the first bytes of its log.
+pub fn open_log(sheet: &[u8], out: &mut [u8]) -> OpenedLog
+    ensures { λ r. ⌜ OpenedOn (readPlan (now (sheet .entry))) (now (out .entry)) (now (out .exit)) r ⌝ }
+{
+    open_plan(sheets::read_plan(sheet), out)
+}
+
 // The first line that cannot be read.
 fn first_unread(known: u64, line: u64, unread: bool) -> u64
     ensures { λ r. ⌜ r ≡ firstUnread known line unread ⌝ }
@@ -85,25 +88,28 @@ fn first_unread(known: u64, line: u64, unread: bool) -> u64
     if first { line } else { known }
 }
 
-// The field of a visit that was accepted, put into the page; the recorder behind it.
-fn record_line(recorder: Recorder, visited: bool, seen: VisitRecord, page: &mut [u8]) -> Recorder
+// The field of a visit, if it was accepted, put into the page; the recorder behind it.
+fn record_visit(recorder: Recorder, visit: VisitAnswer, page: &mut [u8]) -> Recorder
     requires { ⌜ recorder .at + 23 ≤ length (now page) ⌝ }
-    ensures { λ r. ⌜ RecordedLine recorder visited seen (now (page .entry)) (now (page .exit)) r ⌝ }
+    ensures { λ r. ⌜ Records recorder (acceptedIn visit) (now (page .entry)) (now (page .exit)) r ⌝ }
 {
-    if !visited {
+    if visit.number != numbers::ACCEPTED {
         return recorder;
     }
+    let seen = visit.record;
     logs::add_visit(recorder, seen, page)
 }
 
-// How many of the bytes are read at once.
-fn piece_length(text: &[u8]) -> usize
-    ensures { λ r. ⌜ r ≡ min (length (now (text .entry))) 256 ⌝ }
+// What is recorded of an answer, put into the page; the recorder behind it.
+fn record_answer(recorder: Recorder, answer: Answer, page: &mut [u8]) -> Recorder
+    requires { ⌜ recorder .at + 23 ≤ length (now page) ⌝ }
+    ensures { λ r. ⌜ Records recorder (recordsIn answer) (now (page .entry)) (now (page .exit)) r ⌝ }
 {
-    if text.len() < PIECE_SIZE {
-        text.len()
-    } else {
-        PIECE_SIZE
+    match answer {
+        Answer::Nothing => recorder,
+        Answer::Visit(visit) => record_visit(recorder, visit, page),
+        Answer::HandIn(_) => recorder,
+        Answer::Unread => recorder,
     }
 }
 
@@ -112,10 +118,7 @@ fn record_piece(recording: Recording, text: &[u8], end: usize, page: &mut [u8]) 
     requires { ⌜ Piece (now text) end (now page) ⌝ }
     ensures { λ r. ⌜ RecordedPiece recording (now (text .entry)) end (now (page .entry)) (now (page .exit)) r ⌝ }
 {
-    let run = recording.run;
-    let mut ring = run.ring;
-    let mut read = run.scan;
-    let mut line = run.line;
+    let mut stands = recording.run;
     let mut unread = recording.unread;
     let mut recorder = Recorder {
         at: 0,
@@ -127,24 +130,19 @@ fn record_piece(recording: Recording, text: &[u8], end: usize, page: &mut [u8]) 
     while i < end {
         let byte = text[i];
         if byte == b'\n' {
-            let called = calls::call_line(ring, read);
-            let record = called.record;
-            recorder = record_line(recorder, called.visited, record, page);
-            unread = first_unread(unread, line, called.unread);
-            let behind = called.ring;
-            ring = behind;
-            read = lines::fresh();
-            line = lines::next_line(line);
+            let ended = calls::end_line(stands);
+            let answer = ended.answer;
+            recorder = record_answer(recorder, answer, page);
+            unread = first_unread(unread, stands.line, ended.unread);
+            let behind = ended.run;
+            stands = behind;
         } else {
-            read = lines::step(read, byte);
+            let read = stands.scan;
+            let more = lines::step(read, byte);
+            stands.scan = more;
         }
         i += 1;
     }
-    let stands = Run {
-        ring,
-        scan: read,
-        line,
-    };
     let behind = Recording {
         run: stands,
         clock: recorder.clock,
@@ -167,6 +165,6 @@ pub fn record_on(recording: Recording, text: &[u8], page: &mut [u8]) -> Recorded
             length: 0,
         };
     }
-    let end = piece_length(text);
+    let end = calls::piece_length(text);
     record_piece(recording, text, end, page)
 }

@@ -95,6 +95,13 @@ requestSheet t = sheetOf false t blankAlloc
 abbrev pub planSheet : Set → Alloc → List ℕ
 planSheet t a = sheetOf true t a
 
+-- how many bytes a program reads of a request sheet, and of a sheet that may be a plan: one more than the longest has, of 128 stations with a mode, F and g
+abbrev pub requestRead : ℕ
+requestRead = 2_461
+
+abbrev pub planRead : ℕ
+planRead = 3_357
+
 -- how many bytes a sheet has: 10 + 19N for a request, 10 + 26N for a plan, and what the header has behind TTRT
 abbrev pub sheetLength : Bool → Set → ℕ
 sheetLength plan t = 10 + headLength (t .head) + 19 * t .n + 7 * allocationsFor plan (t .n)

@@ -1,7 +1,8 @@
 //! Call scripts that mix accepted and refused calls, made by following the ring.
 
 use super::random::Random;
-use super::{sets, Sort};
+use super::sets;
+use super::sort::Sort;
 use crate::planted::Planted;
 use crate::ring::{Message, Ring, StationNumber, Ticks};
 use crate::rules::{Ask, Head, Plan, Request, Station, LAST_TIME};

@@ -1,7 +1,7 @@
 //! Sets of stations and allocations: feasible, tight, impossible by one tick, and wild.
 
 use super::random::Random;
-use super::Sort;
+use super::sort::Sort;
 use crate::planner;
 use crate::planted::Planted;
 use crate::rules::{fddi_least_time, least_time, Head, Mode, Plan, Request, Station};

@@ -1,6 +1,6 @@
 -- `ask_in` is right because a visit's numbers are 32-bit numbers, and a line of one number names no length.
 use native.Mathlib.Omega.{arith}
-use Rattle.calls.specs.RunLaws.{ask-small, length-small, ask-alone, ask-named}
+use Rattle.calls.proofs.RunLaws.{ask-small, length-small, ask-alone, ask-named}
 use borrow.Author.Needs.{needs}
 use Rattle.calls.proofs.ask_in.Statement.{statement}
 use Rattle.calls.proofs.ask_in.Tie as tie

@@ -4,8 +4,8 @@ use mathlib.Core.Bool.{true, false}
 use Rattle.rings.specs.Steps.{visited}
 use Rattle.rings.specs.HandingIn.{handedIn}
 use Rattle.lines.specs.Scan.{isEmptyLine}
-use Rattle.calls.specs.RunText.{isVisit}
-use Rattle.calls.specs.RunLaws.{called-empty, called-visit, called-message, called-unread}
+use Rattle.calls.specs.Calls.{isVisit}
+use Rattle.calls.proofs.RunLaws.{called-empty, called-visit, called-message, called-unread}
 use borrow.Author.Needs.{needs}
 use Rattle.calls.proofs.call_line.Statement.{statement}
 use Rattle.calls.proofs.call_line.Tie as tie
@@ -19,81 +19,37 @@ a-visit c = sym (c .before .is-visit .ensures) ∙ c .if2 .taken
 no-visit : (c : tie.Else2) → isVisit (c .before .before .before .before .args .s) ≡ false
 no-visit c = sym (c .before .is-visit .ensures) ∙ c .if2 .left
 
-is-empty-line-requires : tie.Need-is-empty-line-requires
-is-empty-line-requires c κs = search needs
-
-no-visit-requires : tie.Need-no-visit-requires
-no-visit-requires c κs = search needs
-
 returns : tie.Need-returns
-returns c =
-    let here = c .before in
-    c .no-visit .ensures ∙ called-empty _ _ (sym (here .before .is-empty-line .ensures) ∙ here .if1 .taken)
-
-is-visit-requires : tie.Need-is-visit-requires
-is-visit-requires c κs = search needs
+returns c = called-empty _ _ (sym (c .before .is-empty-line .ensures) ∙ c .if1 .taken)
 
 ask-in-requires : tie.Need-ask-in-requires
 ask-in-requires c κs = a-visit c
 
-visit-requires : tie.Need-visit-requires
-visit-requires c κs = search needs
-
 returns-2 : tie.Need-returns-2
 returns-2 c =
-    let done = c .before .before .before in
+    let done = c .before .before in
     let asked = done .before in
     let here = asked .before in
     let start = here .before .before .before .before in
     called-visit (start .args .ring) (start .args .s) _ (some-line (here .before .before)) (a-visit here) (done .visit .ensures ∙ ap (visited (start .args .ring)) (asked .ask-in .ensures))
 
-is-message-requires : tie.Need-is-message-requires
-is-message-requires c κs = search needs
-
-message-in-requires : tie.Need-message-in-requires
-message-in-requires c κs = search needs
-
-hand-in-requires : tie.Need-hand-in-requires
-hand-in-requires c κs = search needs
-
-no-visit-requires-2 : tie.Need-no-visit-requires-2
-no-visit-requires-2 c κs = search needs
-
 returns-3 : tie.Need-returns-3
 returns-3 c =
-    let taken = c .before .before in
+    let taken = c .before in
     let read = taken .before in
     let here = read .before in
     let second = here .before .before in
     let start = second .before .before .before .before in
-    c .no-visit2 .ensures
-    ∙ called-message (start .args .ring) (start .args .s) _ (some-line (second .before .before)) (no-visit second) (sym (here .before .is-message .ensures) ∙ here .if3 .taken)
+    called-message (start .args .ring) (start .args .s) _ (some-line (second .before .before)) (no-visit second) (sym (here .before .is-message .ensures) ∙ here .if3 .taken)
     (taken .hand-in .ensures ∙ ap (handedIn (start .args .ring)) (read .message-in .ensures))
-
-no-visit-requires-3 : tie.Need-no-visit-requires-3
-no-visit-requires-3 c κs = search needs
 
 returns-4 : tie.Need-returns-4
 returns-4 c =
-    let here = c .before in
-    let second = here .before .before in
-    c .no-visit3 .ensures ∙ called-unread _ _ (some-line (second .before .before)) (no-visit second) (sym (here .before .is-message .ensures) ∙ here .if3 .left)
+    let second = c .before .before in
+    called-unread _ _ (some-line (second .before .before)) (no-visit second) (sym (c .before .is-message .ensures) ∙ c .if3 .left)
 
 pub call-line-spec : {M : Type 1} → statement M
 call-line-spec =
     tie.close
-    (tie.spec
-    is-empty-line-requires
-    no-visit-requires
-    returns
-    is-visit-requires
-    ask-in-requires
-    visit-requires
-    returns-2
-    is-message-requires
-    message-in-requires
-    hand-in-requires
-    no-visit-requires-2
-    returns-3
-    no-visit-requires-3
-    returns-4)
+    (tie.spec (λ c κs. search needs) returns (λ c κs. search needs) ask-in-requires (λ c κs. search needs) returns-2 (λ c κs. search needs)
+    (λ c κs. search needs) (λ c κs. search needs) returns-3 returns-4)

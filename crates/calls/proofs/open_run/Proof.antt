@@ -1,32 +1,12 @@
--- `open_run` is right because it keeps the number of reading, and else gives that of opening.
-use Rattle.calls.specs.RunLaws.{opened-refused, opened-accepted}
+-- `open_run` is right because it opens the plan that it read.
+use mathlib.Core.Path.{ap, _∙_}
+use Rattle.calls.specs.Runs.{openedRun}
 use borrow.Author.Needs.{needs}
 use Rattle.calls.proofs.open_run.Statement.{statement}
 use Rattle.calls.proofs.open_run.Tie as tie
 
-read-plan-requires : tie.Need-read-plan-requires
-read-plan-requires c κs = search needs
-
-open-requires : tie.Need-open-requires
-open-requires c κs = search needs
-
-start-requires : tie.Need-start-requires
-start-requires c κs = search needs
-
 returns : tie.Need-returns
-returns c =
-    let begun = c .before .before in
-    let opened = begun .before .before in
-    let read = opened .before .before .before in
-    opened-refused _ _ _ _ (read .read-plan .ensures) (opened .«open» .ensures) (begun .start .ensures) (c .if1 .taken)
-
-returns-2 : tie.Need-returns-2
-returns-2 c =
-    let begun = c .before .before in
-    let opened = begun .before .before in
-    let read = opened .before .before .before in
-    opened-accepted _ _ _ _ (read .read-plan .ensures) (opened .«open» .ensures) (begun .start .ensures) (c .if1 .left)
+returns c = c .open-plan .ensures ∙ ap openedRun (c .before .read-plan .ensures)
 
 pub open-run-spec : {M : Type 1} → statement M
-open-run-spec =
-    tie.close (tie.spec read-plan-requires open-requires start-requires returns returns-2)
+open-run-spec = tie.close (tie.spec (λ c κs. search needs) (λ c κs. search needs) returns)

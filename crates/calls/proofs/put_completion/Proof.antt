@@ -7,7 +7,7 @@ use mir.ValLaws.{toZ-ofZ}
 use native.Mathlib.Omega.{arith}
 use Rattle.text.specs.Text.{lineOn, space}
 use Rattle.calls.specs.RunText.{completion, signedOf}
-use Rattle.calls.specs.RunLaws.{completion-some}
+use Rattle.calls.proofs.RunLaws.{completion-some}
 use Rattle.text.specs.TextLaws.{put-short-then, field-short, end-then, put-as, line-on-two}
 use borrow.Author.Needs.{needs}
 use Rattle.calls.proofs.put_completion.Statement.{statement}

@@ -6,7 +6,7 @@ use mir.ValLaws.{toZ-ofZ}
 use Rattle.calls.specs.RunText.{signOf, withoutSign}
 use native.Mathlib.Omega.{arith}
 use Rattle.text.specs.TextLaws.{decimal-short, field-short, within-then, put-as}
-use Rattle.calls.specs.RunLaws.{sign-late, sign-none}
+use Rattle.calls.proofs.RunLaws.{sign-late, sign-none}
 use borrow.Author.Needs.{needs}
 use Rattle.calls.proofs.put_margin.Statement.{statement}
 use Rattle.calls.proofs.put_margin.Tie as tie

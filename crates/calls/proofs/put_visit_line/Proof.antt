@@ -6,7 +6,7 @@ use mir.ValLaws.{toZ-ofZ}
 use Rattle.text.specs.Text.{lineOn}
 use native.Mathlib.Omega.{arith}
 use Rattle.calls.specs.RunText.{completion, visitLine}
-use Rattle.calls.specs.RunLaws.{visit-words}
+use Rattle.calls.proofs.RunLaws.{visit-words}
 use Rattle.text.specs.TextLaws.{put-short-then, put-as}
 use borrow.Author.Needs.{needs}
 use Rattle.calls.proofs.put_visit_line.Statement.{statement}

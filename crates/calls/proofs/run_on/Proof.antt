@@ -1,20 +1,11 @@
 -- `run_on` is right because it reads the first 256 bytes, or all if they are fewer.
-use Rattle.calls.specs.RunLaws.{ran-none, ran-piece}
+use Rattle.calls.proofs.RunLaws.{ran-none, ran-piece}
 use borrow.Author.Needs.{needs}
 use Rattle.calls.proofs.run_on.Statement.{statement}
 use Rattle.calls.proofs.run_on.Tie as tie
 
 returns : tie.Need-returns
 returns c = ran-none _ _ _ (c .if1 .taken)
-
-piece-length-requires : tie.Need-piece-length-requires
-piece-length-requires c κs = search needs
-
-run-piece-requires : tie.Need-run-piece-requires
-run-piece-requires c κs = search needs
-
-same-length : tie.Need-same-length
-same-length c = search needs
 
 returns-2 : tie.Need-returns-2
 returns-2 c =
@@ -24,4 +15,4 @@ returns-2 c =
 
 pub run-on-spec : {M : Type 1} → statement M
 run-on-spec =
-    tie.close (tie.spec returns piece-length-requires run-piece-requires same-length returns-2)
+    tie.close (tie.spec returns (λ c κs. search needs) (λ c κs. search needs) (λ c. search needs) returns-2)

@@ -7,15 +7,6 @@ use Rattle.recordings.proofs.record_on.Tie as tie
 returns : tie.Need-returns
 returns c = recorded-none _ _ _ (c .if1 .taken)
 
-piece-length-requires : tie.Need-piece-length-requires
-piece-length-requires c κs = search needs
-
-record-piece-requires : tie.Need-record-piece-requires
-record-piece-requires c κs = search needs
-
-same-length : tie.Need-same-length
-same-length c = search needs
-
 returns-2 : tie.Need-returns-2
 returns-2 c =
     let called = c .before .before in
@@ -24,4 +15,4 @@ returns-2 c =
 
 pub record-on-spec : {M : Type 1} → statement M
 record-on-spec =
-    tie.close (tie.spec returns piece-length-requires record-piece-requires same-length returns-2)
+    tie.close (tie.spec returns (λ c κs. search needs) (λ c κs. search needs) (λ c. search needs) returns-2)

@@ -1,0 +1,2 @@
+-- The promises of this layer, proved.
+pub mod Promised

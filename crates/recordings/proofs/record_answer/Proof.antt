@@ -1,0 +1,30 @@
+-- `record_answer` is right because a visit is recorded, and no other answer is.
+use Rattle.recordings.specs.LogText.{recordsIn}
+use Rattle.recordings.proofs.RecordLaws.{records-none}
+use borrow.Author.Needs.{needs}
+use Rattle.recordings.proofs.record_answer.Statement.{statement}
+use Rattle.recordings.proofs.record_answer.Tie as tie
+
+returns : tie.Need-returns
+unfolding recordsIn
+returns c = rw (c .enum-told .given .1) (records-none _ _)
+
+returns-2 : tie.Need-returns-2
+unfolding recordsIn
+returns-2 c =
+    let called = c .before .before in
+    rw (called .before .before .before .answer .given .1) (called .record-visit .ensures)
+
+returns-3 : tie.Need-returns-3
+unfolding recordsIn
+returns-3 c = rw (c .enum-told2 .given .1) (records-none _ _)
+
+returns-4 : tie.Need-returns-4
+unfolding recordsIn
+returns-4 c = rw (c .enum-told3 .given .1) (records-none _ _)
+
+pub record-answer-spec : {M : Type 1} → statement M
+record-answer-spec =
+    tie.close
+    (tie.spec (λ c. search needs) (λ c. search needs) (λ c κs. search needs) (λ c. search needs) (λ c. search needs)
+    returns (λ c. search needs) returns-2 returns-3 returns-4)
