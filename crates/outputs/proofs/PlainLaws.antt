@@ -12,7 +12,7 @@ use Rattle.entries.specs.declared.Entry.{Entry}
 use Rattle.fields.specs.Rows.{rows}
 use Rattle.fields.specs.Fields.{modeTag, frameTag}
 use Rattle.fields.specs.Header.{furtherCount, absent}
-use Rattle.sheets.specs.Layout.{headNumber}
+use Rattle.sets.specs.Header.{headNumber}
 use Rattle.sheets.specs.Reading.{readRequest, readPlan}
 use Rattle.text.specs.Text.{decimalOf, lineOn, line, textOr, Tells}
 use Rattle.text.proofs.RefusalLaws.{countU, Plain, plain-append, plain-end, plain-field, plain-line, plain-rows, tells-or}
