@@ -220,7 +220,7 @@ def the_program_does_not_hold_the_lock(project):
 
 def building(project, **how):
     """A call whose prover goes on and on, and the prover."""
-    project.does("proved units\nsleep 300 &\nsleep 300\n")
+    project.does("proved units\nsleep 100 &\nsleep 100\n")
     run = project.start("plan", **how)
     project.begun()
     prover = project.prover()
@@ -349,7 +349,7 @@ def a_line_that_moves_on(project):
 
 @test
 def an_interrupt_from_the_terminal(project):
-    project.does("proved units\nsleep 300 &\nsleep 300\n")
+    project.does("proved units\nsleep 100 &\nsleep 100\n")
     terminal = Terminal(project, "plan")
     terminal.read(until=rb"units")
     prover = project.prover()

@@ -42,7 +42,7 @@ echo "rattle: a line of the prover's own"
 echo "rattle: a second one" >&2
 unchanged() { echo "rt: $1 proved (unchanged since it was last proved)"; }
 proved() { echo "rt: $1 proved (3 s)"; }
-until_told() { while [ ! -f "$kit/told $1" ]; do sleep 0.1; done; }
+until_told() { turns=0; while [ ! -f "$kit/told $1" ] && [ $turns -lt 900 ]; do sleep 0.1; turns=$((turns + 1)); done; }
 . "$kit/does"
 mkdir -p target/bin target/stamp target/staticlib
 case $1 in
