@@ -5,6 +5,8 @@ an emulator. A program in C is linked with the archive of the exported functions
 target/bin. Both run by `running`.
 """
 
+import collections
+import functools
 import hashlib
 import os
 import platform
@@ -61,6 +63,36 @@ def running(program):
     return [emulator, *MACHINE, *words] if os.access(emulator, os.X_OK) else words
 
 
+# ---- the table of the commands
+
+Row = collections.namedtuple("Row", "word least most program usage")
+
+
+def table(text=None):
+    """The rows of commands.txt, or of a text like it."""
+    if text is None:
+        with open(os.path.join(ROOT, "commands.txt"), encoding="utf-8") as file:
+            text = file.read()
+    rows = [line.split(maxsplit=4) for line in text.splitlines() if not line.startswith(("#", ">"))]
+    return [Row(word, int(least), int(most), program, usage) for word, least, most, program, usage in rows]
+
+
+@functools.cache
+def programs():
+    """The program of each command."""
+    return {row.word: row.program for row in table()}
+
+
+def program_crates():
+    """The programs that have commands."""
+    return sorted(set(programs().values()))
+
+
+def program_of(words):
+    """The program that has the command of these words; where they ask for none, the one of `plan`."""
+    return programs().get(words[0] if words else "plan", programs()["plan"])
+
+
 # ---- the proved programs, and the second program
 
 
@@ -72,8 +104,19 @@ def build_proved(name):
     made(["rt", "check", name], ROOT)
 
 
+def build_programs():
+    """Every program that has commands."""
+    for name in program_crates():
+        build_proved(name)
+
+
 def proved_command(name):
     return running(os.path.join(ROOT, "target", "bin", name))
+
+
+def calling(words):
+    """The words that call the program which has the command of these."""
+    return proved_command(program_of(words)) + words
 
 
 def build_second():

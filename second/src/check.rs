@@ -6,8 +6,7 @@ use std::collections::VecDeque;
 
 use crate::planted::Planted;
 use crate::ring::{Message, Ring, Ticks, Visit};
-use crate::rules::{Ask, Mode, Refusal};
-use crate::state::{LAST_CLOCK, MOST_LATE, VISITS_END};
+use crate::rules::{Ask, Mode, Refusal, LAST_CLOCK, MOST_LATE, VISITS_END};
 use crate::text::{Answer, Call};
 
 /// A promise that a call broke.

@@ -4,11 +4,11 @@
 use std::io::{self, Read, Write};
 
 use crate::lines::Lines;
-use crate::log::Entry;
+use crate::notation::number;
 use crate::rules::MOST_STATIONS;
-use crate::rules::{header_number, require, Head, Plan, Refusal, Request, Station};
+use crate::rules::{header_number, require, Entry, Head, Plan, Refusal, Request, Station};
 use crate::sheet::{end_field, visit_field, write_plan, write_request};
-use crate::text::{number, Fault};
+use crate::text::Fault;
 
 /// Writes the bytes of the sheet or log that a text describes. A line that cannot be read comes
 /// before every refusal. A fault behind the first visit leaves a log without its end.

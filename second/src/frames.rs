@@ -1,16 +1,17 @@
 //! Framed cases, one on a line, and the one line of answer to each. README.md has the format.
 
 use crate::check::WatchedRing;
-use crate::commands::framed_command;
 use crate::inspect::inspected;
-use crate::log::{Counter, Entry, Recorder};
+use crate::log::{Counter, Recorder};
+use crate::notation::{from_hex, joined, number, parse, read_head, show_set, to_hex};
 use crate::planner;
 use crate::planted::Planted;
 use crate::ring::Ring;
-use crate::rules::{Head, Plan, Refusal, Request, Station, MOST_STATIONS};
+use crate::rules::{Entry, Plan, Refusal, Request, Station, MOST_STATIONS};
 use crate::sheet::{read_log, read_plan, read_request, write_plan, write_request};
 use crate::state::{Place, State};
-use crate::text::{answer_line, ask, call, number, Answer, Call};
+use crate::streams::Streams;
+use crate::text::{answer_line, ask, call, Answer, Call};
 
 /// What is answered to a line that is no case.
 pub const NO_CASE: &str = "no case";
@@ -53,7 +54,7 @@ fn try_answer(case: &str, planted: Planted) -> Option<String> {
                 (_, Some(finding)) => finding.to_string(),
             }
         })),
-        "command" => framed_command(rest, planted),
+        "command" => command(rest, planted),
         _ => None,
     }
 }
@@ -68,44 +69,6 @@ fn line<T>(answer: Result<T, Refusal>, show: impl FnOnce(T) -> String) -> String
 
 fn counted(request: &Request, allocation: &[u32]) -> String {
     format!("{} {}", request.stations.len(), show_set(request, allocation))
-}
-
-/// `HEAD;W,C,D,P;...`, and with an allocation `HEAD;W,C,D,P,S;...`.
-pub fn show_set(request: &Request, allocation: &[u32]) -> String {
-    let mut parts = vec![show_head(&request.head)];
-    for (index, station) in request.stations.iter().enumerate() {
-        let Station { walk, longest, deadline, gap } = *station;
-        let mut numbers = vec![walk, longest, deadline, gap];
-        numbers.extend(allocation.get(index));
-        parts.push(joined(&numbers));
-    }
-    parts.join(";")
-}
-
-/// `TTRT`, `TTRT,MODE`, `TTRT,MODE,FRAME` or `TTRT,MODE,FRAME,GRID`: up to the last that is not 1.
-pub fn show_head(head: &Head) -> String {
-    let Head { ttrt, mode, frame, grid } = *head;
-    let further = [mode, frame, grid];
-    let shown = further.iter().rposition(|&number| number != 1).map_or(0, |place| place + 1);
-    joined(&[&[ttrt], &further[..shown]].concat())
-}
-
-/// What `show_head` shows; the mode, F and g may stand there in any case.
-pub fn read_head(part: &str) -> Option<Head> {
-    let numbers: Option<Vec<u32>> = part.split(',').map(parse).collect();
-    let mut numbers = numbers?;
-    if numbers.len() < 4 {
-        numbers.resize(4, 1);
-    }
-    let [ttrt, mode, frame, grid] = numbers[..] else {
-        return None;
-    };
-    Some(Head { ttrt, mode, frame, grid })
-}
-
-fn joined<T: ToString>(numbers: &[T]) -> String {
-    let words: Vec<String> = numbers.iter().map(T::to_string).collect();
-    words.join(",")
 }
 
 fn planning(rest: &str, planted: Planted) -> Option<String> {
@@ -157,10 +120,6 @@ fn read_station(part: &str) -> Option<Station> {
         return None;
     };
     Some(Station { walk, longest, deadline, gap })
-}
-
-fn parse<T: std::str::FromStr>(word: &str) -> Option<T> {
-    number(word.as_bytes())
 }
 
 /// Opens the ring, makes every call, and shows the answers or the ring after them.
@@ -306,28 +265,22 @@ fn show_state(state: &State) -> String {
     ring_text(head, state.places.iter().map(Place::numbers))
 }
 
-/// Two lower-case digits for each byte; `-` for no byte.
-pub fn to_hex(bytes: &[u8]) -> String {
-    if bytes.is_empty() {
-        return "-".to_string();
-    }
-    bytes.iter().map(|byte| format!("{byte:02x}")).collect()
-}
-
-/// The bytes of `to_hex`'s text.
-pub fn from_hex(text: &str) -> Option<Vec<u8>> {
-    if text == "-" {
-        return Some(vec![]);
-    }
-    let digits: Option<Vec<u8>> = text.bytes().map(hex_digit).collect();
-    let digits = digits.filter(|digits| !digits.is_empty() && digits.len() % 2 == 0)?;
-    Some(digits.chunks(2).map(|pair| pair[0] << 4 | pair[1]).collect())
-}
-
-fn hex_digit(byte: u8) -> Option<u8> {
-    match byte {
-        b'0'..=b'9' => Some(byte - b'0'),
-        b'a'..=b'f' => Some(byte - b'a' + 10),
-        _ => None,
-    }
+/// The `command` case: `NAME;HEX`, or `run;HEXPLAN;HEX` and the same with `log`.
+fn command(rest: &str, planted: Planted) -> Option<String> {
+    let parts: Vec<&str> = rest.split(';').collect();
+    let mut streams = Streams { out: vec![], err: vec![] };
+    match parts[..] {
+        ["run", plan, calls] => {
+            streams.run(&from_hex(plan)?, &from_hex(calls)?[..], planted).ok()?;
+        }
+        ["log", plan, calls] => {
+            streams.log(&from_hex(plan)?, &from_hex(calls)?[..], planted).ok()?;
+        }
+        [name, input] => {
+            let input = from_hex(input)?;
+            streams.simple(name, &input[..], planted).ok().filter(|&known| known)?;
+        }
+        _ => return None,
+    };
+    Some(format!("{} {}", to_hex(&streams.out), to_hex(&streams.err)))
 }

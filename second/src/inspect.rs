@@ -5,10 +5,9 @@
 use std::fmt;
 use std::ops::ControlFlow;
 
-use crate::log::Entry;
 use crate::planted::Planted;
 use crate::ring::Ticks;
-use crate::rules::{Ask, Mode, Plan};
+use crate::rules::{Ask, Entry, Mode, Plan};
 
 /// The rules of a record, in the order in which they are looked at.
 #[derive(Clone, Copy, Debug, PartialEq, Eq, PartialOrd, Ord, Hash)]
@@ -116,7 +115,9 @@ impl Inspector {
     pub fn limit(&self) -> u32 {
         let here = self.station();
         let kept = match self.plan.request.mode() {
-            Mode::Timely | Mode::Earlier => self.unused() + self.plan.request.head.overrun() as Ticks,
+            Mode::Timely | Mode::Earlier => {
+                self.unused() + self.plan.request.head.overrun() as Ticks
+            }
             Mode::Fddi => 0,
         };
         (self.ttrt() - kept - self.since(here)).max(0) as u32

@@ -1,28 +1,10 @@
 //! Visit logs: what a recorder writes of a run, and a log of any length read field by field.
 
-use std::fmt;
 use std::io::{self, BufReader, Read};
 
 use crate::ring::{Ticks, Visit};
-use crate::rules::{require, Plan, Refusal};
+use crate::rules::{require, Entry, Plan, Refusal};
 use crate::sheet::{end_field, visit_field, write_plan, Passage, Row};
-
-/// A visit as a log has it; any numbers. The start is what the recorder's counter showed.
-#[derive(Clone, Copy, Debug, PartialEq, Eq)]
-pub struct Entry {
-    pub station: u8,
-    pub start: u32,
-    pub limit: u32,
-    pub synchronous: u32,
-    pub asynchronous: u32,
-}
-
-impl fmt::Display for Entry {
-    fn fmt(&self, f: &mut fmt::Formatter) -> fmt::Result {
-        let Entry { station, start, limit, synchronous, asynchronous } = self;
-        write!(f, "visit {station} {start} {limit} {synchronous} {asynchronous}")
-    }
-}
 
 /// A recorder's counter has 32 bits and runs past its top to 0. It is derived from the clock: at
 /// some time it showed some number.

@@ -1,5 +1,6 @@
 //! The numbers allowed, the refusal numbers, and the judgement of a set and of an allocation.
 
+use std::fmt;
 use std::ops::RangeInclusive;
 
 pub const MOST_STATIONS: usize = 128;
@@ -16,6 +17,12 @@ pub const FRAME: RangeInclusive<u32> = 1..=65_535;
 pub const GRID: RangeInclusive<u32> = 1..=1_000;
 /// The last arrival time, and the last clock at which a visit may start.
 pub const LAST_TIME: u64 = 1_000_000_000_000;
+/// The clock of no sound ring is above this.
+pub const LAST_CLOCK: u64 = 1_000_002_000_000;
+/// The visit count of no sound ring reaches this.
+pub const VISITS_END: u64 = 1 << 62;
+/// The late count of no sound FDDI ring is above this.
+pub const MOST_LATE: u32 = 3;
 
 /// The protocol of a ring, which a set's header names by a number.
 #[derive(Clone, Copy, Debug, PartialEq, Eq)]
@@ -234,9 +241,20 @@ impl Plan {
         self.reserved() <= u64::from(self.request.head.ttrt)
     }
 
-    /// The spare time A*; 0 where the token rule is broken.
-    pub fn spare(&self) -> u64 {
+    /// What the token rule leaves of TTRT; 0 where it is broken.
+    pub fn left_over(&self) -> u64 {
         u64::from(self.request.head.ttrt).saturating_sub(self.reserved())
+    }
+
+    /// The spare time A* of a judged set: timely-token subtracts F − 1 in it, FDDI does not.
+    pub fn spare(&self) -> u64 {
+        match self.request.mode() {
+            Mode::Timely | Mode::Earlier => self.left_over(),
+            Mode::Fddi => {
+                let taken = self.request.walk_sum() + self.allocated();
+                u64::from(self.request.head.ttrt).saturating_sub(taken)
+            }
+        }
     }
 
     /// Numbers 2, 4, 5 and 7, in this order.
@@ -294,5 +312,22 @@ pub fn fddi_least_time(ttrt: u32, deadline: u32, s: u64, before: u64) -> u64 {
     match whole {
         0 => 0,
         _ => (whole - 1) * s + rest.saturating_sub(before).min(s),
+    }
+}
+
+/// A visit as a log has it; any numbers. The start is what the recorder's counter showed.
+#[derive(Clone, Copy, Debug, PartialEq, Eq)]
+pub struct Entry {
+    pub station: u8,
+    pub start: u32,
+    pub limit: u32,
+    pub synchronous: u32,
+    pub asynchronous: u32,
+}
+
+impl fmt::Display for Entry {
+    fn fmt(&self, f: &mut fmt::Formatter) -> fmt::Result {
+        let Entry { station, start, limit, synchronous, asynchronous } = self;
+        write!(f, "visit {station} {start} {limit} {synchronous} {asynchronous}")
     }
 }

@@ -1,9 +1,8 @@
 //! Request and plan sheets and logs: a reader driven by a table of the fields allowed at each
 //! place, and a writer.
 
-use crate::log::Entry;
 use crate::rules::MOST_STATIONS;
-use crate::rules::{header_number, require, Head, Plan, Refusal, Request, Station};
+use crate::rules::{header_number, require, Entry, Head, Plan, Refusal, Request, Station};
 
 const TTRT_TAG: u8 = 1;
 pub const STATION_TAG: u8 = 2;

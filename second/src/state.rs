@@ -2,17 +2,11 @@
 //! a handing in make of it. The steps are those of the rules, one after another, on the numbers
 //! that a ring stores.
 
-use crate::frames::{read_head, show_head};
+use crate::notation::{number, read_head, show_head};
 use crate::ring::{Completed, Message, StationNumber, Ticks, Visit};
-use crate::rules::{require, Ask, Mode, Plan, Refusal, Request, Station, LAST_TIME};
-use crate::text::{number, Answer, Call};
-
-/// The clock of no sound ring is above this.
-pub const LAST_CLOCK: u64 = 1_000_002_000_000;
-/// The visit count of no sound ring reaches this.
-pub const VISITS_END: u64 = 1 << 62;
-/// The late count of no sound FDDI ring is above this.
-pub const MOST_LATE: u32 = 3;
+use crate::rules::{require, Ask, Mode, Plan, Refusal, Request, Station};
+use crate::rules::{LAST_CLOCK, LAST_TIME, MOST_LATE, VISITS_END};
+use crate::text::{Answer, Call};
 
 /// What a ring stores of a station.
 #[derive(Clone, Debug, Default, PartialEq, Eq)]

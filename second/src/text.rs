@@ -1,9 +1,9 @@
 //! Requests, plans, calls and answers as text.
 
 use std::fmt;
-use std::str::FromStr;
 
 use crate::lines::Line;
+use crate::notation::number;
 use crate::ring::{Message, StationNumber, Visit};
 use crate::rules::{header_number, Ask, Head, Plan, Refusal, Request, Station};
 use crate::sheet::Sheet;
@@ -154,12 +154,4 @@ pub fn ask(words: &[&[u8]]) -> Option<Ask> {
         [frames, length] => Some(Ask { frames: number(frames)?, length: number(length)? }),
         _ => None,
     }
-}
-
-/// A decimal number of digits only that fits its type.
-pub fn number<T: FromStr>(word: &[u8]) -> Option<T> {
-    if !word.iter().all(u8::is_ascii_digit) {
-        return None;
-    }
-    std::str::from_utf8(word).ok()?.parse().ok()
 }

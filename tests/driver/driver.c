@@ -238,7 +238,7 @@ static void write_case(int with_shares)
 
 /* ---- the cases of sets and rings */
 
-/* A*, seen at the first visit on a ring opened with the plan: its limit, from which FDDI takes no S and no F - 1. */
+/* A*, seen at the first visit on a ring opened with the plan: its limit, from which FDDI takes no S. */
 static uint64_t spare(const struct plan *plan, ring_t *ring)
 {
     struct olivastrum_ask nothing = {0, 1};
@@ -247,7 +247,7 @@ static uint64_t spare(const struct plan *plan, ring_t *ring)
         return left;
     for (uint32_t i = 0; i < plan->set.n; i++)
         left -= plan->alloc.s[i];
-    return left - (plan->set.head.frame - 1);
+    return left;
 }
 
 /* `planning SET` */

@@ -18,7 +18,7 @@ use Rattle.plans.specs.declared.Alloc.{Alloc}
 use Rattle.fields.specs.Fields.{modeTag}
 use Rattle.fields.specs.RowLaws.{laid-first}
 use Rattle.fields.proofs.HeaderLaws.{same-or-not}
-use Rattle.entries.specs.Entry.{entryBytes}
+use Rattle.entries.specs.Entry.{visitLength, entryBytes}
 use Rattle.entries.specs.declared.Entry.{Entry}
 use Rattle.entries.proofs.EntryLaws.{entry-length}
 use Rattle.sheets.specs.Layout.{endBytes, fieldsOf}
@@ -34,7 +34,7 @@ use Rattle.lines.specs.ScanLaws.{steppedOver, hasNoEnd, first-and-rest}
 use Rattle.lines.specs.declared.Scan.{Scan}
 use Rattle.drafts.specs.Compose.{visitWord, isLine, isTtrt, lineTag, isStation, isPlanStation, isVisitLine, NumbersFit, misplaced, withTtrt, withFurther, withStation, visitedKind, withVisit, withUnread, visitDrafted, lineDrafted, onNextLine, composeStart, composeOn, composeAfter, isWhole, composedAnswer, composedBuffer, WroteDraft, draftOf}
 use Rattle.drafts.specs.ComposeLaws.{line-fits, text-goes-on, text-line-ends, atRest}
-use Rattle.drafts.specs.Sent.{entryIn, goesOut, planSent, sentBy, sentAt, sentOver, endAnswer, endBuffer, WroteEnd, PlanRoom, LineRoom, pieceSize, mostSent, ComposedPiece, pieceOf, ComposedOn, sentOf, noVisit, Broken}
+use Rattle.drafts.specs.Sent.{entryIn, goesOut, planSent, sentBy, sentAt, sentOver, endAnswer, endBuffer, WroteEnd, PlanRoom, LineRoom, pieceSize, mostFields, mostSent, ComposedPiece, pieceOf, ComposedOn, sentOf, noVisit, Broken}
 use Rattle.drafts.specs.declared.Draft.{Draft}
 use Rattle.drafts.specs.declared.Composing.{Composing}
 use Rattle.drafts.specs.declared.Composed.{Composed}
@@ -175,7 +175,7 @@ pub first-out : (d : Draft) → isWhole d ≡ true → d .kind ≡ 2 → judgedS
 unfolding withVisit visitedKind judgedSheet
 first-out d whole planned judged = rw (eq-eqb (d .kind) 2 planned, eq-eqb (judgedPlan (d .set) (d .alloc)) 0 judged, whole) refl
 
-pub fields-few : (t : Set) (a : Alloc) → judgedSheet true t a ≡ 0 → length (fieldsOf true t a) ≤ 3_400
+pub fields-few : (t : Set) (a : Alloc) → judgedSheet true t a ≡ 0 → length (fieldsOf true t a) ≤ mostFields
 fields-few t a h = omega (arith, fields-long true t a, judged-kept true t a h .count .1, head-small (t .head) 3)
 
 -- the plan's fields where the stations are a plan's, and else nothing
@@ -239,7 +239,7 @@ plan-room d a page room judged =
 
 -- how many bytes it has, and that before the first visit it has none
 pub record LineSent (d : Draft) (s : Scan) : Type 0 where
-  pub long : length (sentBy d s) ≤ 3_420
+  pub long : length (sentBy d s) ≤ mostFields + visitLength
   pub short : 3 ≤ d .kind → length (sentBy d s) ≤ 20
   pub silent : lineDrafted d s .kind ≤ 2 → length (sentBy d s) ≡ 0
   pub kinds : lineDrafted d s .kind ≤ 2 → d .kind ≤ 2
@@ -254,7 +254,7 @@ module _ (d : Draft) (s : Scan) where
       let none = ap length e in
       record { long = omega arith; short = λ h. omega arith; silent = λ l. none; kinds = kinds-rise }
 
-  plan-long : (d .kind ≡ 2 → judgedSheet true (d .set) (d .alloc) ≡ 0) → length (planSent d) ≤ 3_400
+  plan-long : (d .kind ≡ 2 → judgedSheet true (d .set) (d .alloc) ≡ 0) → length (planSent d) ≤ mostFields
   plan-long judged =
       ⊎-elim (λ (e : d .kind ≡ 2). omega (arith, ap length (plan-first d e), fields-few (d .set) (d .alloc) (judged e)))
       (λ (e : d .kind ≢ 2). omega (arith, ap length (plan-none d e)))

@@ -7,13 +7,14 @@ use lib.Dec.{leb, ltb, eqb}
 use lib.ListN.{length, take, set}
 use Rattle.units.specs.Numbers.{accepted, wrongShape}
 use Rattle.units.specs.Places.{at}
+use Rattle.sets.specs.Header.{withHeadNumber, headOf}
 use Rattle.sets.specs.Judged.{blankSet}
 use Rattle.sets.specs.declared.Head.{Head}
 use Rattle.sets.specs.declared.Set.{Set}
 use Rattle.plans.specs.Planned.{judgedPlan, blankAlloc}
 use Rattle.plans.specs.declared.Alloc.{Alloc}
 use Rattle.fields.specs.Fields.{headTag, modeTag, frameTag, gridTag}
-use Rattle.fields.specs.Header.{absent, headerNumber}
+use Rattle.fields.specs.Header.{headerNumber}
 use Rattle.sheets.specs.Writing.{refusedWriting, writtenAnswer, writtenBuffer}
 use Rattle.sheets.specs.declared.Written.{Written}
 use Rattle.text.specs.Text.{newline}
@@ -110,19 +111,13 @@ headedBy d tag h =
 -- TTRT stands on the first line, once; a number that no line names is what its absence means on a sheet
 unfoldable pub withTtrt : Draft → ℕ → Draft
 withTtrt d ttrt =
-    cond (eqb (d .head) 0) (headedBy d headTag (record { ttrt = ttrt; mode = absent; frame = absent; grid = absent })) (misplaced d)
-
--- the header with another number for a tag
-unfoldable pub headWith : Head → ℕ → ℕ → Head
-headWith h tag number =
-    cond (eqb tag modeTag) (record { ttrt = h .ttrt; mode = number; frame = h .frame; grid = h .grid })
-    (cond (eqb tag frameTag) (record { ttrt = h .ttrt; mode = h .mode; frame = number; grid = h .grid }) (record { ttrt = h .ttrt; mode = h .mode; frame = h .frame; grid = number }))
+    cond (eqb (d .head) 0) (headedBy d headTag (headOf ttrt)) (misplaced d)
 
 -- a further line of the header stands behind TTRT's and before the first station, above those with lower tags, once; it gives the number that its field on a sheet would give
 unfoldable pub withFurther : Draft → ℕ → ℕ → Draft
 withFurther d tag number =
     cond (leb headTag (d .head) && (ltb (d .head) tag && eqb (d .set .n) 0))
-    (headedBy d tag (headWith (d .set .head) tag (headerNumber true number)))
+    (headedBy d tag (withHeadNumber (d .set .head) tag (headerNumber true number)))
     (misplaced d)
 
 -- the next station of the set

@@ -75,25 +75,25 @@ pub record WroteEnd (d : Draft) (before after : List ℕ) (w : Written) : Type 0
 
 -- ---- what the functions hand back
 
+-- how many bytes the fields of a plan have at most, and a little more
+abbrev pub mostFields : ℕ
+mostFields = 3_400
+
 -- at the first visit the plan was accepted, nothing has gone out, and its fields have room
 pub record PlanRoom (d : Draft) (a : ℕ) (page : List ℕ) : Type 0 where
   pub judged : d .kind ≡ 2 → judgedSheet true (d .set) (d .alloc) ≡ 0
   pub first : d .kind ≡ 2 → a ≡ 0
-  pub large : 3_423 ≤ length page
+  pub large : mostFields + visitLength + 3 ≤ length page
 
 -- a line's bytes have room: before the first visit nothing has gone out
 pub record LineRoom (d : Draft) (a : ℕ) (page : List ℕ) : Type 0 where
   pub first : d .kind ≤ 2 → a ≡ 0
   pub room : a + 23 ≤ length page
-  pub large : 3_423 ≤ length page
+  pub large : mostFields + visitLength + 3 ≤ length page
 
 -- how many bytes are read at once
 abbrev pub pieceSize : ℕ
 pieceSize = 2_048
-
--- how many bytes the fields of a plan have at most, and a little more
-abbrev pub mostFields : ℕ
-mostFields = 3_400
 
 -- how many bytes go out at most over so many bytes of text
 abbrev pub mostSent : ℕ → ℕ

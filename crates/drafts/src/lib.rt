@@ -4,11 +4,10 @@ mod sending;
 ghost use mathlib.Core.Path.{_≡_};
 ghost use Prim.Native.Nat.{_<_, _^_, min};
 ghost use lib.ListN.{length};
-ghost use Rattle.drafts.specs.Compose.{allFit, isLine, lineTag, misplaced, withTtrt, headWith, withFurther, NumbersFit, setAnd, allocAnd, withStation, isVisitLine, visitedKind, withVisit, withUnread, visitDrafted, lineDrafted, onNextLine, composeStart, isWhole, WroteDraft};
+ghost use Rattle.drafts.specs.Compose.{allFit, isLine, lineTag, misplaced, withTtrt, withFurther, NumbersFit, setAnd, allocAnd, withStation, isVisitLine, visitedKind, withVisit, withUnread, visitDrafted, lineDrafted, onNextLine, composeStart, isWhole, WroteDraft};
 ghost use Rattle.drafts.specs.Sent.{goesOut, WroteEnd, Piece, ComposedPiece, ComposedOn};
 use lines::Scan;
 use plans::Alloc;
-use sets::Head;
 use sets::Set;
 use sheets::Written;
 use text::PAGE_SIZE;
@@ -106,12 +105,7 @@ fn with_ttrt(d: Draft, ttrt: u32) -> Draft
         return misplaced_in(d);
     }
     let mut set = d.set;
-    let head = Head {
-        ttrt,
-        mode: fields::ABSENT,
-        frame: fields::ABSENT,
-        grid: fields::ABSENT,
-    };
+    let head = sets::head_of(ttrt);
     set.head = head;
     let alloc = d.alloc;
     Draft {
@@ -122,34 +116,6 @@ fn with_ttrt(d: Draft, ttrt: u32) -> Draft
         head: fields::HEAD_TAG,
         kind: d.kind,
         wrong: d.wrong,
-    }
-}
-
-// The header with another number for a tag.
-fn head_with(h: Head, tag: u8, number: u32) -> Head
-    ensures { λ r. ⌜ r ≡ headWith h tag number ⌝ }
-{
-    if tag == fields::MODE_TAG {
-        return Head {
-            ttrt: h.ttrt,
-            mode: number,
-            frame: h.frame,
-            grid: h.grid,
-        };
-    }
-    if tag == fields::FRAME_TAG {
-        return Head {
-            ttrt: h.ttrt,
-            mode: h.mode,
-            frame: number,
-            grid: h.grid,
-        };
-    }
-    Head {
-        ttrt: h.ttrt,
-        mode: h.mode,
-        frame: h.frame,
-        grid: number,
     }
 }
 
@@ -164,7 +130,7 @@ fn with_further(d: Draft, tag: u8, number: u32) -> Draft
     }
     let first = told.head;
     let given = fields::header_number(true, number);
-    let head = head_with(first, tag, given);
+    let head = sets::with_head_number(first, tag, given);
     let mut set = d.set;
     set.head = head;
     let alloc = d.alloc;

@@ -10,7 +10,7 @@ use Rattle.units.specs.PlaceLaws.{sum-same}
 use Rattle.units.specs.JudgingLaws.{iff-then}
 use Rattle.units.specs.Vectors.{wholeRotations, LeastPlaces, SameTerms}
 use Rattle.units.specs.VectorLaws.{decides-rules, terms-back, rules-same, least-same, least-one}
-use Rattle.fddi.specs.Rules.{stations, rest, others, termsOf, MeetsFddi, SameLoad, tokenFits}
+use Rattle.fddi.specs.Rules.{stations, rest, timeWith, others, termsOf, MeetsFddi, SameLoad, tokenFits}
 use Rattle.fddi.specs.Climb.{rotationsAt, zeros, none, climbFrom, leastPlan}
 use Rattle.fddi.specs.Answer.{Fitting}
 use Rattle.fddi.specs.Promised.{Regions, Promised}
@@ -116,9 +116,11 @@ first-places a b same =
     })
 
 pub promised : Promised
+unfolding timeWith
 promised =
     record {
       regions = regions;
+      no-rotation = λ ttrt d away s none. rw none refl;
       all-stations = λ l. others-own (stations l);
       in-products = λ l s i b.
           iff-then (rule-holds l s i b) (products (rotationsAt l i) (at (l .c) i) (rest (l .ttrt) (at (l .d) i)) (sumBelow (stations l) s + l .lost) (s i));

@@ -24,6 +24,8 @@ pub record Regions (ttrt d away s : ℕ) : Type 0 where
 pub record Promised : Type 0 where
   -- X is 003's
   pub regions : (ttrt d away s : ℕ) → 0 < wholeRotations ttrt d → Regions ttrt d away s
+  -- for q = 0, X is 0
+  pub no-rotation : (ttrt d away s : ℕ) → wholeRotations ttrt d ≡ 0 → leastTime ttrt d away s ≡ 0
   -- the others' S and the station's own are all S
   pub all-stations : (l : Load) (s : ℕ → ℕ) (i : ℕ) → i < stations l → others (stations l) s i + s i ≡ sumBelow (stations l) s
   -- the deadline rule in products: q shares are enough for C, and q − 1 are, or q shares and the rest of D are enough for C and all that is taken

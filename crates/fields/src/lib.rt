@@ -32,6 +32,9 @@ pub const FRAME_SIZE: usize = 4;
 // As long as F's.
 pub const GRID_TAG: u8 = 6;
 
+// How many fields the header has behind TTRT; their tags follow one another, from the mode's on.
+pub const FURTHER_COUNT: u8 = 3;
+
 pub const END_TAG: u8 = 255;
 
 pub const END_SIZE: usize = 0;

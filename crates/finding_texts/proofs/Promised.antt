@@ -1,10 +1,10 @@
 -- Everything that `specs/Promised.antt` lists, proved.
 use Prim.Native.Nat.{ℕ, _^_, _<_}
-use mathlib.Core.Path.{_≡_, sym, ap, _∙_}
+use mathlib.Core.Path.{_≡_, refl, sym, ap, _∙_}
 use mathlib.Core.Bool.{true}
 use mathlib.Core.List.{List, _++_}
 use mathlib.Core.Logic.{_≢_, _↔_, ⊎-elim}
-use borrow.Author.Tests.{eqb-true, eq-eqb}
+use borrow.Author.Tests.{eqb-true, eq-eqb, ne-eqb}
 use Rattle.units.specs.JudgingLaws.{and-true, true-and}
 use Rattle.sets.specs.declared.Set.{Set}
 use Rattle.plans.specs.declared.Alloc.{Alloc}
@@ -16,10 +16,11 @@ use Rattle.inspection.specs.declared.Inspection.{Inspection}
 use Rattle.inspection.specs.declared.Finding.{Finding}
 use Rattle.inspection.proofs.FindingLaws.{finding-refused, finding-read}
 use Rattle.text.specs.Text.{refusedLine}
-use Rattle.piece_inspections.specs.Inspecting.{inspectStart, inspectNumber}
+use Rattle.piece_inspections.specs.Inspecting.{inspectOver, inspectStart, inspectNumber}
+use Rattle.piece_inspections.specs.declared.Inspecting.{Inspecting}
 use Rattle.piece_inspections.proofs.Promised.{promised as pieces}
 use Rattle.finding_texts.specs.FindingText.{acceptedLine, recordLine, comparedLine, brokenText, findingText, isAccepted}
-use Rattle.finding_texts.specs.Promised.{Names, Promised}
+use Rattle.finding_texts.specs.Promised.{Names, SaidAlready, Promised}
 use Rattle.finding_texts.proofs.LineLaws.{refused-text, accepted-text, broken-text}
 
 module _ (bs : List ℕ) where
@@ -78,5 +79,15 @@ module _ (bs : List ℕ) where
     λ both. true-and _ _ (eq-eqb _ _ (kept-is ∙ both .0)) (eq-eqb _ _ (rule-is (both .0) ∙ both .1)),
   )
 
+-- ---- behind a fault
+
+behind-fault : (k : Inspecting) (bs : List ℕ) → k .visits .number ≢ 0 → SaidAlready k bs
+behind-fault k bs n =
+    let same = pieces .fault-ends k bs n in
+    let some : inspectNumber (inspectOver k bs) ≢ 0 = λ z. same .1 (sym (same .0) ∙ z) in (
+      sym (refused-text (inspectOver k bs) some) ∙ ap (λ (j : ℕ). refusedLine j) (same .0) ∙ refused-text k (same .1),
+      rw (ne-eqb (inspectNumber (inspectOver k bs)) 0 some, ne-eqb (inspectNumber k) 0 (same .1)) refl,
+    )
+
 pub promised : Promised
-promised = record { refused = refused-said; accepted = accepted-said; broken = broken-said; status = told }
+promised = record { refused = refused-said; accepted = accepted-said; broken = broken-said; fault-ends = behind-fault; status = told }

@@ -1,13 +1,15 @@
 -- What `inspect` prints of a log: `accepted N`, or `record K RULE` and a line for people, or `refused N`.
 use Prim.Native.Nat.{ℕ}
+use mathlib.Core.Path.{_≡_}
 use mathlib.Core.Bool.{Bool, cond, _&&_, _||_}
 use mathlib.Core.List.{List, [], _∷_, _++_}
 use lib.Dec.{eqb}
-use Rattle.text.specs.Text.{newline, space, decimalOf, line, textOr}
+use Rattle.text.specs.Text.{newline, space, decimalOf, line, textOr, Printed}
 use Rattle.inspection.specs.Findings.{compared, brokenRecord}
 use Rattle.inspection.specs.declared.Compared.{Compared}
 use Rattle.piece_inspections.specs.Inspecting.{inspectNumber}
 use Rattle.piece_inspections.specs.declared.Inspecting.{Inspecting}
+use Rattle.finding_texts.specs.declared.Found.{Found}
 
 -- ---- the first line
 
@@ -132,3 +134,8 @@ findingText k = textOr (inspectNumber k) (readText k)
 -- it was read, and no record breaks a rule
 abbrev pub isAccepted : Inspecting → Bool
 isAccepted k = eqb (inspectNumber k) 0 && eqb (k .looked .inspection .rule) 0
+
+-- what was found stands on the page, and the answer tells whether the log is accepted
+pub record FoundOn (k : Inspecting) (before after : List ℕ) (r : Found) : Type 0 where
+  pub printed : Printed (findingText k) before after (r .length)
+  pub accepted : r .accepted ≡ isAccepted k

@@ -4,11 +4,18 @@ ghost use mathlib.Core.List.{_∷_};
 ghost use Prim.Native.Nat.{_+_, _≤_};
 ghost use lib.ListN.{length};
 ghost use Rattle.text.specs.Text.{space, PutShort, Printed, pageSize};
-ghost use Rattle.finding_texts.specs.FindingText.{acceptedLine, ruleWord, recordLine, framesAim, aimOf, unitOf, comparedLine, brokenText, findingText, isAccepted};
+ghost use Rattle.finding_texts.specs.FindingText.{acceptedLine, ruleWord, recordLine, framesAim, aimOf, unitOf, comparedLine, brokenText, findingText, isAccepted, FoundOn};
 use inspection::Compared;
 use piece_inspections::Inspecting;
 use text::PAGE_SIZE;
 use units::numbers;
+
+// What was found is on a page: how many bytes it is, and whether the log is accepted.
+#[repr(C)]
+pub struct Found {
+    pub length: usize,
+    pub accepted: bool,
+}
 
 // `accepted N`.
 fn put_accepted(page: &mut [u8], at: usize, visits: u64) -> usize
@@ -128,7 +135,7 @@ fn put_broken(page: &mut [u8], inspecting: Inspecting) -> usize
 }
 
 // What is printed when all was read. A page that is too small gets nothing.
-pub fn put_finding(inspecting: Inspecting, page: &mut [u8]) -> usize
+fn put_text(inspecting: Inspecting, page: &mut [u8]) -> usize
     ensures { λ r. ⌜ Printed (findingText inspecting) (now (page .entry)) (now (page .exit)) r ⌝ }
 {
     if page.len() < PAGE_SIZE {
@@ -146,10 +153,19 @@ pub fn put_finding(inspecting: Inspecting, page: &mut [u8]) -> usize
 }
 
 // The log was read, and none of its records breaks a rule.
-pub fn is_accepted(inspecting: Inspecting) -> bool
+fn is_accepted(inspecting: Inspecting) -> bool
     ensures { λ r. ⌜ r ≡ isAccepted inspecting ⌝ }
 {
     let number = piece_inspections::number_of(inspecting);
     let state = inspecting.looked.inspection;
     (number == numbers::ACCEPTED) & (state.rule == 0)
+}
+
+// What is printed when all was read, at the start of the page, and whether the log is accepted. A page that is too small gets nothing.
+pub fn put_finding(inspecting: Inspecting, page: &mut [u8]) -> Found
+    ensures { λ r. ⌜ FoundOn inspecting (now (page .entry)) (now (page .exit)) r ⌝ }
+{
+    let length = put_text(inspecting, page);
+    let accepted = is_accepted(inspecting);
+    Found { length, accepted }
 }

@@ -63,7 +63,7 @@ module _ (t : Set) (a : Alloc) (h : judgedPlan t a ≡ 0) where
   pub set-is : (es : List Entry) → ringAfter (openedRing t a) es .set ≡ t
   set-is es = ring-set (openedRing t a) es ∙ opened-set
 
-  alloc-is : (es : List Entry) → ringAfter (openedRing t a) es .alloc ≡ a
+  pub alloc-is : (es : List Entry) → ringAfter (openedRing t a) es .alloc ≡ a
   alloc-is es = ring-alloc (openedRing t a) es ∙ opened-alloc
 
   pub visits-are : (es : List Entry) → ringAfter (openedRing t a) es .visits ≡ length es
@@ -73,7 +73,7 @@ module _ (t : Set) (a : Alloc) (h : judgedPlan t a ≡ 0) where
   reaches counter es g = gives-reaches counter (openedRing t a) es (reached-opened t a h) g
 
   -- the start that the last record leads to
-  leads : (counter : ℕ) (es : List Entry) → GivesFrom counter (openedRing t a) es → (b : Entry) → lastOf es ≡ some b
+  pub leads : (counter : ℕ) (es : List Entry) → GivesFrom counter (openedRing t a) es → (b : Entry) → lastOf es ≡ some b
       → (counter + ringAfter (openedRing t a) es .clock) % 2 ^ 32 ≡ (b .start + took t b) % 2 ^ 32
   leads counter es g b is = gives-last counter (openedRing t a) es b g is ∙ ap (λ (x : Set). (b .start + took x b) % 2 ^ 32) opened-set
 
@@ -128,7 +128,7 @@ module _ (t : Set) (a : Alloc) (h : judgedPlan t a ≡ 0) where
     K = reaches (A .counter) before (A .given)
 
     -- its tests decide the rules
-    decides : (k : ℕ) → Decides (getD (rulesKept (expected s t a (e .start)) e) k true) (Rule t a before e (suc k))
+    pub decides : (k : ℕ) → Decides (getD (rulesKept (expected s t a (e .start)) e) k true) (Rule t a before e (suc k))
     decides k =
         let r = ringAfter (openedRing t a) before in
         subst₂ (λ (x : Set) (y : Alloc). Decides (getD (rulesKept (expected s x y (e .start)) e) k true) (RuleOf x r before e (suc k))) (set-is before) (alloc-is before)
@@ -161,7 +161,7 @@ module _ (t : Set) (a : Alloc) (h : judgedPlan t a ≡ 0) where
         rules (suc k) f = f k
 
     -- rule k is the first that is broken
-    broken-here : (k : ℕ) → k ≢ 0 → brokenRule (expected s t a (e .start)) e ≡ k → (behind : List Entry) → FirstBroken t a (before ++ e ∷ behind) (s .visits + 1) k
+    pub broken-here : (k : ℕ) → k ≢ 0 → brokenRule (expected s t a (e .start)) e ≡ k → (behind : List Entry) → FirstBroken t a (before ++ e ∷ behind) (s .visits + 1) k
     broken-here k n is behind =
         let F = fails-first 1 (rulesKept (expected s t a (e .start)) e) k (omega arith) n is in
         record {

@@ -9,6 +9,7 @@
 --     One          one finding fits
 --     Amounts      which amounts some request sends
 --     Comparing    what is compared differs
+--     Expecting    what is expected is what the ring says
 --     Model        the records of a run could be given
 --     Kept         what a recorder keeps of a run
 --     Witness      an FDDI log, computed
@@ -26,6 +27,7 @@ pub mod Next
 pub mod One
 pub mod Amounts
 pub mod Comparing
+pub mod Expecting
 pub mod Model
 pub mod Kept
 pub mod Witness

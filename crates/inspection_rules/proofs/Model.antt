@@ -7,7 +7,6 @@ use mathlib.Core.Logic.{_≢_, ⊎-elim, _↔_}
 use native.Mathlib.Omega.{arith}
 use lib.ListN.{length, length-map, length-reverse}
 use Rattle.units.specs.Places.{at}
-use Rattle.sets.specs.Judged.{zeros}
 use Rattle.sets.specs.declared.Set.{Set}
 use Rattle.plans.specs.Planned.{judgedPlan}
 use Rattle.plans.specs.declared.Alloc.{Alloc}
@@ -43,33 +42,14 @@ entriesFrom counter (v ∷ before) = entriesFrom counter before ++ (tells counte
 
 -- ---- the steps look at a ring's timing alone
 
--- a ring of this timing, without messages
-abbrev back : Timing → Ring
-back x =
-    record {
-      set = x .set;
-      alloc = x .alloc;
-      trt = x .trt;
-      late = x .late;
-      sent = x .sent;
-      rest = zeros;
-      token = x .token;
-      arrival = zeros;
-      had = zeros;
-      last = x .last;
-      clock = x .clock;
-      visits = x .visits;
-      unused = x .unused;
-    }
-
 module _ (q r : Ring) (same : timing q ≡ timing r) where
   moved-same : (sync async : ℕ) → timing (moved q sync async) ≡ timing (moved r sync async)
   unfolding moved timersAfter timelyAfter
-  moved-same sync async = ap (λ (x : Timing). timing (moved (back x) sync async)) same
+  moved-same sync async = ap (λ (x : Timing). timing (moved x sync async)) same
 
   limit-same : limit q ≡ limit r
   unfolding limit
-  limit-same = ap (λ (x : Timing). limit (back x)) same
+  limit-same = ap (λ (x : Timing). limit x) same
 
   -- an accepted visit could be that of a ring of the same timing
   could-made : (counter : ℕ) (ask : Ask) → Reached r → visitNumber q ask ≡ 0

@@ -36,6 +36,7 @@ use Rattle.inspection_rules.proofs.Next.{start-between, one-more}
 use Rattle.inspection_rules.proofs.One.{not-both, one-finding}
 use Rattle.inspection_rules.proofs.Amounts.{which-amounts}
 use Rattle.inspection_rules.proofs.Comparing.{differs}
+use Rattle.inspection_rules.proofs.Expecting.{expects, compares}
 use Rattle.inspection_rules.proofs.Model.{model-gives, model-length, could-written}
 use Rattle.inspection_rules.proofs.Kept.{keptEntries, kept-length, kept-few, kept-fit, kept-gives, kept-log}
 use Rattle.inspection_rules.proofs.Witness.{late-log}
@@ -208,6 +209,8 @@ promised =
       runs = model-accepted;
       editions = editions;
       late-log = late-log;
+      expects = λ t a before counter own h R g. expects t a h before counter R g own;
+      compares = λ t a es h R number rule f. compares t a h es R number rule f;
       differ = differs;
       log-refused = λ bs n. finding-refused (readLog bs .number) (foundIn bs) n;
       log-read = λ bs z. (ap (λ (f : Finding). f .number) (found-there bs z), ap (λ (f : Finding). f .visits) (found-there bs z) ∙ sym (handed-length (readLog bs .visits) bs (readLog bs .first)));

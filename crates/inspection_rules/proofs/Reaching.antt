@@ -16,14 +16,15 @@ use Rattle.plans.specs.declared.Alloc.{Alloc}
 use Rattle.entries.specs.declared.Entry.{Entry}
 use Rattle.timers.specs.Kept.{TokenRule, Visit, Kept}
 use Rattle.timers.proofs.Promised.{promised as timers-promised}
-use Rattle.rings.specs.State.{count, ttrt, overrun, following, share, unusedAt, Shaped}
-use Rattle.rings.specs.Timers.{Fddi, timerOf, timersOf, hasRun, limit, lead, rise, timersAfter, timelyAfter}
+use Rattle.rings.specs.State.{count, ttrt, overrun, following, share, unusedAt, Shaped, timersOf, withMessages, withCourse, noMessages}
+use Rattle.rings.specs.Timers.{Fddi, timerOf, hasRun, limit, lead, rise, timersAfter, timelyAfter}
 use Rattle.rings.specs.TimerLaws.{fddi-or-not, limit-timely, after-timely}
 use Rattle.rings.specs.Opening.{openedRing}
 use Rattle.rings.specs.Sound.{Sound}
 use Rattle.rings.specs.Steps.{moved}
 use Rattle.rings.specs.FrameLaws.{frames-within, frames-none}
 use Rattle.rings.specs.declared.Ring.{Ring}
+use Rattle.rings.proofs.ShapeLaws.{messages-shaped, course-shaped, moved-shaped}
 use Rattle.rings.proofs.StationLaws.{limit-ran, ran-here, ran-there, moved-below, moved-long, opened-ran, opened-below}
 use Rattle.ring_rules.proofs.OpenedLaws.{fresh}
 use Rattle.promises.specs.Facts.{timerPlan}
@@ -60,22 +61,7 @@ pub record Reached (r : Ring) : Type 0 where
 -- ---- the timers do not look at the clock, the visits or the messages: the ring without these is a sound one
 
 abbrev still : Ring → Ring
-still r =
-    record {
-      set = r .set;
-      alloc = r .alloc;
-      trt = r .trt;
-      late = r .late;
-      sent = r .sent;
-      rest = zeros;
-      token = r .token;
-      arrival = zeros;
-      had = zeros;
-      last = zeros;
-      clock = 0;
-      visits = 0;
-      unused = r .unused;
-    }
+still r = withMessages noMessages (withCourse (record { sent = r .sent; last = zeros; token = r .token; clock = 0; visits = 0 }) r)
 
 module _ (r : Ring) (K : Reached r) where
   pub plan : Plan (r .set) (r .alloc)
@@ -89,16 +75,7 @@ module _ (r : Ring) (K : Reached r) where
   allotted i l = omega (arith, plan .token, sum-part (count r) (at (r .alloc .s)) i l, sum-part (count r) (at (r .set .w)) i l)
 
   still-shaped : Shaped (still r)
-  still-shaped =
-      record {
-        trt = K .shaped .trt;
-        late = K .shaped .late;
-        sent = K .shaped .sent;
-        rest = refl;
-        arrival = refl;
-        had = refl;
-        last = refl;
-      }
+  still-shaped = messages-shaped _ (course-shaped r (K .shaped) _ (K .shaped .sent) refl) _ refl refl refl
 
   still-sound : Fddi (r .set) → Sound (still r)
   still-sound e =
@@ -309,16 +286,7 @@ module _ (counter : ℕ) (r : Ring) (K : Reached r) (e : Entry) (C : Could count
       record {
         judged = K .judged;
         token = token-below;
-        shaped =
-            record {
-              trt = timers-long .0;
-              late = timers-long .1;
-              sent = length-set (r .sent) (r .token) _ ∙ K .shaped .sent;
-              rest = length-set (r .rest) (r .token) _ ∙ K .shaped .rest;
-              arrival = K .shaped .arrival;
-              had = K .shaped .had;
-              last = length-set (r .last) (r .token) _ ∙ K .shaped .last;
-            };
+        shaped = moved-shaped r (K .shaped) _ _ (timers-long .0) (timers-long .1);
         sents = sents-next;
         timely = early-next;
         fddi = lapped-next;

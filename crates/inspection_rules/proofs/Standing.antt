@@ -19,8 +19,8 @@ use Rattle.plans.specs.Planned.{judgedPlan}
 use Rattle.plans.specs.declared.Alloc.{Alloc}
 use Rattle.entries.specs.declared.Entry.{Entry}
 use Rattle.timers.proofs.Promised.{promised as timers-promised}
-use Rattle.rings.specs.State.{count, ttrt, unusedAt}
-use Rattle.rings.specs.Timers.{Fddi, timersOf, hasRun, limit, lead, rise}
+use Rattle.rings.specs.State.{count, ttrt, unusedAt, timersOf}
+use Rattle.rings.specs.Timers.{Fddi, hasRun, limit, lead, rise}
 use Rattle.rings.specs.TimerLaws.{fddi-or-not, fddi-true, fddi-false, limit-timely, lead-within}
 use Rattle.rings.specs.Opening.{openedRing}
 use Rattle.rings.specs.Steps.{moved}

@@ -1,5 +1,5 @@
 -- What is promised of an inspection of records (02, No. 6); `proofs/Promised.antt` proves it. The plan is any that would not be refused on opening, in every mode and with any F.
-use Prim.Native.Nat.{ℕ, _+_, _^_, _≤_, _<_, _∣_}
+use Prim.Native.Nat.{ℕ, zero, suc, _+_, _%_, _^_, _≤_, _<_, _∣_}
 use mathlib.Core.Path.{_≡_}
 use mathlib.Core.List.{List, [], _∷_, _++_, reverse}
 use mathlib.Core.Logic.{_⊎_, _≢_, _↔_}
@@ -12,19 +12,23 @@ use Rattle.plans.specs.Planned.{judgedPlan}
 use Rattle.plans.specs.declared.Alloc.{Alloc}
 use Rattle.entries.specs.declared.Entry.{Entry}
 use Rattle.fields.specs.Bytes.{AllBytes}
+use Rattle.rings.specs.State.{share}
 use Rattle.rings.specs.Timers.{limit}
 use Rattle.rings.specs.Opening.{openedRing}
+use Rattle.rings.specs.declared.Ring.{Ring}
 use Rattle.sheet_rules.specs.Promised.{planLength}
 use Rattle.promises.specs.Run.{Call, recordsOf}
 use Rattle.logs.specs.Layout.{logOf}
 use Rattle.logs.specs.Reading.{readLog, entriesIn}
 use Rattle.log_rules.specs.Recorded.{beginning, recorded, keptOf, endAnswer, endBuffer, entriesOf}
 use Rattle.inspection.specs.Counter.{ticksBetween}
+use Rattle.inspection.specs.Rules.{expected}
 use Rattle.inspection.specs.Records.{inspected, inspectedAll, inspectionOf}
 use Rattle.inspection.specs.Findings.{compared, findingIn}
 use Rattle.inspection.specs.declared.Inspection.{Inspection}
 use Rattle.inspection.specs.declared.Compared.{Compared}
-use Rattle.inspection_rules.specs.Gives.{Asked, Could, ringAfter, Gives}
+use Rattle.inspection.specs.declared.Expected.{Expected}
+use Rattle.inspection_rules.specs.Gives.{Asked, Could, ringAfter, GivesFrom, Gives}
 use Rattle.inspection_rules.specs.Broken.{lastOf, took, StartRule, Rule, FirstBroken}
 use Rattle.inspection_rules.specs.Model.{WrittenVisit}
 use Rattle.inspection_rules.specs.Witness.{LateLog}
@@ -47,6 +51,25 @@ pub record WholeFrames (limit longest amount : ℕ) : Type 0 where
   pub high : length ≤ longest
   pub whole : length ∣ amount
   pub begun : amount < limit + length
+
+-- what an inspection expects of the next record is what ring r's own visit says: its token, its limit, S and F; the start is what the recorder's counter shows at its clock, but of a first record whatever that has
+pub record ExpectedOf (counter : ℕ) (r : Ring) (own : ℕ) (x : Expected) : Type 0 where
+  pub station : x .station ≡ r .token
+  pub first : r .visits ≡ 0 → x .start ≡ own
+  pub start : r .visits ≢ 0 → x .start ≡ (counter + r .clock) % 2 ^ 32
+  pub offered : x .limit ≡ limit r
+  pub most : x .share ≡ share r (r .token)
+  pub longest : x .longest ≡ r .set .head .frame
+
+-- the numbers that are compared by rule k at record e behind these: what ring r's own visit says, and what the record says; a start as ticks after the record before, which took so many
+abbrev pub ComparedOf : Set → List Entry → Ring → Entry → ℕ → Compared → Type 0
+ComparedOf t before r e zero c = Unit {0}
+ComparedOf t before r e (suc zero) c = (c .expected ≡ r .token) × (c .found ≡ e .station)
+ComparedOf t before r e (suc (suc zero)) c = (b : Entry) → lastOf before ≡ some b → (c .expected ≡ took t b) × (c .found ≡ ticksBetween (b .start) (e .start))
+ComparedOf t before r e (suc (suc (suc zero))) c = (c .expected ≡ limit r) × (c .found ≡ e .limit)
+ComparedOf t before r e (suc (suc (suc (suc zero)))) c = (c .expected ≡ share r (r .token)) × (c .found ≡ e .synchronous)
+ComparedOf t before r e (suc (suc (suc (suc (suc zero))))) c = (c .expected ≡ limit r) × (c .found ≡ e .asynchronous)
+ComparedOf t before r e (suc (suc (suc (suc (suc (suc k)))))) c = Unit {0}
 
 -- what must be said and what is said by rule k: station, start and limit are not the same, and the amounts are above what they may be
 abbrev pub Differ : ℕ → Compared → Type 0
@@ -96,6 +119,12 @@ pub record Promised : Type 0 where
   pub runs : (t : Set) (a : Alloc) (counter : ℕ) (calls : List Call) → judgedPlan t a ≡ 0 → inspectionOf t a (entriesOf counter t a calls) .rule ≡ 0
   -- an FDDI log is judged by FDDI's steps
   pub late-log : LateLog
+  -- behind records that could be given, on a recorder whose counter showed this number at clock 0, an inspection expects just what the ring's own next visit says
+  pub expects : (t : Set) (a : Alloc) (before : List Entry) (counter own : ℕ) → judgedPlan t a ≡ 0 → Recorded before → GivesFrom counter (openedRing t a) before
+      → ExpectedOf counter (ringAfter (openedRing t a) before) own (expected (inspectionOf t a before) t a own)
+  -- and the numbers of the line for people, at the first record that breaks a rule, are that visit's and the record's
+  pub compares : (t : Set) (a : Alloc) (es : List Entry) → judgedPlan t a ≡ 0 → Recorded es → (number rule : ℕ) (f : FirstBroken t a es number rule)
+      → ComparedOf t (f .before) (ringAfter (openedRing t a) (f .before)) (f .entry) rule (compared (inspectionOf t a es) t a (f .entry))
   -- the numbers that are compared at the record that stops an inspection differ, as its rule has it; the starts are 32-bit numbers, and F is at least 1
   pub differ : (s : Inspection) (t : Set) (a : Alloc) (e : Entry) → s .rule ≡ 0 → s .course .start < 2 ^ 32 → e .start < 2 ^ 32 → 1 ≤ t .head .frame → inspected s t a e .rule ≢ 0
       → Differ (inspected s t a e .rule) (compared (inspected s t a e) t a e)

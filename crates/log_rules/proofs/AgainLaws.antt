@@ -6,6 +6,7 @@ use mathlib.Core.List.{List, _++_}
 use native.Mathlib.Omega.{arith}
 use lib.ListN.{length, length-append}
 use borrow.Author.Count.{below-more}
+use Rattle.sets.specs.Header.{headNumber}
 use Rattle.sets.specs.Rules.{CountAllowed}
 use Rattle.plans.specs.Planned.{judgedPlan}
 use Rattle.fields.specs.Rows.{Stands}
@@ -21,7 +22,7 @@ use Rattle.scan.proofs.PassedLaws.{AllPassed, all-passed, end-short}
 use Rattle.entries.specs.Entry.{entryBytes, entryAt, EntryFits, nextEntry}
 use Rattle.entries.specs.declared.NextEntry.{NextEntry}
 use Rattle.entries.proofs.EntryLaws.{VisitThere, entry-length, there-visit, handed-there, visit-bytes}
-use Rattle.sheets.specs.Layout.{headNumber, fieldsOf, endBytes}
+use Rattle.sheets.specs.Layout.{fieldsOf, endBytes}
 use Rattle.sheets.specs.Reading.{planPassed, headIn, setIn, allocIn, judgedSheet}
 use Rattle.sheets.specs.ReadLaws.{then-none, judged-kept}
 use Rattle.sheets.proofs.ReadingLaws.{head-ranges}

@@ -13,6 +13,7 @@ use Rattle.units.specs.Numbers.{timely}
 use Rattle.units.specs.Places.{at, fill}
 use Rattle.units.specs.JudgingLaws.{true-or-false, passed}
 use Rattle.units.specs.SmallLaws.{below-or-not}
+use Rattle.sets.specs.Header.{headNumber}
 use Rattle.sets.specs.Rules.{CountAllowed, numbersAllowed, walkTimeAllowed}
 use Rattle.sets.specs.Judged.{zeros}
 use Rattle.sets.specs.SetLaws.{decides-count}
@@ -33,7 +34,7 @@ use Rattle.scan.proofs.PassedLaws.{through}
 use Rattle.entries.specs.Entry.{entryBytes, entryAt, EntryFits, visitStands, nextEntry}
 use Rattle.entries.specs.declared.Entry.{Entry}
 use Rattle.entries.proofs.EntryLaws.{VisitThere, entry-length, visit-there, there-visit, handed-there, stands-visit, stands-read}
-use Rattle.sheets.specs.Layout.{mark, headUpTo, headNumber, furtherBytes, stationWith, allocationWith, fieldsOf, fieldsLength, endBytes, sheetOf, planSheet, sheetLength}
+use Rattle.sheets.specs.Layout.{mark, headUpTo, furtherBytes, stationWith, allocationWith, fieldsOf, fieldsLength, endBytes, sheetOf, planSheet, sheetLength}
 use Rattle.sheets.specs.Reading.{setIn, allocIn, judgedSheet, readPlan}
 use Rattle.sheets.specs.ReadLaws.{then-none, sheet-accepted}
 use Rattle.sheets.specs.Writing.{writeAnswer, planWritten}

@@ -1,4 +1,4 @@
--- What is printed of 3,400 first bytes is printed of all: they give the same plan (`pieces/proofs/HeadLaws.antt`), and a visit or the end behind its fields lies among them, with more bytes behind.
+-- What is printed of the first bytes is printed of all: they give the same plan (`sheets/proofs/FirstLaws.antt`), and a visit or the end behind its fields lies among them, with more bytes behind.
 use Prim.Native.Nat.{ℕ, _+_, _≤_}
 use mathlib.Core.Path.{_≡_, refl, sym, ap, _∙_}
 use mathlib.Core.Bool.{Bool, true, false, _&&_}
@@ -10,23 +10,29 @@ use lib.ListN.{length, length-append}
 use Rattle.units.specs.JudgingLaws.{true-or-false}
 use Rattle.fields.specs.Fields.{left}
 use Rattle.scan.specs.Scanned.{scanned}
-use Rattle.sheets.specs.Reading.{planPassed, planStart, readSheet}
+use Rattle.sheets.specs.Layout.{planRead}
+use Rattle.sheets.specs.Reading.{planPassed, planStart}
+use Rattle.sheets.proofs.FirstLaws.{plan-stops, at-same, size-same, scan-same, set-same, alloc-same, read-same as sheet-same, start-same, start-at}
 use Rattle.entries.specs.Entry.{visitStands}
 use Rattle.logs.specs.Walked.{stopNumber, walkFrom, walked, logWalked}
 use Rattle.logs.specs.Reading.{readLog}
 use Rattle.logs.proofs.ReadingLaws.{start-says}
-use Rattle.pieces.proofs.HeadLaws.{stops-early, at-same, size-same, scan-same, set-same, alloc-same, start-same, start-at}
-use Rattle.outputs.specs.ShowText.{showPrinted}
-use Rattle.log_shows.specs.LogShown.{isLog, plainText, headText}
+use Rattle.pieces.specs.Pieces.{firstSize}
+use Rattle.outputs.specs.ShowText.{showPrinted, shownNumber}
+use Rattle.log_shows.specs.LogShown.{isLog, plainText, shownNumberOf, headText, firstNumber}
 
 -- no visit stands behind the fields of a plan, where all have passed and it is no log
 pub no-visit : (bs : List ℕ) → planStart bs .passed ≡ true → isLog bs ≡ false → visitStands bs (scanned true bs .at) ≡ false
 no-visit bs all plain = ap (visitStands bs) (sym (start-at bs)) ∙ ap (λ (b : Bool). b && visitStands bs (planStart bs .at)) (sym all) ∙ plain
 
-module _ (head rest : List ℕ) (long : 3_400 ≤ length head) where
+module _ (head rest : List ℕ) (long : firstSize ≤ length head) where
+  -- they are enough for a plan
+  plan-long : planRead ≤ length head
+  plan-long = omega arith
+
   -- ---- behind the plan's fields
 
-  module _ (a : ℕ) (short : a ≤ 3_370) where
+  module _ (a : ℕ) (short : a ≤ 3_353) where
     visit-same : visitStands (head ++ rest) a ≡ visitStands head a
     unfolding visitStands
     visit-same =
@@ -50,39 +56,45 @@ module _ (head rest : List ℕ) (long : 3_400 ≤ length head) where
         ) refl
 
   pub log-same : isLog (head ++ rest) ≡ isLog head
-  log-same = rw (start-same head rest long, visit-same (planStart head .at) (omega (arith, start-at head, stops-early true head))) refl
+  log-same = rw (start-same head rest plan-long, visit-same (planStart head .at) (omega (arith, start-at head, plan-stops head))) refl
 
   -- ---- no log: the same is read
-
-  sheet-same : (plan : Bool) → readSheet plan (head ++ rest) ≡ readSheet plan head
-  unfolding readSheet
-  sheet-same plan = rw (scan-same head rest long plan, set-same head rest long plan, alloc-same head rest long plan) refl
 
   read-same : planStart head .passed ≡ true → isLog head ≡ false → readLog (head ++ rest) ≡ readLog head
   unfolding readLog logWalked walked walkFrom
   read-same all plain =
       let a = scanned true head .at in
-      let short = stops-early true head in
+      let short = plan-stops head in
       let passed : planPassed (scanned true head .passed) ≡ true = sym (start-says head) ∙ all in
       rw (
-        scan-same head rest long true,
+        scan-same head rest true plan-long,
         passed,
         visit-same a short,
         no-visit head all plain,
         stop-same a short,
-        set-same head rest long true,
-        alloc-same head rest long true,
+        set-same head rest true plan-long,
+        alloc-same head rest true plan-long,
       ) refl
 
   plain-same : isLog head ≡ false → plainText (head ++ rest) ≡ plainText head
   unfolding plainText showPrinted
   plain-same plain =
-      ⊎-elim (λ (all : planStart head .passed ≡ true). rw (start-same head rest long, all, read-same all plain) refl)
-      (λ (e : planStart head .passed ≡ false). rw (start-same head rest long, e, sheet-same false, sheet-same true) refl)
+      ⊎-elim (λ (all : planStart head .passed ≡ true). rw (start-same head rest plan-long, all, read-same all plain) refl)
+      (λ (e : planStart head .passed ≡ false). rw (start-same head rest plan-long, e, sheet-same head rest false (omega arith), sheet-same head rest true plan-long) refl)
       (true-or-false (planStart head .passed))
+
+  pub number-same : firstNumber (head ++ rest) ≡ firstNumber head
+  unfolding firstNumber shownNumberOf shownNumber
+  number-same =
+      ⊎-elim (λ (e : isLog head ≡ true). rw (log-same, e) refl)
+      (λ (e : isLog head ≡ false).
+      ⊎-elim (λ (all : planStart head .passed ≡ true). rw (log-same, e, start-same head rest plan-long, all, read-same all e) refl)
+      (λ (none : planStart head .passed ≡ false). rw (log-same, e, start-same head rest plan-long, none, sheet-same head rest false (omega arith), sheet-same head rest true plan-long) refl)
+      (true-or-false (planStart head .passed)))
+      (true-or-false (isLog head))
 
   pub text-same : headText (head ++ rest) ≡ headText head
   unfolding headText
   text-same =
-      ⊎-elim (λ (e : isLog head ≡ true). rw (log-same, e, start-same head rest long) refl) (λ (e : isLog head ≡ false). rw (log-same, e, plain-same e) refl)
+      ⊎-elim (λ (e : isLog head ≡ true). rw (log-same, e, start-same head rest plan-long) refl) (λ (e : isLog head ≡ false). rw (log-same, e, plain-same e) refl)
       (true-or-false (isLog head))

@@ -1,16 +1,17 @@
 -- Everything that `specs/Promised.antt` lists, proved.
-use Prim.Native.Nat.{ℕ, _+_, _-_, _≤_, _<_}
+use Prim.Native.Nat.{ℕ, zero, suc, _+_, _-_, _≤_}
 use mathlib.Core.Path.{_≡_, refl, sym, ap, _∙_}
 use mathlib.Core.Bool.{true, false}
 use mathlib.Core.List.{List, [], _++_, append-nil}
 use mathlib.Core.Logic.{_⊎_, inl, inr, ⊎-elim, _≢_}
 use native.Mathlib.Omega.{arith}
-use borrow.Author.Tests.{eq-eqb}
+use borrow.Author.Tests.{eq-eqb, ne-eqb}
 use lib.ListN.{length, drop, take-append-drop}
-use lib.Seq.{length-take-le, drop-length, drop-nil, drop-drop, drop-append-le}
-use Rattle.units.specs.SmallLaws.{below-or-not}
+use lib.Seq.{drop-append-le}
 use Rattle.units.specs.JudgingLaws.{true-or-false, and-true}
+use Rattle.sets.specs.declared.Set.{Set}
 use Rattle.plans.specs.Planned.{judgedPlan}
+use Rattle.plans.specs.declared.Alloc.{Alloc}
 use Rattle.fields.specs.Fields.{tagAt}
 use Rattle.scan.specs.Scanned.{scanned}
 use Rattle.scan.specs.FirstFault.{WholeSheet}
@@ -20,7 +21,9 @@ use Rattle.sheets.specs.Reading.{thenNumber, judgedSheet, setIn, allocIn, planP
 use Rattle.sheets.specs.ReadLaws.{then-none, sheet-accepted, read-number as sheet-number}
 use Rattle.sheets.specs.declared.ReadPlan.{ReadPlan}
 use Rattle.sheets.specs.declared.PlanStart.{PlanStart}
+use Rattle.sheets.proofs.FirstLaws.{start-same, stays, take-or-all, start-at, start-inside}
 use Rattle.sheet_rules.proofs.Promised.{promised as sheet-rules}
+use Rattle.entries.specs.declared.Entry.{Entry}
 use Rattle.entries.proofs.EntryLaws.{visit-there}
 use Rattle.logs.specs.Walked.{walked, logWalked}
 use Rattle.logs.specs.FirstFault.{in-plan, WholeLog}
@@ -29,21 +32,22 @@ use Rattle.logs.specs.declared.Walked.{Walked}
 use Rattle.logs.specs.declared.ReadLog.{ReadLog}
 use Rattle.logs.proofs.WalkLaws.{not-all-fault, log-end-there}
 use Rattle.logs.proofs.ReadingLaws.{read-number, read-accepted, number-judged, start-says, log-whole}
-use Rattle.pieces.specs.Pieces.{nothingRead, numberOf, readOver, handedOver}
+use Rattle.pieces.specs.Pieces.{firstSize, readOver, handedOver}
 use Rattle.pieces.specs.declared.Visits.{Visits}
 use Rattle.pieces.proofs.FieldLaws.{read-append, handed-append}
 use Rattle.pieces.proofs.WholeLaws.{whole-read}
-use Rattle.pieces.proofs.HeadLaws.{start-same, stays, start-at, start-inside}
-use Rattle.text.specs.Text.{refusedLine, textOr}
+use Rattle.text.specs.Text.{refusedLine, textOr, Tells}
+use Rattle.text.proofs.RefusalLaws.{countU, Plain, plain-append, tells-or, tells-behind}
 use Rattle.text.specs.TextLaws.{text-accepted, text-refused}
 use Rattle.outputs.specs.ShowText.{sheetText, planLinesOf, showPrinted}
 use Rattle.outputs.specs.LogText.{visitLines, logText}
-use Rattle.log_shows.specs.LogShown.{isLog, planText, plainText, headText, showFrom, linesFor, showAfter, shownOver, lastNumber, endText, visitsPart, shownOf}
-use Rattle.log_shows.specs.LogShown.{shownWith, firstSize, firstPart, visitsRead}
+use Rattle.outputs.proofs.PlainLaws.{plain-plan, plain-visits, show-tells}
+use Rattle.log_shows.specs.LogShown.{isLog, planText, plainText, shownNumberOf, headText, firstNumber, showFrom, linesFor, showAfter, shownOver, lastNumber, endText, visitsPart, shownOf}
+use Rattle.log_shows.specs.LogShown.{shownWith, numberWith, firstPart, visitsRead}
 use Rattle.log_shows.specs.Promised.{Promised}
 use Rattle.log_shows.specs.declared.Showing.{Showing}
-use Rattle.log_shows.proofs.ShowLaws.{lines-append, lines-accepted, plan-lines, plain-ever, plain-read, head-plain, head-log}
-use Rattle.log_shows.proofs.FirstLaws.{log-same, text-same}
+use Rattle.log_shows.proofs.ShowLaws.{lines-append, lines-accepted, plan-lines, plain-ever, plain-read, number-ever, number-read, number-plain, head-plain, head-log}
+use Rattle.log_shows.proofs.FirstLaws.{log-same, number-same, text-same}
 
 -- ---- pieces
 
@@ -206,6 +210,44 @@ module _ (bs : List ℕ) (accepted : readPlan bs .number ≡ 0) where
       ∙ plan-lines _ _ judged
       ∙ sym sheet-printed
 
+-- ---- the number, and what the text tells
+
+number-whole : (bs : List ℕ) → numberWith bs (visitsPart bs) ≡ shownNumberOf bs
+number-whole bs =
+    ⊎-elim (λ (e : isLog bs ≡ true). rw e (last bs e ∙ sym (read-number bs) ∙ number-read bs (readLog bs) (and-true (planStart bs .passed) _ e .0) refl))
+    (λ (e : isLog bs ≡ false). rw e (sym (number-plain bs e)))
+    (true-or-false (isLog bs))
+
+plain-lines : (k : ℕ) (es : List Entry) → Plain (linesFor k es)
+unfolding linesFor countU
+plain-lines zero es = plain-visits es
+plain-lines (suc k) es = refl
+
+plain-start : (k : ℕ) (t : Set) (a : Alloc) → Plain (planText k t a)
+unfolding countU
+plain-start zero t a = plain-plan t a
+plain-start (suc k) t a = rw (ne-eqb (suc k) 0 (omega arith)) refl
+
+-- a log with a visit
+log-tells : (bs : List ℕ) → isLog bs ≡ true → Tells (shownOf bs) (shownNumberOf bs)
+log-tells bs log =
+    let k = planStart bs .number in
+    let text = planText k (planStart bs .set) (planStart bs .alloc) in
+    let lines = linesFor k (handedFrom (walked bs (planStart bs .at) .visits) bs (planStart bs .at)) in
+    let number : logNumber bs ≡ shownNumberOf bs = sym (read-number bs) ∙ number-read bs (readLog bs) (and-true (planStart bs .passed) _ log .0) refl in
+    rw (log-said bs log, ← number) (tells-behind (text ++ lines) (logNumber bs) (plain-append text lines (plain-start k _ _) (plain-lines k _)))
+
+-- anything else
+plain-tells : (bs : List ℕ) → isLog bs ≡ false → Tells (shownOf bs) (shownNumberOf bs)
+plain-tells bs none =
+    ⊎-elim (λ (all : planStart bs .passed ≡ true).
+    rw (plain-log bs all none, ← number-read bs (readLog bs) all refl) (tells-or _ (readLog bs .number) (plain-plan _ _)))
+    (λ (e : planStart bs .passed ≡ false). rw (ever bs e, ← number-ever bs e) (show-tells bs))
+    (true-or-false (planStart bs .passed))
+
+tells : (bs : List ℕ) → Tells (shownOf bs) (shownNumberOf bs)
+tells bs = ⊎-elim (log-tells bs) (plain-tells bs) (true-or-false (isLog bs))
+
 -- ---- the first bytes are enough
 
 module _ (bs : List ℕ) where
@@ -218,20 +260,14 @@ module _ (bs : List ℕ) where
   first-rest : first ++ rest ≡ bs
   first-rest = take-append-drop firstSize bs
 
-  enough : (rest ≡ []) ⊎ (3_400 ≤ length first)
-  enough =
-      let more = firstSize - length bs in
-      ⊎-elim (λ (l : length bs < firstSize).
-      let size : firstSize ≡ length bs + (firstSize - length bs) = omega arith in
-      inl (ap (λ (n : ℕ). drop n bs) size ∙ sym (drop-drop more (length bs) bs) ∙ ap (drop more) (drop-length bs) ∙ drop-nil more))
-      (λ (l : firstSize ≤ length bs). inr (omega (arith, length-take-le firstSize bs l)))
-      (below-or-not (length bs) firstSize)
+  enough : (rest ≡ []) ⊎ (firstSize ≤ length first)
+  enough = ⊎-elim (λ e. inl e) (λ e. inr (omega arith)) (take-or-all firstSize bs)
 
-  of-first : {A : Type 0} (f : List ℕ → A) → (3_400 ≤ length first → f (first ++ rest) ≡ f first) → f first ≡ f bs
-  of-first f same = sym (stays first rest enough f same) ∙ ap f first-rest
+  of-first : {A : Type 0} (f : List ℕ → A) → (firstSize ≤ length first → f (first ++ rest) ≡ f first) → f first ≡ f bs
+  of-first f same = sym (stays f firstSize first rest enough same) ∙ ap f first-rest
 
   start : planStart first ≡ planStart bs
-  start = of-first planStart (start-same first rest)
+  start = of-first planStart (λ l. start-same first rest (omega arith))
 
   log-first : isLog first ≡ isLog bs
   log-first = of-first (λ x. isLog x) (log-same first rest)
@@ -249,11 +285,11 @@ module _ (bs : List ℕ) where
   unfolding shownOf
   shown-in-pieces = rw (log-first, text-first, visits-first, start) refl
 
-  last-in-pieces : isLog (firstPart bs) ≡ true → lastNumber (showAfter (showFrom (firstPart bs)) (visitsRead bs)) ≡ logNumber bs
-  last-in-pieces log =
-      ap (λ (v : List ℕ). lastNumber (showAfter (showFrom (firstPart bs)) v)) visits-first
-      ∙ ap (λ (s : PlanStart). thenNumber (numberOf (readOver nothingRead (visitsPart bs))) (s .number)) start
-      ∙ last bs (sym log-first ∙ log)
+  number-first : firstNumber first ≡ firstNumber bs
+  number-first = of-first firstNumber (number-same first rest)
+
+  number-in-pieces : numberWith (firstPart bs) (visitsRead bs) ≡ shownNumberOf bs
+  number-in-pieces = rw (log-first, number-first, visits-first, start) (number-whole bs)
 
 pub promised : Promised
 promised =
@@ -268,5 +304,6 @@ promised =
       plain-refused = refused-said;
       first-log = log-first;
       in-pieces = shown-in-pieces;
-      number-in-pieces = last-in-pieces;
+      number-in-pieces = number-in-pieces;
+      shown-refused = tells;
     }

@@ -27,11 +27,11 @@ use Rattle.logs.specs.declared.ReadLog.{ReadLog}
 use Rattle.pieces.specs.Pieces.{stepped, visitIn, entriesOf, readOver, handedOver}
 use Rattle.pieces.proofs.FieldLaws.{read-append, handed-append}
 use Rattle.pieces.specs.declared.Visits.{Visits}
-use Rattle.text.specs.Text.{newline, space, lineOn, line, textOr, pageSize, PutShort, Printed}
+use Rattle.text.specs.Text.{newline, space, lineOn, line, textOr, pageSize, PutShort, Printed, numberOn}
 use Rattle.text.specs.TextLaws.{put-none, put-short-then, put-as, printed, not-printed, line-five}
-use Rattle.outputs.specs.ShowText.{sheetText, planLinesOf, showPrinted}
+use Rattle.outputs.specs.ShowText.{sheetText, planLinesOf, showPrinted, shownNumber}
 use Rattle.outputs.specs.LogText.{visitLine, visitLines}
-use Rattle.log_shows.specs.LogShown.{isLog, planText, plainText, headText, linesFor, showAfter, shownOver, visitsSize, ShownPiece, visitsOf, ShownOn}
+use Rattle.log_shows.specs.LogShown.{isLog, planText, plainText, shownNumberOf, headText, firstNumber, linesFor, showAfter, shownOver, visitsSize, ShownPiece, visitsOf, ShownOn}
 use Rattle.log_shows.specs.declared.Showing.{Showing}
 use Rattle.log_shows.specs.declared.Shown.{Shown}
 
@@ -40,8 +40,20 @@ use Rattle.log_shows.specs.declared.Shown.{Shown}
 pub printed-as : {s t before after : List ℕ} {r : ℕ} → Printed s before after r → s ≡ t → Printed t before after r
 printed-as {s} {t} {before} {after} {r} p e = rw (← e) p
 
+-- the number on a page that is large enough, and on one that is not
+pub number-large : {n k : ℕ} (page : List ℕ) → pageSize ≤ length page → n ≡ k → n ≡ numberOn k page
+unfolding numberOn
+number-large page large e = rw (le-ltb (length page) pageSize large) e
+
+pub number-small : (k : ℕ) (page : List ℕ) → length page < pageSize → 14 ≡ numberOn k page
+unfolding numberOn
+number-small k page small = rw (lt-ltb (length page) pageSize small) refl
+
+pub put-nothing : (page : List ℕ) → PutShort 0 page 0 [] page 0
+put-nothing page = record { put = put-none page 0; short = omega arith }
+
 pub printed-none : (page : List ℕ) → pageSize ≤ length page → Printed [] page page 0
-printed-none page large = printed {most = 0} (record { put = put-none page 0; short = omega arith }) refl large (omega arith)
+printed-none page large = printed (put-nothing page) refl large (omega arith)
 
 -- ---- the lines
 
@@ -152,6 +164,22 @@ module _ (bs : List ℕ) where
   pub plain-read : (r : ReadLog) → planStart bs .passed ≡ true → r ≡ readLog bs → textOr (r .number) (planLinesOf (r .set) (r .alloc)) ≡ plainText bs
   unfolding plainText
   plain-read r e same = rw e (ap (λ (x : ReadLog). textOr (x .number) (planLinesOf (x .set) (x .alloc))) same)
+
+  pub number-ever : planStart bs .passed ≡ false → shownNumber bs ≡ shownNumberOf bs
+  unfolding shownNumberOf
+  number-ever e = rw e refl
+
+  pub number-read : (r : ReadLog) → planStart bs .passed ≡ true → r ≡ readLog bs → r .number ≡ shownNumberOf bs
+  unfolding shownNumberOf
+  number-read r e same = rw e (ap (λ (x : ReadLog). x .number) same)
+
+  pub number-plain : isLog bs ≡ false → shownNumberOf bs ≡ firstNumber bs
+  unfolding firstNumber
+  number-plain e = rw e refl
+
+  pub number-log : isLog bs ≡ true → 0 ≡ firstNumber bs
+  unfolding firstNumber
+  number-log e = rw e refl
 
   pub head-plain : isLog bs ≡ false → plainText bs ≡ headText bs
   unfolding headText

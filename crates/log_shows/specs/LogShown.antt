@@ -11,9 +11,9 @@ use Rattle.sheets.specs.Reading.{thenNumber, planStart}
 use Rattle.entries.specs.Entry.{visitStands}
 use Rattle.entries.specs.declared.Entry.{Entry}
 use Rattle.logs.specs.Reading.{readLog}
-use Rattle.pieces.specs.Pieces.{nothingRead, numberOf, readOver, handedOver}
-use Rattle.text.specs.Text.{textOr, pageSize, PutShort, Printed}
-use Rattle.outputs.specs.ShowText.{planLinesOf, showPrinted}
+use Rattle.pieces.specs.Pieces.{firstSize, nothingRead, numberOf, readOver, handedOver}
+use Rattle.text.specs.Text.{textOr, pageSize, PutShort, Printed, numberOn}
+use Rattle.outputs.specs.ShowText.{planLinesOf, showPrinted, shownNumber}
 use Rattle.outputs.specs.LogText.{visitLines}
 use Rattle.log_shows.specs.declared.Showing.{Showing}
 use Rattle.log_shows.specs.declared.Shown.{Shown}
@@ -33,9 +33,17 @@ planText number t a = cond (eqb number 0) (planLinesOf t a) []
 unfoldable pub plainText : List ℕ → List ℕ
 plainText bs = cond (planStart bs .passed) (textOr (readLog bs .number) (planLinesOf (readLog bs .set) (readLog bs .alloc))) (showPrinted bs)
 
+-- the number of any bytes, which the status of `show` goes by: where all fields of a plan have passed that of reading a log, else that of a request or plan as ever
+unfoldable pub shownNumberOf : List ℕ → ℕ
+shownNumberOf bs = cond (planStart bs .passed) (readLog bs .number) (shownNumber bs)
+
 -- what is printed of the first bytes: of a log the plan's text, of anything else the whole answer
 unfoldable pub headText : List ℕ → List ℕ
 headText bs = cond (isLog bs) (planText (planStart bs .number) (planStart bs .set) (planStart bs .alloc)) (plainText bs)
+
+-- the number that goes with it: of a log 0, for its refusal stands behind the visits; of anything else the number
+unfoldable pub firstNumber : List ℕ → ℕ
+firstNumber bs = cond (isLog bs) 0 (shownNumberOf bs)
 
 -- what is kept for the visits: none was read yet, and the plan's refusal
 abbrev pub showFrom : List ℕ → Showing
@@ -78,12 +86,13 @@ shownWith first visits =
 unfoldable pub shownOf : List ℕ → List ℕ
 shownOf bs = shownWith bs (visitsPart bs)
 
+-- the number that goes with first bytes; where they are a log's, that behind the visits
+abbrev pub numberWith : List ℕ → List ℕ → ℕ
+numberWith first visits = cond (isLog first) (lastNumber (showAfter (showFrom first) visits)) (firstNumber first)
+
 -- ---- how the program reads them
 
--- so many bytes first. The fields of the longest plan are 3,353 bytes, and a visit behind them 20
-abbrev pub firstSize : ℕ
-firstSize = 3_400
-
+-- so many bytes first, for the plan and a visit
 abbrev pub firstPart : List ℕ → List ℕ
 firstPart bs = take firstSize bs
 
@@ -117,9 +126,10 @@ pub record ShownOn (k : Showing) (bs before after : List ℕ) (r : Shown) : Type
   pub behind : r .showing ≡ showAfter k (visitsOf bs before)
   pub shown : Printed (shownOver k (visitsOf bs before)) before after (r .length)
 
--- the first bytes were shown: whether they are a log's, and where its visits begin
+-- the first bytes were shown: whether they are a log's, where its visits begin, and their number
 pub record BegunOn (bs before after : List ℕ) (r : Begun) : Type 0 where
   pub log : r .log ≡ isLog bs
   pub at : r .at ≡ planStart bs .at
   pub showing : r .showing ≡ showFrom bs
   pub shown : Printed (headText bs) before after (r .length)
+  pub number : r .number ≡ numberOn (firstNumber bs) before

@@ -7,10 +7,10 @@ use mathlib.Core.Logic.{_≢_}
 use Rattle.sheets.specs.Reading.{planStart, readPlan}
 use Rattle.logs.specs.Walked.{walked}
 use Rattle.logs.specs.Reading.{logNumber, readLog, handedFrom, entriesIn}
-use Rattle.text.specs.Text.{refusedLine, textOr}
+use Rattle.text.specs.Text.{refusedLine, textOr, Tells}
 use Rattle.outputs.specs.ShowText.{showPrinted}
 use Rattle.outputs.specs.LogText.{logText}
-use Rattle.log_shows.specs.LogShown.{isLog, planText, showFrom, linesFor, showAfter, shownOver, lastNumber, visitsPart, shownWith, shownOf, firstPart, visitsRead}
+use Rattle.log_shows.specs.LogShown.{isLog, planText, showFrom, linesFor, showAfter, shownOver, lastNumber, visitsPart, shownWith, shownOf, numberWith, shownNumberOf, firstPart, visitsRead}
 use Rattle.log_shows.specs.declared.Showing.{Showing}
 
 pub record Promised : Type 0 where
@@ -38,5 +38,7 @@ pub record Promised : Type 0 where
   pub first-log : (bs : List ℕ) → isLog (firstPart bs) ≡ isLog bs
   -- their text, and of a log the lines of the visits behind, are all that is printed
   pub in-pieces : (bs : List ℕ) → shownWith (firstPart bs) (visitsRead bs) ≡ shownOf bs
-  -- and the number behind these visits is that of the whole log
-  pub number-in-pieces : (bs : List ℕ) → isLog (firstPart bs) ≡ true → lastNumber (showAfter (showFrom (firstPart bs)) (visitsRead bs)) ≡ logNumber bs
+  -- and the number that goes with them is that of all bytes: the status goes by it
+  pub number-in-pieces : (bs : List ℕ) → numberWith (firstPart bs) (visitsRead bs) ≡ shownNumberOf bs
+  -- what is printed ends with `refused N` if that number N is not 0, and with no refusal if it is
+  pub shown-refused : (bs : List ℕ) → Tells (shownOf bs) (shownNumberOf bs)

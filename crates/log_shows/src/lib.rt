@@ -3,9 +3,9 @@ ghost use mathlib.Core.Path.{_≡_};
 ghost use Rattle.sheets.specs.Reading.{planStart};
 ghost use Prim.Native.Nat.{_+_, _≤_, min};
 ghost use lib.ListN.{length};
-ghost use Rattle.text.specs.Text.{PutShort, Printed, pageSize};
+ghost use Rattle.text.specs.Text.{PutShort, Printed, Says, pageSize};
 ghost use Rattle.outputs.specs.LogText.{visitLine};
-ghost use Rattle.log_shows.specs.LogShown.{planText, plainText, linesFor, endText, lastNumber, VisitsPiece, ShownPiece, ShownOn, BegunOn};
+ghost use Rattle.log_shows.specs.LogShown.{planText, plainText, shownNumberOf, linesFor, endText, lastNumber, VisitsPiece, ShownPiece, ShownOn, BegunOn};
 ghost use Rattle.pieces.specs.Pieces.{entriesOf};
 use entries::Entry;
 use entries::NextEntry;
@@ -13,6 +13,7 @@ use pieces::Visits;
 use plans::Alloc;
 use sets::Set;
 use text::PAGE_SIZE;
+use text::Said;
 use units::numbers;
 
 // How many bytes are read at once.
@@ -32,13 +33,14 @@ pub struct Shown {
     pub length: usize,
 }
 
-// The first bytes were shown: what is kept for the visits, whether there are some, where they begin, and how many bytes of the page are the answer.
+// The first bytes were shown: what is kept for the visits, whether there are some, where they begin, how many bytes of the page are the answer, and the number of the refusal that it says.
 #[repr(C)]
 pub struct Begun {
     pub showing: Showing,
     pub log: bool,
     pub at: usize,
     pub length: usize,
+    pub number: u8,
 }
 
 // ---- the lines
@@ -120,7 +122,7 @@ pub fn show_on(showing: Showing, bytes: &[u8], page: &mut [u8]) -> Shown
 }
 
 // The number when all was read.
-pub fn number_of(showing: Showing) -> u8
+fn number_of(showing: Showing) -> u8
     ensures { λ r. ⌜ r ≡ lastNumber showing ⌝ }
 {
     let visits = showing.visits;
@@ -131,37 +133,50 @@ pub fn number_of(showing: Showing) -> u8
     showing.number
 }
 
-// What is printed when all was read: nothing, or the refusal.
-pub fn show_end(showing: Showing, page: &mut [u8]) -> usize
-    ensures { λ r. ⌜ Printed (endText showing) (now (page .entry)) (now (page .exit)) r ⌝ }
+// What is printed when all was read: nothing, or the refusal; and the number.
+pub fn show_end(showing: Showing, page: &mut [u8]) -> Said
+    ensures { λ r. ⌜ Says (endText showing) (lastNumber showing) (now (page .entry)) (now (page .exit)) r ⌝ }
 {
     if page.len() < PAGE_SIZE {
-        return 0;
+        return Said {
+            length: 0,
+            number: numbers::BUFFER_TOO_SHORT,
+        };
     }
     let number = number_of(showing);
     if number == numbers::ACCEPTED {
-        return 0;
+        return Said { length: 0, number };
     }
-    text::put_refused(page, 0, number)
+    let length = text::put_refused(page, 0, number);
+    Said { length, number }
 }
 
 // ---- the first bytes
 
 // The answer to bytes without a whole visit: behind a plan's fields those of a log that has none, else a request or plan as ever.
-fn show_plain(passed: bool, head: &[u8], page: &mut [u8]) -> usize
+fn show_plain(passed: bool, head: &[u8], page: &mut [u8]) -> Said
     requires { ⌜ (pageSize ≤ length (now page)) × (passed ≡ planStart (now head) .passed) ⌝ }
-    ensures { λ r. ⌜ Printed (plainText (now (head .entry))) (now (page .entry)) (now (page .exit)) r ⌝ }
+    ensures { λ r. ⌜ Says (plainText (now (head .entry))) (shownNumberOf (now (head .entry))) (now (page .entry)) (now (page .exit)) r ⌝ }
 {
     if !passed {
         return shows::show_text(head, page);
     }
     let log = logs::read_log(head);
-    if log.number != numbers::ACCEPTED {
-        return text::put_refused(page, 0, log.number);
+    let told = log.number;
+    if told != numbers::ACCEPTED {
+        let length = text::put_refused(page, 0, told);
+        return Said {
+            length,
+            number: told,
+        };
     }
     let set = log.set;
     let alloc = log.alloc;
-    shows::plan_text(set, alloc, page)
+    let length = shows::plan_text(set, alloc, page);
+    Said {
+        length,
+        number: told,
+    }
 }
 
 // The text of a log's plan; nothing where it is refused.
@@ -193,6 +208,7 @@ pub fn show_start(head: &[u8], page: &mut [u8]) -> Begun
             log,
             at: start.at,
             length: 0,
+            number: numbers::BUFFER_TOO_SHORT,
         };
     }
     if !log {
@@ -201,7 +217,8 @@ pub fn show_start(head: &[u8], page: &mut [u8]) -> Begun
             showing,
             log,
             at: start.at,
-            length: plain,
+            length: plain.length,
+            number: plain.number,
         };
     }
     let set = start.set;
@@ -212,5 +229,6 @@ pub fn show_start(head: &[u8], page: &mut [u8]) -> Begun
         log,
         at: start.at,
         length,
+        number: numbers::ACCEPTED,
     }
 }

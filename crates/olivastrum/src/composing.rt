@@ -1,9 +1,9 @@
 // `compose`: the sheet of the text on standard input, or the log; a log's bytes go out as its lines come.
-use crate::ending;
-use crate::ending::Ending;
+use commands::status;
 use drafts::Composing;
 use drafts::Draft;
 use libc::STDIN_FILENO;
+use streams::ending;
 
 // The text behind one reading, whether the input goes on, and whether reading or writing failed.
 struct Read {
@@ -67,7 +67,7 @@ fn all(c: Composing) -> Read {
 }
 
 // Writes the sheet or the end of the log, or says why there is none.
-fn write(draft: Draft) -> Ending {
+fn write(draft: Draft) -> u8 {
     let mut out = io::large_buffer();
     let written = drafts::compose_end(draft, &mut out);
     let length = written.length;
@@ -75,20 +75,20 @@ fn write(draft: Draft) -> Ending {
     if number != 0 {
         return ending::refuse_sheet(number);
     }
-    ending::answer(&out[..length], false)
+    ending::answer(&out[..length], status::DONE)
 }
 
-pub(crate) fn compose() -> Ending {
+pub(crate) fn compose() -> u8 {
     let begun = drafts::begin();
     let read = all(begun);
     if read.failed {
-        return ending::failed();
+        return status::FAILED;
     }
     // A last line may lack its newline.
     let text = read.composing;
     let last = take(text, b"\n");
     if last.failed {
-        return ending::failed();
+        return status::FAILED;
     }
     let ended = last.composing;
     let draft = ended.draft;

@@ -1,9 +1,9 @@
 // `inspect`: whether a run could have given the records of the log on standard input, or its first fault.
-use crate::ending;
-use crate::ending::Ending;
-use crate::reading;
+use commands::status;
 use libc::STDIN_FILENO;
 use piece_inspections::Inspecting;
+use streams::ending;
+use streams::reading;
 
 // The log behind one reading, whether the input goes on, and whether reading failed.
 struct Looked {
@@ -55,28 +55,31 @@ fn look_on(inspecting: Inspecting) -> Looked {
 }
 
 // Says what was found.
-fn finish(inspecting: Inspecting) -> Ending {
+fn finish(inspecting: Inspecting) -> u8 {
     let mut page = io::large_buffer();
-    let length = finding_texts::put_finding(inspecting, &mut page);
-    let accepted = finding_texts::is_accepted(inspecting);
-    ending::answer(&page[..length], !accepted)
+    let found = finding_texts::put_finding(inspecting, &mut page);
+    let length = found.length;
+    if found.accepted {
+        return ending::answer(&page[..length], status::DONE);
+    }
+    ending::answer(&page[..length], status::REFUSED)
 }
 
 // The first 3,400 bytes are enough for every plan: what they say of it is what the whole log says.
-pub(crate) fn inspect() -> Ending {
-    let mut head: [u8; 3_400] = [0; 3_400];
+pub(crate) fn inspect() -> u8 {
+    let mut head: [u8; pieces::FIRST_SIZE] = [0; pieces::FIRST_SIZE];
     let filled = reading::fill(STDIN_FILENO, &mut head);
     if filled.failed {
         return ending::unread_input();
     }
     let read = filled.length;
     let begun = piece_inspections::inspect_start(&head[..read]);
-    if read < 3_400 {
+    if read < pieces::FIRST_SIZE {
         return finish(begun);
     }
     let all = look_on(begun);
     if all.failed {
-        return ending::failed();
+        return status::FAILED;
     }
     let behind = all.inspecting;
     finish(behind)

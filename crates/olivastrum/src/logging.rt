@@ -1,8 +1,8 @@
 // `log PLAN`: the log of the run that the calls on standard input make.
-use crate::ending;
-use crate::ending::Ending;
+use commands::status;
 use libc::STDIN_FILENO;
 use recordings::Recording;
+use streams::ending;
 
 // The recording behind one reading: whether the input goes on, and whether reading or writing failed.
 struct Heard {
@@ -66,20 +66,20 @@ fn hear_all(recording: Recording) -> Heard {
 }
 
 // The end of the log; then the first line that cannot be read is named.
-fn finish(unread: u64) -> Ending {
+fn finish(unread: u64) -> u8 {
     let mut end: [u8; 3] = [0; 3];
     sheets::visits::put_end(&mut end, 0);
     if !ending::say(&end) {
-        return ending::failed();
+        return status::FAILED;
     }
     if unread != 0 {
         return ending::name_line(unread);
     }
-    ending::done(false)
+    status::DONE
 }
 
 // Opens the ring of a plan sheet, and records the calls.
-pub(crate) fn start(sheet: &[u8]) -> Ending {
+pub(crate) fn start(sheet: &[u8]) -> u8 {
     let mut out = io::large_buffer();
     let opened = recordings::open_log(sheet, &mut out);
     let number = opened.number;
@@ -88,18 +88,18 @@ pub(crate) fn start(sheet: &[u8]) -> Ending {
     }
     let length = opened.length;
     if !ending::say(&out[..length]) {
-        return ending::failed();
+        return status::FAILED;
     }
     let recording = opened.recording;
     let heard = hear_all(recording);
     if heard.failed {
-        return ending::failed();
+        return status::FAILED;
     }
     // A last line may lack its newline.
     let behind = heard.recording;
     let last = hear(behind, b"\n");
     if last.failed {
-        return ending::failed();
+        return status::FAILED;
     }
     finish(last.recording.unread)
 }

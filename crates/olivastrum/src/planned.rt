@@ -1,10 +1,9 @@
 // `run PLAN` and `log PLAN`: the plan sheet in the file PLAN is read, and the calls go to the ring that it opens.
-use crate::ending;
-use crate::ending::Ending;
 use crate::logging;
-use crate::reading;
 use crate::running;
+use commands::status;
 use libc::STDERR_FILENO;
+use streams::reading;
 
 // Names the command on standard error.
 fn name(log: bool) {
@@ -16,15 +15,15 @@ fn name(log: bool) {
 }
 
 // Names the path, and what the system says of it.
-fn fail(log: bool, path: &[u8]) -> Ending {
+fn fail(log: bool, path: &[u8]) -> u8 {
     name(log);
     os::fail(path);
-    ending::failed()
+    status::FAILED
 }
 
 // Reads the plan sheet in an open file: the longest, of 128 stations with a mode, F and g, has 3,356 bytes; one more tells that a byte follows it.
-fn read_plan(log: bool, file: i32, path: &[u8]) -> Ending {
-    let mut sheet: [u8; 3_357] = [0; 3_357];
+fn read_plan(log: bool, file: i32, path: &[u8]) -> u8 {
+    let mut sheet: [u8; sheets::PLAN_READ] = [0; sheets::PLAN_READ];
     let filled = reading::fill(file, &mut sheet);
     if filled.failed {
         return fail(log, path);
@@ -37,7 +36,7 @@ fn read_plan(log: bool, file: i32, path: &[u8]) -> Ending {
 }
 
 // Takes the plan whose path is the word at this place.
-pub(crate) fn obey(log: bool, word: usize) -> Ending {
+pub(crate) fn obey(log: bool, word: usize) -> u8 {
     let mut path = io::buffer();
     let length = os::arg(word, &mut path);
     if os::errno() != 0 {
@@ -54,7 +53,7 @@ pub(crate) fn obey(log: bool, word: usize) -> Ending {
             STDERR_FILENO,
             b"standard input, output or error is closed\n",
         );
-        return ending::failed();
+        return status::FAILED;
     }
     let ended = read_plan(log, file, &path[..length]);
     libc::close(file);

@@ -1,8 +1,8 @@
 // `run PLAN`: the calls on standard input, answered line by line.
-use crate::ending;
-use crate::ending::Ending;
 use calls::Run;
+use commands::status;
 use libc::STDIN_FILENO;
+use streams::ending;
 
 // The run behind one reading: whether the input goes on, whether a line could not be read, and whether reading or writing failed.
 struct Heard {
@@ -76,7 +76,7 @@ fn hear_all(run: Run) -> Heard {
 }
 
 // Opens the ring of a plan sheet, and answers the calls.
-pub(crate) fn start(sheet: &[u8]) -> Ending {
+pub(crate) fn start(sheet: &[u8]) -> u8 {
     let opened = calls::open_run(sheet);
     let number = opened.number;
     if number != 0 {
@@ -85,13 +85,14 @@ pub(crate) fn start(sheet: &[u8]) -> Ending {
     let run = opened.run;
     let heard = hear_all(run);
     if heard.failed {
-        return ending::failed();
+        return status::FAILED;
     }
     // A last line may lack its newline.
     let behind = heard.run;
     let last = hear(behind, b"\n");
-    Ending {
-        failed: heard.unread | (last.unread | last.failed),
-        refused: false,
+    let failed = heard.unread | (last.unread | last.failed);
+    if failed {
+        return status::FAILED;
     }
+    status::DONE
 }

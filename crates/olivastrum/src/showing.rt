@@ -1,9 +1,9 @@
 // `show`: the text of the sheet or log on standard input, or the refusal.
-use crate::ending;
-use crate::ending::Ending;
-use crate::reading;
+use commands::status;
 use libc::STDIN_FILENO;
 use log_shows::Showing;
+use streams::ending;
+use streams::reading;
 
 // The log behind one reading, whether the input goes on, and whether reading or writing failed.
 struct Seen {
@@ -83,18 +83,18 @@ fn see_head(showing: Showing, head: &[u8], from: usize) -> Seen {
 }
 
 // The refusal, if there is one.
-fn finish(showing: Showing) -> Ending {
+fn finish(showing: Showing) -> u8 {
     let mut page = io::large_buffer();
-    let length = log_shows::show_end(showing, &mut page);
-    let refused = log_shows::number_of(showing) != 0;
-    ending::answer(&page[..length], refused)
+    let said = log_shows::show_end(showing, &mut page);
+    let length = said.length;
+    ending::answer(&page[..length], status::status_of(said.number))
 }
 
 // The rest of a log whose first bytes are these.
-fn show_log(showing: Showing, head: &[u8], from: usize, more: bool) -> Ending {
+fn show_log(showing: Showing, head: &[u8], from: usize, more: bool) -> u8 {
     let first = see_head(showing, head, from);
     if first.failed {
-        return ending::failed();
+        return status::FAILED;
     }
     let behind = first.showing;
     if !more {
@@ -102,15 +102,15 @@ fn show_log(showing: Showing, head: &[u8], from: usize, more: bool) -> Ending {
     }
     let all = see_all(behind);
     if all.failed {
-        return ending::failed();
+        return status::FAILED;
     }
     let last = all.showing;
     finish(last)
 }
 
 // The longest plan has 3,353 bytes without its end, and a visit 20: both lie in the first 3,400, if the input has them.
-pub(crate) fn show() -> Ending {
-    let mut head: [u8; 3_400] = [0; 3_400];
+pub(crate) fn show() -> u8 {
+    let mut head: [u8; pieces::FIRST_SIZE] = [0; pieces::FIRST_SIZE];
     let filled = reading::fill(STDIN_FILENO, &mut head);
     if filled.failed {
         return ending::unread_input();
@@ -120,12 +120,11 @@ pub(crate) fn show() -> Ending {
     let begun = log_shows::show_start(&head[..read], &mut page);
     let length = begun.length;
     if !begun.log {
-        let refused = usage::is_refusal(&page[..length]);
-        return ending::answer(&page[..length], refused);
+        return ending::answer(&page[..length], status::status_of(begun.number));
     }
     if !ending::say(&page[..length]) {
-        return ending::failed();
+        return status::FAILED;
     }
     let showing = begun.showing;
-    show_log(showing, &head[..read], begun.at, read == 3_400)
+    show_log(showing, &head[..read], begun.at, read == pieces::FIRST_SIZE)
 }

@@ -12,20 +12,21 @@ use lib.ListN.{length}
 use Rattle.units.specs.Places.{at, fill}
 use Rattle.units.specs.JudgingLaws.{true-or-false}
 use Rattle.units.specs.SmallLaws.{below-or-not}
+use Rattle.sets.specs.Header.{headNumber}
 use Rattle.sets.specs.Judged.{zeros}
 use Rattle.sets.specs.declared.Head.{Head}
 use Rattle.sets.specs.declared.Set.{Set}
+use Rattle.sets.proofs.HeaderLaws.{headSoFar, so-far-absent, so-far-all}
 use Rattle.plans.specs.Planned.{blankAlloc}
 use Rattle.plans.specs.declared.Alloc.{Alloc}
 use Rattle.fields.specs.Rows.{rows}
 use Rattle.fields.specs.Fields.{modeTag, frameTag, gridTag}
 use Rattle.fields.specs.Header.{furtherCount, absent}
 use Rattle.fields.proofs.HeaderLaws.{same-or-not, header-there}
-use Rattle.sheets.specs.Layout.{headNumber}
 use Rattle.text.specs.Text.{newline}
 use Rattle.lines.specs.Scan.{freshScan, letterRead, characterRead, stepped, codeOf, nextLine}
 use Rattle.lines.specs.ScanLaws.{steppedOver, withNumbers, wordScan, typed, AllSmall, small-none, small-and, typed-read, line-typed, hasNoEnd, no-end-typed}
-use Rattle.drafts.specs.Compose.{ttrtWord, wordOf, stationWord, lineTag, blankDraft, withTtrt, headWith, withFurther, withStation, lineDrafted, onNextLine, composeStart, composeAfter}
+use Rattle.drafts.specs.Compose.{ttrtWord, wordOf, stationWord, lineTag, blankDraft, withTtrt, withFurther, withStation, lineDrafted, onNextLine, composeStart, composeAfter}
 use Rattle.outputs.specs.ShowText.{ttrtLine, furtherLine, headLines, shareWords, stationLine, sheetText}
 use Rattle.outputs.proofs.ShowLaws.{line-none, line-some}
 use Rattle.drafts.specs.ComposeLaws.{compose-append, compose-line, atRest}
@@ -211,24 +212,6 @@ tagBehind h (suc k) = cond (noLine h k) (tagBehind h k) (modeTag + k)
 unfoldable pub headLine : Head → ℕ → ℕ
 headLine h zero = nextLine 1
 headLine h (suc k) = cond (noLine h k) (headLine h k) (nextLine (headLine h k))
-
--- the header so far; a number that no line names is what its absence means
-unfoldable headSoFar : Head → ℕ → Head
-headSoFar h zero = record { ttrt = h .ttrt; mode = absent; frame = absent; grid = absent }
-headSoFar h (suc k) = headWith (headSoFar h k) (modeTag + k) (headNumber h (modeTag + k))
-
--- a number that is absent changes nothing of it
-so-far-absent : (h : Head) (k : ℕ) → k < furtherCount → headNumber h (modeTag + k) ≡ absent → headSoFar h (suc k) ≡ headSoFar h k
-unfolding headSoFar headWith headNumber
-so-far-absent h zero l e = rw e refl
-so-far-absent h (suc zero) l e = rw e refl
-so-far-absent h (suc (suc zero)) l e = rw e refl
-so-far-absent h (suc (suc (suc k))) l e = absurd (omega arith)
-
--- and behind all fields it is the header
-so-far-all : (h : Head) → headSoFar h furtherCount ≡ h
-unfolding headSoFar headWith headNumber
-so-far-all h = refl
 
 -- the last tag is TTRT's or that of one of these fields
 tag-some : (h : Head) (k : ℕ) → 1 ≤ tagBehind h k

@@ -8,17 +8,17 @@ use native.Mathlib.Omega.{arith}
 use borrow.Author.Tests.{le-leb, lt-ltb, le-ltb, ne-eqb}
 use lib.Dec.{leb, ltb, eqb}
 use Rattle.units.specs.JudgingLaws.{true-or-false}
+use Rattle.sets.specs.Header.{headNumber}
 use Rattle.sets.specs.Rules.{CountAllowed}
-use Rattle.sets.specs.declared.Head.{Head}
+use Rattle.sets.proofs.HeaderLaws.{with-number}
 use Rattle.plans.specs.Planned.{blankAlloc}
 use Rattle.plans.specs.declared.Alloc.{Alloc}
-use Rattle.fields.specs.Fields.{modeTag, frameTag}
 use Rattle.fields.specs.Header.{headerNumber}
-use Rattle.sheets.specs.Layout.{headNumber, mostOf}
+use Rattle.sheets.specs.Layout.{mostOf}
 use Rattle.sheets.specs.Writing.{writtenAnswer}
 use Rattle.sheets.proofs.ReadingLaws.{head-out}
 use Rattle.sheets.proofs.WritingLaws.{answer-number, number-judged}
-use Rattle.drafts.specs.Compose.{misplaced, headWith, withFurther, isWhole, composedAnswer}
+use Rattle.drafts.specs.Compose.{misplaced, withFurther, isWhole, composedAnswer}
 use Rattle.drafts.specs.declared.Draft.{Draft}
 
 -- whatever is asked beside it, a test that fails fails
@@ -28,15 +28,6 @@ and-false false = refl
 
 misplaced-broken : (d : Draft) → isWhole (misplaced d) ≡ false
 misplaced-broken d = and-false (eqb (d .unread) 0)
-
--- the number that was put into a header is there
-with-number : (h : Head) (tag number : ℕ) → headNumber (headWith h tag number) tag ≡ number
-unfolding headNumber headWith
-with-number h tag number =
-    ⊎-elim (λ (e : eqb tag modeTag ≡ true). rw e refl)
-    (λ (e : eqb tag modeTag ≡ false).
-    ⊎-elim (λ (f : eqb tag frameTag ≡ true). rw (e, f) refl) (λ (f : eqb tag frameTag ≡ false). rw (e, f) refl) (true-or-false (eqb tag frameTag)))
-    (true-or-false (eqb tag modeTag))
 
 module _ (d : Draft) (tag number : ℕ) where
   pub line-given : 1 ≤ d .head → d .head < tag → d .set .n ≡ 0 → headNumber (withFurther d tag number .set .head) tag ≡ headerNumber true number

@@ -1,8 +1,8 @@
 -- The laws of what `show` prints, for the proofs of this layer. No rule stands here.
-use Prim.Native.Nat.{ℕ, _≤_}
+use Prim.Native.Nat.{ℕ, zero, suc, _≤_}
 use mathlib.Core.Path.{_≡_, refl, sym, ap, _∙_}
 use mathlib.Core.Bool.{true, false}
-use mathlib.Core.List.{List, [], _∷_, _++_}
+use mathlib.Core.List.{List, [], _∷_, _++_, append-assoc, append-nil}
 use mathlib.Core.Logic.{_≢_}
 use borrow.Author.Tests.{eq-eqb, ne-eqb}
 use Rattle.plans.specs.Planned.{blankAlloc}
@@ -11,13 +11,13 @@ use Rattle.sheets.specs.ReadLaws.{read-few}
 use Rattle.sets.specs.declared.Head.{Head}
 use Rattle.sheets.specs.declared.ReadRequest.{ReadRequest}
 use Rattle.sheets.specs.declared.ReadPlan.{ReadPlan}
+use Rattle.fields.specs.Rows.{rows}
 use Rattle.fields.specs.Fields.{modeTag, frameTag}
-use Rattle.fields.specs.Header.{furtherCount, absent}
-use Rattle.sheets.specs.Layout.{headNumber}
+use Rattle.fields.specs.Header.{absent}
 use Rattle.text.specs.Text.{decimalOf, line, refusedLine}
 use Rattle.drafts.specs.Compose.{modeWord, frameWord, gridWord, wordOf}
 use Rattle.text.specs.TextLaws.{text-accepted, text-refused}
-use Rattle.outputs.specs.ShowText.{ttrtLine, furtherLine, headLines, sheetText, planReadText, requestReadText, planShown, showPrinted}
+use Rattle.outputs.specs.ShowText.{ttrtLine, furtherLine, numberLine, headLines, sheetText, planReadText, requestReadText, planShown, showPrinted, shownNumber}
 
 -- a further line of the header: none where the number is what its absence means
 pub line-none : (tag number : ℕ) → number ≡ absent → furtherLine tag number ≡ []
@@ -44,10 +44,11 @@ pub grid-named : (tag : ℕ) → tag ≢ modeTag → tag ≢ frameTag → wordOf
 unfolding wordOf
 grid-named tag m f = rw (ne-eqb tag modeTag m, ne-eqb tag frameTag f) refl
 
--- the header's lines, one by one
-pub head-lines : (h : Head) → headLines h furtherCount ≡ ttrtLine (h .ttrt) ++ furtherLine 4 (h .mode) ++ furtherLine 5 (h .frame) ++ furtherLine 6 (h .grid)
-unfolding headLines headNumber
-head-lines h = refl
+-- the header's lines: TTRT's, then the rows of the others
+pub lines-rows : (h : Head) (k : ℕ) → headLines h k ≡ ttrtLine (h .ttrt) ++ rows k (numberLine h)
+unfolding headLines rows
+lines-rows h zero = sym (append-nil _)
+lines-rows h (suc k) = ap (λ (s : List ℕ). s ++ numberLine h k) (lines-rows h k) ∙ append-assoc (ttrtLine (h .ttrt)) (rows k (numberLine h)) (numberLine h k)
 
 pub request-few : (r : ReadRequest) (bs : List ℕ) → r ≡ readRequest bs → r .set .n ≤ 128
 request-few r bs e = rw e (read-few false bs)
@@ -78,3 +79,12 @@ module _ (r : ReadRequest) (sheet : List ℕ) (e : r ≡ readRequest sheet) wher
 
   pub shown-request : r .number ≢ 2 → r .number ≡ 0 → sheetText false (r .set) blankAlloc ≡ showPrinted sheet
   shown-request k z = sym (text-accepted (r .number) _ z) ∙ shown-as-request k
+
+  -- the number that goes with it
+  pub number-as-plan : r .number ≡ 2 → readPlan sheet .number ≡ shownNumber sheet
+  unfolding shownNumber
+  number-as-plan k = rw (eq-eqb (readRequest sheet .number) 2 (sym number ∙ k))
+
+  pub number-as-request : r .number ≢ 2 → r .number ≡ shownNumber sheet
+  unfolding shownNumber
+  number-as-request k = rw (ne-eqb (readRequest sheet .number) 2 (λ z. k (number ∙ z))) number

@@ -8,12 +8,13 @@ use lib.ListN.{length, drop}
 use mathlib.Core.Logic.{⊎-elim}
 use lib.Dec.{eqb}
 use Rattle.units.specs.JudgingLaws.{true-or-false}
+use Rattle.sets.specs.Header.{headNumber}
 use Rattle.sets.specs.declared.Set.{Set}
 use Rattle.plans.specs.Planned.{blankAlloc}
 use Rattle.plans.specs.declared.Alloc.{Alloc}
 use Rattle.fields.specs.Bytes.{AllBytes}
 use Rattle.fields.specs.Fields.{modeTag, frameTag}
-use Rattle.sheets.specs.Layout.{headNumber, mostOf, sheetOf, planSheet, sheetLength}
+use Rattle.sheets.specs.Layout.{mostOf, sheetOf, planSheet, sheetLength}
 use Rattle.sheets.proofs.ReadingLaws.{head-ranges}
 use Rattle.sheets.proofs.WritingLaws.{answer-accepted, buffer-accepted, number-none, sheet-long}
 use Rattle.sheets.specs.Reading.{judgedSheet, setIn, allocIn, readSheet, readRequest, readPlan}

@@ -1,45 +1,30 @@
--- What is promised of what `plan`, `plan-sheet` and `show` put out; `proofs/Promised.antt` proves it.
+-- What is promised of what `show` prints; `proofs/Promised.antt` proves it.
 use Prim.Native.Nat.{ℕ, _+_, _-_, _≤_, _<_}
 use mathlib.Core.Path.{_≡_}
 use mathlib.Core.Bool.{Bool, true, false}
 use mathlib.Core.List.{List, [], _∷_, _++_}
 use mathlib.Core.Logic.{_≢_}
-use lib.ListN.{length, drop}
+use Rattle.sets.specs.Header.{headNumber}
 use Rattle.sets.specs.Rules.{CountAllowed}
 use Rattle.sets.specs.declared.Set.{Set}
-use Rattle.plans.specs.Planned.{judgedPlan, planned}
+use Rattle.plans.specs.Planned.{judgedPlan}
 use Rattle.plans.specs.declared.Alloc.{Alloc}
 use Rattle.entries.specs.declared.Entry.{Entry}
 use Rattle.logs.specs.Layout.{logOf, AllFit}
 use Rattle.fields.specs.Bytes.{AllBytes}
 use Rattle.fields.specs.Header.{headerNumber}
-use Rattle.sheets.specs.Layout.{headNumber, mostOf, planSheet}
-use Rattle.sheets.specs.Reading.{readSheet, readRequest}
+use Rattle.sheets.specs.Layout.{mostOf}
+use Rattle.sheets.specs.Reading.{readSheet}
 use Rattle.sheets.specs.Writing.{refusedWriting}
-use Rattle.text.specs.Text.{newline, refusedLine}
+use Rattle.text.specs.Text.{newline, Tells}
 use Rattle.lines.specs.Scan.{isEmptyLine}
 use Rattle.lines.specs.declared.Scan.{Scan}
 use Rattle.drafts.specs.Compose.{isVisitLine, withFurther, withVisit, lineDrafted, composeStart, composeAfter, isWhole, composedAnswer, composedBuffer, draftOf}
 use Rattle.drafts.specs.Sent.{sentOver, endAnswer, endBuffer, sentOf, Composes, Makes, noVisit, Broken}
 use Rattle.drafts.specs.declared.Draft.{Draft}
 use Rattle.drafts.specs.declared.Composing.{Composing}
-use Rattle.outputs.specs.PlanText.{planLines, planPrinted}
-use Rattle.outputs.specs.PlanSheet.{planningNumber, planSheetAnswer, planSheetBuffer}
-use Rattle.outputs.specs.ShowText.{showPrinted}
+use Rattle.outputs.specs.ShowText.{showPrinted, shownNumber}
 use Rattle.outputs.specs.LogText.{logText}
-
--- ★ the request sheet of the worked ring, and what 01 prints for it
-abbrev pub workedSheet : List ℕ
-workedSheet =
-    1 ∷ 0 ∷ 4 ∷ 0 ∷ 0 ∷ 0 ∷ 100 ∷ 2 ∷ 0 ∷ 16 ∷ 0 ∷ 0 ∷ 0 ∷ 2 ∷ 0 ∷ 0 ∷ 0 ∷ 20 ∷ 0 ∷ 0 ∷ 0 ∷ 100 ∷ 0 ∷ 0 ∷
-    0 ∷ 100 ∷ 2 ∷ 0 ∷ 16 ∷ 0 ∷ 0 ∷ 0 ∷ 0 ∷ 0 ∷ 0 ∷ 0 ∷ 20 ∷ 0 ∷ 0 ∷ 0 ∷ 100 ∷ 0 ∷ 0 ∷ 0 ∷ 100 ∷ 2 ∷ 0 ∷ 16 ∷
-    0 ∷ 0 ∷ 0 ∷ 0 ∷ 0 ∷ 0 ∷ 0 ∷ 20 ∷ 0 ∷ 0 ∷ 0 ∷ 100 ∷ 0 ∷ 0 ∷ 0 ∷ 100 ∷ 2 ∷ 0 ∷ 16 ∷ 0 ∷ 0 ∷ 0 ∷ 0 ∷ 0 ∷
-    0 ∷ 0 ∷ 20 ∷ 0 ∷ 0 ∷ 0 ∷ 100 ∷ 0 ∷ 0 ∷ 0 ∷ 100 ∷ 255 ∷ 0 ∷ 0 ∷ []
-
-abbrev pub workedText : List ℕ
-workedText =
-    112 ∷ 108 ∷ 97 ∷ 110 ∷ 32 ∷ 52 ∷ 32 ∷ 49 ∷ 48 ∷ 48 ∷ 32 ∷ 50 ∷ 32 ∷ 49 ∷ 56 ∷ 10 ∷ 48 ∷ 32 ∷ 50 ∷ 48 ∷ 10 ∷ 49 ∷ 32 ∷ 50 ∷
-    48 ∷ 10 ∷ 50 ∷ 32 ∷ 50 ∷ 48 ∷ 10 ∷ 51 ∷ 32 ∷ 50 ∷ 48 ∷ 10 ∷ []
 
 -- an older set's request sheet: TTRT 100, mode 2, one station of w 2, C 20, D 200, P 200; and the text of it
 abbrev pub olderSheet : List ℕ
@@ -75,20 +60,6 @@ griddedText =
     115 ∷ 116 ∷ 97 ∷ 116 ∷ 105 ∷ 111 ∷ 110 ∷ 32 ∷ 50 ∷ 32 ∷ 50 ∷ 48 ∷ 32 ∷ 50 ∷ 48 ∷ 48 ∷ 32 ∷ 50 ∷ 48 ∷ 48 ∷ 10 ∷ []
 
 pub record Promised : Type 0 where
-  -- an empty input prints `refused 1`
-  pub empty : planPrinted [] ≡ refusedLine 1
-  -- ★ the worked ring prints what 01 says, to the byte
-  pub worked : planPrinted workedSheet ≡ workedText
-  -- the plan's text and the plan sheet speak of the same plan
-  pub same-plan : (sheet out : List ℕ) → planSheetAnswer (readRequest sheet) out .number ≡ 0
-      → (planPrinted sheet ≡ planLines (readRequest sheet .set) (planned (readRequest sheet .set) .alloc))
-      × (planSheetBuffer (readRequest sheet) out
-      ≡ planSheet (readRequest sheet .set) (planned (readRequest sheet .set) .alloc)
-      ++ drop (length (planSheet (readRequest sheet .set) (planned (readRequest sheet .set) .alloc))) out)
-  -- and what is refused is refused alike: the same number, and no byte of a sheet
-  pub same-refusal : (sheet out : List ℕ) → planningNumber (readRequest sheet) ≢ 0
-      → (planPrinted sheet ≡ refusedLine (planningNumber (readRequest sheet)))
-      × ((planSheetAnswer (readRequest sheet) out .number ≡ planningNumber (readRequest sheet)) × (planSheetBuffer (readRequest sheet) out ≡ out))
   -- `show`, then `compose`, is the identity on accepted sheets: of the text that is shown of a request or a plan, its very bytes are made again, all of them at its end
   pub show-compose : (plan : Bool) (sheet : List ℕ) → AllBytes sheet → readSheet plan sheet .number ≡ 0 → Composes (showPrinted sheet) [] sheet
   -- and of the text of a log, the lines of an accepted plan and then those of its visits, the bytes of that log
@@ -99,6 +70,8 @@ pub record Promised : Type 0 where
   pub framed : showPrinted framedSheet ≡ framedText
   -- and `grid 5` behind both
   pub gridded : showPrinted griddedSheet ≡ griddedText
+  -- the number that goes with what `show` prints of a sheet: it ends with `refused N` if the number N is not 0, and with no refusal if it is
+  pub show-refused : (sheet : List ℕ) → Tells (showPrinted sheet) (shownNumber sheet)
   -- a further line of the header in a text, `mode M` by tag 4, `frame F` by tag 5 and `grid G` by tag 6: behind TTRT's, before the first station and above those with lower tags it gives the number that its field on a sheet gives
   pub header-line : (d : Draft) (tag number : ℕ) → 1 ≤ d .head → d .head < tag → d .set .n ≡ 0 → headNumber (withFurther d tag number .set .head) tag ≡ headerNumber true number
   -- so a text with a number there that is not 2 to the highest, 1 among them, is refused with 4, if its lines make a sheet of 1 to 128 stations

@@ -5,6 +5,7 @@ use mathlib.Core.List.{List, [], _∷_, _++_}
 use lib.Dec.{leb, eqb}
 use Rattle.units.specs.Numbers.{wrongShape}
 use Rattle.units.specs.Places.{at}
+use Rattle.sets.specs.Header.{headNumber}
 use Rattle.sets.specs.declared.Head.{Head}
 use Rattle.sets.specs.declared.Set.{Set}
 use Rattle.plans.specs.Planned.{blankAlloc}
@@ -12,7 +13,6 @@ use Rattle.plans.specs.declared.Alloc.{Alloc}
 use Rattle.fields.specs.Rows.{rows}
 use Rattle.fields.specs.Fields.{modeTag}
 use Rattle.fields.specs.Header.{furtherCount, absent}
-use Rattle.sheets.specs.Layout.{headNumber}
 use Rattle.sheets.specs.Reading.{readRequest, readPlan}
 use Rattle.sheets.specs.declared.ReadRequest.{ReadRequest}
 use Rattle.sheets.specs.declared.ReadPlan.{ReadPlan}
@@ -27,10 +27,14 @@ ttrtLine ttrt = line (ttrtWord ∷ decimalOf ttrt ∷ [])
 unfoldable pub furtherLine : ℕ → ℕ → List ℕ
 furtherLine tag number = cond (eqb number absent) [] (line (wordOf tag ∷ decimalOf number ∷ []))
 
--- the lines of TTRT and of the first k fields of the header behind it
+-- the line of number k of the header behind TTRT, the mode's being 0
+abbrev pub numberLine : Head → ℕ → List ℕ
+numberLine h k = furtherLine (modeTag + k) (headNumber h (modeTag + k))
+
+-- the lines of TTRT and of the first k numbers behind it
 unfoldable pub headLines : Head → ℕ → List ℕ
 headLines h zero = ttrtLine (h .ttrt)
-headLines h (suc k) = headLines h k ++ furtherLine (modeTag + k) (headNumber h (modeTag + k))
+headLines h (suc k) = headLines h k ++ numberLine h k
 
 -- S, in a plan
 unfoldable pub shareWords : Bool → ℕ → List (List ℕ)
@@ -67,3 +71,7 @@ planShown sheet = planReadText (readPlan sheet)
 -- what `show` prints of any bytes: the request; or, where a request's reading finds the wrong shape, the plan; or the refusal
 unfoldable pub showPrinted : List ℕ → List ℕ
 showPrinted sheet = cond (eqb (readRequest sheet .number) wrongShape) (planShown sheet) (requestReadText (readRequest sheet))
+
+-- the number that goes with it: the request's; or, where that is the wrong shape, the plan's
+unfoldable pub shownNumber : List ℕ → ℕ
+shownNumber sheet = cond (eqb (readRequest sheet .number) wrongShape) (readPlan sheet .number) (readRequest sheet .number)

@@ -1,7 +1,6 @@
 -- Everything that `specs/Promised.antt` lists, proved.
-use Rattle.pieces.proofs.HeadLaws.{start-stays}
 use Rattle.piece_inspections.specs.Promised.{Promised}
-use Rattle.piece_inspections.proofs.WholeLaws.{over-append, first-then, number-whole, plan-read, inspection-read, rule-read, record-read, visits-read, broken-read}
+use Rattle.piece_inspections.proofs.WholeLaws.{over-append, start-stays, first-then, number-whole, fault-stays, plan-read, inspection-read, rule-read, record-read, visits-read, broken-read}
 
 pub promised : Promised
 promised =
@@ -10,6 +9,7 @@ promised =
       first-piece = first-then;
       same-plan = start-stays;
       same-number = number-whole;
+      fault-ends = fault-stays;
       same-plan-read = plan-read;
       same-inspection = inspection-read;
       same-rule = rule-read;

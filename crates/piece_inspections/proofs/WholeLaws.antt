@@ -15,6 +15,7 @@ use Rattle.scan.proofs.ScanLaws.{zero-or-not}
 use Rattle.sheets.specs.Reading.{thenNumber, planStart}
 use Rattle.sheets.specs.ReadLaws.{then-rest, then-keeps, then-none}
 use Rattle.sheets.specs.declared.PlanStart.{PlanStart}
+use Rattle.sheets.proofs.FirstLaws.{stays, start-same, start-inside}
 use Rattle.logs.specs.Walked.{walked}
 use Rattle.logs.specs.Reading.{readLog, handedFrom, entriesIn}
 use Rattle.logs.specs.declared.ReadLog.{ReadLog}
@@ -23,10 +24,8 @@ use Rattle.logs.proofs.WalkLaws.{not-all-fault}
 use Rattle.logs.proofs.ReadingLaws.{start-says, log-not-all, log-fault, log-judged, log-whole}
 use Rattle.pieces.specs.Pieces.{nothingRead, faulty, numberOf, readOver, handedOver}
 use Rattle.pieces.specs.declared.Visits.{Visits}
-use Rattle.pieces.proofs.StepLaws.{step-stopped}
-use Rattle.pieces.proofs.FieldLaws.{read-append, handed-append}
+use Rattle.pieces.proofs.FieldLaws.{read-append, handed-append, read-stopped}
 use Rattle.pieces.proofs.WholeLaws.{whole-read}
-use Rattle.pieces.proofs.HeadLaws.{start-stays, start-inside}
 use Rattle.inspection.specs.Opening.{begun}
 use Rattle.inspection.specs.Records.{inspectionOf}
 use Rattle.inspection.specs.Findings.{brokenRecord, foundIn, findingIn}
@@ -34,7 +33,7 @@ use Rattle.inspection.specs.declared.Inspection.{Inspection}
 use Rattle.inspection.specs.declared.Finding.{Finding}
 use Rattle.inspection.proofs.FindingLaws.{one-named, handed-length, finding-read}
 use Rattle.piece_inspections.specs.Inspecting.{noneLooked, lookedAll, visitsFrom, inspectFrom, inspectOver, inspectStart, inspectNumber}
-use Rattle.piece_inspections.specs.Promised.{Enough, Breaks}
+use Rattle.piece_inspections.specs.Promised.{Enough, Breaks, Refused}
 use Rattle.piece_inspections.specs.declared.Looked.{Looked}
 use Rattle.piece_inspections.specs.declared.Inspecting.{Inspecting}
 use Rattle.piece_inspections.proofs.LookLaws.{look-append, all-inspects, broken-from, all-counted}
@@ -54,6 +53,10 @@ over-append k first rest =
     let handed : lookedAll t a l (handedOver (k .visits) (first ++ rest)) ≡ lookedAll t a (lookedAll t a l (handedOver (k .visits) first)) (handedOver (readOver (k .visits) first) rest) =
     ap (lookedAll t a l) (handed-append (k .visits) first rest) ∙ look-append t a l (handedOver (k .visits) first) (handedOver (readOver (k .visits) first) rest) in
     kept-as (k .start) read handed
+
+-- first bytes that are enough give the plan
+pub start-stays : (head rest : List ℕ) → Enough head rest → planStart (head ++ rest) ≡ planStart head
+start-stays head rest enough = stays planStart _ head rest enough (λ l. start-same head rest (omega arith))
 
 pub first-then : (head rest : List ℕ) → Enough head rest → inspectOver (inspectStart head) rest ≡ inspectStart (head ++ rest)
 first-then head rest enough =
@@ -77,11 +80,6 @@ module _ (passed : Bool) (number : ℕ) where
   from-fault v e h = ap (λ (w : Visits). faulty w number) e ∙ sym (from-not h)
 
 -- ---- a plan whose fields have not all passed
-
-read-stopped : (v : Visits) (bs : List ℕ) → v .number ≢ 0 → readOver v bs ≡ v
-unfolding readOver
-read-stopped v [] some = refl
-read-stopped v (b ∷ bs) some = ap (λ (w : Visits). readOver w bs) (sym (step-stopped v b some)) ∙ read-stopped v bs some
 
 stopped-number : (k : ℕ) (bs : List ℕ) → k ≢ 0 → numberOf (readOver (faulty nothingRead k) bs) ≡ k
 stopped-number k bs some = ap numberOf (read-stopped (faulty nothingRead k) bs some) ∙ then-keeps k _ some
@@ -134,6 +132,17 @@ module _ (bs : List ℕ) (h : planStart bs .passed ≡ true) where
 
 pub number-whole : (bs : List ℕ) → inspectNumber (inspectStart bs) ≡ readLog bs .number
 number-whole bs = ⊎-elim (number-passed bs) (number-not bs) (true-or-false (planStart bs .passed))
+
+-- ---- behind a fault
+
+then-fault : (k j : ℕ) → k ≢ 0 → thenNumber k j ≢ 0
+then-fault k j some = λ z. some (sym (then-keeps k j some) ∙ z)
+
+pub fault-stays : (k : Inspecting) (bs : List ℕ) → k .visits .number ≢ 0 → Refused k bs
+fault-stays k bs n = (
+  omega (arith, ap (λ (v : Visits). thenNumber (numberOf v) (k .start .number)) (read-stopped (k .visits) bs n)),
+  then-fault (numberOf (k .visits)) (k .start .number) (then-fault (k .visits .number) _ n),
+)
 
 -- ---- a log that is read
 

@@ -9,6 +9,7 @@ use Rattle.plans.specs.declared.Alloc.{Alloc}
 use Rattle.sheets.specs.Reading.{planStart}
 use Rattle.entries.specs.declared.Entry.{Entry}
 use Rattle.logs.specs.Reading.{readLog, entriesIn}
+use Rattle.pieces.specs.Pieces.{firstSize}
 use Rattle.inspection.specs.Records.{inspectionOf}
 use Rattle.inspection.specs.Findings.{findingIn, brokenRecord}
 use Rattle.piece_inspections.specs.Inspecting.{inspectOver, inspectStart, inspectNumber}
@@ -16,7 +17,7 @@ use Rattle.piece_inspections.specs.declared.Inspecting.{Inspecting}
 
 -- the first bytes are enough: they are the whole log, or as many as a plan's fields and one field more can have
 abbrev pub Enough : List ℕ → List ℕ → Type 0
-Enough head rest = (rest ≡ []) ⊎ (3_400 ≤ length head)
+Enough head rest = (rest ≡ []) ⊎ (firstSize ≤ length head)
 
 -- the record with this number, counted from 1, is e, and it is the first that breaks a rule
 pub record Breaks (t : Set) (a : Alloc) (es : List Entry) (number : ℕ) (e : Entry) : Type 0 where
@@ -27,6 +28,10 @@ pub record Breaks (t : Set) (a : Alloc) (es : List Entry) (number : ℕ) (e : En
   pub kept : inspectionOf t a before .rule ≡ 0
   pub broken : inspectionOf t a (before ++ (e ∷ [])) .rule ≢ 0
 
+-- whatever bytes come, the number is the same, and it is a refusal
+abbrev pub Refused : Inspecting → List ℕ → Type 0
+Refused k bs = (inspectNumber (inspectOver k bs) ≡ inspectNumber k) × (inspectNumber k ≢ 0)
+
 pub record Promised : Type 0 where
   -- a piece may end anywhere: what is kept between two pieces is all that the second needs
   pub pieces : (k : Inspecting) (first rest : List ℕ) → inspectOver k (first ++ rest) ≡ inspectOver (inspectOver k first) rest
@@ -36,6 +41,8 @@ pub record Promised : Type 0 where
   pub same-plan : (head rest : List ℕ) → Enough head rest → planStart (head ++ rest) ≡ planStart head
   -- and the number is that of reading the whole log
   pub same-number : (bs : List ℕ) → inspectNumber (inspectStart bs) ≡ readLog bs .number
+  -- behind a fault of the log nothing is looked at
+  pub fault-ends : (k : Inspecting) (bs : List ℕ) → k .visits .number ≢ 0 → Refused k bs
   -- a log that is read is inspected with its plan, all of its records
   pub same-plan-read : (bs : List ℕ) → readLog bs .number ≡ 0 → (inspectStart bs .start .set ≡ readLog bs .set) × (inspectStart bs .start .alloc ≡ readLog bs .alloc)
   pub same-inspection : (bs : List ℕ) → readLog bs .number ≡ 0 → inspectStart bs .looked .inspection ≡ inspectionOf (readLog bs .set) (readLog bs .alloc) (entriesIn bs)

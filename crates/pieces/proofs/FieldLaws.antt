@@ -134,7 +134,7 @@ module _ (x y z : ℕ) (rest : List ℕ) where
 
 -- ---- a fault stays, and hands out nothing
 
-read-stopped : (v : Visits) (bs : List ℕ) → v .number ≢ 0 → readOver v bs ≡ v
+pub read-stopped : (v : Visits) (bs : List ℕ) → v .number ≢ 0 → readOver v bs ≡ v
 unfolding readOver
 read-stopped v [] k = refl
 read-stopped v (b ∷ bs) k = ap (λ (w : Visits). readOver w bs) (sym (step-stopped v b k)) ∙ read-stopped v bs k

@@ -12,6 +12,10 @@ use Rattle.entries.specs.declared.NextEntry.{NextEntry}
 use Rattle.logs.specs.Walked.{isEnd}
 use Rattle.pieces.specs.declared.Visits.{Visits}
 
+-- so many bytes of a log are read first, for its plan. The fields of the longest plan are 3,353 bytes, and a visit behind them 20
+abbrev pub firstSize : ℕ
+firstSize = 3_400
+
 -- ---- what is kept
 
 -- no byte of a field was read yet

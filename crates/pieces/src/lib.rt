@@ -9,6 +9,9 @@ use entries::NextEntry;
 use fields::bytes;
 use units::numbers;
 
+// How many bytes of a log a program reads first: the fields of the longest plan have 3,353, and a visit behind them 20.
+pub const FIRST_SIZE: usize = 3_400;
+
 // What is kept of a log's visits between two bytes.
 #[repr(C)]
 pub struct Visits {

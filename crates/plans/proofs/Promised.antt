@@ -193,6 +193,8 @@ promised =
     record {
       time-timely = time-timely;
       time-fddi = time-fddi;
+      spare-timely = λ t s m. omega (arith, laws.spare-timely t s (ne-eqb _ _ m));
+      spare-fddi = λ t s m. omega (arith, laws.spare-fddi t s (rw m refl));
       no-frames = λ t f. rw f (omega arith);
       rules-fddi = λ t s few m. (to-load t (rw m refl) few s, from-load t (rw m refl) few s);
       smallest = smallest-is;

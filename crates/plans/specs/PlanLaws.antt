@@ -9,17 +9,17 @@ use borrow.Author.Tests.{le-leb, lt-leb}
 use Rattle.units.specs.Numbers.{mostS}
 use Rattle.units.specs.Grid.{MultipleOf, stepped}
 use Rattle.units.specs.GridLaws.{step-multiple, step-enough, step-least, step-small}
-use Rattle.units.specs.Places.{at}
+use Rattle.units.specs.Places.{at, sumBelow}
 use Rattle.units.specs.PlaceLaws.{decides-all}
 use Rattle.units.specs.JudgingLaws.{Decides, decides-le, decides-both, held, failed, given, given-later, not-given, iff-then, iff-under}
-use Rattle.sets.specs.Rules.{CountAllowed, WalkTimeAllowed, countAllowed, numbersAllowed, walkTimeAllowed}
+use Rattle.sets.specs.Rules.{tau, CountAllowed, WalkTimeAllowed, countAllowed, numbersAllowed, walkTimeAllowed}
 use Rattle.sets.specs.SetLaws.{decides-count, decides-numbers, decides-walk}
 use Rattle.sets.specs.declared.Set.{Set}
 use Rattle.units.specs.SmallLaws.{below-or-not, one-more}
 use Rattle.fddi.specs.Rules as fddi-rules
 use Rattle.units.specs.Vectors.{wholeRotations}
 use Rattle.units.specs.VectorLaws.{decides-rules}
-use Rattle.plans.specs.Rules.{alpha, timeWith, leastTime, isFddi, loadOf, termsOf, timeAt, AllocInRange, IsSmallest, InRange, KeepsRules, inRangeS, rulesFit, allocInRange}
+use Rattle.plans.specs.Rules.{alpha, timeWith, leastTime, isFddi, loadOf, termsOf, timeAt, leftOver, spareTime, AllocInRange, IsSmallest, InRange, KeepsRules, inRangeS, rulesFit, allocInRange}
 use Rattle.plans.specs.Planned.{smallestWith, smallestFor, judgedPlan, blankAlloc, answered}
 use Rattle.plans.specs.declared.Alloc.{Alloc}
 
@@ -112,6 +112,16 @@ time-timely t s i h = rw h
 pub time-fddi : (t : Set) (s : ℕ → ℕ) (i : ℕ) → isFddi t ≡ true → timeAt t s i ≡ fddi-rules.timeAt (loadOf t) s i
 unfolding timeAt
 time-fddi t s i h = rw h
+
+-- ---- A* by the mode
+
+pub spare-timely : (t : Set) (s : ℕ → ℕ) → isFddi t ≡ false → spareTime t s ≡ leftOver t s
+unfolding spareTime
+spare-timely t s h = rw h
+
+pub spare-fddi : (t : Set) (s : ℕ → ℕ) → isFddi t ≡ true → spareTime t s ≡ t .head .ttrt - tau t - sumBelow (t .n) s
+unfolding spareTime
+spare-fddi t s h = rw h
 
 -- ---- the test of the range of S decides it
 

@@ -5,13 +5,13 @@ use mathlib.Core.List.{List}
 use mathlib.Core.Logic.{_↔_, _≢_}
 use Rattle.units.specs.Numbers.{fddi, mostStations}
 use Rattle.units.specs.Small.{roundedUp}
-use Rattle.units.specs.Places.{at}
+use Rattle.units.specs.Places.{at, sumBelow}
 use Rattle.sets.specs.Rules.{tau, CountAllowed, WalkTimeAllowed, SameSet}
 use Rattle.sets.specs.Judged.{judged}
 use Rattle.sets.specs.declared.Set.{Set}
 use Rattle.fddi.specs.Rules.{timeWith, rest, others, MeetsFddi}
 use Rattle.units.specs.Vectors.{wholeRotations}
-use Rattle.plans.specs.Rules.{lost, leastTime, timeAt, MeetsDeadline, MeetsDeadlines, MeetsToken, MeetsRules, IsSmallest, InRange, KeepsRules, loadOf}
+use Rattle.plans.specs.Rules.{lost, spareTime, leastTime, timeAt, MeetsDeadline, MeetsDeadlines, MeetsToken, MeetsRules, IsSmallest, InRange, KeepsRules, loadOf}
 use Rattle.plans.specs.Planned.{smallestFor, judgedPlan, planned, blankAlloc}
 use Rattle.plans.specs.Answer.{Fitting, IsPlan}
 use Rattle.plans.specs.declared.Alloc.{Alloc}
@@ -41,6 +41,10 @@ pub record Promised : Type 0 where
   pub time-timely : (t : Set) (s : ℕ → ℕ) (i : ℕ) → t .head .mode ≢ fddi → timeAt t s i ≡ leastTime (t .head .ttrt) (at (t .d) i) (s i)
   -- FDDI: X at a station is 02's, with q = D / TTRT, r the rest, and the other stations' S: 0 for q = 0, else (q − 1)·S + (r − τ − (F − 1) − the others' S), held between 0 and S
   pub time-fddi : (t : Set) (s : ℕ → ℕ) (i : ℕ) → t .n ≤ mostStations → t .head .mode ≡ fddi → timeAt t s i ≡ fddiTime t s i
+  -- A*: TTRT − τ − the sum of S, and timely-token, both editions, subtracts F − 1 in it
+  pub spare-timely : (t : Set) (s : ℕ → ℕ) → t .head .mode ≢ fddi → spareTime t s ≡ t .head .ttrt - tau t - (t .head .frame - 1) - sumBelow (t .n) s
+  -- FDDI does not
+  pub spare-fddi : (t : Set) (s : ℕ → ℕ) → t .head .mode ≡ fddi → spareTime t s ≡ t .head .ttrt - tau t - sumBelow (t .n) s
   -- with F 1 no station loses more than τ, so both rules and A* are those of before
   pub no-frames : (t : Set) → t .head .frame ≡ 1 → lost t ≡ tau t
   -- FDDI: the rules are those of `fddi`, of the set's load

@@ -66,9 +66,13 @@ MeetsDeadlines t = DeadlinesKept (termsOf t)
 abbrev pub MeetsToken : Set → (ℕ → ℕ) → Type 0
 MeetsToken t = TokenKept (t .head .ttrt) (lost t) (t .n)
 
--- A*, the spare time: TTRT − τ − (F − 1) − the sum of S
-abbrev pub spareTime : Set → (ℕ → ℕ) → ℕ
-spareTime t s = t .head .ttrt - lost t - sumBelow (t .n) s
+-- what the token rule leaves of TTRT: TTRT − τ − (F − 1) − the sum of S
+abbrev pub leftOver : Set → (ℕ → ℕ) → ℕ
+leftOver t s = t .head .ttrt - lost t - sumBelow (t .n) s
+
+-- A*, the spare time: of an FDDI set TTRT − τ − the sum of S; timely-token, both editions, subtracts F − 1 in it
+unfoldable pub spareTime : Set → (ℕ → ℕ) → ℕ
+spareTime t s = cond (isFddi t) (t .head .ttrt - tau t - sumBelow (t .n) s) (leftOver t s)
 
 -- every S of a plan is 0 to 1,000,000
 abbrev pub AllocInRange : Set → (ℕ → ℕ) → Type 0

@@ -138,13 +138,18 @@ fn rules_fit(t: Set, a: Alloc) -> bool
     deadlines_fit(t, a) & token_fits(t, a) & quotients::all_on_grid(t.head.grid, t.n, s)
 }
 
-// A*, the spare time.
+// A*, the spare time: FDDI subtracts no F − 1 in it.
 pub fn spare(t: Set, a: Alloc) -> u64
     ensures { λ r. ⌜ r ≡ spareTime t (at (a .s)) ⌝ }
 {
     let s = a.s;
     let sum = units::sum_first(s, t.n);
-    units::room(units::room(units::wide(t.head.ttrt), lost(t)), sum)
+    let ttrt = units::wide(t.head.ttrt);
+    let mode = t.head.mode;
+    if mode == numbers::FDDI {
+        return units::room(units::room(ttrt, sets::walk_time(t)), sum);
+    }
+    units::room(units::room(ttrt, lost(t)), sum)
 }
 
 // The judgement of a given set and allocation: 0, or the lowest of 2, 4, 5 and 7 that applies.

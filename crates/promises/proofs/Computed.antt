@@ -5,7 +5,7 @@ use Rattle.sets.specs.Rules.{headInRange, stationInRange}
 use Rattle.sets.specs.Judged.{judgedThen}
 use Rattle.fddi.specs.Rules.{timeWith}
 use Rattle.fddi.specs.Climb.{wanted, next, climbFrom}
-use Rattle.plans.specs.Rules.{timeAt}
+use Rattle.plans.specs.Rules.{timeAt, spareTime}
 use Rattle.plans.specs.Planned.{smallestWith, answered, leastAlloc, judgedPlan}
 use Rattle.timers.specs.Timers.{later, startedAt, visited, offered}
 use Rattle.rings.specs.Opening.{openedRing, openedWith}
@@ -19,7 +19,7 @@ use Rattle.promises.specs.Run.{noted, after, run}
 
 -- a plan and its judgement
 unfoldable pub planning : Unit {0}
-unfolding sumBelow allBelow fill orElse allHold headInRange stationInRange judgedThen timeAt timeWith wanted next climbFrom smallestWith leastAlloc answered judgedPlan
+unfolding sumBelow allBelow fill orElse allHold headInRange stationInRange judgedThen timeAt spareTime timeWith wanted next climbFrom smallestWith leastAlloc answered judgedPlan
 planning = tt
 
 -- the opened ring, and whether a ring is sound

@@ -16,6 +16,7 @@ frames-happen =
       long = refl;
       none = refl;
       older-plan = refl;
+      older-spare = refl;
       older-judged = refl;
       older-records = refl;
     }

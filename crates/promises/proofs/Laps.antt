@@ -12,11 +12,12 @@ use Rattle.sets.specs.declared.Set.{Set}
 use Rattle.plans.specs.declared.Alloc.{Alloc}
 use Rattle.timers.specs.Kept.{TokenRule, Kept, Since as NumbersSince}
 use Rattle.timers.proofs.Promised.{promised as timers-promised}
+use Rattle.rings.specs.State.{timersOf}
 use Rattle.rings.specs.Timers.{Fddi, lead, timerOf, hasRun, silentTrt}
 use Rattle.rings.specs.TimerLaws.{lead-none}
 use Rattle.rings.specs.declared.VisitRecord.{VisitRecord}
 use Rattle.promises.specs.History.{overrunOf, syncStartOf, latestOf}
-use Rattle.promises.specs.Facts.{Timing, VisitCourse, VisitLaps, timerPlan, rises, timersIn}
+use Rattle.promises.specs.Facts.{Timing, VisitCourse, VisitLaps, timerPlan, rises}
 use Rattle.promises.specs.Valid.{allShares}
 use Rattle.promises.proofs.Course.{Plan, Course, Unvisited, Since, ToNext, ToFirst, following-is, same-or-not, latest-own, latest-other, course-kept}
 
@@ -27,11 +28,11 @@ pub record Lapped (t : Set) (a : Alloc) (r : Timing) (h : List VisitRecord) : Ty
   pub course : Course t a r h
   pub below : (i : ℕ) → i < t .n → at (r .trt) i < t .head .ttrt
   -- the stations' numbers are as `timers` keeps them
-  pub kept : Kept (timerPlan t a) (hasRun t (timersIn r)) (r .token)
+  pub kept : Kept (timerPlan t a) (hasRun t (timersOf r)) (r .token)
   -- before a station's first visit its number is the time since the silent rotation passed it
-  pub silent : (i : ℕ) → i < t .n → latestOf i h ≡ none → hasRun t (timersIn r) i ≡ silentTrt t i + r .clock
+  pub silent : (i : ℕ) → i < t .n → latestOf i h ≡ none → hasRun t (timersOf r) i ≡ silentTrt t i + r .clock
   -- and the clock is at most so much after the station's last start
-  pub since : NumbersSince (timerPlan t a) (hasRun t (timersIn r)) (at (r .last)) (r .clock)
+  pub since : NumbersSince (timerPlan t a) (hasRun t (timersOf r)) (at (r .last)) (r .clock)
 
 -- an FDDI visit begins with its synchronous part
 first : (t : Set) → Fddi t → (async : ℕ) → lead t async ≡ 0
@@ -43,10 +44,10 @@ token-rule t a P = omega (arith, P .token)
 
 module _ (t : Set) (a : Alloc) (r : Timing) (h : List VisitRecord) (P : Plan t a) (T : Lapped t a r h) where
   -- no timer has run longer than TTRT + the sum of S + (F − 1)
-  pub run-small : (i : ℕ) → i < t .n → hasRun t (timersIn r) i ≤ t .head .ttrt + allShares t a + overrunOf t
+  pub run-small : (i : ℕ) → i < t .n → hasRun t (timersOf r) i ≤ t .head .ttrt + allShares t a + overrunOf t
   run-small i l =
-      let first = timers-promised .first (timerPlan t a) (hasRun t (timersIn r)) (r .token) (T .kept) (T .course .token) i l in
-      let most = timers-promised .arrival (timerPlan t a) (hasRun t (timersIn r)) (r .token) (T .kept) (T .course .token) in
+      let first = timers-promised .first (timerPlan t a) (hasRun t (timersOf r)) (r .token) (T .kept) (T .course .token) i l in
+      let most = timers-promised .arrival (timerPlan t a) (hasRun t (timersOf r)) (r .token) (T .kept) (T .course .token) in
       omega arith
 
   -- so a station's latest visit started at most so long ago
@@ -65,7 +66,7 @@ module _ (t : Set) (a : Alloc) (r : Timing) (h : List VisitRecord) (P : Plan t a
   -- no late count is above 1
   pub late-small : (i : ℕ) → i < t .n → at (r .late) i ≤ 1
   late-small i l =
-      timers-promised .counts (timerPlan t a) (hasRun t (timersIn r)) (r .token) i (timerOf (timersIn r) i) (token-rule t a P) (P .walk) (T .kept) (T .course .token) l refl
+      timers-promised .counts (timerPlan t a) (hasRun t (timersOf r)) (r .token) i (timerOf (timersOf r) i) (token-rule t a P) (P .walk) (T .kept) (T .course .token) l refl
 
 -- ---- one visit more
 
@@ -77,23 +78,23 @@ module _ (t : Set) (a : Alloc) (r q : Timing) (v : VisitRecord) (h : List VisitR
       let walk = sum-part (t .n) (at (t .w)) (r .token) (T .course .token) in
       ⊎-elim (λ none. omega (arith, F .moves .length, F .moves .within, P .token)) (λ early. omega (arith, F .moves .length, F .moves .within, P .token)) (F .moves .early)
 
-  kept-next : Kept (timerPlan t a) (hasRun t (timersIn q)) (q .token)
+  kept-next : Kept (timerPlan t a) (hasRun t (timersOf q)) (q .token)
   kept-next =
       ⊎-elim (λ (b : ToNext (t .n) (r .token)).
-      rw (C .token ∙ b .1) (timers-promised .next (timerPlan t a) (hasRun t (timersIn r)) (hasRun t (timersIn q)) (r .token) (rises t v) (token-rule t a P) (T .kept) (F .moves) (b .0)))
+      rw (C .token ∙ b .1) (timers-promised .next (timerPlan t a) (hasRun t (timersOf r)) (hasRun t (timersOf q)) (r .token) (rises t v) (token-rule t a P) (T .kept) (F .moves) (b .0)))
       (λ (b : ToFirst (t .n) (r .token)).
-      rw (C .token ∙ b .1) (timers-promised .round (timerPlan t a) (hasRun t (timersIn r)) (hasRun t (timersIn q)) (r .token) (rises t v) (token-rule t a P) (T .kept) (F .moves) (b .0)))
+      rw (C .token ∙ b .1) (timers-promised .round (timerPlan t a) (hasRun t (timersOf r)) (hasRun t (timersOf q)) (r .token) (rises t v) (token-rule t a P) (T .kept) (F .moves) (b .0)))
       (following-is (t .n) (r .token) (T .course .token))
 
-  since-next : NumbersSince (timerPlan t a) (hasRun t (timersIn q)) (at (q .last)) (q .clock)
+  since-next : NumbersSince (timerPlan t a) (hasRun t (timersOf q)) (at (q .last)) (q .clock)
   since-next =
-      let was = hasRun t (timersIn r) in
-      let is = hasRun t (timersIn q) in
+      let was = hasRun t (timersOf r) in
+      let is = hasRun t (timersOf q) in
       let begins : at (q .last) (r .token) ≡ r .clock = omega (arith, C .last-here, C .start, first t (T .mode) (v .asynchronous .0)) in
       rw (C .clock)
       (timers-promised .since (timerPlan t a) was is (r .token) (rises t v) (at (r .last)) (at (q .last)) (r .clock) (F .moves) (T .since) begins (C .last-there))
 
-  silent-next : (i : ℕ) → i < t .n → latestOf i (v ∷ h) ≡ none → hasRun t (timersIn q) i ≡ silentTrt t i + q .clock
+  silent-next : (i : ℕ) → i < t .n → latestOf i (v ∷ h) ≡ none → hasRun t (timersOf q) i ≡ silentTrt t i + q .clock
   silent-next i l e =
       ⊎-elim (λ (b : i ≡ r .token). let z : _≡_ {A = ℕ} 0 1 = cc (latest-own t a r q v h P (T .course) C, rw b at e) in absurd (omega arith))
       (λ (b : i ≢ r .token).

@@ -26,6 +26,7 @@
 --     BulkWitness  the run in which bulk data waits long
 --     FrameWitness the runs in which a frame runs on past the limit
 --     EarlierWitness the runs of the 2002 edition
+--     GridWitness  the run on a grid above 1
 --     Promised     the promises
 pub mod Sums
 pub mod Lists
@@ -54,4 +55,5 @@ pub mod FddiWitness
 pub mod BulkWitness
 pub mod FrameWitness
 pub mod EarlierWitness
+pub mod GridWitness
 pub mod Promised

@@ -12,7 +12,7 @@ use Rattle.plans.specs.Rules.{leastTime, timeAt}
 use Rattle.plans.specs.Planned.{judgedPlan}
 use Rattle.plans.specs.PlanLaws.{given-none}
 use Rattle.plans.specs.declared.Alloc.{Alloc}
-use Rattle.rings.specs.State.{Shaped}
+use Rattle.rings.specs.State.{timersOf, Shaped}
 use Rattle.timers.proofs.Promised.{promised as timers-promised}
 use Rattle.rings.specs.Timers.{Fddi, hasRun}
 use Rattle.rings.specs.TimerLaws.{fddi-false}
@@ -20,7 +20,7 @@ use Rattle.rings.proofs.StationLaws.{opened-ran, opened-below}
 use Rattle.ring_rules.proofs.OpenedLaws.{fresh}
 use Rattle.rings.specs.Opening.{openedRing}
 use Rattle.promises.specs.History.{asyncOf, latest, due}
-use Rattle.promises.specs.Facts.{timing, timersIn, timerPlan}
+use Rattle.promises.specs.Facts.{timing, timerPlan}
 use Rattle.promises.proofs.Windows.{own}
 use Rattle.promises.proofs.Course.{Plan, Course}
 use Rattle.promises.proofs.Stores.{Stored, Told}
@@ -105,7 +105,7 @@ module _ (t : Set) (a : Alloc) (P : Plan t a) where
         mode = e;
         course = opened-course;
         below = opened-below t a (P .judged) e;
-        kept = timers-promised .opened (timerPlan t a) (hasRun t (timersIn (timing (openedRing t a)))) (omega (arith, P .token)) (opened-ran t a (P .judged) e);
+        kept = timers-promised .opened (timerPlan t a) (hasRun t (timersOf (timing (openedRing t a)))) (omega (arith, P .token)) (opened-ran t a (P .judged) e);
         silent = λ i l _. omega (arith, opened-ran t a (P .judged) e i l);
         since = λ i l. omega arith;
       }

@@ -50,6 +50,7 @@ use Rattle.promises.proofs.FddiWitness.{fddi-happens}
 use Rattle.promises.proofs.BulkWitness.{bulk-waits}
 use Rattle.promises.proofs.FrameWitness.{frames-happen}
 use Rattle.promises.proofs.EarlierWitness.{earlier-happens}
+use Rattle.promises.proofs.GridWitness.{grid-happens}
 
 module _ (t : Set) (a : Alloc) (P : Plan t a) (s : Run) (K : Timely t a s) where
   -- ---- visits
@@ -167,7 +168,7 @@ module _ (t : Set) (a : Alloc) (plan : Plan t a) (mode : ¬ Fddi t) where
   limits-kept =
       record {
         limits = λ calls. each (λ v before k. k .limit) calls;
-        spare = omega (arith, plan .token);
+        spare = omega (arith, plan .token, plans-promised .spare-timely t (at (a .s)) mode);
         ticks = λ one calls. each (λ v before k. tick-limit t a (lookBack t) one v before k) calls;
       }
 
@@ -247,4 +248,5 @@ promised =
       bulk-waits = bulk-waits;
       frames-happen = frames-happen;
       earlier-happens = earlier-happens;
+      grid-happens = grid-happens;
     }

@@ -13,8 +13,8 @@ use Rattle.units.specs.SmallLaws.{below-or-not, shares-enough}
 use Rattle.sets.specs.declared.Set.{Set}
 use Rattle.plans.specs.declared.Alloc.{Alloc}
 use Rattle.timers.proofs.Promised.{promised as timers-promised}
-use Rattle.rings.specs.State.{count, ttrt, overrun, following, Shaped}
-use Rattle.rings.specs.Timers.{Fddi, timersOf, hasRun}
+use Rattle.rings.specs.State.{count, ttrt, overrun, following, Shaped, timersOf}
+use Rattle.rings.specs.Timers.{Fddi, hasRun}
 use Rattle.rings.specs.Sound.{Sound, isSound}
 use Rattle.rings.specs.Frames.{framesSent}
 use Rattle.rings.specs.Steps.{Ask, syncStart, syncSent, asyncSent, moved, recordOf, visitNumber}

@@ -11,9 +11,11 @@ use Rattle.units.specs.Places.{at, sumBelow}
 use Rattle.units.specs.SmallLaws.{below-or-not}
 use Rattle.sets.specs.Rules.{tau}
 use Rattle.sets.specs.declared.Set.{Set}
-use Rattle.plans.specs.Rules.{spareTime}
+use Rattle.plans.specs.Rules.{leftOver, spareTime}
+use Rattle.plans.specs.PlanLaws.{spare-timely}
 use Rattle.plans.specs.declared.Alloc.{Alloc}
 use Rattle.rings.specs.Timers.{Fddi, silentTrt}
+use Rattle.rings.specs.TimerLaws.{fddi-false}
 use Rattle.rings.specs.Steps.{Ask, visitNumber}
 use Rattle.rings.specs.HandingIn.{holding, handInNumber}
 use Rattle.rings.specs.declared.Ring.{Ring}
@@ -71,18 +73,24 @@ module _ (t : Set) (a : Alloc) (r q : Ring) (v : VisitRecord) (h : List VisitRec
   timer-made : TimerIsGap t v h
   timer-made = record { gap = gap-since; first = λ e. omega (arith, first-since e); within = omega (arith, timer-within) }
 
+  -- A* is what the token rule leaves
+  spare-left : spareTime t (at (a .s)) ≡ leftOver t (at (a .s))
+  spare-left = spare-timely t (at (a .s)) (fddi-false t (T .mode))
+
   -- what the timers leave is what the window leaves of A*
   limit-made : VisitOffer t (timing r) v → ExactLimit t a (lookBack t) v h
   limit-made O =
       record {
-        exact = O .limit ∙ left-over (t .head .ttrt) (overrunOf t) (r .unused) (at (r .trt) (r .token)) (tau t) (sumBelow (t .n) (at (a .s))) (asyncOf (lookBack t) h) (token-timer t a (timing r) h T);
+        exact =
+            rw spare-left
+            (O .limit ∙ left-over (t .head .ttrt) (overrunOf t) (r .unused) (at (r .trt) (r .token)) (tau t) (sumBelow (t .n) (at (a .s))) (asyncOf (lookBack t) h) (token-timer t a (timing r) h T));
         within = O .within;
         shut = O .shut;
       }
 
   -- and what was sent left room
   room-made : v .asynchronous .0 + asyncOf (lookBack t) h ≤ spareTime t (at (a .s)) + overrunOf t
-  room-made = omega (arith, room t a (timing r) (timing q) v h P T C F, P .token)
+  room-made = omega (arith, spare-left, room t a (timing r) (timing q) v h P T C F, P .token)
 
   module _ (G : VisitMessages t a r q v) (M : Messaged t a r (r .token)) where
     -- what is left to the deadline

@@ -1,7 +1,6 @@
 -- What an accepted visit and an accepted handing in do, as facts that add up: `ring_rules` promises it of the rings' steps (`Done`, `Held`), and `proofs/Steps.antt` reads these records off that. The promises are proved of these records alone: another step function that gives them keeps the same promises. Every kind of ring gives `VisitCourse` and `VisitMessages`; the timers' half is `VisitTimers` and `VisitOffer` of a timely-token ring, `VisitLaps` of an FDDI ring.
 use Prim.Native.Nat.{ℕ, _+_, _-_, _≤_, _<_, min}
 use mathlib.Core.Path.{_≡_}
-use mathlib.Core.List.{List}
 use mathlib.Core.Logic.{_⊎_, _≢_}
 use lib.IntN.{subℕ}
 use Rattle.units.specs.Numbers.{mostClock}
@@ -9,45 +8,19 @@ use Rattle.units.specs.Places.{at}
 use Rattle.sets.specs.declared.Set.{Set}
 use Rattle.plans.specs.declared.Alloc.{Alloc}
 use Rattle.timers.specs.Kept.{Plan, Visit}
-use Rattle.rings.specs.State.{following}
+use Rattle.rings.specs.State.{following, timersOf, withMessages, noMessages}
 use Rattle.rings.specs.Timers.{lead, hasRun}
 use Rattle.rings.specs.declared.Ring.{Ring}
 use Rattle.rings.specs.declared.Message.{Message}
-use Rattle.rings.specs.declared.Timers.{Timers}
 use Rattle.rings.specs.declared.VisitRecord.{VisitRecord}
 use Rattle.promises.specs.History.{overrunOf, syncStartOf}
 
--- ---- the timing of a ring: all that it has beside its messages
-pub record Timing : Type 0 where
-  pub set : Set
-  pub alloc : Alloc
-  pub trt : List ℕ
-  pub late : List ℕ
-  pub sent : List ℕ
-  pub last : List ℕ
-  pub clock : ℕ
-  pub visits : ℕ
-  pub token : ℕ
-  pub unused : ℕ
+-- ---- the timing of a ring: all that it has beside its messages, which is the ring without them
+abbrev pub Timing : Type 0
+Timing = Ring
 
 abbrev pub timing : Ring → Timing
-timing r =
-    record {
-      set = r .set;
-      alloc = r .alloc;
-      trt = r .trt;
-      late = r .late;
-      sent = r .sent;
-      last = r .last;
-      clock = r .clock;
-      visits = r .visits;
-      token = r .token;
-      unused = r .unused;
-    }
-
--- its timers, as a ring has them
-abbrev pub timersIn : Timing → Timers
-timersIn r = record { trt = r .trt; late = r .late; unused = r .unused }
+timing = withMessages noMessages
 
 -- what the clock and every timer rise by
 abbrev pub rises : Set → VisitRecord → ℕ
@@ -101,7 +74,7 @@ timerPlan t a = record { n = t .n; ttrt = t .head .ttrt; f = overrunOf t; s = at
 
 pub record VisitLaps (t : Set) (a : Alloc) (r q : Timing) (v : VisitRecord) : Type 0 where
   -- the visit moves every station's number as `timers` says
-  pub moves : Visit (timerPlan t a) (hasRun t (timersIn r)) (hasRun t (timersIn q)) (r .token) (rises t v)
+  pub moves : Visit (timerPlan t a) (hasRun t (timersOf r)) (hasRun t (timersOf q)) (r .token) (rises t v)
   -- and leaves every timer below TTRT
   pub below : (i : ℕ) → i < t .n → at (q .trt) i < t .head .ttrt
 

@@ -9,6 +9,7 @@ use Rattle.units.specs.Places.{at}
 use Rattle.sets.specs.Judged.{zeros}
 use Rattle.sets.specs.declared.Set.{Set}
 use Rattle.plans.specs.Planned.{judgedPlan, planned}
+use Rattle.rings.specs.State.{withPlan, withTimers, withMessages, withCourse, blankRing}
 use Rattle.rings.specs.Sound.{isSound}
 use Rattle.rings.specs.Steps.{visited}
 use Rattle.rings.specs.declared.Ring.{Ring}
@@ -26,21 +27,11 @@ first = message (thirty 0) ∷ greedy ∷ []
 -- a sound ring: station 0 still holds half of its message at this clock. No run reaches it: 6 visits are three rotations, each of 2 ticks at least, so station 0's last start would be 4 or later, and here it is 0
 abbrev pub belated : ℕ → Ring
 belated clock =
-    record {
-      set = older;
-      alloc = shares;
-      trt = two 50 50;
-      late = two 1 0;
-      sent = zeros;
-      rest = two 15 0;
-      token = 0;
-      arrival = zeros;
-      had = two 1 0;
-      last = zeros;
-      clock = clock;
-      visits = 6;
-      unused = 15;
-    }
+    withTimers
+    (record { trt = two 50 50; late = two 1 0; unused = 15 })
+    (withMessages
+    (record { rest = two 15 0; arrival = zeros; had = two 1 0 })
+    (withCourse (record { sent = zeros; last = zeros; token = 0; clock = clock; visits = 6 }) (withPlan older shares blankRing)))
 
 pub record FddiHappens : Type 0 where
   -- planning gives this plan, and it meets the rules

@@ -52,5 +52,7 @@ pub record FramesHappen : Type 0 where
   pub none : visited (ringOf (framed timely) seventeen []) (framesOf 0) .answer .number ≡ 10
   -- FDDI: the same plan; the seventh frame starts at 96 of 97 ticks, 112 are sent, and the token is back after 132 ticks, TTRT + the sum of S + 15
   pub older-plan : planned (framed fddi) ≡ record { alloc = seventeen; number = 0 }
+  -- and A* is 100 − 3 − 17: FDDI does not subtract F − 1 in it
+  pub older-spare : spareTime (framed fddi) (at (seventeen .s)) ≡ 80
   pub older-judged : judgedPlan (framed fddi) seventeen ≡ 0
   pub older-records : recordsOf (framed fddi) seventeen again ≡ row 0 132 32 0 17 0 149 (pos 101) 1 ∷ row 1 131 32 0 0 0 0 (pos 0) 0 ∷ row 0 0 3 97 17 112 0 (pos 0) 0 ∷ []

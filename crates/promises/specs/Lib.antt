@@ -9,6 +9,7 @@
 --     EarlierWitness runs of the 2002 edition
 --     BulkWitness a run in which bulk data waits long
 --     FrameWitness runs in which a frame runs on past the limit
+--     GridWitness a run on a grid above 1
 -- and, for the proofs:
 --     Facts       what a visit and a handing in do, as records of facts that add up
 pub mod Run
@@ -22,3 +23,4 @@ pub mod FddiWitness
 pub mod BulkWitness
 pub mod FrameWitness
 pub mod EarlierWitness
+pub mod GridWitness

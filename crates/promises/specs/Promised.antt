@@ -19,6 +19,7 @@ use Rattle.promises.specs.FddiWitness.{FddiHappens}
 use Rattle.promises.specs.BulkWitness.{BulkWaits}
 use Rattle.promises.specs.FrameWitness.{FramesHappen}
 use Rattle.promises.specs.EarlierWitness.{EarlierHappens}
+use Rattle.promises.specs.GridWitness.{GridHappens}
 
 pub record Promised : Type 0 where
   -- whatever set and allocation meet the rules, they are valid
@@ -49,3 +50,5 @@ pub record Promised : Type 0 where
   pub frames-happen : FramesHappen
   -- and there are runs of the 2002 edition
   pub earlier-happens : EarlierHappens
+  -- and there is a run on a grid above 1
+  pub grid-happens : GridHappens

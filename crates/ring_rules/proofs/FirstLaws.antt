@@ -17,9 +17,9 @@ use Rattle.sets.specs.declared.Set.{Set}
 use Rattle.plans.specs.Planned.{judgedPlan}
 use Rattle.plans.proofs.SameLaws.{judged-plan-same}
 use Rattle.plans.specs.declared.Alloc.{Alloc}
-use Rattle.rings.specs.State.{count, ttrt, unusedAt}
+use Rattle.rings.specs.State.{count, ttrt, unusedAt, timersOf}
 use Rattle.timers.specs.Timers.{Timer, ticks, startedAt, offered, visited as tokenAt}
-use Rattle.rings.specs.Timers.{Fddi, lead, limit, timerOf, timersOf, trtSoundAt, timerSoundAt, lateSoundAt, timelySound, fddiSound, timersSound}
+use Rattle.rings.specs.Timers.{Fddi, lead, limit, timerOf, trtSoundAt, timerSoundAt, lateSoundAt, timelySound, fddiSound, timersSound}
 use Rattle.rings.specs.TimerLaws.{fddi-or-not}
 use Rattle.rings.specs.Sound.{sentSoundAt, restSoundAt, arrivalSoundAt, isSound}
 use Rattle.rings.specs.Steps.{Ask, syncStart, syncSent, asyncSent, recordOf, visitNumber}

@@ -1,8 +1,8 @@
 -- An accepted message is held because three places of the ring are set and nothing else; what was asked of it keeps the ring sound.
 use Prim.Native.Nat.{ℕ, _≤_, _<_}
-use mathlib.Core.Path.{refl, _∙_}
+use mathlib.Core.Path.{refl}
 use native.Mathlib.Omega.{arith}
-use lib.ListN.{length, set, length-set}
+use lib.ListN.{length, set}
 use lib.Seq.{getD-set-same, getD-set-other}
 use Rattle.units.specs.Places.{at}
 use Rattle.units.specs.PlaceLaws.{set-each}
@@ -11,6 +11,7 @@ use Rattle.rings.specs.Sound.{Sound}
 use Rattle.rings.specs.HandingIn.{Takes, holding}
 use Rattle.ring_rules.specs.Promised.{Held}
 use Rattle.rings.specs.RingLaws.{sound-plan}
+use Rattle.rings.proofs.ShapeLaws.{holding-shaped}
 use Rattle.rings.specs.declared.Ring.{Ring}
 use Rattle.rings.specs.declared.Message.{Message}
 
@@ -39,16 +40,7 @@ module _ (r : Ring) (m : Message) (L : Shaped r) (s : Sound r) (t : Takes r m) w
         visits = refl;
         token = refl;
         unused = refl;
-        shaped =
-            record {
-              trt = L .trt;
-              late = L .late;
-              sent = L .sent;
-              rest = length-set (r .rest) i _ ∙ L .rest;
-              arrival = length-set (r .arrival) i _ ∙ L .arrival;
-              had = length-set (r .had) i _ ∙ L .had;
-              last = L .last;
-            };
+        shaped = holding-shaped r L m;
       }
 
   pub held-sound : Sound (holding r m)

@@ -13,15 +13,16 @@ use Rattle.units.specs.Places.{at, raise}
 use Rattle.units.specs.PlaceLaws.{sum-part, raise-inside, raise-length}
 use Rattle.units.specs.SmallLaws.{below-or-not}
 use Rattle.units.specs.JudgingLaws.{true-or-false, true-and, and-true}
-use Rattle.rings.specs.State.{count, ttrt, following, share, unusedAt, holds, Shaped}
+use Rattle.rings.specs.State.{count, ttrt, following, share, unusedAt, holds, Shaped, timersOf}
 use Rattle.timers.specs.Timers.{Timer, visited}
 use Rattle.timers.proofs.Timers.{later-ticks}
-use Rattle.rings.specs.Timers.{limit, Fddi, rise, riseSince, timerOf, timersOf, tokenCame, timePassed, timelyAfter}
+use Rattle.rings.specs.Timers.{limit, Fddi, rise, riseSince, timerOf, tokenCame, timePassed, timelyAfter}
 use Rattle.rings.specs.Sound.{Sound}
 use Rattle.rings.specs.Steps.{Ask, LengthNamed, syncStart, serves, syncSent, asyncSent, nextToken, moved, completes, recordOf}
 use Rattle.ring_rules.specs.Promised.{Amounts, TimelyMoved, FddiMoved, Moved, Completed, NoneCompleted, Done}
 use Rattle.rings.specs.FrameLaws.{frames-sent, frames-within, frames-none, ticks-sent}
 use Rattle.rings.specs.TimerLaws.{lead-within, fddi-or-not, limit-fddi, limit-timely, after-fddi, after-timely, came-late, came-early, offered-late, offered-early}
+use Rattle.rings.proofs.ShapeLaws.{moved-shaped}
 use Rattle.rings.proofs.StationLaws.{timer-here, timer-there, moved-long}
 use Rattle.rings.specs.RingLaws.{sound-plan, served, not-served, sync-within}
 use Rattle.rings.specs.declared.Ring.{Ring}
@@ -159,16 +160,7 @@ module _ (r : Ring) (ask : Ask) (L : Shaped r) (s : Sound r) (named : LengthName
         sents = λ j n. getD-set-other (r .sent) (r .token) j (syncSent r (asyncSent r ask)) 0 (omega arith);
         rests = λ j n. getD-set-other (r .rest) (r .token) j _ 0 (omega arith);
         lasts = λ j n. getD-set-other (r .last) (r .token) j (syncStart r (asyncSent r ask)) 0 (omega arith);
-        shaped =
-            record {
-              trt = timers-long (syncSent r (asyncSent r ask)) (asyncSent r ask) .0;
-              late = timers-long (syncSent r (asyncSent r ask)) (asyncSent r ask) .1;
-              sent = length-set (r .sent) (r .token) _ ∙ L .sent;
-              rest = length-set (r .rest) (r .token) _ ∙ L .rest;
-              arrival = L .arrival;
-              had = L .had;
-              last = length-set (r .last) (r .token) _ ∙ L .last;
-            };
+        shaped = let long = timers-long (syncSent r (asyncSent r ask)) (asyncSent r ask) in moved-shaped r L _ _ (long .0) (long .1);
       }
 
   completed : 0 < at (r .rest) (r .token) → at (moved r (syncSent r (asyncSent r ask)) (asyncSent r ask) .rest) (r .token) ≡ 0

@@ -3,6 +3,7 @@ use Prim.Native.Nat.{ℕ, _-_, _<_}
 use mathlib.Core.Path.{_≡_, refl, _∙_}
 use mathlib.Core.Logic.{⊎-elim}
 use native.Mathlib.Omega.{arith}
+use lib.ListN.{length}
 use Rattle.units.specs.Places.{at, sumBelow}
 use Rattle.units.specs.PlaceLaws.{zero-at, sum-same, fill-length, fill-inside}
 use Rattle.sets.specs.Judged.{zeros}
@@ -13,6 +14,7 @@ use Rattle.plans.specs.declared.Alloc.{Alloc}
 use Rattle.rings.specs.State.{Shaped}
 use Rattle.rings.specs.Timers.{Fddi, silentTrt, silentTimers, silentTimely, silentFddi, TimelySound}
 use Rattle.rings.specs.TimerLaws.{fddi-or-not, opened-fddi, opened-timely}
+use Rattle.rings.proofs.ShapeLaws.{blank-shaped, timers-shaped}
 use Rattle.rings.proofs.FddiLaws.{silent-small}
 use Rattle.rings.proofs.StationLaws.{opened-timer, opened-below, opened-few}
 use Rattle.rings.specs.Opening.{openedRing}
@@ -34,12 +36,14 @@ module _ (t : Set) (a : Alloc) (h : judgedPlan t a ≡ 0) where
   unfolding silentTimely silentFddi
   unused = ⊎-elim (λ e. rw (opened-fddi t a e)) (λ n. rw (opened-timely t a n)) (fddi-or-not t)
 
+  timers-long : (length (silentTimers t a .trt) ≡ 128) × (length (silentTimers t a .late) ≡ 128)
+  unfolding silentTimely silentFddi
+  timers-long =
+      ⊎-elim (λ e. rw (opened-fddi t a e) (fill-length (t .n) _ zeros, fill-length (t .n) _ zeros)) (λ n. rw (opened-timely t a n) (fill-length (t .n) _ zeros, refl)) (fddi-or-not t)
+
   shaped : Shaped (openedRing t a)
-  unfolding openedRing silentTimely silentFddi
-  shaped =
-      ⊎-elim (λ e. rw (opened-fddi t a e) (record { trt = fill-length (t .n) _ zeros; late = fill-length (t .n) _ zeros; sent = refl; rest = refl; arrival = refl; had = refl; last = refl }))
-      (λ n. rw (opened-timely t a n) (record { trt = fill-length (t .n) _ zeros; late = refl; sent = refl; rest = refl; arrival = refl; had = refl; last = refl }))
-      (fddi-or-not t)
+  unfolding openedRing
+  shaped = timers-shaped _ (blank-shaped t a) _ (timers-long .0) (timers-long .1)
 
   pub fresh : Fresh t a (openedRing t a)
   unfolding openedRing

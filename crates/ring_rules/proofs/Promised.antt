@@ -9,8 +9,8 @@ use Rattle.sets.specs.declared.Set.{Set}
 use Rattle.plans.specs.Planned.{judgedPlan}
 use Rattle.plans.proofs.SameLaws.{judged-plan-same}
 use Rattle.plans.specs.declared.Alloc.{Alloc}
-use Rattle.rings.specs.State.{overrun, Shaped}
-use Rattle.rings.specs.Opening.{blankRing, openedRing, opening}
+use Rattle.rings.specs.State.{overrun, Shaped, blankRing}
+use Rattle.rings.specs.Opening.{openedRing, opening}
 use Rattle.rings.specs.Sound.{Sound}
 use Rattle.rings.specs.Steps.{Ask, LengthNamed, syncSent, asyncSent, moved, recordOf, visitNumber, acceptedVisit, refusedVisit, visited}
 use Rattle.rings.specs.HandingIn.{handInNumber, holding, handedIn}

@@ -14,10 +14,10 @@ use Rattle.sets.specs.declared.Set.{Set}
 use Rattle.plans.specs.Planned.{judgedPlan}
 use Rattle.plans.specs.declared.Alloc.{Alloc}
 use Rattle.timers.specs.Timers.{ticks, startedAt, visited as tokenAt}
-use Rattle.rings.specs.State.{count, ttrt, overrun, share, unusedAt, Shaped}
-use Rattle.rings.specs.Timers.{Fddi, Earlier, lead, timerOf, timersOf, TimersSound}
+use Rattle.rings.specs.State.{count, ttrt, overrun, share, unusedAt, Shaped, timersOf, blankRing, withTimers}
+use Rattle.rings.specs.Timers.{Fddi, Earlier, lead, timerOf, TimersSound}
 use Rattle.rings.specs.Frames.{framesSent}
-use Rattle.rings.specs.Opening.{blankRing, opening}
+use Rattle.rings.specs.Opening.{opening}
 use Rattle.rings.specs.Sound.{Sound, isSound}
 use Rattle.rings.specs.Steps.{Ask, LengthNamed, blankRecord, visited}
 use Rattle.rings.specs.HandingIn.{Known, LengthAllowed, Free, ArrivalAllowed, Takes, handedIn}
@@ -214,41 +214,11 @@ pub record SameRing (a b : Ring) : Type 0 where
 
 -- the ring with other late counts
 abbrev pub withLate : List ℕ → Ring → Ring
-withLate late r =
-    record {
-      set = r .set;
-      alloc = r .alloc;
-      trt = r .trt;
-      late = late;
-      sent = r .sent;
-      rest = r .rest;
-      token = r .token;
-      arrival = r .arrival;
-      had = r .had;
-      last = r .last;
-      clock = r .clock;
-      visits = r .visits;
-      unused = r .unused;
-    }
+withLate late r = withTimers (record { trt = r .trt; late = late; unused = r .unused }) r
 
 -- the ring with another u
 abbrev pub withUnused : ℕ → Ring → Ring
-withUnused unused r =
-    record {
-      set = r .set;
-      alloc = r .alloc;
-      trt = r .trt;
-      late = r .late;
-      sent = r .sent;
-      rest = r .rest;
-      token = r .token;
-      arrival = r .arrival;
-      had = r .had;
-      last = r .last;
-      clock = r .clock;
-      visits = r .visits;
-      unused = unused;
-    }
+withUnused unused r = withTimers (record { trt = r .trt; late = r .late; unused = unused }) r
 
 -- what is so changed at a ring changes no answer, and is there after each call as it was before
 pub record LeftAlone (change : Ring → Ring) (r : Ring) : Type 0 where
@@ -294,7 +264,7 @@ pub record Promised : Type 0 where
   pub visit-unchanged : (r : Ring) (ask : Ask) → visited r ask .answer .number ≢ 0 → visited r ask .ring ≡ r
   -- and a blank record
   pub visit-blank : (r : Ring) (ask : Ask) → visited r ask .answer .number ≢ 0 → visited r ask .answer .«record» ≡ blankRecord
-  -- an accepted visit does the five steps, and the record says so
+  -- an accepted visit does the five steps, and the record says so. `Shaped` holds of any ring of the code, and so of any that is lent: `rings::count_places` ensures it
   pub visit-done : (r : Ring) (ask : Ask) → Shaped r → visited r ask .answer .number ≡ 0 → Done r ask (visited r ask .ring) (visited r ask .answer .«record»)
   -- a set without F and an ask of length 1 go as the rule of before
   pub uncut-visit : (r : Ring) (ask : Ask) → Shaped r → r .set .head .frame ≡ 1 → ask .length ≡ 1 → UncutVisit r ask
@@ -317,7 +287,7 @@ pub record Promised : Type 0 where
   pub message-only : (r : Ring) (m : Message) → (handedIn r m .number ≡ 0) ⊎ ((8 ≤ handedIn r m .number) × (handedIn r m .number ≤ 12))
   -- a refused handing in gives back the very ring
   pub message-unchanged : (r : Ring) (m : Message) → handedIn r m .number ≢ 0 → handedIn r m .ring ≡ r
-  -- an accepted message is held, and nothing else in the ring changes
+  -- an accepted message is held, and nothing else in the ring changes; this too of any ring that is lent, and so the others that ask for `Shaped`
   pub message-held : (r : Ring) (m : Message) → Shaped r → handedIn r m .number ≡ 0 → Held r m (handedIn r m .ring)
   -- and the ring is as sound as before
   pub message-sound : (r : Ring) (m : Message) → Shaped r → handedIn r m .number ≡ 0 → Sound (handedIn r m .ring)

@@ -21,8 +21,8 @@ use Rattle.plans.specs.declared.Alloc.{Alloc}
 use Rattle.places.specs.Laps.{ranOn, lapsCounted}
 use Rattle.places.proofs.Promised.{promised}
 use Rattle.timers.specs.Timers.{Timer, later, startedAt, visited}
-use Rattle.rings.specs.State.{count, ttrt}
-use Rattle.rings.specs.Timers.{FddiSound, timerOf, timersOf, rise, tokenCame, timePassed, fddiAfter, silentTrt, silentTimely, silentFddi}
+use Rattle.rings.specs.State.{count, ttrt, timersOf}
+use Rattle.rings.specs.Timers.{FddiSound, timerOf, rise, tokenCame, timePassed, fddiAfter, silentTrt, silentTimely, silentFddi}
 use Rattle.rings.specs.TimerLaws.{came-late, came-early}
 use Rattle.rings.specs.Bounds.{Safe, Sendable}
 use Rattle.rings.specs.declared.Ring.{Ring}

@@ -18,8 +18,8 @@ use Rattle.plans.specs.PlanLaws.{given-none}
 use Rattle.plans.specs.declared.Alloc.{Alloc}
 use Rattle.timers.specs.Timers.{Timer, ran, later, startedAt, visited}
 use Rattle.timers.proofs.Promised.{promised}
-use Rattle.rings.specs.State.{count, ttrt, Shaped}
-use Rattle.rings.specs.Timers.{Fddi, timerOf, timersOf, hasRun, limit, rise, tokenCame, timePassed, silentTrt, silentFddi, mostLate}
+use Rattle.rings.specs.State.{count, ttrt, Shaped, timersOf}
+use Rattle.rings.specs.Timers.{Fddi, timerOf, hasRun, limit, rise, tokenCame, timePassed, silentTrt, silentFddi, mostLate}
 use Rattle.rings.specs.TimerLaws.{limit-fddi, after-fddi, opened-fddi}
 use Rattle.rings.specs.Opening.{openedRing}
 use Rattle.rings.specs.Sound.{Sound}

@@ -3,7 +3,7 @@ use Prim.Native.Nat.{ℕ, _+_, _-_, _≤_, _<_, _^_}
 use mathlib.Core.Path.{_≡_}
 use Rattle.units.specs.Numbers.{mostTtrt, mostD, mostClock}
 use Rattle.units.specs.Places.{at}
-use Rattle.rings.specs.State.{count, ttrt, overrun, share, unusedAt}
+use Rattle.rings.specs.State.{count, ttrt, overrun, share, unusedAt, Shaped}
 use Rattle.rings.specs.Sound.{visitsEnd}
 use Rattle.rings.specs.Timers.{Fddi, FddiSound, limit, rise}
 use Rattle.rings.specs.Steps.{syncSent}
@@ -71,3 +71,8 @@ pub record Addressed (r : Ring) (m : Message) : Type 0 where
 pub record Holdable (m : Message) : Type 0 where
   pub inside : m .station .0 < 128
   pub small : m .length .0 < 2 ^ 32
+
+-- n is how many places each array has that a ring changes
+pub record Placed (r : Ring) (n : ℕ) : Type 0 where
+  pub count : n ≡ 128
+  pub all : Shaped r

@@ -8,7 +8,7 @@ use lib.ListN.{set}
 use Rattle.units.specs.Numbers.{accepted, unsound, noSuchStation, badLength, stillHeld, badArrival, mostClock}
 use Rattle.units.specs.Places.{at}
 use Rattle.units.specs.Judging.{orElse, between}
-use Rattle.rings.specs.State.{count, beforeFirstVisit, beforeFirstMessage}
+use Rattle.rings.specs.State.{count, beforeFirstVisit, beforeFirstMessage, withMessages}
 use Rattle.rings.specs.Sound.{isSound}
 use Rattle.rings.specs.declared.Ring.{Ring}
 use Rattle.rings.specs.declared.Message.{Message}
@@ -78,21 +78,14 @@ arrivalAllowed r m = arrivalInRange m && laterThanLastStart r m && gapKept r m
 -- ---- the ring that holds the message: its whole length remains, its arrival is the station's last accepted one; nothing else changes
 unfoldable pub holding : Ring → Message → Ring
 holding r m =
-    record {
-      set = r .set;
-      alloc = r .alloc;
-      trt = r .trt;
-      late = r .late;
-      sent = r .sent;
-      rest = set (r .rest) (m .station .0) (m .length .0);
-      token = r .token;
-      arrival = set (r .arrival) (m .station .0) (m .arrival .0);
-      had = set (r .had) (m .station .0) 1;
-      last = r .last;
-      clock = r .clock;
-      visits = r .visits;
-      unused = r .unused;
-    }
+    let i = m .station .0 in
+    withMessages
+    (record {
+      rest = set (r .rest) i (m .length .0);
+      arrival = set (r .arrival) i (m .arrival .0);
+      had = set (r .had) i 1;
+    })
+    r
 
 -- ---- the answer
 

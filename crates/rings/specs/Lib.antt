@@ -1,5 +1,5 @@
 -- What a ring is and does: 01, "The ring", by value.
---     State        what the fields of a ring say of a station
+--     State        what the fields of a ring say of a station; a ring made of its parts, and with a part changed
 --     Timers       the limit, and what becomes of the timers
 --     Opening      the opened ring, and opening's answer
 --     Sound        01's list of unsound states (8), a sentence and a test for each line

@@ -18,8 +18,8 @@ use Rattle.units.specs.JudgingLaws.{Decides, true-or-false, decides-le, decides
 use Rattle.sets.specs.Rules.{tau, CountAllowed, NumbersAllowed, WalkTimeAllowed}
 use Rattle.plans.specs.Rules.{MeetsRules, AllocInRange}
 use Rattle.plans.specs.PlanLaws.{given-none}
-use Rattle.rings.specs.State.{count, ttrt, overrun, share, unusedAt, beforeFirstVisit, beforeFirstMessage}
-use Rattle.rings.specs.Opening.{openedWith, blankRing}
+use Rattle.rings.specs.State.{count, ttrt, overrun, share, unusedAt, beforeFirstVisit, beforeFirstMessage, blankRing}
+use Rattle.rings.specs.Opening.{openedWith}
 use Rattle.rings.specs.Timers.{Fddi, mostLate, TimelySound, FddiSound, TimersSound, trtSoundAt, unusedSound, timerSoundAt, lateSoundAt, timelySound, fddiSound, timersSound}
 use Rattle.rings.specs.TimerLaws.{fddi-or-not, fddi-true, fddi-false}
 use Rattle.rings.specs.Sound.{Sound, sentSoundAt, restSoundAt, arrivalSoundAt, planSound, numberTests, isSound}

@@ -1,11 +1,17 @@
--- What the fields of a ring say of a station. A place from N on says nothing.
+-- What the fields of a ring say of a station (a place from N on says nothing), and a ring made of its parts.
 use Prim.Native.Nat.{ℕ, _+_, _-_}
 use mathlib.Core.Bool.{Bool, cond}
 use lib.Dec.{ltb, leb, eqb}
 use mathlib.Core.Path.{_≡_}
+use mathlib.Core.List.{List}
 use lib.ListN.{length}
 use Rattle.units.specs.Places.{at}
+use Rattle.sets.specs.Judged.{zeros, blankSet}
+use Rattle.sets.specs.declared.Set.{Set}
+use Rattle.plans.specs.Planned.{blankAlloc}
+use Rattle.plans.specs.declared.Alloc.{Alloc}
 use Rattle.rings.specs.declared.Ring.{Ring}
+use Rattle.rings.specs.declared.Timers.{Timers}
 
 -- N, the number of stations
 abbrev pub count : Ring → ℕ
@@ -52,3 +58,82 @@ pub record Shaped (r : Ring) : Type 0 where
   pub arrival : length (r .arrival) ≡ 128
   pub had : length (r .had) ≡ 128
   pub last : length (r .last) ≡ 128
+
+-- ---- a ring by its parts. `made` lists its fields, and nothing else does: a ring that differs from another one is that ring with a part changed
+
+-- the timers
+abbrev pub timersOf : Ring → Timers
+timersOf r = record { trt = r .trt; late = r .late; unused = r .unused }
+
+-- the messages: what remains of the held one, the last accepted arrival, and whether one was ever accepted
+pub record Messages : Type 0 where
+  pub rest : List ℕ
+  pub arrival : List ℕ
+  pub had : List ℕ
+
+abbrev pub messagesOf : Ring → Messages
+messagesOf r = record { rest = r .rest; arrival = r .arrival; had = r .had }
+
+-- how far the ring has come: s and the last start of each station, the token, the clock and the visit count
+pub record Course : Type 0 where
+  pub sent : List ℕ
+  pub last : List ℕ
+  pub token : ℕ
+  pub clock : ℕ
+  pub visits : ℕ
+
+abbrev pub courseOf : Ring → Course
+courseOf r = record { sent = r .sent; last = r .last; token = r .token; clock = r .clock; visits = r .visits }
+
+-- the ring of these parts
+abbrev pub made : Set → Alloc → Timers → Messages → Course → Ring
+made t a timers messages course =
+    record {
+      set = t;
+      alloc = a;
+      trt = timers .trt;
+      late = timers .late;
+      sent = course .sent;
+      rest = messages .rest;
+      token = course .token;
+      arrival = messages .arrival;
+      had = messages .had;
+      last = course .last;
+      clock = course .clock;
+      visits = course .visits;
+      unused = timers .unused;
+    }
+
+-- the ring with another plan
+abbrev pub withPlan : Set → Alloc → Ring → Ring
+withPlan t a r = made t a (timersOf r) (messagesOf r) (courseOf r)
+
+-- with other timers
+abbrev pub withTimers : Timers → Ring → Ring
+withTimers timers r = made (r .set) (r .alloc) timers (messagesOf r) (courseOf r)
+
+-- with other messages
+abbrev pub withMessages : Messages → Ring → Ring
+withMessages messages r = made (r .set) (r .alloc) (timersOf r) messages (courseOf r)
+
+-- on another course
+abbrev pub withCourse : Course → Ring → Ring
+withCourse course r = made (r .set) (r .alloc) (timersOf r) (messagesOf r) course
+
+-- with other remainders of the held messages
+abbrev pub withRest : List ℕ → Ring → Ring
+withRest rest r = withMessages (record { rest = rest; arrival = r .arrival; had = r .had }) r
+
+-- no message is held, and none was ever accepted
+abbrev pub noMessages : Messages
+noMessages = record { rest = zeros; arrival = zeros; had = zeros }
+
+-- the blank ring: every number in it 0
+abbrev pub blankRing : Ring
+blankRing =
+    made
+    blankSet
+    blankAlloc
+    (record { trt = zeros; late = zeros; unused = 0 })
+    noMessages
+    (record { sent = zeros; last = zeros; token = 0; clock = 0; visits = 0 })

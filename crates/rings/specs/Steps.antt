@@ -7,7 +7,7 @@ use lib.ListN.{set}
 use Rattle.units.specs.Numbers.{accepted, unsound, badLength, clockTooHigh, mostClock}
 use Rattle.units.specs.Places.{at}
 use Rattle.units.specs.Judging.{orElse, between}
-use Rattle.rings.specs.State.{count, following, share, holds}
+use Rattle.rings.specs.State.{count, following, share, holds, withTimers, withRest, withCourse}
 use Rattle.rings.specs.Timers.{limit, lead, rise, timersAfter}
 use Rattle.rings.specs.Sound.{isSound}
 use Rattle.rings.specs.Frames.{framesTime}
@@ -52,21 +52,20 @@ nextToken r = following (count r) (r .token)
 -- ---- the moved ring: the timers have moved; what was sent comes off the remainder
 unfoldable pub moved : Ring → ℕ → ℕ → Ring
 moved r sync async =
-    record {
-      set = r .set;
-      alloc = r .alloc;
-      trt = timersAfter r sync async .trt;
-      late = timersAfter r sync async .late;
-      sent = set (r .sent) (r .token) sync;
-      rest = set (r .rest) (r .token) (at (r .rest) (r .token) - sync);
+    let p = r .token in
+    withTimers
+    (timersAfter r sync async)
+    (withRest
+    (set (r .rest) p (at (r .rest) p - sync))
+    (withCourse
+    (record {
+      sent = set (r .sent) p sync;
+      last = set (r .last) p (syncStart r async);
       token = nextToken r;
-      arrival = r .arrival;
-      had = r .had;
-      last = set (r .last) (r .token) (syncStart r async);
       clock = r .clock + rise r sync async;
       visits = r .visits + 1;
-      unused = timersAfter r sync async .unused;
-    }
+    })
+    r))
 
 -- ---- the record
 

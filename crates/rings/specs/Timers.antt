@@ -14,7 +14,7 @@ use Rattle.sets.specs.declared.Set.{Set}
 use Rattle.plans.specs.Rules.{isFddi}
 use Rattle.plans.specs.declared.Alloc.{Alloc}
 use Rattle.timers.specs.Timers.{Timer, ran, later, startedAt, visited, offered}
-use Rattle.rings.specs.State.{count, ttrt, overrun, share, unusedAt}
+use Rattle.rings.specs.State.{count, ttrt, overrun, share, unusedAt, timersOf}
 use Rattle.rings.specs.declared.Ring.{Ring}
 use Rattle.rings.specs.declared.Timers.{Timers}
 
@@ -42,10 +42,6 @@ timelyLimit r = ttrt r - overrun r - r .unused - at (r .trt) (r .token)
 -- the timer and the late count of station i
 abbrev pub timerOf : Timers → ℕ → Timer
 timerOf t i = record { count = at (t .late) i; timer = at (t .trt) i }
-
--- the timers of a ring
-abbrev pub timersOf : Ring → Timers
-timersOf r = record { trt = r .trt; late = r .late; unused = r .unused }
 
 -- how long station i's timer has run, with TTRT for each time that it is late: TTRT·count + timer
 abbrev pub hasRun : Set → Timers → ℕ → ℕ

@@ -7,6 +7,7 @@ mod steps;
 mod timing;
 
 ghost use mathlib.Core.Path.{_≡_};
+ghost use Rattle.rings.specs.Bounds.{Placed};
 ghost use Rattle.rings.specs.Opening.{opening};
 ghost use Rattle.rings.specs.Sound.{isSound};
 ghost use Rattle.rings.specs.Steps.{visited};
@@ -121,6 +122,13 @@ pub fn sound(ring: Ring) -> bool
         return false;
     }
     soundness::numbers_sound(ring)
+}
+
+// How many places each array of a ring has: 128, which some promises ask of a ring (`Shaped`).
+pub fn count_places(ring: Ring) -> u32
+    ensures { λ r. ⌜ Placed ring r ⌝ }
+{
+    numbers::MOST_STATIONS
 }
 
 // Opening: the opened ring, or the lowest of 2, 4, 5 and 7 that applies with the blank ring.

@@ -5,7 +5,8 @@ use plans::Alloc;
 use sets::Set;
 ghost use mathlib.Core.Path.{_≡_};
 ghost use Rattle.plans.specs.Planned.{judgedPlan};
-ghost use Rattle.rings.specs.Opening.{openedRing, blankRing};
+ghost use Rattle.rings.specs.State.{blankRing};
+ghost use Rattle.rings.specs.Opening.{openedRing};
 
 // The blank ring: every number in it 0.
 pub(crate) fn blank_ring() -> Ring
@@ -38,19 +39,11 @@ pub(crate) fn opened_ring(set: Set, alloc: Alloc) -> Ring
     let timers = timing::silent_timers(set, alloc);
     let trt = timers.trt;
     let late = timers.late;
-    Ring {
-        set,
-        alloc,
-        trt,
-        late,
-        sent: [0; 128],
-        rest: [0; 128],
-        token: 0,
-        arrival: [0; 128],
-        had: [0; 128],
-        last: [0; 128],
-        clock: 0,
-        visits: 0,
-        unused: timers.unused,
-    }
+    let mut ring = blank_ring();
+    ring.set = set;
+    ring.alloc = alloc;
+    ring.trt = trt;
+    ring.late = late;
+    ring.unused = timers.unused;
+    ring
 }

@@ -9,8 +9,8 @@ ghost use Prim.Native.Nat.{_-_, _≤_, _<_};
 ghost use Rattle.units.specs.Small.{UpTo};
 ghost use Rattle.plans.specs.Planned.{judgedPlan};
 ghost use Rattle.timers.specs.Timers.{visited};
-ghost use Rattle.rings.specs.State.{ttrt, share};
-ghost use Rattle.rings.specs.Timers.{FddiSound, timersOf, lead, timelyLimit, fddiLimit, unusedAfter, rise, timelyAfter, tokenCame, fddiAfter, timersAfter};
+ghost use Rattle.rings.specs.State.{ttrt, share, timersOf};
+ghost use Rattle.rings.specs.Timers.{FddiSound, lead, timelyLimit, fddiLimit, unusedAfter, rise, timelyAfter, tokenCame, fddiAfter, timersAfter};
 ghost use Rattle.rings.specs.Timers.{silentTimely, silentFddi, silentTimers, timelySound, fddiSound, timersSound};
 ghost use Rattle.rings.specs.Bounds.{Safe, SafeTimely, SafeTimers, Sendable, Limit};
 

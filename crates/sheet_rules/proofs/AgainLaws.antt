@@ -7,6 +7,7 @@ use native.Mathlib.Omega.{arith}
 use lib.ListN.{length}
 use Rattle.units.specs.Places.{at}
 use Rattle.units.specs.PlaceLaws.{fill-inside}
+use Rattle.sets.specs.Header.{headNumber}
 use Rattle.sets.specs.Judged.{zeros}
 use Rattle.fields.specs.Rows.{rows, Stands}
 use Rattle.fields.specs.Bytes.{numberAt, AllBytes}
@@ -15,7 +16,7 @@ use Rattle.fields.proofs.FieldLaws.{allocations-few}
 use Rattle.fields.specs.declared.Passed.{Passed}
 use Rattle.scan.specs.Scanned.{scanned}
 use Rattle.scan.proofs.PassedLaws.{AllPassed, Ended, scanned-ended}
-use Rattle.sheets.specs.Layout.{mark, headNumber, stationBytes, allocationBytes, sheetOf}
+use Rattle.sheets.specs.Layout.{mark, stationBytes, allocationBytes, sheetOf}
 use Rattle.sheets.specs.Reading.{headIn, setOf, allocOf, setIn, allocIn, judgedSheet, readSheet}
 use Rattle.sheets.specs.ReadLaws.{then-none, read-number, judged-kept}
 use Rattle.sheets.proofs.ReadingLaws.{head-ranges}

@@ -8,6 +8,7 @@ use native.Mathlib.Omega.{arith}
 use lib.ListN.{length, length-append}
 use Rattle.units.specs.Places.{at}
 use Rattle.units.specs.PlaceLaws.{fill-same, fill-inside}
+use Rattle.sets.specs.Header.{headNumber}
 use Rattle.sets.specs.Rules.{SameSet, CountAllowed}
 use Rattle.sets.specs.Judged.{zeros}
 use Rattle.sets.specs.SetLaws.{judged-same}
@@ -21,7 +22,7 @@ use Rattle.scan.specs.Scanned.{scanned}
 use Rattle.scan.specs.FirstFault.{WellFormed}
 use Rattle.scan.specs.declared.Scanned.{Scanned}
 use Rattle.scan.proofs.PassedLaws.{passedAll, header-passes, station-passes, allocation-passes, end-passes}
-use Rattle.sheets.specs.Layout.{headNumber, headBytes, headLength, stationBytes, allocationBytes, endBytes, fieldsOf, sheetOf}
+use Rattle.sheets.specs.Layout.{headBytes, headLength, stationBytes, allocationBytes, endBytes, fieldsOf, sheetOf}
 use Rattle.sheets.specs.Reading.{setOf, allocOf, setIn, allocIn, judgedSheet, readSheet}
 use Rattle.sheets.specs.ReadLaws.{then-rest, read-number, sheet-accepted, Kept, judged-kept}
 use Rattle.sheet_rules.specs.Promised.{firstPlaces, firstAllocations, Numbers32}

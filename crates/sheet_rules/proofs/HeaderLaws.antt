@@ -1,6 +1,6 @@
 -- The header in the bytes: where TTRT and the fields behind it stand, what is read of them, and that what is read stands there again. One argument over the field k, the mode's being 0.
 use Prim.Native.Nat.{ℕ, zero, suc, _+_, _-_, _^_, _≤_, _<_}
-use mathlib.Core.Path.{_≡_, refl, sym, ap, subst, _∙_}
+use mathlib.Core.Path.{_≡_, sym, ap, subst, _∙_}
 use mathlib.Core.Bool.{true}
 use mathlib.Core.List.{List, _++_, append-nil}
 use mathlib.Core.Logic.{_⊎_, inl, inr, ⊎-elim, _≢_}
@@ -8,6 +8,7 @@ use native.Mathlib.Omega.{arith}
 use lib.ListN.{length}
 use Rattle.units.specs.Places.{sumBelow}
 use Rattle.units.specs.SmallLaws.{below-or-not}
+use Rattle.sets.specs.Header.{headNumber}
 use Rattle.sets.specs.declared.Head.{Head}
 use Rattle.fields.specs.Rows.{Stands}
 use Rattle.fields.specs.Bytes.{numberAt, bytesOf, bodyOf, AllBytes}
@@ -16,38 +17,24 @@ use Rattle.fields.specs.Header.{furtherCount, absent, headerNumber, behindTag, 
 use Rattle.fields.proofs.SegmentLaws.{stands-left, stands-right, stands-join}
 use Rattle.fields.proofs.ByteLaws.{number-read, number-stands}
 use Rattle.fields.proofs.FieldLaws.{Whole, further-small}
-use Rattle.fields.proofs.HeaderLaws.{same-or-not, header-there, header-one, header-out, behind-there, behind-not, given-absent, given-there, place-first, place-next, place-of, roomIn, body-length, body-read, body-stands}
+use Rattle.fields.proofs.HeaderLaws.{same-or-not, header-there, header-one, header-out, behind-there, behind-not, given-absent, given-there, place-first, place-next, roomIn, body-length, body-read, body-stands}
 use Rattle.scan.proofs.PassedLaws.{HeaderStands}
-use Rattle.sheets.specs.Layout.{mark, headNumber, mostOf, furtherBytes, headUpTo, headBytes, lengthUpTo, headLength}
-use Rattle.sheets.specs.Reading.{numberIn, headIn}
+use Rattle.sheets.specs.Layout.{mark, mostOf, furtherBytes, headUpTo, headBytes, lengthUpTo, headLength}
+use Rattle.sheets.specs.Reading.{headIn}
+use Rattle.sheets.proofs.ReadingLaws.{number-of, number-at}
 use Rattle.sheets.proofs.WritingLaws.{further-none, further-some, length-none, length-some, up-to-none, up-to-more, length-more, up-to-length}
 use Rattle.sheet_rules.proofs.StandLaws.{mark-stands, whole-stands}
 
 -- ---- what is read
 
 module _ (bs : List ℕ) where
-  -- the number of a tag is the one that is read for it
-  pub number-of : (tag : ℕ) → modeTag ≤ tag → tag ≤ gridTag → headNumber (headIn bs) tag ≡ numberIn bs tag
-  unfolding headNumber
-  number-of tag low high =
-      ⊎-elim (λ (b : tag < 5). let e : tag ≡ 4 = omega arith in subst (λ (k : ℕ). headNumber (headIn bs) k ≡ numberIn bs k) (sym e) refl)
-      (λ (b : 5 ≤ tag).
-      ⊎-elim (λ (d : tag < 6). let e : tag ≡ 5 = omega arith in subst (λ (k : ℕ). headNumber (headIn bs) k ≡ numberIn bs k) (sym e) refl)
-      (λ (d : 6 ≤ tag). let e : tag ≡ 6 = omega arith in subst (λ (k : ℕ). headNumber (headIn bs) k ≡ numberIn bs k) (sym e) refl)
-      (below-or-not tag 6))
-      (below-or-not tag 5)
-
-  -- the same by the field
-  pub number-at : (k : ℕ) → k < furtherCount → headNumber (headIn bs) (modeTag + k) ≡ givenAt bs (furtherPlace bs k) (modeTag + k)
-  number-at k l = number-of (modeTag + k) (omega arith) (omega arith) ∙ ap (λ (a : ℕ). givenAt bs a (modeTag + k)) (place-of bs k)
-
   module _ (tag : ℕ) (low : modeTag ≤ tag) (high : tag ≤ gridTag) where
     -- not there
     pub reads-absent : tagAt bs (placeOf bs tag) ≢ tag → headNumber (headIn bs) tag ≡ absent
-    reads-absent other = number-of tag low high ∙ given-absent bs tag (placeOf bs tag) other
+    reads-absent other = number-of bs tag low high ∙ given-absent bs tag (placeOf bs tag) other
 
     reads-there : tagAt bs (placeOf bs tag) ≡ tag → headNumber (headIn bs) tag ≡ headerNumber true (saidAt bs (placeOf bs tag) tag)
-    reads-there e = number-of tag low high ∙ given-there bs tag (placeOf bs tag) e
+    reads-there e = number-of bs tag low high ∙ given-there bs tag (placeOf bs tag) e
 
     -- there, with a number that is not 1
     pub reads-number : tagAt bs (placeOf bs tag) ≡ tag → saidAt bs (placeOf bs tag) tag ≢ absent → headNumber (headIn bs) tag ≡ saidAt bs (placeOf bs tag) tag

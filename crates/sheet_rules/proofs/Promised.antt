@@ -15,6 +15,7 @@ use Rattle.units.specs.Places.{at, fill}
 use Rattle.units.specs.PlaceLaws.{fill-outside}
 use Rattle.units.specs.SmallLaws.{below-or-not}
 use Rattle.units.specs.JudgingLaws.{held, not-given, passed}
+use Rattle.sets.specs.Header.{headNumber}
 use Rattle.sets.specs.Rules.{SameSet, CountAllowed}
 use Rattle.sets.specs.Judged.{judged, judgedThen, blankSet, zeros}
 use Rattle.sets.specs.SetLaws.{decides-count, judged-same}
@@ -35,12 +36,13 @@ use Rattle.scan.specs.FirstFault.{Fault, no-start, not-allowed, cut-body, follo
 use Rattle.scan.specs.declared.Scanned.{Scanned}
 use Rattle.scan.proofs.ScanLaws.{zero-or-not, fault-there, end-there, stopped, shape-fault, shape-whole}
 use Rattle.scan.proofs.PassedLaws.{whole-ended, scanned-ended, through, plan-no-request}
-use Rattle.sheets.specs.Layout.{mark, headNumber, mostOf, furtherBytes, furtherLength, headUpTo, headLength, stationWith, stationBytes, allocationBytes, endBytes, fieldsOf, sheetOf, requestSheet, planSheet, sheetLength}
+use Rattle.sheets.specs.Layout.{mark, mostOf, furtherBytes, furtherLength, headUpTo, headLength, stationWith, stationBytes, allocationBytes, endBytes, fieldsOf, sheetOf, requestSheet, planSheet, sheetLength}
 use Rattle.sheets.specs.Reading.{thenNumber, setIn, allocIn, judgedSheet, readSheet, readRequest, readPlan}
 use Rattle.sheets.specs.Writing.{writtenAnswer, writtenBuffer, requestWritten, planWritten}
 use Rattle.sheet_rules.specs.Promised.{Promised, ZeroPast, GivenRequest, GivenPlan, firstPlaces, firstAllocations, requestLength, planLength, ByTag, There, said, smallSet, Numbers32}
 use Rattle.sheets.specs.ReadLaws.{then-rest, then-keeps, then-none, read-refused, read-accepted, read-number, sheet-accepted}
 use Rattle.sheets.proofs.ReadingLaws.{head-out}
+use Rattle.sheets.proofs.FirstLaws.{reads-enough}
 use Rattle.sheets.proofs.WritingLaws.{further-none, up-to-more, length-none, length-some, head-fields, head-lengths, sheet-long, answer-accepted, answer-number, buffer-accepted, buffer-refused, number-none, number-short, number-judged as written-judged}
 use Rattle.sheet_rules.proofs.BackLaws.{read-back, laid-number, first-same, first-allocations}
 use Rattle.sheet_rules.proofs.HeaderLaws.{reads-absent, reads-number, reads-out}
@@ -470,6 +472,8 @@ promised =
       longest-timely = λ t one m f g. omega (arith, sheet-long false t blankAlloc, none-further (t .head) m f g);
       longest = λ t all m f g. omega (arith, sheet-long false t blankAlloc, all-further (t .head) m f g);
       longest-plan = λ t a all m f g. omega (arith, sheet-long true t a, all-further (t .head) m f g);
+      request-read = λ n l bs. ap (λ (r : ReadPlan). record { set = r .set; number = r .number }) (reads-enough false n (omega arith) bs);
+      plan-read = λ n l. reads-enough true n (omega arith);
       header-fields = head-fields;
       field-none = λ tag. further-none tag 1 refl;
       as-before = bytes-before;

@@ -8,6 +8,7 @@ use lib.Dec.{eqb}
 use lib.ListN.{length, take, drop}
 use Rattle.units.specs.Numbers.{timely, fddi}
 use Rattle.units.specs.Places.{at, fill}
+use Rattle.sets.specs.Header.{headNumber}
 use Rattle.sets.specs.Rules.{SameSet, CountAllowed}
 use Rattle.sets.specs.Judged.{judged, blankSet, zeros}
 use Rattle.sets.specs.declared.Head.{Head}
@@ -20,7 +21,7 @@ use Rattle.fields.specs.Fields.{modeTag, isAllowed, allocationsFor, tagAt}
 use Rattle.fields.specs.Header.{furtherCount, placeOf, saidAt}
 use Rattle.fields.specs.declared.Passed.{Passed}
 use Rattle.scan.specs.FirstFault.{FirstFault, WholeSheet}
-use Rattle.sheets.specs.Layout.{mark, headNumber, mostOf, furtherBytes, headUpTo, headBytes, headLength, stationBytes, allocationBytes, sheetOf, requestSheet, planSheet}
+use Rattle.sheets.specs.Layout.{mark, mostOf, furtherBytes, headUpTo, headBytes, headLength, stationBytes, allocationBytes, sheetOf, requestSheet, planSheet, requestRead, planRead}
 use Rattle.sheets.specs.Reading.{setIn, allocIn, readSheet, readRequest, readPlan}
 use Rattle.sheets.specs.Writing.{requestWritten, planWritten}
 use Rattle.sheet_rules.specs.Standing.{MayStand}
@@ -137,6 +138,9 @@ pub record Promised : Type 0 where
   pub longest-timely : (t : Set) → t .n ≡ 128 → t .head .mode ≡ timely → t .head .frame ≡ 1 → t .head .grid ≡ 1 → length (requestSheet t) ≡ 2_442
   pub longest : (t : Set) → t .n ≡ 128 → t .head .mode ≢ timely → t .head .frame ≢ 1 → t .head .grid ≢ 1 → length (requestSheet t) ≡ 2_460
   pub longest-plan : (t : Set) (a : Alloc) → t .n ≡ 128 → t .head .mode ≢ timely → t .head .frame ≢ 1 → t .head .grid ≢ 1 → length (planSheet t a) ≡ 3_356
+  -- so a program that reads one byte more than these, or further, reads enough: it answers what it would answer to all the bytes
+  pub request-read : (n : ℕ) → requestRead ≤ n → (bs : List ℕ) → readRequest (take n bs) ≡ readRequest bs
+  pub plan-read : (n : ℕ) → planRead ≤ n → (bs : List ℕ) → readPlan (take n bs) ≡ readPlan bs
   -- the header's fields stand in the order of their tags: TTRT's, the mode's, F's, g's; one whose number is 1 has no byte
   pub header-fields : (h : Head) → headBytes h ≡ mark 1 4 ++ bytesOf (h .ttrt) ++ furtherBytes 4 (h .mode) ++ furtherBytes 5 (h .frame) ++ furtherBytes 6 (h .grid)
   pub field-none : (tag : ℕ) → furtherBytes tag 1 ≡ []

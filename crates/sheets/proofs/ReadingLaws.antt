@@ -1,12 +1,14 @@
 -- The laws of reading: what has passed lies inside the bytes, and the answers of a refused reading.
-use Prim.Native.Nat.{ℕ, _≤_}
-use mathlib.Core.Path.{_≡_}
+use Prim.Native.Nat.{ℕ, zero, suc, _+_, _≤_, _<_}
+use mathlib.Core.Path.{_≡_, refl, sym, ap, subst, _∙_}
 use mathlib.Core.Bool.{Bool, true, false}
 use mathlib.Core.List.{List}
 use mathlib.Core.Logic.{⊎-elim, _≢_}
 use native.Mathlib.Omega.{arith}
 use lib.Dec.{eqb}
 use Rattle.units.specs.JudgingLaws.{true-or-false}
+use Rattle.units.specs.SmallLaws.{below-or-not}
+use Rattle.sets.specs.Header.{headNumber}
 use Rattle.sets.specs.Rules.{CountAllowed, HeadInRange}
 use Rattle.sets.specs.Judged.{blankSet}
 use Rattle.sets.specs.SetLaws.{judged-four}
@@ -15,15 +17,17 @@ use Rattle.sets.specs.declared.Set.{Set}
 use Rattle.plans.specs.Planned.{blankAlloc}
 use Rattle.plans.specs.declared.Alloc.{Alloc}
 use Rattle.plans.proofs.Promised.{promised}
-use Rattle.fields.specs.Fields.{modeTag, frameTag}
+use Rattle.fields.specs.Fields.{modeTag, frameTag, gridTag}
+use Rattle.fields.specs.Header.{furtherCount, furtherPlace, givenAt}
 use Rattle.fields.proofs.FieldLaws.{allocations-few}
+use Rattle.fields.proofs.HeaderLaws.{behind-least, place-next, place-of}
 use Rattle.scan.specs.Scanned.{scanned}
 use Rattle.fields.specs.declared.Passed.{Passed}
 use Rattle.scan.proofs.ScanLaws.{stopped}
 use Rattle.scan.proofs.PassedLaws.{AllPassed, all-passed, scanned-ended}
 use Rattle.sheets.specs.Bounds.{PassedFits}
-use Rattle.sheets.specs.Layout.{headNumber, mostOf}
-use Rattle.sheets.specs.Reading.{planPassed, setIn, allocIn, judgedSheet, readSheet}
+use Rattle.sheets.specs.Layout.{mostOf}
+use Rattle.sheets.specs.Reading.{numberIn, headIn, planPassed, setIn, allocIn, judgedSheet, readSheet}
 use Rattle.sheets.specs.ReadLaws.{then-rest, then-keeps, read-refused}
 
 -- where all fields but the end have passed, there is room for all that is read from them
@@ -73,3 +77,32 @@ pub head-out : (plan : Bool) (t : Set) (a : Alloc) (tag : ℕ) → CountAllowed 
 unfolding judgedSheet
 head-out true t a tag count out = promised .given-four t a .1 (count, λ r. out (head-ranges (t .head) (r .0 .header) tag))
 head-out false t a tag count out = judged-four t .1 (count, λ r. out (head-ranges (t .head) (r .header) tag))
+
+-- ---- the header that is read
+
+module _ (bs : List ℕ) where
+  -- the number of a tag is the one that is read for it
+  pub number-of : (tag : ℕ) → modeTag ≤ tag → tag ≤ gridTag → headNumber (headIn bs) tag ≡ numberIn bs tag
+  unfolding headNumber
+  number-of tag low high =
+      ⊎-elim (λ (b : tag < 5). let e : tag ≡ 4 = omega arith in subst (λ (k : ℕ). headNumber (headIn bs) k ≡ numberIn bs k) (sym e) refl)
+      (λ (b : 5 ≤ tag).
+      ⊎-elim (λ (d : tag < 6). let e : tag ≡ 5 = omega arith in subst (λ (k : ℕ). headNumber (headIn bs) k ≡ numberIn bs k) (sym e) refl)
+      (λ (d : 6 ≤ tag). let e : tag ≡ 6 = omega arith in subst (λ (k : ℕ). headNumber (headIn bs) k ≡ numberIn bs k) (sym e) refl)
+      (below-or-not tag 6))
+      (below-or-not tag 5)
+
+  -- the same by the field
+  pub number-at : (k : ℕ) → k < furtherCount → headNumber (headIn bs) (modeTag + k) ≡ givenAt bs (furtherPlace bs k) (modeTag + k)
+  number-at k l = number-of (modeTag + k) (omega arith) (omega arith) ∙ ap (λ (a : ℕ). givenAt bs a (modeTag + k)) (place-of bs k)
+
+  -- a field further on stands no earlier
+  pub places-rise : (k : ℕ) → k ≤ furtherCount → furtherPlace bs k ≤ furtherPlace bs furtherCount
+  places-rise k l = go furtherCount l
+    where
+      go : (n : ℕ) → k ≤ n → furtherPlace bs k ≤ furtherPlace bs n
+      go zero m = let e : k ≡ 0 = omega arith in omega (arith, ap (furtherPlace bs) e)
+      go (suc n) m =
+          ⊎-elim (λ (b : k < suc n). omega (arith, go n (omega arith), place-next bs n, behind-least bs (modeTag + n) (furtherPlace bs n)))
+          (λ (b : suc n ≤ k). let e : k ≡ suc n = omega arith in omega (arith, ap (furtherPlace bs) e))
+          (below-or-not k (suc n))

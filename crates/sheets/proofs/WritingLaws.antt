@@ -2,7 +2,7 @@
 use Prim.Native.Nat.{ℕ, zero, suc, _+_, _*_, _≤_, _<_}
 use mathlib.Core.Path.{_≡_, refl, sym, ap, _∙_}
 use mathlib.Core.Bool.{Bool}
-use mathlib.Core.List.{List, [], _++_}
+use mathlib.Core.List.{List, [], _++_, append-assoc, append-nil}
 use mathlib.Core.Logic.{⊎-elim, _≢_}
 use native.Mathlib.Numerals.{add-one}
 use native.Mathlib.Nat.{mul-zero, mul-suc, mul-le-mul-left}
@@ -11,6 +11,8 @@ use lib.ListN.{length, drop, length-append}
 use borrow.Author.Tests.{leb-true, le-leb, lt-leb, ne-eqb}
 use Rattle.units.specs.JudgingLaws.{held, failed, passed}
 use Rattle.units.specs.Places.{sumBelow}
+use Rattle.units.specs.PlaceLaws.{sum-split}
+use Rattle.sets.specs.Header.{headNumber}
 use Rattle.sets.specs.declared.Head.{Head}
 use Rattle.sets.specs.declared.Set.{Set}
 use Rattle.plans.specs.declared.Alloc.{Alloc}
@@ -18,11 +20,12 @@ use Rattle.fields.specs.Rows.{rows, laid}
 use Rattle.fields.specs.Bytes.{bytesOf, bodyOf}
 use Rattle.fields.specs.Fields.{modeTag, furtherSize, allocationsFor}
 use Rattle.fields.specs.Header.{furtherCount, absent}
-use Rattle.fields.specs.RowLaws.{rows-none, laid-none, laid-first}
+use Rattle.fields.specs.RowLaws.{rows-none, rows-step, laid-none, laid-first}
 use Rattle.fields.proofs.SegmentLaws.{rows-length, laid-more, rows-then}
+use Rattle.fields.proofs.ByteLaws.{bytes-length}
 use Rattle.fields.proofs.FieldLaws.{further-small}
 use Rattle.fields.proofs.HeaderLaws.{same-or-not, body-length}
-use Rattle.sheets.specs.Layout.{mark, headNumber, furtherBytes, furtherLength, headUpTo, headBytes, lengthUpTo, headLength, stationWith, allocationWith, stationBytes, allocationBytes, endBytes, fieldsOf, fieldsLength, sheetOf, sheetLength}
+use Rattle.sheets.specs.Layout.{mark, furtherBytes, furtherLength, furtherField, headUpTo, headBytes, lengthUpTo, headLength, stationWith, allocationWith, stationBytes, allocationBytes, endBytes, fieldsOf, fieldsLength, sheetOf, sheetLength}
 use Rattle.sheets.specs.Reading.{judgedSheet}
 use Rattle.sheets.specs.ReadLaws.{then-rest, then-keeps, then-none}
 use Rattle.sheets.specs.Writing.{writeNumber, writeAnswer, bufferAfter, refusedWriting, Wrote, WroteFields, roomNumber, laidAfter, PutAt}
@@ -85,6 +88,20 @@ module _ (h : Head) where
   pub head-long : length (headBytes h) ≡ 7 + headLength h
   head-long = up-to-length furtherCount
 
+  -- TTRT's field, then the rows of those behind it
+  pub up-to-rows : (k : ℕ) → headUpTo h k ≡ (mark 1 4 ++ bytesOf (h .ttrt)) ++ rows k (furtherField h)
+  unfolding rows
+  up-to-rows zero = up-to-none ∙ sym (append-nil _)
+  up-to-rows (suc k) = up-to-more k ∙ ap (λ (s : List ℕ). s ++ furtherField h k) (up-to-rows k) ∙ append-assoc (mark 1 4 ++ bytesOf (h .ttrt)) (rows k (furtherField h)) (furtherField h k)
+
+  -- how many bytes these have
+  pub lengths-none : lengthUpTo h 0 ≡ 0
+  unfolding sumBelow
+  lengths-none = refl
+
+  pub further-rows : (k : ℕ) → length (rows k (furtherField h)) ≡ lengthUpTo h k
+  further-rows k = omega (arith, up-to-length k, ap length (up-to-rows k), length-append (mark 1 4 ++ bytesOf (h .ttrt)) (rows k (furtherField h)), bytes-length (h .ttrt), length-append (mark 1 4) (bytesOf (h .ttrt)))
+
   -- all of them, one by one
   pub head-fields : headBytes h ≡ mark 1 4 ++ bytesOf (h .ttrt) ++ furtherBytes 4 (h .mode) ++ furtherBytes 5 (h .frame) ++ furtherBytes 6 (h .grid)
   unfolding headUpTo headNumber
@@ -98,6 +115,14 @@ module _ (h : Head) where
   unfolding sumBelow
   head-small zero = omega arith
   head-small (suc k) = omega (arith, head-small k, length-small (modeTag + k) (headNumber h (modeTag + k)))
+
+  -- the length with one field more, of a number that is the header's
+  pub length-turn : (k : ℕ) {sum number size : ℕ} → sum ≡ lengthUpTo h k → number ≡ headNumber h (modeTag + k) → size ≡ furtherLength (modeTag + k) number → sum + size ≡ lengthUpTo h (k + 1)
+  length-turn k s n z = omega (arith, ap (lengthUpTo h) (add-one k), length-more k, ap (furtherLength (modeTag + k)) n)
+
+  -- no more than that of all
+  pub lengths-rise : (k : ℕ) → k ≤ furtherCount → lengthUpTo h k ≤ headLength h
+  lengths-rise k l = omega (arith, sum-split furtherCount (λ i. furtherLength (modeTag + i) (headNumber h (modeTag + i))) k l)
 
 pub station-length : (w c d p : ℕ) → length (stationWith w c d p) ≡ 19
 unfolding stationWith bytesOf
@@ -160,6 +185,39 @@ module _ {out₀ : List ℕ} {from step n : ℕ} {row : ℕ → List ℕ} (each 
   rows-end {i = i} r done =
       let all : i ≡ n = omega (arith, r .counted) in
       r .so-far ∙ ap (λ (k : ℕ). laid out₀ from (rows k row)) all
+
+-- ---- the header's fields behind TTRT, laid one after another
+
+-- the first k are laid, up to the place `at`
+pub record FurtherLaid (out₀ out : List ℕ) (h : Head) (at k : ℕ) : Type 0 where
+  pub counted : k ≤ furtherCount
+  pub here : at ≡ 7 + lengthUpTo h k
+  pub so-far : out ≡ laid out₀ 7 (rows k (furtherField h))
+  pub long : length out ≡ length out₀
+
+module _ {out₀ : List ℕ} {h : Head} (fits : 7 + headLength h ≤ length out₀) where
+  pub further-begin : FurtherLaid out₀ out₀ h 7 0
+  further-begin = record { counted = omega arith; here = omega (arith, lengths-none h); so-far = sym (rw rows-none (laid-none _ _)); long = refl }
+
+  -- the next one, of the header's number, has room
+  pub further-room : {out : List ℕ} {at k number : ℕ} → FurtherLaid out₀ out h at k → k < furtherCount → number ≡ headNumber h (modeTag + k)
+      → at + furtherLength (modeTag + k) number ≤ length out
+  further-room {k = k} s l n = omega (arith, s .here, s .long, length-turn h k refl n refl, lengths-rise h (k + 1) (omega arith))
+
+  -- a turn lays it behind them
+  pub further-turn : {out next : List ℕ} {at k number size : ℕ} → FurtherLaid out₀ out h at k → k < furtherCount → number ≡ headNumber h (modeTag + k)
+      → size ≡ furtherLength (modeTag + k) number → next ≡ laid out at (furtherBytes (modeTag + k) number) → length next ≡ length out → FurtherLaid out₀ next h (at + size) (k + 1)
+  further-turn {out} {next} {at} {k} {number} s l n z e same =
+      let room = further-room s l n in
+      let field : next ≡ laid out at (furtherField h k) = e ∙ ap (λ (x : ℕ). laid out at (furtherBytes (modeTag + k) x)) n in
+      record {
+        counted = omega arith;
+        here = omega (arith, s .here, length-turn h k refl n z);
+        so-far = rw rows-step
+            (laid-more out₀ out next 7 at (rows k (furtherField h)) (furtherField h k) (s .so-far) (omega (arith, s .here, further-rows h k)) field
+            (omega (arith, s .long, further-long (modeTag + k) number, ap (λ (x : ℕ). length (furtherBytes (modeTag + k) x)) n)));
+        long = same ∙ s .long;
+      }
 
 -- ---- the fields of a sheet, laid one after another
 

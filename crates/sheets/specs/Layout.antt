@@ -5,6 +5,7 @@ use mathlib.Core.List.{List, [], _∷_, _++_}
 use lib.Dec.{eqb}
 use Rattle.units.specs.Numbers.{lastMode, mostFrame, mostGrid}
 use Rattle.units.specs.Places.{at, sumBelow}
+use Rattle.sets.specs.Header.{headNumber}
 use Rattle.sets.specs.declared.Head.{Head}
 use Rattle.sets.specs.declared.Set.{Set}
 use Rattle.plans.specs.Planned.{blankAlloc}
@@ -20,11 +21,7 @@ mark tag size = tag ∷ 0 ∷ size ∷ []
 
 -- ---- the header
 
--- the number of the header behind TTRT that belongs to a tag: the mode, F or g
-unfoldable pub headNumber : Head → ℕ → ℕ
-headNumber h tag = cond (eqb tag modeTag) (h .mode) (cond (eqb tag frameTag) (h .frame) (h .grid))
-
--- the highest that is allowed: 3, the last mode that has a name; 65,535; 1,000
+-- the highest number that a tag allows: 3, the last mode that has a name; 65,535; 1,000
 unfoldable pub mostOf : ℕ → ℕ
 mostOf tag = cond (eqb tag modeTag) lastMode (cond (eqb tag frameTag) mostFrame mostGrid)
 
@@ -36,10 +33,14 @@ furtherBytes tag number = cond (eqb number absent) [] (mark tag (furtherSize tag
 unfoldable pub furtherLength : ℕ → ℕ → ℕ
 furtherLength tag number = cond (eqb number absent) 0 (3 + furtherSize tag)
 
+-- field k of the header behind TTRT, the mode's being 0
+abbrev pub furtherField : Head → ℕ → List ℕ
+furtherField h k = furtherBytes (modeTag + k) (headNumber h (modeTag + k))
+
 -- the header up to its first k fields behind TTRT: tag 1, length 4, TTRT; then these
 unfoldable pub headUpTo : Head → ℕ → List ℕ
 headUpTo h zero = mark headTag headSize ++ bytesOf (h .ttrt)
-headUpTo h (suc k) = headUpTo h k ++ furtherBytes (modeTag + k) (headNumber h (modeTag + k))
+headUpTo h (suc k) = headUpTo h k ++ furtherField h k
 
 -- the header: TTRT, the mode, F, g
 abbrev pub headBytes : Head → List ℕ
@@ -94,6 +95,13 @@ requestSheet t = sheetOf false t blankAlloc
 -- a plan sheet
 abbrev pub planSheet : Set → Alloc → List ℕ
 planSheet t a = sheetOf true t a
+
+-- how many bytes a program reads of a request sheet, and of a sheet that may be a plan: one more than the longest has, of 128 stations with a mode, F and g
+abbrev pub requestRead : ℕ
+requestRead = 2_461
+
+abbrev pub planRead : ℕ
+planRead = 3_357
 
 -- how many bytes a sheet has: 10 + 19N for a request, 10 + 26N for a plan, and what the header has behind TTRT
 abbrev pub sheetLength : Bool → Set → ℕ

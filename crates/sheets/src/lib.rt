@@ -12,6 +12,11 @@ ghost use Rattle.sheets.specs.Writing.{Wrote, WroteFields};
 use plans::Alloc;
 use sets::Set;
 
+// How many bytes a program reads of a request sheet, and of a sheet that may be a plan: one more than the longest has, of 128 stations with a mode, F and g; it tells that a byte follows.
+pub const REQUEST_READ: usize = 2_461;
+
+pub const PLAN_READ: usize = 3_357;
+
 // What reading a request sheet answers: the number, 0 with the set, or a refusal with the blank set.
 #[repr(C)]
 pub struct ReadRequest {

@@ -72,17 +72,17 @@ fn read_head(bs: &[u8]) -> Head
     ensures { λ r. ⌜ r ≡ headIn (now (bs .entry)) ⌝ }
 {
     let ttrt = bytes::number_at(bs, 3);
-    let mode = read_further(bs, 7, fields::MODE_TAG);
-    let second = behind_further(bs, 7, fields::MODE_TAG);
-    let frame = read_further(bs, second, fields::FRAME_TAG);
-    let third = behind_further(bs, second, fields::FRAME_TAG);
-    let grid = read_further(bs, third, fields::GRID_TAG);
-    Head {
-        ttrt,
-        mode,
-        frame,
-        grid,
+    let mut head = sets::head_of(ttrt);
+    let mut at: usize = 7;
+    let mut k: u8 = 0;
+    while k < fields::FURTHER_COUNT {
+        let tag = fields::MODE_TAG + k;
+        let number = read_further(bs, at, tag);
+        head = sets::with_head_number(head, tag, number);
+        at = behind_further(bs, at, tag);
+        k += 1;
     }
+    head
 }
 
 // The set that the header and the stations hold.

@@ -5,7 +5,8 @@ ghost use lib.ListN.{length};
 ghost use Rattle.fields.specs.Rows.{laid, rows};
 ghost use Rattle.fields.specs.Bytes.{bodyOf};
 ghost use Rattle.fields.specs.Fields.{furtherSize};
-ghost use Rattle.sheets.specs.Layout.{furtherBytes, furtherLength, headBytes, headLength, stationWith, allocationWith, stationBytes, allocationBytes, fieldsOf, fieldsLength};
+ghost use Rattle.fields.specs.Header.{furtherCount};
+ghost use Rattle.sheets.specs.Layout.{furtherBytes, furtherLength, furtherField, headBytes, headLength, stationWith, allocationWith, stationBytes, allocationBytes, fieldsOf, fieldsLength};
 ghost use Rattle.sheets.specs.Writing.{Wrote, WroteFields, refusedWriting};
 use crate::Written;
 use crate::bytes;
@@ -49,6 +50,22 @@ fn put_further(out: &mut [u8], at: usize, tag: u8, number: u32)
     }
 }
 
+// Writes the header's fields behind TTRT.
+fn put_furthers(out: &mut [u8], h: Head)
+    requires { ⌜ 7 + headLength h ≤ length (now out) ⌝ }
+    ensures { λ _. ⌜ now (out .exit) ≡ laid (now (out .entry)) 7 (rows furtherCount (furtherField h)) ⌝ }
+{
+    let mut at: usize = 7;
+    let mut k: u8 = 0;
+    while k < fields::FURTHER_COUNT {
+        let tag = fields::MODE_TAG + k;
+        let number = sets::head_number(h, tag);
+        put_further(out, at, tag, number);
+        at += further_length(tag, number);
+        k += 1;
+    }
+}
+
 // Writes the header.
 fn put_head(out: &mut [u8], h: Head)
     requires { ⌜ 7 + headLength h ≤ length (now out) ⌝ }
@@ -56,20 +73,21 @@ fn put_head(out: &mut [u8], h: Head)
 {
     bytes::put_mark(out, 0, fields::HEAD_TAG, 4);
     bytes::put_number(out, 3, h.ttrt);
-    put_further(out, 7, fields::MODE_TAG, h.mode);
-    let second = 7 + further_length(fields::MODE_TAG, h.mode);
-    put_further(out, second, fields::FRAME_TAG, h.frame);
-    let third = second + further_length(fields::FRAME_TAG, h.frame);
-    put_further(out, third, fields::GRID_TAG, h.grid);
+    put_furthers(out, h);
 }
 
 // How many bytes the header has behind TTRT.
 fn head_length(h: Head) -> usize
     ensures { λ r. ⌜ r ≡ headLength h ⌝ }
 {
-    let mode = further_length(fields::MODE_TAG, h.mode);
-    let frame = further_length(fields::FRAME_TAG, h.frame);
-    mode + frame + further_length(fields::GRID_TAG, h.grid)
+    let mut sum: usize = 0;
+    let mut k: u8 = 0;
+    while k < fields::FURTHER_COUNT {
+        let tag = fields::MODE_TAG + k;
+        sum += further_length(tag, sets::head_number(h, tag));
+        k += 1;
+    }
+    sum
 }
 
 // Writes one station.

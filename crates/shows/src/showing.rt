@@ -5,7 +5,7 @@ ghost use lib.ListN.{length};
 ghost use Rattle.fields.specs.Rows.{rows};
 ghost use Rattle.fields.specs.Header.{furtherCount};
 ghost use Rattle.text.specs.Text.{PutShort, decimalOf, lineOn, line};
-ghost use Rattle.outputs.specs.ShowText.{furtherLine, headLines, shareWords, stationLine, sheetText};
+ghost use Rattle.outputs.specs.ShowText.{furtherLine, numberLine, headLines, shareWords, stationLine, sheetText};
 use plans::Alloc;
 use sets::Head;
 use sets::Set;
@@ -37,15 +37,29 @@ fn put_further(page: &mut [u8], at: usize, tag: u8, number: u32) -> usize
     put_named(page, at, b"grid", units::wide(number))
 }
 
+// The lines of the header's numbers behind TTRT.
+fn put_numbers(page: &mut [u8], at: usize, h: Head) -> usize
+    requires { ⌜ at + 42 * furtherCount ≤ length (now page) ⌝ }
+    ensures { λ r. ⌜ PutShort (42 * furtherCount) (now (page .entry)) at (rows furtherCount (numberLine h)) (now (page .exit)) r ⌝ }
+{
+    let mut next = at;
+    let mut k: u8 = 0;
+    while k < fields::FURTHER_COUNT {
+        let tag = fields::MODE_TAG + k;
+        let number = sets::head_number(h, tag);
+        next = put_further(page, next, tag, number);
+        k += 1;
+    }
+    next
+}
+
 // The header's lines: `ttrt N`, then those of the numbers behind it.
 fn put_header(page: &mut [u8], h: Head) -> usize
-    requires { ⌜ 168 ≤ length (now page) ⌝ }
-    ensures { λ r. ⌜ PutShort 168 (now (page .entry)) 0 (headLines h furtherCount) (now (page .exit)) r ⌝ }
+    requires { ⌜ 42 + 42 * furtherCount ≤ length (now page) ⌝ }
+    ensures { λ r. ⌜ PutShort (42 + 42 * furtherCount) (now (page .entry)) 0 (headLines h furtherCount) (now (page .exit)) r ⌝ }
 {
     let first = put_named(page, 0, b"ttrt", units::wide(h.ttrt));
-    let second = put_further(page, first, fields::MODE_TAG, h.mode);
-    let third = put_further(page, second, fields::FRAME_TAG, h.frame);
-    put_further(page, third, fields::GRID_TAG, h.grid)
+    put_numbers(page, first, h)
 }
 
 // S, in a plan; and the line's end.

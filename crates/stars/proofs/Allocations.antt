@@ -21,7 +21,7 @@ none-holds : (r : SetCase) → record { alloc = record { s = places (r .s) }; nu
 none-holds r e n = record { answer = promised .one-answer (r .set) _ .1 e; spare = λ h. absurd (n h) }
 
 pub allocations : Allocations
-unfolding timeAt smallestWith judgedThen orElse answered leastAlloc sumBelow allBelow fill headInRange stationInRange
+unfolding timeAt spareTime smallestWith judgedThen orElse answered leastAlloc sumBelow allBelow fill headInRange stationInRange
 allocations =
     record {
       stations =

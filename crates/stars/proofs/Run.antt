@@ -4,7 +4,7 @@ use Rattle.units.specs.Places.{sumBelow, allBelow, fill, raise}
 use Rattle.units.specs.Judging.{orElse, allHold}
 use Rattle.sets.specs.Rules.{headInRange, stationInRange}
 use Rattle.sets.specs.Judged.{judgedThen}
-use Rattle.plans.specs.Rules.{timeAt}
+use Rattle.plans.specs.Rules.{timeAt, spareTime}
 use Rattle.plans.specs.Planned.{smallestWith, judgedPlan, answered, leastAlloc}
 use Rattle.rings.specs.Frames.{framesFrom}
 use Rattle.rings.specs.Opening.{openedRing, openedWith}
@@ -16,7 +16,7 @@ use Rattle.rings.specs.HandingIn.{arrivalAllowed, holding, takenWith}
 use Rattle.stars.specs.Run.{WorkedRun}
 
 pub workedRun : WorkedRun
-unfolding framesFrom sumBelow allBelow fill raise orElse allHold headInRange stationInRange judgedThen timeAt smallestWith judgedPlan answered leastAlloc openedRing openedWith isSound
+unfolding framesFrom sumBelow allBelow fill raise orElse allHold headInRange stationInRange judgedThen timeAt spareTime smallestWith judgedPlan answered leastAlloc openedRing openedWith isSound
     syncSent following limit lead timelyAfter timersAfter silentTimely silentTimers timelySound timersSound moved recordOf visitedWith arrivalAllowed holding takenWith
 workedRun =
     record {

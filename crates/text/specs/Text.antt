@@ -3,9 +3,12 @@ use Prim.Native.Nat.{ℕ, zero, suc, _+_, _/_, _%_, _≤_, _<_}
 use mathlib.Core.Path.{_≡_}
 use mathlib.Core.Bool.{cond}
 use mathlib.Core.List.{List, [], _∷_, _++_}
+use mathlib.Core.Logic.{_≢_}
 use lib.Dec.{ltb}
 use lib.ListN.{length, take, drop}
+use Rattle.units.specs.Numbers.{bufferTooShort}
 use Rattle.fields.specs.Rows.{laid}
+use Rattle.text.specs.declared.Said.{Said}
 
 -- ---- characters
 
@@ -115,3 +118,24 @@ pub record Printed (text before after : List ℕ) (r : ℕ) : Type 0 where
   -- it lies inside the page; both lines say so, for whoever lends the first r bytes
   pub fits : r ≤ length after
   pub counts : r ≡ length (take r after)
+
+-- ---- a page that is handed out with a number
+
+-- the number that goes with a text: that of the refusal that it says, 0 where it says none; of a page that is too small, 14
+unfoldable pub numberOn : ℕ → List ℕ → ℕ
+numberOn number page = cond (ltb (length page) pageSize) bufferTooShort number
+
+-- the text stands at the start of the page, and the answer has its length and its number
+pub record Says (text : List ℕ) (refusal : ℕ) (before after : List ℕ) (r : Said) : Type 0 where
+  pub printed : Printed text before after (r .length)
+  pub number : r .number ≡ numberOn refusal before
+
+-- a text ends with `refused` and the number
+pub record EndsRefused (text : List ℕ) (number : ℕ) : Type 0 where
+  pub front : List ℕ
+  pub whole : text ≡ front ++ refusedLine number
+
+-- a text and its number tell the same: it ends with `refused N` if the number N is not 0, and with no refusal if it is
+pub record Tells (text : List ℕ) (number : ℕ) : Type 0 where
+  pub refused : number ≢ 0 → EndsRefused text number
+  pub accepted : number ≡ 0 → (other : ℕ) → ¬ EndsRefused text other

@@ -10,10 +10,12 @@ use lib.Dec.{ltb}
 use borrow.Author.Tests.{lt-ltb, le-ltb}
 use lib.ListN.{length, take, set, length-append}
 use lib.Seq.{sets-eq, take-all, take-length, length-take-le}
+use Rattle.units.specs.Numbers.{bufferTooShort}
 use Rattle.units.specs.SmallLaws.{below-or-not}
 use Rattle.fields.specs.Rows.{laid, rows}
 use Rattle.fields.specs.RowLaws.{laid-none, laid-length, laid-then, laid-first}
-use Rattle.text.specs.Text.{digit, decimalWithin, decimalOf, lineOn, line, newline, space, Put, PutShort, PutWithin, Printed, pageSize, pageWith, lengthOn, textOr, refusedWord, refusedLine, lineWord, cannotBeRead, unreadLine}
+use Rattle.text.specs.Text.{digit, decimalWithin, decimalOf, lineOn, line, newline, space, Put, PutShort, PutWithin, Printed, pageSize, pageWith, lengthOn, numberOn, Says, textOr, refusedWord, refusedLine, lineWord, cannotBeRead, unreadLine}
+use Rattle.text.specs.declared.Said.{Said}
 
 -- ---- text put into a page
 
@@ -96,6 +98,22 @@ unfolding pageWith lengthOn
 not-printed {text} {before} small =
     let e = lt-ltb (length before) pageSize small in
     record { page = rw e; size = rw e; fits = omega arith; counts = refl }
+
+-- the same, with its number
+pub says : {text segment before after : List ℕ} {r : Said} {most number : ℕ}
+    → PutShort most before 0 segment after (r .length) → segment ≡ text → r .number ≡ number → pageSize ≤ length before → most ≤ pageSize
+    → Says text number before after r
+unfolding numberOn
+says {text} {segment} {before} p same told large few =
+    record { printed = printed p same large few; number = rw (le-ltb (length before) pageSize large) told }
+
+pub says-nothing : {text before : List ℕ} {number : ℕ} → length before < pageSize → Says text number before before (record { length = 0; number = bufferTooShort })
+unfolding numberOn
+says-nothing {text} {before} small = record { printed = not-printed small; number = rw (lt-ltb (length before) pageSize small) refl }
+
+-- the same text and the same number under other names
+pub says-as : {s t before after : List ℕ} {r : Said} {k n : ℕ} → Says s k before after r → s ≡ t → k ≡ n → Says t n before after r
+says-as p same told = rw (← same, ← told) p
 
 -- ---- a piece of a text: its first bytes, or all if they are fewer
 

@@ -8,6 +8,13 @@ ghost use Rattle.text.specs.Text.{Put, PutShort, PutWithin, Room, digit,
 // How many bytes a page must have, so that every text of the program fits.
 pub const PAGE_SIZE: usize = 65_536;
 
+// What was put at the start of a page: how many bytes, and the number of the refusal that they say, 0 where they say none. A page that is too small holds no text, and its number is 14.
+#[repr(C)]
+pub struct Said {
+    pub length: usize,
+    pub number: u8,
+}
+
 // One byte.
 fn put_byte(page: &mut [u8], at: usize, byte: u8) -> usize
     requires { ⌜ Room (now page) at (byte ∷ []) ⌝ }

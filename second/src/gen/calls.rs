@@ -1,7 +1,8 @@
 //! Call scripts that mix accepted and refused calls, made by following the ring.
 
 use super::random::Random;
-use super::{sets, Sort};
+use super::sets;
+use super::sort::Sort;
 use crate::planted::Planted;
 use crate::ring::{Message, Ring, StationNumber, Ticks};
 use crate::rules::{Ask, Head, Plan, Request, Station, LAST_TIME};
@@ -105,13 +106,13 @@ impl Script {
     }
 
     fn ticks(&self, random: &mut Random) -> u32 {
-        let spare = self.ring.plan().spare() as u32;
+        let left = self.ring.plan().left_over() as u32;
         match random.between(0, 5) {
             0 => 0,
             1 => u32::MAX,
             2 => 1,
             3 => random.between32(0, u32::MAX),
-            _ => random.between32(0, spare + 1),
+            _ => random.between32(0, left + 1),
         }
     }
 

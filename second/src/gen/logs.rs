@@ -2,12 +2,13 @@
 //! number is wrong, or that are cut and joined.
 
 use super::random::Random;
-use super::{calls, sets, Sort};
+use super::sort::Sort;
+use super::{calls, sets};
 use crate::inspect::Inspector;
-use crate::log::{log_of, Counter, Entry};
+use crate::log::{log_of, Counter};
 use crate::planted::Planted;
 use crate::ring::Ring;
-use crate::rules::{Ask, Plan};
+use crate::rules::{Ask, Entry, Plan};
 use crate::sheet::{fields, visit_field};
 use crate::text::Call;
 

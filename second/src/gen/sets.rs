@@ -1,7 +1,7 @@
 //! Sets of stations and allocations: feasible, tight, impossible by one tick, and wild.
 
 use super::random::Random;
-use super::Sort;
+use super::sort::Sort;
 use crate::planner;
 use crate::planted::Planted;
 use crate::rules::{fddi_least_time, least_time, Head, Mode, Plan, Request, Station};
@@ -204,11 +204,11 @@ pub fn smallest_plan(request: &Request) -> Plan {
 /// A feasible set with all spare time walked away, and `over` ticks more; or given to a frame.
 pub fn tight(random: &mut Random, sort: Sort, over: u32) -> Request {
     let mut request = feasible(random, sort);
-    let spare = smallest_plan(&request).spare() as u32;
+    let left = smallest_plan(&request).left_over() as u32;
     let index = random.index(request.stations.len());
     let more = match sort.mode {
-        Mode::Timely | Mode::Earlier => spare,
-        Mode::Fddi => most_walk(&request, index, spare),
+        Mode::Timely | Mode::Earlier => left,
+        Mode::Fddi => most_walk(&request, index, left),
     };
     let longer = request.head.frame + more + over;
     if sort.uncut && FRAME.contains(&longer) && random.once_in(2) {
@@ -221,13 +221,13 @@ pub fn tight(random: &mut Random, sort: Sort, over: u32) -> Request {
 
 /// The most ticks, up to the spare ones, that a station may walk beside its own and leave a plan: in
 /// FDDI each S may rise with the walk.
-fn most_walk(request: &Request, index: usize, spare: u32) -> u32 {
+fn most_walk(request: &Request, index: usize, left: u32) -> u32 {
     let feasible = |more: u32| {
         let mut request = request.clone();
         request.stations[index].walk += more;
         planner::plan(&request, Planted::Nothing).is_ok()
     };
-    let (mut low, mut high) = (0, spare);
+    let (mut low, mut high) = (0, left);
     while low < high {
         let middle = (low + high).div_ceil(2);
         if feasible(middle) {
@@ -317,8 +317,8 @@ fn generous_plan(random: &mut Random, request: &Request) -> Plan {
     }
     let mut plan = smallest.clone();
     let step = request.head.grid;
-    let spare = plan.spare() as u32 / step;
-    let given = random.between32(0, spare);
+    let left = plan.left_over() as u32 / step;
+    let given = random.between32(0, left);
     let extra = random.split(given, plan.allocation.len());
     plan.allocation.iter_mut().zip(extra).for_each(|(s, more)| *s += more * step);
     // In FDDI what one station gets may be missing at another.
@@ -336,8 +336,8 @@ pub fn plan(random: &mut Random, sort: Sort) -> Plan {
     match random.between(0, 9) {
         0 => plan.allocation[index] = plan.allocation[index].saturating_sub(1),
         1 => {
-            let spare = plan.spare() as u32;
-            plan.allocation[index] += spare + random.between32(0, 1);
+            let left = plan.left_over() as u32;
+            plan.allocation[index] += left + random.between32(0, 1);
         }
         2..=4 if sort.grid => {
             let step = plan.request.head.grid;
@@ -386,7 +386,7 @@ fn head_edges(plan: &Plan) -> Vec<Plan> {
 
 /// The ends of F's range and of what the plan leaves room for, and one past them.
 pub fn frame_edges(plan: &Plan) -> [u32; 8] {
-    let most = plan.request.head.frame.saturating_add(plan.spare() as u32);
+    let most = plan.request.head.frame.saturating_add(plan.left_over() as u32);
     let (last, past) = (*FRAME.end(), *FRAME.end() + 1);
     [0, 1, 2, most, most.saturating_add(1), last, past, u32::MAX]
 }
@@ -400,12 +400,12 @@ pub fn grid_edges(plan: &Plan) -> [u32; 8] {
 fn station_edges(plan: &Plan, index: usize) -> Vec<Plan> {
     let Station { walk, deadline, gap, .. } = plan.request.stations[index];
     let s = plan.allocation[index];
-    let spare = plan.spare() as u32;
+    let left = plan.left_over() as u32;
     let mut edges = vec![];
     let mut add = |values: &[u32], place: fn(&mut Plan, usize) -> &mut u32| {
         edges.extend(values.iter().map(|&value| changed(plan, |p| *place(p, index) = value)));
     };
-    add(&[0, walk + spare, walk + spare + 1, 1_000_000, 1_000_001, u32::MAX], |plan, index| {
+    add(&[0, walk + left, walk + left + 1, 1_000_000, 1_000_001, u32::MAX], |plan, index| {
         &mut plan.request.stations[index].walk
     });
     add(&[0, 1, MOST_TICKS, MOST_TICKS + 1, u32::MAX], |plan, index| {
@@ -417,7 +417,7 @@ fn station_edges(plan: &Plan, index: usize) -> Vec<Plan> {
     add(&[0, deadline - 1, deadline, MOST_GAP, MOST_GAP + 1, u32::MAX], |plan, index| {
         &mut plan.request.stations[index].gap
     });
-    add(&[0, s.saturating_sub(1), s + spare, s + spare + 1], |plan, index| {
+    add(&[0, s.saturating_sub(1), s + left, s + left + 1], |plan, index| {
         &mut plan.allocation[index]
     });
     add(&[1_000_000, 1_000_001, u32::MAX], |plan, index| &mut plan.allocation[index]);

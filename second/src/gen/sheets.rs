@@ -1,7 +1,8 @@
 //! Sheets, sound ones and damaged ones.
 
 use super::random::Random;
-use super::{sets, Sort};
+use super::sets;
+use super::sort::Sort;
 use crate::rules::{Plan, FRAME, GRID};
 use crate::sheet::{fields, mode_field, number_field, FRAME_TAG, GRID_TAG, STATION_TAG};
 

@@ -1,10 +1,11 @@
 //! States of rings, sound ones and ones with a number at an edge or past it, and calls on them.
 
 use super::random::Random;
-use super::{sets, Sort};
+use super::sets;
+use super::sort::Sort;
 use crate::ring::{Message, StationNumber};
-use crate::rules::{Ask, Mode, Plan, LAST_TIME};
-use crate::state::{Place, State, LAST_CLOCK, MOST_LATE, VISITS_END};
+use crate::rules::{Ask, Mode, Plan, LAST_CLOCK, LAST_TIME, MOST_LATE, VISITS_END};
+use crate::state::{Place, State};
 use crate::text::Call;
 
 /// Most states have a u of 32 bits.

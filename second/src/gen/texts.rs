@@ -2,7 +2,8 @@
 
 use super::calls;
 use super::random::Random;
-use super::{logs, sets, Sort};
+use super::sort::Sort;
+use super::{logs, sets};
 use crate::rules::Plan;
 use crate::text::show_stations;
 

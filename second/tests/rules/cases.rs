@@ -1,8 +1,9 @@
 //! The frames and the generator.
 
 use crate::{worked_plan, worked_request};
-use second::frames::{answer, from_hex, show_set, to_hex, NO_CASE};
+use second::frames::{answer, NO_CASE};
 use second::gen::{write_cases, Kind, Sort};
+use second::notation::{from_hex, show_set, to_hex};
 use second::planted::Planted;
 use second::sheet::fields;
 

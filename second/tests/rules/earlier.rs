@@ -1,7 +1,8 @@
 //! The 2002 edition: the worked run's set in its order, worked out by hand, and where it differs.
 
 use crate::{composed, earlier, station, worked_plan};
-use second::frames::{answer, to_hex};
+use second::frames::answer;
+use second::notation::to_hex;
 use second::planted::Planted;
 use second::ring::{Completed, Message, Ring, StationNumber, Ticks, Visit};
 use second::rules::{Ask, Plan, Refusal, Request, Station};

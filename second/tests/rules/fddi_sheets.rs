@@ -1,7 +1,8 @@
 //! The mode on sheets and in texts.
 
 use crate::{composed, fddi, worked_plan, worked_request};
-use second::frames::{answer, to_hex};
+use second::frames::answer;
+use second::notation::to_hex;
 use second::planted::Planted;
 use second::rules::{Head, Plan, Refusal, Request};
 use second::sheet::*;

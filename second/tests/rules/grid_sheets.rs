@@ -1,7 +1,8 @@
 //! g on sheets, in texts and in cases.
 
 use crate::{composed, fddi, worked_plan, worked_request};
-use second::frames::{answer, to_hex};
+use second::frames::answer;
+use second::notation::to_hex;
 use second::planted::Planted;
 use second::rules::{Head, Plan, Refusal};
 use second::sheet::*;

@@ -3,12 +3,13 @@
 
 use crate::logs::{entry, worked_entries, worked_log};
 use crate::{fddi, station, timely, worked_plan};
-use second::frames::{answer, from_hex, to_hex};
+use second::frames::answer;
 use second::gen::{calls, logs, random::Random, Sort};
 use second::inspect::{in_frames, inspected, Inspector, Rule};
-use second::log::{log_of, Counter, Entry};
+use second::log::{log_of, Counter};
+use second::notation::{from_hex, to_hex};
 use second::planted::Planted;
-use second::rules::{Ask, Head, Mode, Plan, Request};
+use second::rules::{Ask, Entry, Head, Mode, Plan, Request};
 
 /// The record and rule, or `None` for accepted.
 fn found(plan: &Plan, entries: &[Entry]) -> Option<(u64, Rule)> {
@@ -60,18 +61,8 @@ fn each_rule_in_words() {
         (2, [2, 60, 0, 20, 0], [2, 60, 1, 20, 0], "limit\nexpected limit 0, found 1"),
         (5, [1, 122, 18, 20, 18], [1, 122, 17, 20, 17], "limit\nexpected limit 18, found 17"),
         (2, [2, 60, 0, 20, 0], [2, 60, 0, 21, 0], "synchronous\nexpected at most 20, found 21"),
-        (
-            2,
-            [2, 60, 0, 20, 0],
-            [2, 60, 0, 20, 1],
-            "asynchronous\nexpected at most 0, found 1",
-        ),
-        (
-            0,
-            [0, 0, 18, 20, 18],
-            [0, 0, 18, 20, 19],
-            "asynchronous\nexpected at most 18, found 19",
-        ),
+        (2, [2, 60, 0, 20, 0], [2, 60, 0, 20, 1], "asynchronous\nexpected at most 0, found 1"),
+        (0, [0, 0, 18, 20, 18], [0, 0, 18, 20, 19], "asynchronous\nexpected at most 18, found 19"),
     ];
     for (index, was, is, words) in rows {
         let mut entries = worked_entries();

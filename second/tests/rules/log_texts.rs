@@ -3,8 +3,9 @@
 use crate::logs::{worked_entries, worked_log};
 use crate::worked_plan;
 use second::compose::compose;
-use second::frames::{answer, from_hex, to_hex};
+use second::frames::answer;
 use second::log::log_of;
+use second::notation::{from_hex, to_hex};
 use second::planted::Planted;
 use second::sheet::{fields, visit_field, write_plan};
 

@@ -1,11 +1,12 @@
 //! Visit logs as bytes: reading with a plan's refusals, writing with 14, the recorder's counter.
 
 use crate::{station, timely, worked_plan};
-use second::frames::{answer, to_hex};
+use second::frames::answer;
 use second::gen::{Kind, Sort};
-use second::log::{log_of, Entry, Recorder};
+use second::log::{log_of, Recorder};
+use second::notation::to_hex;
 use second::planted::Planted;
-use second::rules::{Plan, Refusal, Request};
+use second::rules::{Entry, Plan, Refusal, Request};
 use second::sheet::{end_field, read_any, read_log, read_plan, visit_field, write_plan, Sheet};
 
 pub fn entry(numbers: [u32; 5]) -> Entry {
@@ -239,7 +240,7 @@ fn read_and_write_undo_each_other() {
     let mut numbers = [0; 8];
     for (place, sort) in (0..600).flat_map(|place| Sort::ALL.map(|sort| (place, sort))) {
         let case = &Kind::Logs.case(sort, 17, place)[0];
-        let bytes = second::frames::from_hex(&case[4..]).expect("bytes");
+        let bytes = second::notation::from_hex(&case[4..]).expect("bytes");
         match read_log(&bytes) {
             Ok((plan, entries)) => {
                 assert_eq!(log_of(&plan, &entries), Ok(bytes));

@@ -9,6 +9,7 @@ mod fddi_sheets;
 mod grid;
 mod grid_sheets;
 mod inspections;
+mod layers;
 mod log_texts;
 mod logs;
 mod planted;

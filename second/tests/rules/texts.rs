@@ -1,8 +1,9 @@
 use crate::{composed, worked_plan, worked_request};
 use second::lines::{Line, Lines};
+use second::notation::number;
 use second::rules::Refusal;
 use second::sheet::{write_plan, write_request, Sheet};
-use second::text::{number, read_call, show_sheet, Call, Fault};
+use second::text::{read_call, show_sheet, Call, Fault};
 
 fn refused(text: &str) -> u8 {
     match composed(text) {

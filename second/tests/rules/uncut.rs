@@ -72,12 +72,14 @@ fn frames_without_allocations() {
         head: head(ttrt),
         stations: vec![station(1, 0, 1, 1)],
     };
-    for head in [timely, fddi] {
-        assert_eq!(planned(&framed(lone(head, 3), 3)), Ok((vec![0], 0)));
+    // Of A* FDDI does not lose F − 1.
+    let modes: [(fn(u32) -> Head, u64); 2] = [(timely, 1), (fddi, 0)];
+    for (head, loses) in modes {
+        assert_eq!(planned(&framed(lone(head, 3), 3)), Ok((vec![0], 2 - 2 * loses)));
         assert_eq!(planned(&framed(lone(head, 3), 4)), Err(6));
         assert_eq!(planned(&framed(lone(head, 1), 1)), Ok((vec![0], 0)));
         assert_eq!(planned(&framed(lone(head, 1), 2)), Err(6));
-        assert_eq!(planned(&framed(lone(head, 1_000_000), 65_535)), Ok((vec![0], 934_465)));
+        assert_eq!(planned(&framed(lone(head, 1_000_000), 65_535)), Ok((vec![0], 999_999 - 65_534 * loses)));
         assert_eq!(planned(&framed(lone(head, 1_000_000), 65_536)), Err(4));
         assert_eq!(planned(&framed(lone(head, 1_000_000), 0)), Err(4));
         // 4 before 5, and 5 before 6.
@@ -97,8 +99,8 @@ fn fddi_plans() {
     let pair = Request { head: fddi(100), stations };
     let pair = |frame| framed(pair.clone(), frame);
     assert_eq!(planned(&pair(1)), Ok((vec![24, 24], 50)));
-    assert_eq!(planned(&pair(2)), Ok((vec![48, 48], 1)));
-    assert_eq!(planned(&pair(3)), Ok((vec![48, 48], 0)));
+    assert_eq!(planned(&pair(2)), Ok((vec![48, 48], 2)));
+    assert_eq!(planned(&pair(3)), Ok((vec![48, 48], 2)));
     assert_eq!(planned(&pair(4)), Err(6));
     let judged = |frame, s: u32| {
         let plan = Plan { request: pair(frame), allocation: vec![s; 2] };
@@ -113,7 +115,7 @@ fn fddi_plans() {
     assert_eq!([lone(97, 1), lone(97, 2)], [Ok((vec![97], 1)), Err(6)]);
     assert_eq!(
         [lone(96, 2), lone(58, 40), lone(59, 40)],
-        [Ok((vec![96], 1)), Ok((vec![58], 1)), Err(6)]
+        [Ok((vec![96], 2)), Ok((vec![58], 40)), Err(6)]
     );
 }
 

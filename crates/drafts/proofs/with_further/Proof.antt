@@ -28,16 +28,16 @@ returns c = rw (out-of-place (c .before)) (c .misplaced-in .ensures)
 header-number-requires : tie.Need-header-number-requires
 header-number-requires c κs = search needs
 
-head-with-requires : tie.Need-head-with-requires
-head-with-requires c κs = search needs
+with-head-number-requires : tie.Need-with-head-number-requires
+with-head-number-requires c κs = search needs
 
 returns-2 : tie.Need-returns-2
 unfolding withFurther
 returns-2 c =
     let renumbered = c .before .before in
     let given = renumbered .before in
-    rw (placed (given .before .before), ← given .header-number .ensures, ← renumbered .head-with .ensures)
+    rw (placed (given .before .before), ← given .header-number .ensures, ← renumbered .with-head-number .ensures)
 
 pub with-further-spec : {M : Type 1} → statement M
 with-further-spec =
-    tie.close (tie.spec misplaced-in-requires returns header-number-requires head-with-requires returns-2)
+    tie.close (tie.spec misplaced-in-requires returns header-number-requires with-head-number-requires returns-2)

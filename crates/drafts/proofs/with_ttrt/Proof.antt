@@ -1,4 +1,5 @@
 -- `with_ttrt` is right because TTRT is taken once.
+use mathlib.Core.Path.{refl}
 use borrow.Author.Tests.{eq-eqb, ne-eqb}
 use Rattle.drafts.specs.Compose.{withTtrt}
 use borrow.Author.Needs.{needs}
@@ -14,7 +15,9 @@ returns c = rw (ne-eqb _ _ (c .before .if1 .taken)) (c .misplaced-in .ensures)
 
 returns-2 : tie.Need-returns-2
 unfolding withTtrt
-returns-2 c = rw (eq-eqb _ _ (c .before .before .if1 .left))
+returns-2 c =
+    let headed = c .before in
+    rw (eq-eqb _ _ (headed .before .before .if1 .left), ← headed .head-of .ensures) refl
 
 pub with-ttrt-spec : {M : Type 1} → statement M
-with-ttrt-spec = tie.close (tie.spec misplaced-in-requires returns returns-2)
+with-ttrt-spec = tie.close (tie.spec misplaced-in-requires returns (λ c κs. search needs) returns-2)

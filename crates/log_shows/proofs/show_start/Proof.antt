@@ -3,10 +3,10 @@ use mathlib.Core.Path.{_≡_, sym, ap, _∙_}
 use borrow.Author.Tests.{not-true, not-false}
 use Rattle.pieces.specs.declared.Visits.{Visits}
 use Rattle.sheets.specs.declared.PlanStart.{PlanStart}
-use Rattle.text.specs.TextLaws.{not-printed}
+use Rattle.text.specs.TextLaws.{not-printed, says-as}
 use Rattle.log_shows.specs.LogShown.{showFrom}
 use Rattle.log_shows.specs.declared.Showing.{Showing}
-use Rattle.log_shows.proofs.ShowLaws.{printed-as, log-same, head-plain, head-log}
+use Rattle.log_shows.proofs.ShowLaws.{printed-as, number-large, number-small, log-same, number-plain, number-log, head-plain, head-log}
 use borrow.Author.Needs.{needs}
 use Rattle.log_shows.proofs.show_start.Statement.{statement}
 use Rattle.log_shows.proofs.show_start.Tie as tie
@@ -37,7 +37,7 @@ returns c =
     let start = entered .before in
     let log = log-same _ _ _ (start .read-start .ensures) (entered .log-entry .ensures) in
     let place = ap (λ (p : PlanStart). p .at) (start .read-start .ensures) in
-    record { log = log; at = place; showing = kept begun; shown = not-printed (c .if1 .taken) }
+    record { log = log; at = place; showing = kept begun; shown = not-printed (c .if1 .taken); number = number-small _ _ (c .if1 .taken) }
 
 show-plain-requires : tie.Need-show-plain-requires
 show-plain-requires c κs =
@@ -58,7 +58,9 @@ returns-2 c =
     let start = entered .before in
     let log = log-same _ _ _ (start .read-start .ensures) (entered .log-entry .ensures) in
     let place = ap (λ (p : PlanStart). p .at) (start .read-start .ensures) in
-    record { log = log; at = place; showing = kept begun; shown = printed-as (called .show-plain .ensures) (head-plain _ (sym log ∙ not-true _ (here .if2 .taken))) }
+    let none = sym log ∙ not-true _ (here .if2 .taken) in
+    let said = says-as (called .show-plain .ensures) (head-plain _ none) (number-plain _ none) in
+    record { log = log; at = place; showing = kept begun; shown = said .printed; number = said .number }
 
 show-plan-requires : tie.Need-show-plan-requires
 show-plan-requires c κs =
@@ -77,7 +79,14 @@ returns-3 c =
     let start = entered .before in
     let log = log-same _ _ _ (start .read-start .ensures) (entered .log-entry .ensures) in
     let place = ap (λ (p : PlanStart). p .at) (start .read-start .ensures) in
-    record { log = log; at = place; showing = kept begun; shown = printed-as (called .show-plan .ensures) (head-log _ _ (sym log ∙ not-false _ (here .if2 .left)) (start .read-start .ensures)) }
+    let some = sym log ∙ not-false _ (here .if2 .left) in
+    record {
+      log = log;
+      at = place;
+      showing = kept begun;
+      shown = printed-as (called .show-plan .ensures) (head-log _ _ some (start .read-start .ensures));
+      number = number-large _ (here .before .if1 .left) (number-log _ some);
+    }
 
 pub show-start-spec : {M : Type 1} → statement M
 show-start-spec =

@@ -1,43 +1,20 @@
 -- `moved_on` is right because its stores are the definition's; a safe ring's numbers leave room for every sum.
-use Prim.Native.Nat.{ℕ, _+_, _-_}
-use mathlib.Core.Path.{_≡_, refl, _∙_}
-use lib.ListN.{set}
-use Rattle.units.specs.Places.{at}
+use Prim.Native.Nat.{_-_}
+use mathlib.Core.Path.{refl}
 use native.Mathlib.Omega.{arith}
-use Rattle.rings.specs.declared.Ring.{Ring}
-use Rattle.rings.specs.declared.Timers.{Timers}
-use Rattle.rings.specs.Timers.{rise, timersAfter}
-use Rattle.rings.specs.Steps.{syncStart, nextToken, moved}
+use Rattle.rings.specs.Steps.{moved}
 use borrow.Author.Needs.{needs}
 use Rattle.rings.proofs.steps.moved_on.Statement.{statement}
 use Rattle.rings.proofs.steps.moved_on.Tie as tie
 
--- a ring is the moved one if its fields are: what is stored, and then the four that are called for
-stored : (r : Ring) (sync async by start : ℕ) (timers : Timers) (x : Ring) → x .visits ≡ r .visits + 1 → x .clock ≡ r .clock + by → x .last ≡ set (r .last) (r .token) start
-    → x .sent ≡ set (r .sent) (r .token) sync → x .rest ≡ set (r .rest) (r .token) (at (r .rest) (r .token) - sync) → x .set ≡ r .set → x .alloc ≡ r .alloc
-    → x .arrival ≡ r .arrival → x .had ≡ r .had → x .trt ≡ timers .trt → x .late ≡ timers .late → x .unused ≡ timers .unused
-    → by ≡ rise r sync async → start ≡ syncStart r async → timers ≡ timersAfter r sync async → x .token ≡ nextToken r → x ≡ moved r sync async
-unfolding moved
-stored r sync async by start timers x visits clock last sent rest kept alloc arrival had trt late unused rises begins moves token =
-    (λ i. record {
-      set = kept i;
-      alloc = alloc i;
-      trt = trt i;
-      late = late i;
-      sent = sent i;
-      rest = rest i;
-      arrival = arrival i;
-      had = had i;
-      last = last i;
-      clock = clock i;
-      visits = visits i;
-      token = token i;
-      unused = unused i;
-    }) ∙ rw (rises, begins, moves)
-
 returns : tie.Need-returns
+unfolding moved
 returns c =
-    stored _ _ _ _ _ _ _ (omega arith) refl refl refl refl refl refl refl refl refl refl refl (search) (search) (search) (search)
+    let turned = c .before .before .before .before .before in
+    let begun = turned .before in
+    let timed = begun .before in
+    let risen = timed .before in
+    rw (← risen .rise-of .ensures, ← begun .sync-start .ensures, ← timed .timers-after .ensures, ← turned .next-token .ensures) refl
 
 cast-p : tie.Need-cast-p
 cast-p c = search needs

@@ -1,0 +1,73 @@
+// What `plan` and `plan-sheet` put out, as functions on bytes.
+mod planning;
+
+ghost use mathlib.Core.Path.{_≡_};
+ghost use Rattle.text.specs.Text.{Says};
+ghost use Rattle.sheets.specs.Reading.{readRequest};
+ghost use Rattle.command_plan.specs.PlanText.{planPrinted};
+ghost use Rattle.command_plan.specs.PlanSheet.{planningNumber, planOf, WrotePlan};
+use sheets::ReadPlan;
+use sheets::Written;
+use text::PAGE_SIZE;
+use text::Said;
+use units::numbers;
+
+// The plan of a request sheet's bytes, with the first refusal of reading and planning.
+fn plan_of(sheet: &[u8]) -> ReadPlan
+    ensures { λ r. ⌜ r ≡ planOf (readRequest (now (sheet .entry))) ⌝ }
+{
+    let request = sheets::read_request(sheet);
+    let set = request.set;
+    let planned = plans::plan(set);
+    let alloc = planned.alloc;
+    if request.number != numbers::ACCEPTED {
+        return ReadPlan {
+            set,
+            alloc,
+            number: request.number,
+        };
+    }
+    ReadPlan {
+        set,
+        alloc,
+        number: planned.number,
+    }
+}
+
+// What `plan` prints of a request sheet's bytes, put at the start of the page, and its number.
+pub fn plan_text(sheet: &[u8], page: &mut [u8]) -> Said
+    ensures { λ r. ⌜ Says (planPrinted (now (sheet .entry))) (planningNumber (readRequest (now (sheet .entry)))) (now (page .entry)) (now (page .exit)) r ⌝ }
+{
+    if page.len() < PAGE_SIZE {
+        return Said {
+            length: 0,
+            number: numbers::BUFFER_TOO_SHORT,
+        };
+    }
+    let plan = plan_of(sheet);
+    let number = plan.number;
+    if number != numbers::ACCEPTED {
+        let length = text::put_refused(page, 0, number);
+        return Said { length, number };
+    }
+    let set = plan.set;
+    let alloc = plan.alloc;
+    let length = planning::put_plan(page, set, alloc);
+    Said { length, number }
+}
+
+// What `plan-sheet` writes: the plan sheet of a request sheet's bytes, put at the start of the buffer; refused, no byte of it changes.
+pub fn plan_sheet(sheet: &[u8], out: &mut [u8]) -> Written
+    ensures { λ r. ⌜ WrotePlan (readRequest (now (sheet .entry))) (now (out .entry)) (now (out .exit)) r ⌝ }
+{
+    let plan = plan_of(sheet);
+    if plan.number != numbers::ACCEPTED {
+        return Written {
+            length: 0,
+            number: plan.number,
+        };
+    }
+    let set = plan.set;
+    let alloc = plan.alloc;
+    sheets::write_plan(set, alloc, out)
+}

@@ -1,0 +1,50 @@
+-- `has_word` is right because each arm compares with the word that the table has for its command.
+use borrow.Author.Needs.{needs}
+use Rattle.commands.proofs.has_word.Statement.{statement}
+use Rattle.commands.proofs.has_word.Tie as tie
+
+returns : tie.Need-returns
+returns c = rw (c .before .before .enum-told .given .1) (c .same-bytes .ensures)
+
+returns-2 : tie.Need-returns-2
+returns-2 c = rw (c .before .before .enum-told2 .given .1) (c .same-bytes2 .ensures)
+
+returns-3 : tie.Need-returns-3
+returns-3 c = rw (c .before .before .enum-told3 .given .1) (c .same-bytes3 .ensures)
+
+returns-4 : tie.Need-returns-4
+returns-4 c = rw (c .before .before .enum-told4 .given .1) (c .same-bytes4 .ensures)
+
+returns-5 : tie.Need-returns-5
+returns-5 c = rw (c .before .before .enum-told5 .given .1) (c .same-bytes5 .ensures)
+
+returns-6 : tie.Need-returns-6
+returns-6 c = rw (c .before .before .enum-told6 .given .1) (c .same-bytes6 .ensures)
+
+returns-7 : tie.Need-returns-7
+returns-7 c = rw (c .before .before .enum-told7 .given .1) (c .same-bytes7 .ensures)
+
+returns-8 : tie.Need-returns-8
+returns-8 c = rw (c .before .before .enum-told8 .given .1) (c .same-bytes8 .ensures)
+
+returns-9 : tie.Need-returns-9
+returns-9 c = rw (c .before .before .enum-told9 .given .1) (c .same-bytes9 .ensures)
+
+returns-10 : tie.Need-returns-10
+returns-10 c = rw (c .before .before .enum-told10 .given .1) (c .same-bytes10 .ensures)
+
+pub has-word-spec : {M : Type 1} → statement M
+has-word-spec =
+    tie.close
+    (tie.spec
+    (λ c. search needs) (λ c. search needs) (λ c κs. search needs)
+    (λ c. search needs) (λ c. search needs) (λ c κs. search needs)
+    (λ c. search needs) (λ c. search needs) (λ c κs. search needs)
+    (λ c. search needs) (λ c. search needs) (λ c κs. search needs)
+    (λ c. search needs) (λ c. search needs) (λ c κs. search needs)
+    (λ c. search needs) (λ c. search needs) (λ c κs. search needs)
+    (λ c. search needs) (λ c. search needs) (λ c κs. search needs)
+    (λ c. search needs) (λ c. search needs) (λ c κs. search needs)
+    (λ c. search needs) (λ c. search needs) (λ c κs. search needs)
+    (λ c. search needs) (λ c. search needs) (λ c κs. search needs)
+    returns returns-2 returns-3 returns-4 returns-5 returns-6 returns-7 returns-8 returns-9 returns-10)

@@ -1,2 +1,0 @@
--- The law of comparing words, for the proofs of this layer.
-pub mod Comparing

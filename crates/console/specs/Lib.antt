@@ -1,2 +1,0 @@
--- The commands by their names.
-pub mod Commands

@@ -1,0 +1,17 @@
+-- The run is computed.
+use mathlib.Core.Path.{refl}
+use Rattle.promises.specs.GridWitness.{GridHappens}
+use Rattle.promises.proofs.Computed.{running}
+
+pub grid-happens : GridHappens
+unfolding running
+grid-happens =
+    record {
+      plan = refl;
+      older-plan = refl;
+      earlier-plan = refl;
+      judged = refl;
+      off = refl;
+      spare = refl;
+      records = refl;
+    }

@@ -1,0 +1,2 @@
+-- How a command ends.
+pub mod Ends

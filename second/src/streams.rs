@@ -1,0 +1,201 @@
+//! What each command puts out of what it takes in, from bytes to bytes.
+
+use std::io::{self, Read, Write};
+
+use crate::check::WatchedRing;
+use crate::compose::compose;
+use crate::inspect::Inspector;
+use crate::lines::Lines;
+use crate::log::{plan_fields, Counter, Passed, Stream};
+use crate::planner;
+use crate::planted::Planted;
+use crate::ring::Ring;
+use crate::rules::{Plan, Refusal};
+use crate::sheet::{end_field, read_plan, read_request, visit_field, write_plan};
+use crate::sheet::{Sheet, ANY_TABLE, LOG_TABLE, PLAN_READ, REQUEST_READ};
+use crate::text::{self, answer_line, read_call, Answer, Fault};
+
+/// Where a command writes: standard output and standard error.
+pub struct Streams<O, E> {
+    pub out: O,
+    pub err: E,
+}
+
+impl<O: Write, E: Write> Streams<O, E> {
+    fn text(&mut self, text: &str) -> io::Result<()> {
+        self.out.write_all(text.as_bytes())
+    }
+
+    /// A fault where standard output carries bytes.
+    fn fault(&mut self, fault: Fault) -> io::Result<()> {
+        writeln!(self.err, "{fault}")
+    }
+
+    fn sheet(&mut self, answer: Result<Vec<u8>, Refusal>) -> io::Result<()> {
+        match answer {
+            Ok(bytes) => self.out.write_all(&bytes),
+            Err(refusal) => self.fault(Fault::Refused(refusal)),
+        }
+    }
+
+    /// A command that has only its name; tells whether there is one.
+    pub fn simple(&mut self, name: &str, input: impl Read, planted: Planted) -> io::Result<bool> {
+        match name {
+            "plan" => {
+                let plan = planned(&at_most(input, REQUEST_READ)?, planted);
+                self.text(&plan.map_or_else(refused, |plan| text::show_plan(&plan)))?;
+            }
+            "plan-sheet" => {
+                let plan = planned(&at_most(input, REQUEST_READ)?, planted);
+                self.sheet(plan.and_then(|plan| write_plan(&plan, PLAN_READ)))?;
+            }
+            "show" => self.show(input)?,
+            "inspect" => self.inspect(input, planted)?,
+            "compose" => {
+                if let Err(fault) = compose(input, &mut self.out)? {
+                    self.fault(fault)?;
+                }
+            }
+            _ => return Ok(false),
+        }
+        Ok(true)
+    }
+
+    /// The text of a request, a plan or a log of any length. That of a log goes out as it is read,
+    /// and ends with the refusal if there is a fault behind its plan.
+    fn show(&mut self, input: impl Read) -> io::Result<()> {
+        let mut stream = Stream::new(input, ANY_TABLE);
+        // What is before the visits, once a visit has passed: shown, or refused.
+        let mut before: Option<Result<(), Refusal>> = None;
+        loop {
+            let passed = stream.pass()?;
+            let judged = || stream.passage().contents.judged();
+            match passed {
+                Err(refusal) => return self.text(&refused(refusal)),
+                Ok(Passed::Visit(entry)) => {
+                    if before.is_none() {
+                        before = Some(self.shown(judged())?);
+                    }
+                    if before == Some(Ok(())) {
+                        self.text(&format!("{entry}\n"))?;
+                    }
+                }
+                Ok(Passed::End) => {
+                    let shown = match before {
+                        None => self.shown(judged())?,
+                        Some(shown) => shown,
+                    };
+                    return shown.or_else(|refusal| self.text(&refused(refusal)));
+                }
+            }
+        }
+    }
+
+    /// What is found in a log of any length. The finding is kept until the log is read whole.
+    fn inspect(&mut self, input: impl Read, planted: Planted) -> io::Result<()> {
+        let mut stream = Stream::new(input, LOG_TABLE);
+        let mut inspector: Option<Result<Inspector, Refusal>> = None;
+        loop {
+            let passed = stream.pass()?;
+            let opened = || stream.passage().contents.judged_plan();
+            let opened = || opened().map(|plan| Inspector::new(&plan, planted));
+            match passed {
+                Err(refusal) => return self.text(&refused(refusal)),
+                Ok(Passed::Visit(entry)) => {
+                    if let Ok(inspector) = inspector.get_or_insert_with(opened) {
+                        inspector.take(&entry);
+                    }
+                }
+                Ok(Passed::End) => {
+                    return match inspector.unwrap_or_else(opened) {
+                        Ok(inspector) => self.text(&inspected_text(&inspector)),
+                        Err(refusal) => self.text(&refused(refusal)),
+                    }
+                }
+            }
+        }
+    }
+
+    fn shown(&mut self, sheet: Result<Sheet, Refusal>) -> io::Result<Result<(), Refusal>> {
+        match sheet {
+            Ok(sheet) => self.text(&text::show_sheet(&sheet)).map(Ok),
+            Err(refusal) => Ok(Err(refusal)),
+        }
+    }
+
+    /// Answers the calls as they are read, and waits for none with an answer unsaid.
+    pub fn run(&mut self, plan: &[u8], calls: impl Read, planted: Planted) -> io::Result<()> {
+        let mut ring = match opened(plan, planted) {
+            Ok(ring) => ring,
+            Err(refusal) => return self.text(&refused(refusal)),
+        };
+        let mut lines = Lines::new(calls);
+        while let Some(line) = lines.next_line()? {
+            match read_call(&line) {
+                Ok(None) => (),
+                Ok(Some(call)) => writeln!(self.out, "{}", answer_line(ring.answer(&call)))?,
+                Err(fault) => writeln!(self.out, "{fault}")?,
+            }
+            if lines.must_wait() {
+                self.out.flush()?;
+            }
+        }
+        Ok(())
+    }
+
+    /// Writes the log of a run: the fields of its plan, a field for each visit, the end. The first
+    /// line that cannot be read is named when the calls have ended.
+    pub fn log(&mut self, plan: &[u8], calls: impl Read, planted: Planted) -> io::Result<()> {
+        let mut ring = match opened(plan, planted) {
+            Ok(ring) => ring,
+            Err(refusal) => return self.fault(Fault::Refused(refusal)),
+        };
+        self.sheet(plan_fields(ring.ring().plan()))?;
+        let mut lines = Lines::new(calls);
+        let mut unread = None;
+        while let Some(line) = lines.next_line()? {
+            match read_call(&line) {
+                Ok(None) => (),
+                Ok(Some(call)) => {
+                    if let Ok(Answer::Visited(visit)) = ring.answer(&call) {
+                        self.out.write_all(&visit_field(&Counter::ZERO.entry(&visit)))?;
+                    }
+                }
+                Err(fault) => unread = unread.or(Some(fault)),
+            }
+            if lines.must_wait() {
+                self.out.flush()?;
+            }
+        }
+        self.out.write_all(&end_field())?;
+        unread.map_or(Ok(()), |fault| self.fault(fault))
+    }
+}
+
+/// What was found, and what was expected there.
+fn inspected_text(inspector: &Inspector) -> String {
+    match inspector.finding() {
+        None => format!("accepted {}\n", inspector.records()),
+        Some(finding) => format!("{finding}\n{}\n", finding.words),
+    }
+}
+
+fn refused(refusal: Refusal) -> String {
+    format!("{}\n", Fault::Refused(refusal))
+}
+
+fn planned(sheet: &[u8], planted: Planted) -> Result<Plan, Refusal> {
+    planner::plan(&read_request(sheet)?, planted)
+}
+
+fn opened(plan: &[u8], planted: Planted) -> Result<WatchedRing, Refusal> {
+    let ring = Ring::open(&read_plan(plan)?, planted)?;
+    Ok(WatchedRing::new(ring, planted))
+}
+
+/// What is in the input, at most so many bytes.
+pub fn at_most(input: impl Read, most: usize) -> io::Result<Vec<u8>> {
+    let mut bytes = vec![];
+    input.take(most as u64).read_to_end(&mut bytes)?;
+    Ok(bytes)
+}
