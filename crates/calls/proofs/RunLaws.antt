@@ -130,7 +130,7 @@ did u b e = (ap (λ (x : LineStep). x .run) e, ap (λ (x : LineStep). x .answer)
 abbrev pub scannedOn : Run → List ℕ → Run
 scannedOn u bs = record { ring = u .ring; scan = steppedOver (u .scan) bs; line = u .line }
 
--- what is said at its end, and the run behind it
+-- the same, of a line that goes on
 abbrev SaidOn : Run → List ℕ → Type 0
 SaidOn u bs =
     (runAfter u (bs ++ (newline ∷ [])) ≡ lineEnds (scannedOn u bs) .run)
