@@ -9,10 +9,9 @@ use lib.ListN.{length}
 use borrow.Author.Tests.{eqb-true, eq-eqb, leb-true, le-leb}
 use Rattle.units.specs.Places.{at}
 use Rattle.units.specs.JudgingLaws.{and-true, true-and}
-use Rattle.fields.specs.Rows.{Stands}
 use Rattle.fields.specs.Bytes.{shortAt, bytesOf, AllBytes}
 use Rattle.fields.specs.Fields.{tagAt, sizeAt}
-use Rattle.fields.proofs.SegmentLaws.{stands-left, stands-right, stands-join}
+use Rattle.fields.proofs.SegmentLaws.{Stands, stands-left, stands-right, stands-join}
 use Rattle.fields.proofs.ByteLaws.{number-read, number-stands, stands-one, stands-three}
 use Rattle.entries.specs.Entry.{visitMark, entryBytes, entryAt, EntryFits, visitStands, nextEntry}
 use Rattle.entries.specs.declared.Entry.{Entry}

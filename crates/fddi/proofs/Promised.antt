@@ -9,16 +9,17 @@ use Rattle.units.specs.Places.{at, sumBelow}
 use Rattle.units.specs.PlaceLaws.{sum-same}
 use Rattle.units.specs.JudgingLaws.{iff-then}
 use Rattle.units.specs.Vectors.{wholeRotations, LeastPlaces, SameTerms}
-use Rattle.units.specs.VectorLaws.{decides-rules, terms-back, rules-same, least-same, least-one}
+use Rattle.units.specs.VectorLaws.{decides-rules, terms-back, rules-same, least-same}
 use Rattle.fddi.specs.Rules.{stations, rest, timeWith, others, termsOf, MeetsFddi, SameLoad, tokenFits}
 use Rattle.fddi.specs.Climb.{rotationsAt, zeros, none, climbFrom, leastPlan}
-use Rattle.fddi.specs.Answer.{Fitting}
 use Rattle.fddi.specs.Promised.{Regions, Promised}
 use Rattle.fddi.specs.declared.Load.{Load}
 use Rattle.fddi.specs.declared.Found.{Found}
 use Rattle.fddi.proofs.Laws.{time-some, others-own}
 use Rattle.fddi.proofs.Station.{Holds, decides-holds}
-use Rattle.fddi.proofs.Rounds.{rule-holds, Right, climbing-start, climb-right, plan-right}
+use Rattle.fddi.proofs.Rounds.{rule-holds, climbing-start, climb-right, plan-right}
+use Rattle.fddi.proofs.Answer.{right-fits, fits-right, one-answer}
+use Rattle.fddi.proofs.Cases.{cases-hold}
 
 -- ---- X in its three regions
 
@@ -59,26 +60,7 @@ missing l = (
 blank : (l : Load) → leastPlan l .found ≡ false → leastPlan l ≡ none
 blank l h = ⊎-elim (λ r. absurd (true≢false (sym (r .0) ∙ h))) (λ r. r .0) (plan-right l)
 
--- ---- exactly one answer
-
-right-fits : (l : Load) (a : Found) → Right l a → Fitting l a
-right-fits l a =
-    ⊎-elim (λ r. record { missing = λ n. absurd (n (at (a .s), r .1 .least .meets)); found = λ p. r })
-    (λ r. record { missing = λ n. r .0; found = λ p. absurd (r .1 (p .0) (p .1)) })
-
--- whatever fits is what is right
-fits-right : (l : Load) (a b : Found) → Right l b → Fitting l a → a ≡ b
-fits-right l a b r f =
-    ⊎-elim (λ r.
-    let p = f .found (at (b .s), r .1 .least .meets) in
-    let same = least-one (termsOf l) (a .s) (b .s) (p .1) (r .1) in
-    let flag = p .0 ∙ sym (r .0) in
-    λ k. record { s = same k; found = flag k })
-    (λ r. f .missing (λ p. r .1 (p .0) (p .1)) ∙ sym (r .0))
-    r
-
-one-answer : (l : Load) (a : Found) → Fitting l a ↔ (a ≡ leastPlan l)
-one-answer l a = (fits-right l a (leastPlan l) (plan-right l), λ e. rw e (right-fits l (leastPlan l) (plan-right l)))
+-- ---- how many rounds are enough
 
 enough : (l : Load) (k : ℕ) → tokenFits l (at zeros) ≡ true → l .ttrt < k → climbFrom k l zeros ≡ leastPlan l
 enough l k h b =
@@ -136,4 +118,5 @@ promised =
       enough = enough;
       first-places = first-places;
       first-places-terms = terms-same;
+      cases = cases-hold;
     }

@@ -74,6 +74,6 @@ abbrev pub Every : {A : Type 0} → (A → Type 0) → List A → Type 0
 Every P [] = Unit {0}
 Every P (x ∷ xs) = P x × Every P xs
 
--- every case holds; `proofs/Cases.antt` proves it
+-- every case holds
 abbrev pub Cases : Type 0
 Cases = Every CaseHolds cases

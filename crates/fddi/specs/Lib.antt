@@ -4,11 +4,11 @@
 --     Climb       how the least vector is found
 --     Bounds      how large the small functions' results can be
 --     Answer      planning as a relation from the sentences alone, with no way to compute it
---     Promised    what is promised beside the contracts
 --     Cases       cases that a person can check by hand
+--     Promised    what is promised beside the contracts
 pub mod Rules
 pub mod Climb
 pub mod Bounds
 pub mod Answer
-pub mod Promised
 pub mod Cases
+pub mod Promised

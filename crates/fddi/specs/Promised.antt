@@ -9,6 +9,7 @@ use Rattle.units.specs.Vectors.{wholeRotations, LeastPlaces, SameTerms, rulesKe
 use Rattle.fddi.specs.Rules.{stations, rest, leastTime, others, timeAt, termsOf, MeetsFddi, tokenFits, SameLoad}
 use Rattle.fddi.specs.Climb.{holds, rotationsAt, moreAt, zeros, none, climbFrom, leastPlan}
 use Rattle.fddi.specs.Answer.{Fitting}
+use Rattle.fddi.specs.Cases.{Cases}
 use Rattle.fddi.specs.declared.Load.{Load}
 use Rattle.fddi.specs.declared.Found.{Found}
 
@@ -53,3 +54,5 @@ pub record Promised : Type 0 where
   pub first-places : (a b : Load) → SameLoad a b → leastPlan a ≡ leastPlan b
   -- and in what a vector is held to: so neither in the rules nor in their test
   pub first-places-terms : (a b : Load) → SameLoad a b → SameTerms (termsOf a) (termsOf b)
+  -- cases that a person can check by hand have the answers of their table
+  pub cases : Cases

@@ -6,8 +6,8 @@ use native.Mathlib.Nat.{add-zero, div-div-eq-div-mul, mod-eq-of-lt, div-lt-iff-l
 use native.Mathlib.Omega.{arith}
 use lib.ListN.{length}
 use Rattle.units.specs.Places.{at}
-use Rattle.fields.specs.Rows.{Stands}
 use Rattle.fields.specs.Bytes.{numberAt, bytesOf, AllBytes}
+use Rattle.fields.proofs.SegmentLaws.{Stands}
 
 pub bytes-length : (x : ℕ) → length (bytesOf x) ≡ 4
 unfolding bytesOf

@@ -12,10 +12,10 @@ use borrow.Author.Tests.{eq-eqb, ne-eqb, eqb-true, eqb-false}
 use Rattle.units.specs.Places.{at}
 use Rattle.units.specs.JudgingLaws.{true-or-false}
 use Rattle.units.specs.SmallLaws.{below-or-not}
-use Rattle.fields.specs.Rows.{Stands}
 use Rattle.fields.specs.Bytes.{bytesOf, bodyAt, bodyOf, AllBytes}
 use Rattle.fields.specs.Fields.{modeTag, furtherSize, tagAt}
 use Rattle.fields.specs.Header.{absent, headerNumber, behindTag, furtherPlace, placeOf, givenAt, saidAt}
+use Rattle.fields.proofs.SegmentLaws.{Stands}
 use Rattle.fields.proofs.ByteLaws.{bytes-length, number-read, number-stands, stands-one}
 use Rattle.fields.proofs.FieldLaws.{further-one, further-four}
 

@@ -9,7 +9,7 @@ use lib.ListN.{length, set, length-append, List·getD-append}
 use lib.Seq.{sets-eq, getD-append-add, ext-getD}
 use Rattle.units.specs.Places.{at}
 use Rattle.units.specs.SmallLaws.{below-or-not}
-use Rattle.fields.specs.Rows.{rows, laid, Stands}
+use Rattle.fields.specs.Rows.{rows, laid}
 use Rattle.fields.specs.RowLaws.{rows-step, laid-then}
 
 -- ---- rows
@@ -51,6 +51,11 @@ laid-four out a x y z u h =
     rw (e₁, e₂, e₃) (sets-eq (x ∷ y ∷ z ∷ u ∷ []) out a h)
 
 -- ---- segments that stand at a place
+
+-- the bytes of the segment stand in bs from the place a on
+pub record Stands (bs : List ℕ) (a : ℕ) (segment : List ℕ) : Type 0 where
+  pub fits : a + length segment ≤ length bs
+  pub same : (i : ℕ) → i < length segment → at bs (a + i) ≡ at segment i
 
 pub stands-itself : (bs : List ℕ) → Stands bs 0 bs
 stands-itself bs = record { fits = omega arith; same = λ i l. rw zero-add }

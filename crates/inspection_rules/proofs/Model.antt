@@ -13,11 +13,13 @@ use Rattle.plans.specs.declared.Alloc.{Alloc}
 use Rattle.entries.specs.declared.Entry.{Entry}
 use Rattle.rings.specs.Timers.{limit, timersAfter, timelyAfter}
 use Rattle.rings.specs.Opening.{openedRing}
+use Rattle.rings.specs.Sound.{Sound}
 use Rattle.rings.specs.Steps.{Ask, syncSent, asyncSent, moved, recordOf, blankRecord, visitNumber}
 use Rattle.rings.specs.HandingIn.{holding, handInNumber}
-use Rattle.rings.specs.RingLaws.{sync-within, visit-passed, taken-accepted, taken-refused}
+use Rattle.rings.specs.RingLaws.{sync-within, visit-passed, taken-passed, taken-accepted, taken-refused}
 use Rattle.rings.specs.declared.Ring.{Ring}
 use Rattle.rings.specs.declared.Message.{Message}
+use Rattle.rings.specs.declared.Taken.{Taken}
 use Rattle.rings.specs.declared.VisitRecord.{VisitRecord}
 use Rattle.promises.specs.Facts.{Timing, timing}
 use Rattle.promises.specs.Run.{Call, visit, message, Run, noted, after, run, opened, runOf, recordsOf}
@@ -122,6 +124,30 @@ module _ (t : Set) (a : Alloc) (h : judgedPlan t a ≡ 0) (counter : ℕ) where
   told : (calls : List Call) → Told (runOf t a calls)
   unfolding entriesFrom ringAfter
   told calls = told-run (opened t a) (record { given = tt; same = refl }) calls
+
+-- ---- a plan that does not meet the rules: its ring is unsound, so every call is refused and nothing is recorded
+
+module _ (t : Set) (a : Alloc) (n : judgedPlan t a ≢ 0) where
+  not-sound : (r : Ring) → r ≡ openedRing t a → ¬ Sound r
+  unfolding openedRing
+  not-sound r e s = n (subst (λ (x : Ring). judgedPlan (x .set) (x .alloc) ≡ 0) e (s .plan))
+
+  call-refused : (s : Run) (c : Call) → s .ring ≡ openedRing t a → (after s c .ring ≡ s .ring) × (after s c .records ≡ s .records)
+  unfolding after
+  call-refused s (visit ask) e =
+      let not : visitNumber (s .ring) ask ≢ 0 = λ go. not-sound (s .ring) e (visit-passed (s .ring) ask go .0) in
+      rw (visit-stops (s .ring) ask not) (refl, not-noted (visitNumber (s .ring) ask) blankRecord (s .records) not)
+  call-refused s (message m) e =
+      let not : handInNumber (s .ring) m ≢ 0 = λ go. not-sound (s .ring) e (taken-passed (s .ring) m go .0) in
+      (ap (λ (x : Taken). x .ring) (taken-refused (handInNumber (s .ring) m) (s .ring) m not), refl)
+
+  all-refused : (s : Run) → s .ring ≡ openedRing t a → (calls : List Call) → run s calls .records ≡ s .records
+  unfolding run
+  all-refused s e [] = refl
+  all-refused s e (c ∷ cs) = let same = call-refused s c e in all-refused (after s c) (same .0 ∙ e) cs ∙ same .1
+
+  pub no-records : (calls : List Call) → recordsOf t a calls ≡ []
+  no-records calls = all-refused (opened t a) refl calls
 
 -- ---- in the order of a log
 

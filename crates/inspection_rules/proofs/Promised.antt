@@ -37,7 +37,7 @@ use Rattle.inspection_rules.proofs.One.{not-both, one-finding}
 use Rattle.inspection_rules.proofs.Amounts.{which-amounts}
 use Rattle.inspection_rules.proofs.Comparing.{differs}
 use Rattle.inspection_rules.proofs.Expecting.{expects, compares}
-use Rattle.inspection_rules.proofs.Model.{model-gives, model-length, could-written}
+use Rattle.inspection_rules.proofs.Model.{model-gives, model-length, no-records, could-written}
 use Rattle.inspection_rules.proofs.Kept.{keptEntries, kept-length, kept-few, kept-fit, kept-gives, kept-log}
 use Rattle.inspection_rules.proofs.Witness.{late-log}
 use Rattle.inspection_rules.proofs.Places.{inspection-same}
@@ -109,6 +109,11 @@ model-accepted t a counter calls h =
     let es = entriesOf counter t a calls in
     let R = fit-recorded t a es calls h (run-fits t a counter calls) (omega (arith, model-length t a counter calls)) in
     accepted-gives t a es h R .1 (counter, model-gives t a counter calls h)
+
+-- of a plan that does not meet the rules there are none
+run-accepted : (t : Set) (a : Alloc) (counter : ℕ) (calls : List Call) → inspectionOf t a (entriesOf counter t a calls) .rule ≡ 0
+run-accepted t a counter calls =
+    ⊎-elim (model-accepted t a counter calls) (λ n. rw (no-records t a n calls) (nothing-visited t a .0)) (same-or-not (judgedPlan t a) 0)
 
 -- ---- the finding of a log
 
@@ -206,7 +211,7 @@ promised =
       amounts = which-amounts;
       first-places = λ t u a b es count same shares. inspection-same t u a b (count .1) (count .0) same shares es;
       written-visit = λ t a before h g counter. could-written counter (ringAfter (openedRing t a) before) (reaches t a h (g .0) before (g .1));
-      runs = model-accepted;
+      runs = run-accepted;
       editions = editions;
       late-log = late-log;
       expects = λ t a before counter own h R g. expects t a h before counter R g own;

@@ -115,8 +115,8 @@ pub record Promised : Type 0 where
   -- what could be given is what our recorder writes of a visit, with some synchronous amount and some request
   pub written-visit : (t : Set) (a : Alloc) (before : List Entry) → judgedPlan t a ≡ 0 → Gives t a before → (counter : ℕ) (e : Entry)
       → Could counter (ringAfter (openedRing t a) before) e ↔ WrittenVisit counter (ringAfter (openedRing t a) before) e
-  -- the records of every run of the model from the opening on are accepted, whatever calls are made and whatever the recorder's counter shows at clock 0
-  pub runs : (t : Set) (a : Alloc) (counter : ℕ) (calls : List Call) → judgedPlan t a ≡ 0 → inspectionOf t a (entriesOf counter t a calls) .rule ≡ 0
+  -- the records of every run of the model from the opening on are accepted, whatever the plan, whatever calls are made and whatever the recorder's counter shows at clock 0
+  pub runs : (t : Set) (a : Alloc) (counter : ℕ) (calls : List Call) → inspectionOf t a (entriesOf counter t a calls) .rule ≡ 0
   -- an FDDI log is judged by FDDI's steps
   pub late-log : LateLog
   -- behind records that could be given, on a recorder whose counter showed this number at clock 0, an inspection expects just what the ring's own next visit says

@@ -9,11 +9,10 @@ use borrow.Author.Count.{below-more}
 use Rattle.sets.specs.Header.{headNumber}
 use Rattle.sets.specs.Rules.{CountAllowed}
 use Rattle.plans.specs.Planned.{judgedPlan}
-use Rattle.fields.specs.Rows.{Stands}
 use Rattle.fields.specs.Bytes.{numberAt, AllBytes}
 use Rattle.fields.specs.Fields.{sizeAt}
 use Rattle.fields.proofs.FieldLaws.{Whole}
-use Rattle.fields.proofs.SegmentLaws.{stands-whole, stands-join}
+use Rattle.fields.proofs.SegmentLaws.{Stands, stands-whole, stands-join}
 use Rattle.fields.specs.declared.Passed.{Passed}
 use Rattle.scan.specs.Scanned.{scanned}
 use Rattle.scan.specs.FirstFault.{WellFormed}

@@ -14,10 +14,9 @@ use Rattle.sets.specs.Rules.{CountAllowed}
 use Rattle.sets.specs.declared.Set.{Set}
 use Rattle.plans.specs.Planned.{judgedPlan}
 use Rattle.plans.specs.declared.Alloc.{Alloc}
-use Rattle.fields.specs.Rows.{Stands}
 use Rattle.fields.specs.Fields.{behind}
 use Rattle.fields.proofs.FieldLaws.{Whole, an-end, kind-allowed}
-use Rattle.fields.proofs.SegmentLaws.{stands-itself, stands-left, stands-right}
+use Rattle.fields.proofs.SegmentLaws.{Stands, stands-itself, stands-left, stands-right}
 use Rattle.fields.specs.declared.Passed.{Passed}
 use Rattle.scan.specs.Scanned.{scanned}
 use Rattle.scan.specs.FirstFault.{WellFormed}

@@ -38,6 +38,7 @@ use Rattle.promises.proofs.Course.{Plan, Unvisited, Since, same-or-not}
 use Rattle.promises.proofs.Stores.{Latest, Never}
 use Rattle.promises.proofs.Timing.{latest-within}
 use Rattle.promises.proofs.Messages.{Waiting, deadlineAt, clock-ahead, held-in-time, completed-in-time}
+use Rattle.promises.proofs.Steps.{visit-facts, message-facts as handing-facts}
 use Rattle.promises.proofs.Opening.{plan-of}
 use Rattle.promises.proofs.Runs.{made, movedRun, Completes, visit-goes, visit-stops, course-facts, message-parts, message-facts, message-number}
 use Rattle.promises.proofs.Timely.{TimelyVisit, Timely, timer-facts, margin-made, window-kept, tick-limit, steady, timely}
@@ -249,4 +250,6 @@ promised =
       frames-happen = frames-happen;
       earlier-happens = earlier-happens;
       grid-happens = grid-happens;
+      visit-facts = visit-facts;
+      message-facts = handing-facts;
     }

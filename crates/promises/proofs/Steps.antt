@@ -17,17 +17,18 @@ use Rattle.rings.specs.State.{count, ttrt, overrun, following, Shaped, timersOf
 use Rattle.rings.specs.Timers.{Fddi, hasRun}
 use Rattle.rings.specs.Sound.{Sound, isSound}
 use Rattle.rings.specs.Frames.{framesSent}
-use Rattle.rings.specs.Steps.{Ask, syncStart, syncSent, asyncSent, moved, recordOf, visitNumber}
-use Rattle.rings.specs.HandingIn.{holding, handInNumber}
-use Rattle.rings.specs.RingLaws.{sound-tests, sync-within, visit-passed, taken-passed}
+use Rattle.rings.specs.Steps.{Ask, syncStart, syncSent, asyncSent, moved, recordOf, visitNumber, visited}
+use Rattle.rings.specs.HandingIn.{holding, handInNumber, handedIn}
+use Rattle.rings.specs.RingLaws.{sound-tests, sync-within, visit-passed, taken-passed, visit-accepted, taken-number, taken-accepted}
 use Rattle.rings.specs.declared.Ring.{Ring}
 use Rattle.rings.specs.declared.Message.{Message}
 use Rattle.rings.specs.declared.VisitRecord.{VisitRecord}
 use Rattle.rings.proofs.StationLaws.{limit-ran, ran-here, ran-there, moved-below}
 use Rattle.ring_rules.specs.Promised.{Done, Held}
+use Rattle.ring_rules.proofs.NumberLaws.{visited-number}
 use Rattle.ring_rules.proofs.MovedLaws.{done}
 use Rattle.ring_rules.proofs.HeldLaws.{held, held-sound}
-use Rattle.promises.specs.Facts.{timing, VisitCourse, VisitTimers, VisitOffer, VisitLaps, VisitMessages, Sending, Silent, Completing, Leaving, Accepting}
+use Rattle.promises.specs.Facts.{timing, VisitCourse, VisitTimers, VisitOffer, VisitLaps, VisitMessages, VisitFacts, Sending, Silent, Completing, Leaving, Accepting}
 use Rattle.promises.proofs.Course.{ToNext, ToFirst, following-is}
 
 -- ---- a visit, of the ring's own plan
@@ -200,6 +201,18 @@ module _ (r : Ring) (L : Shaped r) (ask : Ask) (go : visitNumber r ask ≡ 0) wh
     pub visit-laps : Fddi t → VisitLaps t a (timing r) (timing next) made
     visit-laps e = subst₂ (λ (x : Set) (y : Alloc). VisitLaps x y (timing r) (timing next) made) set alloc (own-laps (rw set e))
 
+pub visit-facts : (r : Ring) (ask : Ask) → Shaped r → visited r ask .answer .number ≡ 0 → VisitFacts r (visited r ask .ring) (visited r ask .answer .«record»)
+visit-facts r ask L e =
+    let go : visitNumber r ask ≡ 0 = sym (visited-number (visitNumber r ask) r ask) ∙ e in
+    rw (visit-accepted (visitNumber r ask) r ask go)
+    (record {
+      course = own-course r L ask go;
+      messages = own-messages r L ask go;
+      timers = own-timers r L ask go;
+      offer = own-offer r L ask go;
+      laps = own-laps r L ask go;
+    })
+
 -- ---- a handing in
 
 module _ (r : Ring) (L : Shaped r) (m : Message) (e : handInNumber r m ≡ 0) where
@@ -235,3 +248,8 @@ module _ (r : Ring) (L : Shaped r) (m : Message) (e : handInNumber r m ≡ 0) wh
   -- of the plan with which the ring was opened
   pub message-accepts : (t : Set) → r .set ≡ t → Accepting t r (holding r m) m
   message-accepts t set = subst (λ (x : Set). Accepting x r (holding r m) m) set own-accepts
+
+pub message-facts : (r : Ring) (m : Message) → Shaped r → handedIn r m .number ≡ 0 → Accepting (r .set) r (handedIn r m .ring) m
+message-facts r m L e =
+    let go : handInNumber r m ≡ 0 = sym (taken-number (handInNumber r m) r m) ∙ e in
+    rw (taken-accepted (handInNumber r m) r m go) (own-accepts r L m go)

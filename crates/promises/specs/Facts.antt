@@ -1,4 +1,4 @@
--- What an accepted visit and an accepted handing in do, as facts that add up: `ring_rules` promises it of the rings' steps (`Done`, `Held`), and `proofs/Steps.antt` reads these records off that. The promises are proved of these records alone: another step function that gives them keeps the same promises. Every kind of ring gives `VisitCourse` and `VisitMessages`; the timers' half is `VisitTimers` and `VisitOffer` of a timely-token ring, `VisitLaps` of an FDDI ring.
+-- What an accepted visit and an accepted handing in do, as facts that add up: `ring_rules` promises it of the rings' steps (`Done`, `Held`), and `proofs/Steps.antt` reads these records off that. The other promises are proved of these records alone: another step function that gives them keeps the same promises. Every kind of ring gives `VisitCourse` and `VisitMessages`; the timers' half is `VisitTimers` and `VisitOffer` of a timely-token ring, `VisitLaps` of an FDDI ring.
 use Prim.Native.Nat.{ℕ, _+_, _-_, _≤_, _<_, min}
 use mathlib.Core.Path.{_≡_}
 use mathlib.Core.Logic.{_⊎_, _≢_}
@@ -9,7 +9,7 @@ use Rattle.sets.specs.declared.Set.{Set}
 use Rattle.plans.specs.declared.Alloc.{Alloc}
 use Rattle.timers.specs.Kept.{Plan, Visit}
 use Rattle.rings.specs.State.{following, timersOf, withMessages, noMessages}
-use Rattle.rings.specs.Timers.{lead, hasRun}
+use Rattle.rings.specs.Timers.{Fddi, lead, hasRun}
 use Rattle.rings.specs.declared.Ring.{Ring}
 use Rattle.rings.specs.declared.Message.{Message}
 use Rattle.rings.specs.declared.VisitRecord.{VisitRecord}
@@ -113,6 +113,14 @@ pub record VisitMessages (t : Set) (a : Alloc) (r q : Ring) (v : VisitRecord) : 
   pub had : q .had ≡ r .had
   pub sending : Sending a r (syncStartOf t v) v ⊎ Silent r (syncStartOf t v) v
   pub completing : Completing t r q (syncStartOf t v) v ⊎ Leaving r q v
+
+-- ---- what every accepted visit gives, by the mode: of ring r it makes ring q, and the record v
+pub record VisitFacts (r q : Ring) (v : VisitRecord) : Type 0 where
+  pub course : VisitCourse (r .set) (r .alloc) (timing r) (timing q) v
+  pub messages : VisitMessages (r .set) (r .alloc) r q v
+  pub timers : ¬ Fddi (r .set) → VisitTimers (r .set) (timing r) (timing q) v
+  pub offer : ¬ Fddi (r .set) → VisitOffer (r .set) (timing r) v
+  pub laps : Fddi (r .set) → VisitLaps (r .set) (r .alloc) (timing r) (timing q) v
 
 -- ---- the accepted handing in of m makes ring q of ring r
 pub record Accepting (t : Set) (r q : Ring) (m : Message) : Type 0 where

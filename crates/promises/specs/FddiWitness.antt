@@ -5,11 +5,11 @@ use mathlib.Core.Bool.{true}
 use mathlib.Core.List.{List, [], _∷_}
 use lib.IntN.{pos, negsuc}
 use Rattle.units.specs.Numbers.{fddi}
-use Rattle.units.specs.Places.{at}
+use Rattle.units.specs.Places.{at, sumBelow}
 use Rattle.sets.specs.Judged.{zeros}
 use Rattle.sets.specs.declared.Set.{Set}
 use Rattle.plans.specs.Planned.{judgedPlan, planned}
-use Rattle.rings.specs.State.{withPlan, withTimers, withMessages, withCourse, blankRing}
+use Rattle.rings.specs.State.{unusedAt, withPlan, withTimers, withMessages, withCourse, blankRing}
 use Rattle.rings.specs.Sound.{isSound}
 use Rattle.rings.specs.Steps.{visited}
 use Rattle.rings.specs.declared.Ring.{Ring}
@@ -41,6 +41,9 @@ pub record FddiHappens : Type 0 where
   pub records : recordsOf older shares completed ≡ row 0 115 15 0 15 0 130 (pos 120) 1 ∷ row 1 114 15 0 0 0 0 (pos 0) 0 ∷ row 0 0 2 98 15 98 0 (pos 0) 0 ∷ []
   pub late-here : at (ringOf older shares first .late) 0 ≡ 1
   pub late-there : at (ringOf older shares first .late) 1 ≡ 1
+  -- u is left alone, all of S, though station 0 has sent all of its own: timely-token's lines would call the ring unsound
+  pub unused : ringOf older shares first .unused ≡ 15
+  pub not-timely : sumBelow 2 (unusedAt (ringOf older shares first)) ≡ 0
   -- margins are exact: 1 tick before the deadline, on it, and behind it
   pub sound : isSound (belated 300) ≡ true
   pub early : visited (belated 234) thousand .answer .«record» ≡ row 0 234 50 0 15 0 249 (pos 1) 1

@@ -10,8 +10,14 @@ use Rattle.plans.specs.Rules.{spareTime}
 use Rattle.plans.specs.Planned.{judgedPlan, planned}
 use Rattle.plans.specs.declared.Alloc.{Alloc}
 use Rattle.sheets.specs.Reading.{readRequest, readPlan}
+use Rattle.rings.specs.State.{Shaped}
 use Rattle.rings.specs.Opening.{opening}
+use Rattle.rings.specs.Steps.{Ask, visited}
+use Rattle.rings.specs.HandingIn.{handedIn}
+use Rattle.rings.specs.declared.Ring.{Ring}
+use Rattle.rings.specs.declared.Message.{Message}
 use Rattle.promises.specs.Run.{runOf}
+use Rattle.promises.specs.Facts.{VisitFacts, Accepting}
 use Rattle.promises.specs.Valid.{Timely, Valid}
 use Rattle.promises.specs.Bulk.{BulkServed}
 use Rattle.promises.specs.Witness.{Happens}
@@ -52,3 +58,6 @@ pub record Promised : Type 0 where
   pub earlier-happens : EarlierHappens
   -- and there is a run on a grid above 1
   pub grid-happens : GridHappens
+  -- what an accepted visit and an accepted handing in do, as facts that add up: all that is promised of runs follows from these
+  pub visit-facts : (r : Ring) (ask : Ask) → Shaped r → visited r ask .answer .number ≡ 0 → VisitFacts r (visited r ask .ring) (visited r ask .answer .«record»)
+  pub message-facts : (r : Ring) (m : Message) → Shaped r → handedIn r m .number ≡ 0 → Accepting (r .set) r (handedIn r m .ring) m

@@ -9,9 +9,10 @@ use Rattle.units.specs.Places.{at}
 use Rattle.units.specs.PlaceLaws.{fill-inside}
 use Rattle.sets.specs.Header.{headNumber}
 use Rattle.sets.specs.Judged.{zeros}
-use Rattle.fields.specs.Rows.{rows, Stands}
+use Rattle.fields.specs.Rows.{rows}
 use Rattle.fields.specs.Bytes.{numberAt, AllBytes}
 use Rattle.fields.specs.Fields.{allocationsFor}
+use Rattle.fields.proofs.SegmentLaws.{Stands}
 use Rattle.fields.proofs.FieldLaws.{allocations-few}
 use Rattle.fields.specs.declared.Passed.{Passed}
 use Rattle.scan.specs.Scanned.{scanned}

@@ -15,9 +15,9 @@ use Rattle.sets.specs.SetLaws.{judged-same}
 use Rattle.sets.specs.declared.Set.{Set}
 use Rattle.plans.proofs.SameLaws.{judged-plan-same}
 use Rattle.plans.specs.declared.Alloc.{Alloc}
-use Rattle.fields.specs.Rows.{rows, Stands}
+use Rattle.fields.specs.Rows.{rows}
 use Rattle.fields.specs.Fields.{furtherSize, allocationsFor, tagAt}
-use Rattle.fields.proofs.SegmentLaws.{stands-itself, stands-whole, stands-left, stands-right, stands-join}
+use Rattle.fields.proofs.SegmentLaws.{Stands, stands-itself, stands-whole, stands-left, stands-right, stands-join}
 use Rattle.scan.specs.Scanned.{scanned}
 use Rattle.scan.specs.FirstFault.{WellFormed}
 use Rattle.scan.specs.declared.Scanned.{Scanned}

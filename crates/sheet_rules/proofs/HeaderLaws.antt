@@ -10,11 +10,10 @@ use Rattle.units.specs.Places.{sumBelow}
 use Rattle.units.specs.SmallLaws.{below-or-not}
 use Rattle.sets.specs.Header.{headNumber}
 use Rattle.sets.specs.declared.Head.{Head}
-use Rattle.fields.specs.Rows.{Stands}
 use Rattle.fields.specs.Bytes.{numberAt, bytesOf, bodyOf, AllBytes}
 use Rattle.fields.specs.Fields.{modeTag, gridTag, furtherSize, tagAt}
 use Rattle.fields.specs.Header.{furtherCount, absent, headerNumber, behindTag, furtherPlace, placeOf, saidAt, givenAt}
-use Rattle.fields.proofs.SegmentLaws.{stands-left, stands-right, stands-join}
+use Rattle.fields.proofs.SegmentLaws.{Stands, stands-left, stands-right, stands-join}
 use Rattle.fields.proofs.ByteLaws.{number-read, number-stands}
 use Rattle.fields.proofs.FieldLaws.{Whole, further-small}
 use Rattle.fields.proofs.HeaderLaws.{same-or-not, header-there, header-one, header-out, behind-there, behind-not, given-absent, given-there, place-first, place-next, roomIn, body-length, body-read, body-stands}

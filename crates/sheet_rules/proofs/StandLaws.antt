@@ -8,10 +8,10 @@ use lib.ListN.{length}
 use Rattle.units.specs.Places.{at}
 use Rattle.sets.specs.declared.Set.{Set}
 use Rattle.plans.specs.declared.Alloc.{Alloc}
-use Rattle.fields.specs.Rows.{rows, Stands}
+use Rattle.fields.specs.Rows.{rows}
 use Rattle.fields.specs.Bytes.{shortAt, numberAt, bytesOf, AllBytes}
 use Rattle.fields.specs.Fields.{tagAt, sizeAt}
-use Rattle.fields.proofs.SegmentLaws.{stands-left, stands-right, stands-join, stands-row, rows-stand}
+use Rattle.fields.proofs.SegmentLaws.{Stands, stands-left, stands-right, stands-join, stands-row, rows-stand}
 use Rattle.fields.proofs.ByteLaws.{number-read, number-stands, stands-three}
 use Rattle.fields.proofs.FieldLaws.{Whole}
 use Rattle.sheet_rules.specs.Promised.{Numbers32}
