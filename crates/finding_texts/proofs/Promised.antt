@@ -1,7 +1,7 @@
 -- Everything that `specs/Promised.antt` lists, proved.
 use Prim.Native.Nat.{ℕ, _^_, _<_}
 use mathlib.Core.Path.{_≡_, refl, sym, ap, _∙_}
-use mathlib.Core.Bool.{true}
+use mathlib.Core.Bool.{true, false}
 use mathlib.Core.List.{List, _++_}
 use mathlib.Core.Logic.{_≢_, _↔_, ⊎-elim}
 use borrow.Author.Tests.{eqb-true, eq-eqb, ne-eqb}
@@ -81,12 +81,15 @@ module _ (bs : List ℕ) where
 
 -- ---- behind a fault
 
+not-accepted : (k : Inspecting) → inspectNumber k ≢ 0 → isAccepted k ≡ false
+not-accepted k some = rw (ne-eqb (inspectNumber k) 0 some) refl
+
 behind-fault : (k : Inspecting) (bs : List ℕ) → k .visits .number ≢ 0 → SaidAlready k bs
 behind-fault k bs n =
     let same = pieces .fault-ends k bs n in
     let some : inspectNumber (inspectOver k bs) ≢ 0 = λ z. same .1 (sym (same .0) ∙ z) in (
       sym (refused-text (inspectOver k bs) some) ∙ ap (λ (j : ℕ). refusedLine j) (same .0) ∙ refused-text k (same .1),
-      rw (ne-eqb (inspectNumber (inspectOver k bs)) 0 some, ne-eqb (inspectNumber k) 0 (same .1)) refl,
+      not-accepted (inspectOver k bs) some ∙ sym (not-accepted k (same .1)),
     )
 
 pub promised : Promised

@@ -68,4 +68,8 @@ same-again bs bytes h =
     rw (text-shown bs h) (subst (Makes (logText t a es)) (sym (log-again bs bytes h)) made)
 
 pub promised : Promised
-promised = record { log-text = text-shown; show-compose = same-again }
+promised =
+    record {
+      log-text = text-shown;
+      show-compose = same-again;
+    }

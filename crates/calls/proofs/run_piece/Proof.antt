@@ -44,7 +44,7 @@ loop-again c =
     rw (w .8, w .9, w .10, w .11, seen) (
       omega arith,
       behind-more (inv .1) inside room (ended .0) (put-as {more = 240} (w .3 .ensures) (rw (ended .1) refl) (omega arith)) (w .3 .kept .0),
-      rw (ended .2, inv .2) refl,
+      rw (ended .2, ← inv .2) refl,
     ))
     (λ v.
     let on = did u (at text i) (goes-on u (at text i) (v .0 .left)) in

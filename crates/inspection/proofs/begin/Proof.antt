@@ -1,4 +1,5 @@
 -- `begin` is right because each of its numbers is the definition's.
+use mathlib.Core.Path.{refl}
 use Rattle.inspection.specs.Opening.{begun}
 use borrow.Author.Needs.{needs}
 use Rattle.inspection.proofs.begin.Statement.{statement}
@@ -21,7 +22,11 @@ shown-requires-2 c κs = search needs
 
 returns : tie.Need-returns
 unfolding begun
-returns c = (cc)
+returns c =
+    let summed = c .before in
+    let shown = summed .before in
+    let walked = shown .before in
+    rw (c .shown2 .ensures, summed .sum-first .ensures .sum, shown .shown .ensures, walked .walk-time .ensures .sum, walked .before .passing-times .ensures) refl
 
 pub begin-spec : {M : Type 1} → statement M
 begin-spec =

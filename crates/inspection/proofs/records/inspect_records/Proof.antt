@@ -1,13 +1,14 @@
 -- `inspect_records` is right because the records that are left always lead to the whole inspection, and at each record the first broken rule is the first of those not yet tried.
-use Prim.Native.Nat.{_-_, _≤_}
+use Prim.Native.Nat.{_+_, _-_, _%_, _^_, _≤_}
 use mathlib.Core.Path.{_≡_, refl, sym, _∙_}
 use lib.ListN.{set}
 use native.Mathlib.Omega.{arith}
 use borrow.Author.Needs.{needs}
 use borrow.Author.Tests.{not-true, not-false}
+use Rattle.units.specs.Places.{at}
 use Rattle.logs.specs.Reading.{handedFrom}
 use Rattle.inspection.specs.Rules.{expected, rulesKept, firstFailed, brokenRule}
-use Rattle.inspection.specs.Records.{movedOn, inspectionOf}
+use Rattle.inspection.specs.Records.{baseWith, movedOn, inspectionOf}
 use Rattle.inspection.proofs.RuleLaws.{from, failed-later, failed-here, failed-none}
 use Rattle.inspection.proofs.RecordLaws.{asked-there, stored, Going, going-first, going-next, going-stops, going-ends}
 use Rattle.inspection.proofs.records.inspect_records.Statement.{statement}
@@ -56,6 +57,22 @@ loop-again c =
     let later = failed-later tests (loop .loop .rule) (inv .1) (omega arith) (sym (c .before .rule-kept .ensures) ∙ not-false _ (c .if1 .left)) in
     (inv .0, omega arith, omega arith, inv .3 ∙ later)
 
+-- the timer's moment is reckoned from the one before
+base-is : (c : tie.After-base-after Inv-loop μ-loop Inv-records μ-records)
+    → let leads = c .before .before in
+    let loop = leads .before .before in
+    let p = loop .before .before .before .before .before .place .result in
+    let turn = handing (loop .before) .before .before in
+    let state = turn .records .state in
+    c .base-after .result ≡ baseWith (turn .before .before .before .args .t1 .head) (state .course .clock) (at (state .base) p) (leads .lead-of .result)
+base-is c = c .base-after .ensures
+
+-- one visit more is counted
+visits-are : (c : tie.After-wrapping-add-u64 Inv-loop μ-loop Inv-records μ-records)
+    → let loop = c .before .before .before .before .before .before .before .before in
+    c .wrapping-add-u64 .result ≡ (loop .loop .state .visits + 1) % 2 ^ 64
+visits-are c = c .wrapping-add-u64 .ensures
+
 -- the visit moves on the inspection with which the turn began
 moved : (c : tie.After-wrapping-add-u64 Inv-loop μ-loop Inv-records μ-records)
     → let based = c .before .before .before .before in
@@ -78,8 +95,8 @@ moved c =
     let leads = based .before .before in
     let loop = leads .before .before in
     let placed = loop .before .before .before .before .before in
-    stored _ _ _ _ (placed .place .ensures) _ _ (loop .loop .inv .0) (leads .lead-of .result) _ _ _ (leads .lead-of .ensures) (based .base-after .ensures)
-    (c .before .course-after .ensures) (c .wrapping-add-u64 .ensures)
+    stored _ _ _ _ (placed .place .ensures) _ _ (loop .loop .inv .0) (leads .lead-of .result) _ _ _ (leads .lead-of .ensures) (base-is based)
+    (c .before .course-after .ensures) (visits-are c)
 
 records-again : tie.Need-records-again Inv-loop μ-loop Inv-records μ-records
 records-again c =
