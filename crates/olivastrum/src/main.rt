@@ -20,6 +20,7 @@ fn obey(first: usize, second: usize) -> u8 {
         Command::Run => planned::obey(false, second),
         Command::Log => planned::obey(true, second),
         Command::Inspect => inspecting::inspect(),
+        Command::Help => command_help::print(),
         Command::Unknown => status::FAILED,
         _ => usage::elsewhere(),
     }

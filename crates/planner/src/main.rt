@@ -3,7 +3,6 @@ use commands::Command;
 use commands::status;
 use libc::STDIN_FILENO;
 use streams::ending;
-use streams::help;
 use streams::reading;
 use streams::usage;
 use streams::words;
@@ -51,7 +50,6 @@ fn obey(first: usize) -> u8 {
         Command::Plan => plan(),
         Command::PlanSheet => plan_sheet(),
         Command::Version => version(),
-        Command::Help => help::print(),
         Command::Unknown => status::FAILED,
         _ => usage::elsewhere(),
     }

@@ -36,7 +36,7 @@ pub fn unread_input() -> u8
 }
 
 // Standard output could not be written: says why.
-pub(crate) fn unwritten_output() -> u8
+pub fn unwritten_output() -> u8
     ensures { λ r. ⌜ r ≡ failed ⌝ }
 {
     fail_at(b"olivastrum: standard output")

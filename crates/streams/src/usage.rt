@@ -1,11 +1,50 @@
-// What is said on standard error where the words ask for nothing that can be done.
+// How a command is used, and what is said on standard error where the words ask for nothing that can be done.
 ghost use mathlib.Core.Path.{_≡_};
 ghost use Rattle.streams.specs.Ends.{failed};
 use crate::ending;
-use crate::help;
 use commands::Command;
 use commands::words;
 use libc::STDERR_FILENO;
+
+// A command's line: how it is called, and what it does. `commands.txt` has the same, and `tests/table` holds the two together.
+pub fn put_line(to: i32, command: Command) -> bool {
+    match command {
+        Command::Plan => io::write_all(
+            to,
+            b"olivastrum plan < REQUEST         print the plan of a request sheet, or `refused` and a number\n",
+        ),
+        Command::PlanSheet => io::write_all(
+            to,
+            b"olivastrum plan-sheet < REQUEST   write the plan sheet of a request sheet\n",
+        ),
+        Command::Compose => io::write_all(
+            to,
+            b"olivastrum compose < TEXT         write the request sheet, plan sheet or log of a text\n",
+        ),
+        Command::Show => io::write_all(
+            to,
+            b"olivastrum show < SHEET           print a request sheet, plan sheet or log as text\n",
+        ),
+        Command::Run => io::write_all(
+            to,
+            b"olivastrum run PLAN < CALLS       open the ring of the plan sheet in the file PLAN, and answer each call\n",
+        ),
+        Command::Log => io::write_all(
+            to,
+            b"olivastrum log PLAN < CALLS       write the log of that run: what a recorder would write\n",
+        ),
+        Command::Inspect => io::write_all(
+            to,
+            b"olivastrum inspect < LOG          say whether a run could have given the log's records, or the first that breaks a rule\n",
+        ),
+        Command::Version => io::write_all(
+            to,
+            b"olivastrum version                print the version\n",
+        ),
+        Command::Help => io::write_all(to, b"olivastrum help                   print this\n"),
+        Command::Unknown => true,
+    }
+}
 
 // A word that is no command: it is named, and `help` is pointed to.
 pub(crate) fn no_command(word: &[u8]) {
@@ -23,7 +62,7 @@ pub(crate) fn no_command(word: &[u8]) {
 // A word too many or too few: the command's own line.
 pub(crate) fn miscounted(command: Command) {
     io::write_all(STDERR_FILENO, b"usage: ");
-    help::put_line(STDERR_FILENO, command);
+    put_line(STDERR_FILENO, command);
 }
 
 // A command that this program does not have; the script `olivastrum` knows which one does.

@@ -1,49 +1,9 @@
 // What `help` prints: `commands.txt` has the same, and `tests/table` holds the two together.
 ghost use Rattle.streams.specs.Ends.{Ends};
-use crate::ending;
-use commands::Command;
 use commands::status;
 use libc::STDOUT_FILENO;
-
-// A command's line: how it is called, and what it does.
-pub(crate) fn put_line(to: i32, command: Command) -> bool {
-    match command {
-        Command::Plan => io::write_all(
-            to,
-            b"olivastrum plan < REQUEST         print the plan of a request sheet, or `refused` and a number\n",
-        ),
-        Command::PlanSheet => io::write_all(
-            to,
-            b"olivastrum plan-sheet < REQUEST   write the plan sheet of a request sheet\n",
-        ),
-        Command::Compose => io::write_all(
-            to,
-            b"olivastrum compose < TEXT         write the request sheet, plan sheet or log of a text\n",
-        ),
-        Command::Show => io::write_all(
-            to,
-            b"olivastrum show < SHEET           print a request sheet, plan sheet or log as text\n",
-        ),
-        Command::Run => io::write_all(
-            to,
-            b"olivastrum run PLAN < CALLS       open the ring of the plan sheet in the file PLAN, and answer each call\n",
-        ),
-        Command::Log => io::write_all(
-            to,
-            b"olivastrum log PLAN < CALLS       write the log of that run: what a recorder would write\n",
-        ),
-        Command::Inspect => io::write_all(
-            to,
-            b"olivastrum inspect < LOG          say whether a run could have given the log's records, or the first that breaks a rule\n",
-        ),
-        Command::Version => io::write_all(
-            to,
-            b"olivastrum version                print the version\n",
-        ),
-        Command::Help => io::write_all(to, b"olivastrum help                   print this\n"),
-        Command::Unknown => true,
-    }
-}
+use streams::ending;
+use streams::usage;
 
 // Writes more of it, if all before could be written.
 fn more(before: bool, text: &[u8]) -> bool {
@@ -60,7 +20,7 @@ fn put_commands(before: bool) -> bool {
     while place < commands::COUNT {
         let command = commands::command_at(place);
         let begun = more(wrote, b"  ");
-        wrote = begun & put_line(STDOUT_FILENO, command);
+        wrote = begun & usage::put_line(STDOUT_FILENO, command);
         place += 1;
     }
     wrote

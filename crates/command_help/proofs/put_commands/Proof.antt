@@ -3,8 +3,8 @@ use Prim.Native.Nat.{_-_}
 use lib.ListN.{length}
 use Rattle.commands.specs.Table.{commands}
 use borrow.Author.Needs.{needs}
-use Rattle.streams.proofs.help.put_commands.Statement.{statement}
-use Rattle.streams.proofs.help.put_commands.Tie as tie
+use Rattle.command_help.proofs.put_commands.Statement.{statement}
+use Rattle.command_help.proofs.put_commands.Tie as tie
 
 abbrev Inv-loop : tie.InvT-loop
 Inv-loop before wrote₀ place₀ blanks wrote place = Unit {0}

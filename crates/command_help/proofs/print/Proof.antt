@@ -2,8 +2,8 @@
 use mathlib.Core.Path.{refl}
 use mathlib.Core.Logic.{inl, inr}
 use borrow.Author.Needs.{needs}
-use Rattle.streams.proofs.help.print.Statement.{statement}
-use Rattle.streams.proofs.help.print.Tie as tie
+use Rattle.command_help.proofs.print.Statement.{statement}
+use Rattle.command_help.proofs.print.Tie as tie
 
 returns : tie.Need-returns
 returns c = inr (c .unwritten-output .ensures)
