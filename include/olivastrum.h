@@ -62,9 +62,9 @@
 
 /* The version of the header and the library, as `./olivastrum version` prints it. */
 #define OLIVASTRUM_VERSION_MAJOR 0
-#define OLIVASTRUM_VERSION_MINOR 10
-#define OLIVASTRUM_VERSION_PATCH 2
-#define OLIVASTRUM_VERSION "0.10.2"
+#define OLIVASTRUM_VERSION_MINOR 11
+#define OLIVASTRUM_VERSION_PATCH 0
+#define OLIVASTRUM_VERSION "0.11.0"
 
 #ifdef __cplusplus
 extern "C" {

@@ -193,6 +193,12 @@ def build_driver():
     return build_c("driver", DRIVER)
 
 
+def build_commands():
+    """What answers the `command` cases of `diff`: the proved program, with the sheets in files."""
+    build_proved(program_of(["diff"]))
+    return [os.path.join(ROOT, "tests", "driver", "commands")]
+
+
 # ---- cases and answers
 
 

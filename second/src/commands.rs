@@ -28,6 +28,9 @@ usage: second [--planted K] [COMMAND]
                 second log ring.plan < calls.txt > ring.log
   inspect     a log in, whether a run could have given it, or its first fault, out
                 second inspect < ring.log
+  diff OLD NEW
+              two plan sheets in, a line for each difference, or `same`, out
+                second diff left.plan came-back.plan
   generate KIND SEED COUNT [DIR]
               framed cases out, or into a file in DIR; fddi-KIND for sets that run FDDI,
               earlier-KIND for the 2002 edition; uncut-KIND, fddi-uncut-KIND and
@@ -110,6 +113,7 @@ fn command(arguments: &[&str], planted: Planted) -> io::Result<bool> {
     match arguments {
         ["run", path] => streams.run(&plan(path)?, input, planted)?,
         ["log", path] => streams.log(&plan(path)?, input, planted)?,
+        ["diff", old, new] => streams.diff(&plan(old)?, &plan(new)?, planted)?,
         ["answers"] => answers(input, planted, &mut streams.out)?,
         ["generate", rest @ ..] => return generate(rest),
         ["waits", seed, count] => return waits(seed, count),

@@ -265,7 +265,7 @@ fn show_state(state: &State) -> String {
     ring_text(head, state.places.iter().map(Place::numbers))
 }
 
-/// The `command` case: `NAME;HEX`, or `run;HEXPLAN;HEX` and the same with `log`.
+/// The `command` case: `NAME;HEX`, or `run;HEXPLAN;HEX` and the same with `log`, or `diff;HEX;HEX`.
 fn command(rest: &str, planted: Planted) -> Option<String> {
     let parts: Vec<&str> = rest.split(';').collect();
     let mut streams = Streams { out: vec![], err: vec![] };
@@ -276,6 +276,7 @@ fn command(rest: &str, planted: Planted) -> Option<String> {
         ["log", plan, calls] => {
             streams.log(&from_hex(plan)?, &from_hex(calls)?[..], planted).ok()?;
         }
+        ["diff", old, new] => streams.diff(&from_hex(old)?, &from_hex(new)?, planted).ok()?,
         [name, input] => {
             let input = from_hex(input)?;
             streams.simple(name, &input[..], planted).ok().filter(|&known| known)?;

@@ -2,6 +2,7 @@
 
 pub mod calls;
 pub mod logs;
+pub mod pairs;
 pub mod random;
 pub mod sets;
 pub mod sheets;
@@ -36,10 +37,11 @@ pub enum Kind {
     Logs,
     Records,
     Inspections,
+    Differences,
 }
 
 impl Kind {
-    pub const ALL: [Kind; 15] = [
+    pub const ALL: [Kind; 16] = [
         Kind::Requests,
         Kind::Plans,
         Kind::Planning,
@@ -55,6 +57,7 @@ impl Kind {
         Kind::Logs,
         Kind::Records,
         Kind::Inspections,
+        Kind::Differences,
     ];
 
     pub fn name(self) -> &'static str {
@@ -74,6 +77,7 @@ impl Kind {
             Kind::Logs => "logs",
             Kind::Records => "records",
             Kind::Inspections => "inspections",
+            Kind::Differences => "differences",
         }
     }
 
@@ -107,6 +111,7 @@ impl Kind {
             Kind::Inspections => {
                 vec![format!("inspect {}", to_hex(&logs::to_inspect(random, sort)))]
             }
+            Kind::Differences => vec![format!("command diff;{}", diff_input(random, sort))],
         }
     }
 }
@@ -195,7 +200,8 @@ fn edge_cases(random: &mut Random, sort: Sort) -> Vec<String> {
 }
 
 fn command_case(random: &mut Random, sort: Sort) -> String {
-    let name = random.pick(&["plan", "plan-sheet", "show", "compose", "run", "log", "inspect"]);
+    let names = ["plan", "plan-sheet", "show", "compose", "run", "log", "inspect", "diff"];
+    let name = random.pick(&names);
     let kind = random.pick(&[SheetKind::Request, SheetKind::Plan]);
     let of_log = random.once_in(3);
     let input = match name {
@@ -206,6 +212,7 @@ fn command_case(random: &mut Random, sort: Sort) -> String {
         "compose" if random.once_in(100) => to_hex(&[]),
         "compose" if of_log => to_hex(&texts::log_text(random, sort)),
         "compose" => to_hex(&texts::sheet_text(random, sort)),
+        "diff" => diff_input(random, sort),
         _ => run_input(random, sort),
     };
     format!("command {name};{input}")
@@ -221,6 +228,11 @@ fn run_input(random: &mut Random, sort: Sort) -> String {
         sheet = logs::log(random, sort);
     }
     format!("{};{}", to_hex(&sheet), to_hex(&text))
+}
+
+fn diff_input(random: &mut Random, sort: Sort) -> String {
+    let (old, new) = pairs::pair(random, sort);
+    format!("{};{}", to_hex(&old), to_hex(&new))
 }
 
 /// A run to record, into room enough, or too short for the plan, for some visit or for the end.

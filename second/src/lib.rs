@@ -3,6 +3,7 @@
 pub mod check;
 pub mod commands;
 pub mod compose;
+pub mod differences;
 pub mod frames;
 pub mod gen;
 pub mod inspect;

@@ -57,10 +57,18 @@ pub enum Planted {
     ClimbOffTheGrid,
     /// 27: a given S off the grid is refused with 4 in the place of 7.
     OffGridOutOfRange,
+    /// 28: of two plans a field of the header, g, is not compared.
+    GridNotCompared,
+    /// 29: of two plans the new numbers stand before the old ones.
+    NewBeforeOld,
+    /// 30: a station that one plan alone has is compared with zeros.
+    MissingAsZeros,
+    /// 31: of two plans an absent mode counts as 0.
+    AbsentModeIsZero,
 }
 
 impl Planted {
-    pub const ALL: [Planted; 27] = [
+    pub const ALL: [Planted; 31] = [
         Planted::TimeForNobody,
         Planted::RoundedDown,
         Planted::LimitWithoutUnused,
@@ -88,6 +96,10 @@ impl Planted {
         Planted::DownToTheGrid,
         Planted::ClimbOffTheGrid,
         Planted::OffGridOutOfRange,
+        Planted::GridNotCompared,
+        Planted::NewBeforeOld,
+        Planted::MissingAsZeros,
+        Planted::AbsentModeIsZero,
     ];
 
     /// The error of a number, from 1 on.

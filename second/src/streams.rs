@@ -4,6 +4,7 @@ use std::io::{self, Read, Write};
 
 use crate::check::WatchedRing;
 use crate::compose::compose;
+use crate::differences;
 use crate::inspect::Inspector;
 use crate::lines::Lines;
 use crate::log::{plan_fields, Counter, Passed, Stream};
@@ -169,6 +170,11 @@ impl<O: Write, E: Write> Streams<O, E> {
         }
         self.out.write_all(&end_field())?;
         unread.map_or(Ok(()), |fault| self.fault(fault))
+    }
+
+    /// Says what differs in two plan sheets, or which of them is refused.
+    pub fn diff(&mut self, old: &[u8], new: &[u8], planted: Planted) -> io::Result<()> {
+        self.text(&differences::compared(old, new, planted))
     }
 }
 

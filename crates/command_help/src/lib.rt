@@ -50,6 +50,7 @@ With no command it is `plan`. For example:
   olivastrum run four.plan < examples/worked-run.calls
   olivastrum log four.plan < examples/worked-run.calls > worked.log
   olivastrum inspect < worked.log
+  olivastrum diff examples/left.plan examples/came-back.plan
 
 ",
     )

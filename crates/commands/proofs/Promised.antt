@@ -17,7 +17,7 @@ use Rattle.commands.specs.Words.{sameBytes}
 use Rattle.commands.specs.Asked.{whose, commandOf, takes, countedFor, askedFor}
 use Rattle.commands.specs.Promised.{Promised}
 use Rattle.commands.specs.declared.Command.{Command}
-use Rattle.commands.specs.declared.Command.the-variants.{Plan, PlanSheet, Compose, Show, Run, Log, Inspect, Version, Help, Unknown}
+use Rattle.commands.specs.declared.Command.the-variants.{Plan, PlanSheet, Compose, Show, Run, Log, Inspect, Diff, Version, Help, Unknown}
 use Rattle.commands.specs.declared.Asked.the-variants.{Do, Miscounted, Nothing}
 
 -- ---- words
@@ -31,6 +31,7 @@ by-word Show = refl
 by-word Run = refl
 by-word Log = refl
 by-word Inspect = refl
+by-word Diff = refl
 by-word Version = refl
 by-word Help = refl
 by-word Unknown = refl

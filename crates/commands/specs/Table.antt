@@ -4,11 +4,11 @@ use mathlib.Core.Path.{_≡_}
 use mathlib.Core.List.{List, [], _∷_}
 use lib.ListN.{getD}
 use Rattle.commands.specs.declared.Command.{Command}
-use Rattle.commands.specs.declared.Command.the-variants.{Plan, PlanSheet, Compose, Show, Run, Log, Inspect, Version, Help, Unknown}
+use Rattle.commands.specs.declared.Command.the-variants.{Plan, PlanSheet, Compose, Show, Run, Log, Inspect, Diff, Version, Help, Unknown}
 
 -- all of them, in the order of the table
 abbrev pub commands : List Command
-commands = Plan ∷ PlanSheet ∷ Compose ∷ Show ∷ Run ∷ Log ∷ Inspect ∷ Version ∷ Help ∷ []
+commands = Plan ∷ PlanSheet ∷ Compose ∷ Show ∷ Run ∷ Log ∷ Inspect ∷ Diff ∷ Version ∷ Help ∷ []
 
 -- the command at a place of the table; behind the last of them there is none
 abbrev pub commandAt : ℕ → Command
@@ -23,6 +23,7 @@ wordOf Show = 115 ∷ 104 ∷ 111 ∷ 119 ∷ []
 wordOf Run = 114 ∷ 117 ∷ 110 ∷ []
 wordOf Log = 108 ∷ 111 ∷ 103 ∷ []
 wordOf Inspect = 105 ∷ 110 ∷ 115 ∷ 112 ∷ 101 ∷ 99 ∷ 116 ∷ []
+wordOf Diff = 100 ∷ 105 ∷ 102 ∷ 102 ∷ []
 wordOf Version = 118 ∷ 101 ∷ 114 ∷ 115 ∷ 105 ∷ 111 ∷ 110 ∷ []
 wordOf Help = 104 ∷ 101 ∷ 108 ∷ 112 ∷ []
 wordOf Unknown = []
@@ -36,6 +37,7 @@ leastOf Show = 0
 leastOf Run = 1
 leastOf Log = 1
 leastOf Inspect = 0
+leastOf Diff = 2
 leastOf Version = 0
 leastOf Help = 0
 leastOf Unknown = 1
@@ -49,6 +51,7 @@ mostOf Show = 0
 mostOf Run = 1
 mostOf Log = 1
 mostOf Inspect = 0
+mostOf Diff = 2
 mostOf Version = 0
 mostOf Help = 0
 mostOf Unknown = 0

@@ -16,13 +16,14 @@ pub enum Command {
     Run,
     Log,
     Inspect,
+    Diff,
     Version,
     Help,
     Unknown,
 }
 
 // How many commands there are.
-pub const COUNT: usize = 9;
+pub const COUNT: usize = 10;
 
 // The commands in the order of the table; behind the last of them there is none.
 pub fn command_at(place: usize) -> Command
@@ -36,8 +37,9 @@ pub fn command_at(place: usize) -> Command
         4 => Command::Run,
         5 => Command::Log,
         6 => Command::Inspect,
-        7 => Command::Version,
-        8 => Command::Help,
+        7 => Command::Diff,
+        8 => Command::Version,
+        9 => Command::Help,
         _ => Command::Unknown,
     }
 }
@@ -54,6 +56,7 @@ fn has_word(command: Command, word: &[u8]) -> bool
         Command::Run => words::same_bytes(word, b"run"),
         Command::Log => words::same_bytes(word, b"log"),
         Command::Inspect => words::same_bytes(word, b"inspect"),
+        Command::Diff => words::same_bytes(word, b"diff"),
         Command::Version => words::same_bytes(word, b"version"),
         Command::Help => words::same_bytes(word, b"help"),
         Command::Unknown => words::same_bytes(word, b""),
@@ -78,6 +81,7 @@ fn following(command: Command) -> Range
         Command::Run => Range { least: 1, most: 1 },
         Command::Log => Range { least: 1, most: 1 },
         Command::Inspect => Range { least: 0, most: 0 },
+        Command::Diff => Range { least: 2, most: 2 },
         Command::Version => Range { least: 0, most: 0 },
         Command::Help => Range { least: 0, most: 0 },
         Command::Unknown => Range { least: 1, most: 0 },

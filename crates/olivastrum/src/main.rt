@@ -1,5 +1,6 @@
 // The program of the commands on texts, rings and logs: it reads, hands the bytes to the crates below, writes what comes back, and says how it ended.
 mod composing;
+mod diffing;
 mod inspecting;
 mod logging;
 mod planned;
@@ -12,14 +13,15 @@ use streams::ending;
 use streams::usage;
 use streams::words;
 
-// Does what the words from this one on ask for; the second is behind it.
-fn obey(first: usize, second: usize) -> u8 {
+// Does what the words from this one on ask for; the second and the third are behind it.
+fn obey(first: usize, second: usize, third: usize) -> u8 {
     match words::command(first) {
         Command::Compose => composing::compose(),
         Command::Show => showing::show(),
         Command::Run => planned::obey(false, second),
         Command::Log => planned::obey(true, second),
         Command::Inspect => inspecting::inspect(),
+        Command::Diff => diffing::diff(second, third),
         Command::Help => command_help::print(),
         Command::Unknown => status::FAILED,
         _ => usage::elsewhere(),
@@ -28,9 +30,9 @@ fn obey(first: usize, second: usize) -> u8 {
 
 fn main() {
     if !words::status_asked() {
-        obey(1, 2);
+        obey(1, 2, 3);
         return;
     }
-    let status = obey(2, 3);
+    let status = obey(2, 3, 4);
     ending::tell(status);
 }

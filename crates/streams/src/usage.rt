@@ -37,6 +37,10 @@ pub fn put_line(to: i32, command: Command) -> bool {
             to,
             b"olivastrum inspect < LOG          say whether a run could have given the log's records, or the first that breaks a rule\n",
         ),
+        Command::Diff => io::write_all(
+            to,
+            b"olivastrum diff OLD NEW           print the differences of two plan sheets, or `same`\n",
+        ),
         Command::Version => io::write_all(
             to,
             b"olivastrum version                print the version\n",

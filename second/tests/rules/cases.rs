@@ -68,6 +68,8 @@ fn every_frame_has_its_answer() {
             format!("command run;{plan};{}", to_hex(b"visit 0\nvisit")),
             format!("{} -", to_hex(b"visit 0 0 2 18 0 0 - -\nline 2: cannot be read\n")),
         ),
+        (format!("command diff;{plan};{plan}"), format!("{} -", to_hex(b"same\n"))),
+        (format!("command diff;-;{plan}"), format!("{} -", to_hex(b"old refused 1\n"))),
     ];
     for (case, expected) in cases {
         assert_eq!(answered(&case), expected, "{case}");
@@ -99,6 +101,8 @@ fn a_line_of_no_frame() {
         "open 1;1,0,1,1",
         "command else;-",
         "command plan;-;-",
+        "command diff;-",
+        "command diff;-;-;-",
     ];
     for line in lines {
         assert_eq!(answered(line), NO_CASE, "{line}");

@@ -57,13 +57,17 @@ fn shown_by(planted: Planted) -> (Kind, &'static [Sort]) {
         | Planted::LimitNotCompared
         | Planted::FirstStartCompared => (Kind::Inspections, &Sort::ALL),
         Planted::LogByTheLaterEdition => (Kind::Inspections, EARLIER),
+        Planted::GridNotCompared
+        | Planted::NewBeforeOld
+        | Planted::MissingAsZeros
+        | Planted::AbsentModeIsZero => (Kind::Differences, &Sort::ALL),
         _ => (Kind::Runs, TIMELY),
     }
 }
 
 #[test]
 fn comparing_finds_every_planted_error() {
-    let kinds = [Kind::Planning, Kind::Runs, Kind::Openings, Kind::Inspections];
+    let kinds = [Kind::Planning, Kind::Runs, Kind::Openings, Kind::Inspections, Kind::Differences];
     for (kind, sort) in kinds.map(|kind| Sort::ALL.map(|sort| (kind, sort))).concat() {
         let answered = answered(kind, sort);
         for planted in Planted::ALL {
@@ -80,10 +84,11 @@ fn comparing_finds_every_planted_error() {
             assert!(as_expected, "{planted:?}: {found} in {kind:?} of {sort:?}");
         }
     }
-    assert_eq!([0, 28].map(Planted::from_number), [None, None]);
+    assert_eq!([0, 32].map(Planted::from_number), [None, None]);
     assert_eq!(Planted::from_number(20), Some(Planted::FirstStartCompared));
     assert_eq!(Planted::from_number(24), Some(Planted::LogByTheLaterEdition));
     assert_eq!(Planted::from_number(27), Some(Planted::OffGridOutOfRange));
+    assert_eq!(Planted::from_number(31), Some(Planted::AbsentModeIsZero));
 }
 
 /// Every promise that the runs with the error break.

@@ -148,6 +148,21 @@ fn a_refused_plan_answers_no_call() {
 }
 
 #[test]
+fn two_plans_side_by_side() {
+    let left = file("left.plan", &plan_sheet());
+    let back = file("back.plan", &[plan_sheet(), vec![0; 5_000]].concat());
+    assert_eq!(said(&["diff", &left, &left], b"not read"), "same\n");
+    assert_eq!(said(&["diff", &left, &back], b""), "new refused 3\n");
+    assert_eq!(said(&["diff", &back, &left], b""), "old refused 3\n");
+    fs::remove_file(&back).expect("the file is there");
+    for words in [["diff", &left, &back], ["diff", &back, &left]] {
+        let output = second(&words, b"");
+        assert!(!output.status.success() && output.stdout.is_empty());
+    }
+    fs::remove_file(&left).expect("the file is there");
+}
+
+#[test]
 fn an_answer_does_not_wait_for_the_next_call() {
     let plan = file("waiting.plan", &plan_sheet());
     let mut child = Command::new(env!("CARGO_BIN_EXE_second"))
@@ -178,15 +193,18 @@ fn usage_for_anything_else() {
         "run PLAN",
         "log PLAN",
         "inspect",
+        "diff OLD NEW",
         "generate",
         "answers",
     ] {
         assert!(usage.contains(&format!("  {name}")), "{name}");
     }
-    let others: [&[&str]; 7] = [
+    let others: [&[&str]; 9] = [
         &["else"],
         &["plan", "more"],
         &["run"],
+        &["diff", "old"],
+        &["diff", "old", "new", "more"],
         &["--planted", "99", "plan"],
         &["--planted"],
         &["generate", "runs", "1"],

@@ -33,6 +33,9 @@ returns-9 c = rw (c .before .before .enum-told9 .given .1) (c .same-bytes9 .ensu
 returns-10 : tie.Need-returns-10
 returns-10 c = rw (c .before .before .enum-told10 .given .1) (c .same-bytes10 .ensures)
 
+returns-11 : tie.Need-returns-11
+returns-11 c = rw (c .before .before .enum-told11 .given .1) (c .same-bytes11 .ensures)
+
 pub has-word-spec : {M : Type 1} → statement M
 has-word-spec =
     tie.close
@@ -47,4 +50,5 @@ has-word-spec =
     (λ c. search needs) (λ c. search needs) (λ c κs. search needs)
     (λ c. search needs) (λ c. search needs) (λ c κs. search needs)
     (λ c. search needs) (λ c. search needs) (λ c κs. search needs)
-    returns returns-2 returns-3 returns-4 returns-5 returns-6 returns-7 returns-8 returns-9 returns-10)
+    (λ c. search needs) (λ c. search needs) (λ c κs. search needs)
+    returns returns-2 returns-3 returns-4 returns-5 returns-6 returns-7 returns-8 returns-9 returns-10 returns-11)

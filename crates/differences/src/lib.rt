@@ -1,0 +1,1 @@
+// What is promised of the differences of two plans; no code.
