@@ -194,6 +194,32 @@ static int same_hand_in(ring_t *proved, ring_t *plain, message_t message)
     return 1;
 }
 
+static int same_mark(ring_t *proved, ring_t *plain, uint64_t number)
+{
+    struct olivastrum_station station = {number};
+    struct olivastrum_mark_answer answer = olivastrum_mark(proved, station), plain_answer;
+    plain_mark(plain, number, &plain_answer);
+    SAME(answer.number == plain_answer.number && answer.withdrawn == plain_answer.withdrawn);
+    SAME(answer.rest.ticks == plain_answer.rest.ticks && answer.arrival.ticks == plain_answer.arrival.ticks);
+    SAME(memcmp(proved, plain, sizeof *plain) == 0);
+    return 1;
+}
+
+static int same_unmark(ring_t *proved, ring_t *plain, uint64_t number)
+{
+    struct olivastrum_station station = {number};
+    SAME(olivastrum_unmark(proved, station) == plain_unmark(plain, number));
+    SAME(memcmp(proved, plain, sizeof *plain) == 0);
+    return 1;
+}
+
+/* A marking or an unmarking, now and then of a station that there is not. */
+static int same_switch(ring_t *proved, ring_t *plain)
+{
+    uint64_t number = random_number() % (proved->set.n + proved->set.n / 8 + 1);
+    return random_number() % 2 ? same_mark(proved, plain, number) : same_unmark(proved, plain, number);
+}
+
 static message_t any_message(const ring_t *ring)
 {
     uint32_t n = ring->set.n, i = random_number() % (n + n / 8 + 1);
@@ -211,7 +237,8 @@ static struct olivastrum_ask any_ask(uint32_t frame)
     return (struct olivastrum_ask){frames, random_number() % 16 ? 1 + random_number() % frame : edge()};
 }
 
-/* A long run of visits and handings in, some refused; now and then a number of the ring is overwritten first. */
+/* A long run of visits and handings in, some refused, and now and then of a marking; a number of the ring is overwritten
+ * first in a copy. */
 static int same_runs(uint32_t n, uint32_t mode, uint32_t frame)
 {
     set_t set = stations(n, mode, frame);
@@ -220,6 +247,8 @@ static int same_runs(uint32_t n, uint32_t mode, uint32_t frame)
         struct olivastrum_ask ask = any_ask(frame);
         if (!same_hand_in(&proved, &plain, any_message(&proved)) || !same_visit(&proved, &plain, ask))
             return 0;
+        if (random_number() % 8 == 0 && !same_switch(&proved, &plain))
+            return 0;
         ring_t damaged = proved;
         uint32_t at = random_number() % (sizeof damaged / 4);
         uint32_t now = random_number() % 2 ? edge() : random_number();
@@ -227,7 +256,7 @@ static int same_runs(uint32_t n, uint32_t mode, uint32_t frame)
         ring_t plain_damaged = damaged;
         if (!same_visit(&damaged, &plain_damaged, ask))
             return 0;
-        if (!same_hand_in(&damaged, &plain_damaged, any_message(&proved)))
+        if (!same_hand_in(&damaged, &plain_damaged, any_message(&proved)) || !same_switch(&damaged, &plain_damaged))
             return 0;
     }
     SAME(proved.visits > 4000);
@@ -384,6 +413,33 @@ static void hand_in_plain(struct work *w, unsigned long calls)
     }
 }
 
+/* Every marking finds a station that is in and holds a message, the next one each time. */
+static struct olivastrum_station next_held(ring_t *ring, unsigned long call)
+{
+    uint32_t i = (uint32_t)call & (ring->set.n - 1);
+    ring->rest[i] = ring->set.c[i];
+    ring->mark[i] = 0;
+    return (struct olivastrum_station){i};
+}
+
+static void mark_proved(struct work *w, unsigned long calls)
+{
+    while (calls-- > 0) {
+        struct olivastrum_station station = next_held(&w->ring, calls);
+        w->refused += olivastrum_mark(&w->ring, station).number;
+    }
+}
+
+static void mark_plain(struct work *w, unsigned long calls)
+{
+    while (calls-- > 0) {
+        struct olivastrum_station station = next_held(&w->ring, calls);
+        struct olivastrum_mark_answer answer;
+        plain_mark(&w->ring, station.number, &answer);
+        w->refused += answer.number;
+    }
+}
+
 typedef void batch(struct work *, unsigned long);
 
 static const struct job {
@@ -397,6 +453,7 @@ static const struct job {
     {"opening", open_proved, open_plain, "1.5"},
     {"a lent visit", visit_proved, visit_plain, "2.5"},
     {"a lent handing in", hand_in_proved, hand_in_plain, "2.5"},
+    {"a lent marking", mark_proved, mark_plain, "2.5"},
 };
 
 #define JOBS (sizeof jobs / sizeof *jobs)

@@ -1,7 +1,7 @@
 /*
  * How many records of a log are inspected in a second, beside plain C that reads the log and keeps the same five rules by the
  * same moments. First the findings of the two are held to each other: on logs as a ring wrote them, with any number of any
- * record changed, cut, and with records left out. Then whole logs are inspected in turns.
+ * record changed, cut, with records left out, and with marks put in. Then whole logs are inspected in turns.
  */
 #include "olivastrum.h"
 #include "plain.h"
@@ -15,7 +15,7 @@
 #define TURNS 15
 #define CHANGED 20000u
 
-typedef struct olivastrum_entry entry_t;
+typedef struct olivastrum_visit_entry entry_t;
 typedef struct olivastrum_finding finding_t;
 
 #define MOST_PLAN_BYTES (OLIVASTRUM_PLAN_BYTES(128) + OLIVASTRUM_MODE_BYTES + OLIVASTRUM_FRAME_BYTES)
@@ -33,6 +33,7 @@ struct inspection {
     uint32_t base[OLIVASTRUM_MOST_STATIONS], sent[OLIVASTRUM_MOST_STATIONS];
     uint32_t token, clock, unused, start, span;
     uint64_t visits;
+    uint8_t mark[OLIVASTRUM_MOST_STATIONS];
 };
 
 static uint32_t number_at(const uint8_t *at)
@@ -45,7 +46,7 @@ static uint32_t less(uint32_t a, uint32_t b)
     return a > b ? a - b : 0;
 }
 
-/* The place behind the fields of the plan: that of the first visit, of the end, or of what may not stand there. */
+/* The place behind the fields of the plan: that of the first record, of the end, or of what may not stand there. */
 static size_t behind_plan(const uint8_t *log, size_t length)
 {
     size_t at = 0;
@@ -58,11 +59,11 @@ static size_t behind_plan(const uint8_t *log, size_t length)
     return at;
 }
 
-/* Where a visit follows, the plan is read with the end behind it; else what there is, is a plan sheet or none. */
+/* Where a record follows, the plan is read with the end behind it; else what there is, is a plan sheet or none. */
 static uint8_t read_start(const uint8_t *log, size_t length, size_t first, struct olivastrum_read_plan *plan)
 {
     uint8_t sheet[MOST_PLAN_BYTES];
-    if (length - first < 3 || log[first] != 16) {
+    if (length - first < 3 || (log[first] != 16 && log[first] != 17)) {
         plain_read_plan(log, length, plan);
         return plan->number;
     }
@@ -82,6 +83,7 @@ static void begin(struct inspection *it)
     for (uint32_t i = 0; i < set->n; i++) {
         it->base[i] = it->clock;
         it->sent[i] = 0;
+        it->mark[i] = 0;
         it->clock += set->w[i];
         it->unused += it->plan.alloc.s[i];
     }
@@ -115,9 +117,11 @@ static uint8_t broken_rule(const struct inspection *it, const entry_t *entry)
     if (it->visits > 0 && entry->start - it->start != it->span)
         return START;
     uint32_t limit = head->mode == OLIVASTRUM_FDDI ? less(head->ttrt, run) : less(head->ttrt, head->frame - 1 + it->unused + run);
+    if (it->mark[p])
+        limit = 0;
     if (entry->limit != limit)
         return LIMIT;
-    if (entry->synchronous > it->plan.alloc.s[p])
+    if (entry->synchronous > (it->mark[p] ? 0 : it->plan.alloc.s[p]))
         return SYNCHRONOUS;
     return frames_fit(limit, head->frame, entry->asynchronous) ? NONE : ASYNCHRONOUS;
 }
@@ -143,20 +147,34 @@ static int is_visit(const uint8_t *log, size_t length, size_t at)
     return length - at >= OLIVASTRUM_VISIT_BYTES && log[at] == 16 && log[at + 1] == 0 && log[at + 2] == 17;
 }
 
-/* What stands behind the last visit: the end alone, or the first fault. */
+static int is_mark(const uint8_t *log, size_t length, size_t at)
+{
+    return length - at >= OLIVASTRUM_MARK_BYTES && log[at] == 17 && log[at + 1] == 0 && log[at + 2] == 2;
+}
+
+/* A mark has one rule, and moves nothing but itself. */
+static uint8_t marked(struct inspection *it, uint8_t station, uint8_t mark)
+{
+    if (station >= it->plan.set.n || mark > 1)
+        return STATION;
+    it->mark[station] = mark;
+    return NONE;
+}
+
+/* What stands behind the last record: the end alone, or the first fault. */
 static uint8_t judge_end(const uint8_t *log, size_t length, size_t at)
 {
     if (length - at < 3)
         return OLIVASTRUM_SHEET_ENDS;
     size_t size = (size_t)log[at + 1] << 8 | log[at + 2];
-    if (log[at] == 16 && size == 17)
+    if ((log[at] == 16 && size == 17) || (log[at] == 17 && size == 2))
         return OLIVASTRUM_SHEET_ENDS;
     if (log[at] != 255 || size != 0)
         return OLIVASTRUM_SHEET_WRONG;
     return length - at > 3 ? OLIVASTRUM_SHEET_GOES_ON : OLIVASTRUM_ACCEPTED;
 }
 
-/* One walk over the visits: each is inspected as it is read, and the finding is kept until the log has ended well. */
+/* One walk over the records: each is inspected as it is read, and the finding is kept until the log has ended well. */
 static finding_t plain_inspect(const uint8_t *log, size_t length)
 {
     struct inspection it;
@@ -168,17 +186,28 @@ static finding_t plain_inspect(const uint8_t *log, size_t length)
         return refused;
     }
     begin(&it);
-    for (; is_visit(log, length, at); at += OLIVASTRUM_VISIT_BYTES) {
+    for (;;) {
         const uint8_t *body = log + at + 3;
-        entry_t entry = {body[0], number_at(body + 1), number_at(body + 5), number_at(body + 9), number_at(body + 13)};
-        found.visits++;
-        if (number != OLIVASTRUM_ACCEPTED || found.rule != NONE)
-            continue;
-        found.rule = broken_rule(&it, &entry);
-        if (found.rule == NONE)
-            move_on(&it, &entry);
-        else
-            found.record = found.visits;
+        int looked_at = number == OLIVASTRUM_ACCEPTED && found.rule == NONE;
+        if (is_visit(log, length, at)) {
+            at += OLIVASTRUM_VISIT_BYTES;
+            found.records++;
+            if (!looked_at)
+                continue;
+            entry_t entry = {body[0], number_at(body + 1), number_at(body + 5), number_at(body + 9), number_at(body + 13)};
+            found.rule = broken_rule(&it, &entry);
+            if (found.rule == NONE)
+                move_on(&it, &entry);
+        } else if (is_mark(log, length, at)) {
+            at += OLIVASTRUM_MARK_BYTES;
+            found.records++;
+            if (looked_at)
+                found.rule = marked(&it, body[0], body[1]);
+        } else {
+            break;
+        }
+        if (looked_at && found.rule != NONE)
+            found.record = found.records;
     }
     uint8_t ending = judge_end(log, length, at);
     refused.number = ending != OLIVASTRUM_ACCEPTED ? ending : number;
@@ -195,7 +224,7 @@ static int same(const uint8_t *log, size_t length)
     compared++;
     broken[proved.rule <= ASYNCHRONOUS ? proved.rule : NONE]++;
     refusals += proved.number != 0;
-    if (proved.visits == plain.visits && proved.record == plain.record && proved.rule == plain.rule && proved.number == plain.number)
+    if (proved.records == plain.records && proved.record == plain.record && proved.rule == plain.rule && proved.number == plain.number)
         return 1;
     printf("the two differ: record %lu rule %u number %u, record %lu rule %u number %u\n", (unsigned long)proved.record, proved.rule, proved.number,
            (unsigned long)plain.record, plain.rule, plain.number);
@@ -212,14 +241,28 @@ static size_t part_of(uint8_t *log, size_t first, size_t length, uint32_t visits
     return whole + 3;
 }
 
-/* Bytes are left out, mostly a record; the log is cut; a bit is another, or a byte one more or less. */
-static int same_changed(size_t first, size_t length)
+/* A mark put in at a place, most often one that keeps its rule. */
+static size_t with_mark(uint8_t *log, size_t length, size_t at, uint32_t n)
 {
-    static uint8_t log[MOST_PLAN_BYTES + 64 * OLIVASTRUM_VISIT_BYTES];
+    const uint8_t field[OLIVASTRUM_MARK_BYTES] = {17, 0, 2, (uint8_t)(random_number() % (n + n / 8 + 1)), random_number() % 8 ? random_number() % 2 : 2};
+    for (size_t k = length; k > at; k--)
+        log[k + sizeof field - 1] = log[k - 1];
+    memcpy(log + at, field, sizeof field);
+    return length + sizeof field;
+}
+
+/* Bytes are left out, mostly a record; marks are put in; the log is cut; a bit is another, or a byte one more or less. */
+static int same_changed(size_t first, size_t length, uint32_t n)
+{
+    static uint8_t log[MOST_PLAN_BYTES + 64 * OLIVASTRUM_VISIT_BYTES + 2 * OLIVASTRUM_MARK_BYTES];
     uint32_t visits = 2 + random_number() % 62, record = random_number() % visits;
     size_t at = first + record * OLIVASTRUM_VISIT_BYTES, out = random_number() % 8 == 0 ? random_number() % 20 : OLIVASTRUM_VISIT_BYTES;
     if (random_number() % 8 == 0)
         return same(log, part_of(log, first, length, visits, at, out));
+    if (random_number() % 8 == 0) {
+        size_t longer = with_mark(log, part_of(log, first, length, visits, at, 0), at, n);
+        return same(log, random_number() % 2 ? longer : with_mark(log, longer, first, n));
+    }
     size_t whole = part_of(log, first, length, visits, at, 0);
     at = random_number() % 8 == 0 ? random_number() % whole : at + random_number() % OLIVASTRUM_VISIT_BYTES;
     switch (random_number() % 8) {
@@ -261,7 +304,7 @@ static unsigned long above_limit(size_t first)
 static double timed(finding_t (*inspect)(const uint8_t *, size_t), size_t length)
 {
     double from = processor_ns();
-    seen += inspect(log_bytes, length).visits;
+    seen += inspect(log_bytes, length).records;
     return processor_ns() - from;
 }
 
@@ -269,10 +312,10 @@ static int show(const char *name, struct olivastrum_set set, uint32_t frames)
 {
     double one[TURNS], other[TURNS];
     size_t length = written(set, frames), first = behind_plan(log_bytes, length);
-    if (length == 0 || olivastrum_inspect_log(log_bytes, length).visits != VISITS || !same(log_bytes, length))
+    if (length == 0 || olivastrum_inspect_log(log_bytes, length).records != VISITS || !same(log_bytes, length))
         return 0;
     for (uint32_t k = 0; k < CHANGED; k++)
-        if (!same_changed(first, length))
+        if (!same_changed(first, length, set.n))
             return 0;
     for (int k = 0; k < TURNS; k++) {
         one[k] = timed(olivastrum_inspect_log, length);

@@ -12,7 +12,7 @@
 #define VISITS 100000u
 #define TURNS 15
 
-typedef struct olivastrum_entry entry_t;
+typedef struct olivastrum_visit_entry entry_t;
 
 static uint8_t proved[OLIVASTRUM_PLAN_BYTES(128) + OLIVASTRUM_FRAME_BYTES + OLIVASTRUM_VISIT_BYTES * VISITS], plain[sizeof proved];
 static struct olivastrum_visit_record records[VISITS];
@@ -62,20 +62,23 @@ static size_t plain_write(uint8_t *out, size_t room)
     return at + 3;
 }
 
-static int is_visit(const uint8_t *log, size_t length, size_t at)
+/* How many bytes the record at a place has, a visit or a mark; 0 where none stands there. */
+static size_t record_bytes(const uint8_t *log, size_t length, size_t at)
 {
-    return length - at >= OLIVASTRUM_VISIT_BYTES && log[at] == 16 && log[at + 1] == 0 && log[at + 2] == 17;
+    if (length - at >= OLIVASTRUM_VISIT_BYTES && log[at] == 16 && log[at + 1] == 0 && log[at + 2] == 17)
+        return OLIVASTRUM_VISIT_BYTES;
+    if (length - at >= OLIVASTRUM_MARK_BYTES && log[at] == 17 && log[at + 1] == 0 && log[at + 2] == 2)
+        return OLIVASTRUM_MARK_BYTES;
+    return 0;
 }
 
-/* The visits from a place on, up to the end; 0 where something else stands there. */
+/* The records from a place on, up to the end; 0 where something else stands there. */
 static uint64_t plain_count(const uint8_t *log, size_t length, size_t at)
 {
-    uint64_t visits = 0;
-    while (is_visit(log, length, at)) {
-        at += OLIVASTRUM_VISIT_BYTES;
-        visits++;
-    }
-    return length - at == 3 && log[at] == 255 && log[at + 1] == 0 && log[at + 2] == 0 ? visits : 0;
+    uint64_t count = 0;
+    for (size_t size; (size = record_bytes(log, length, at)) > 0; at += size)
+        count++;
+    return length - at == 3 && log[at] == 255 && log[at + 1] == 0 && log[at + 2] == 0 ? count : 0;
 }
 
 /* ---- the jobs, each over the whole log */
@@ -97,7 +100,7 @@ static size_t length, first;
 
 static size_t read_proved(void)
 {
-    return olivastrum_read_log(proved, length).visits;
+    return olivastrum_read_log(proved, length).records;
 }
 
 static size_t read_plain(void)
@@ -112,7 +115,7 @@ static size_t hand_out_proved(void)
         struct olivastrum_next_entry next = olivastrum_log_entry(proved, length, at);
         if (next.next == 0)
             return visits;
-        seen += next.entry.start + next.entry.asynchronous;
+        seen += next.kind == OLIVASTRUM_VISIT_TAG ? next.visit.start + next.visit.asynchronous : next.mark.mark;
         at = next.next;
     }
 }
@@ -120,7 +123,11 @@ static size_t hand_out_proved(void)
 static size_t hand_out_plain(void)
 {
     size_t visits = 0;
-    for (size_t at = first; is_visit(plain, length, at); at += OLIVASTRUM_VISIT_BYTES, visits++) {
+    for (size_t at = first, size; (size = record_bytes(plain, length, at)) > 0; at += size, visits++) {
+        if (size == OLIVASTRUM_MARK_BYTES) {
+            seen += plain[at + 4];
+            continue;
+        }
         entry_t entry = {plain[at + 3], number_at(plain + at + 4), number_at(plain + at + 8), number_at(plain + at + 12), number_at(plain + at + 16)};
         seen += entry.start + entry.asynchronous;
     }
@@ -174,7 +181,7 @@ int main(void)
         return 1;
     }
     struct olivastrum_read_log read = olivastrum_read_log(proved, length);
-    if (read.number != OLIVASTRUM_ACCEPTED || read.first != first || read_plain() != read.visits || hand_out_proved() != VISITS || hand_out_plain() != VISITS) {
+    if (read.number != OLIVASTRUM_ACCEPTED || read.first != first || read_plain() != read.records || hand_out_proved() != VISITS || hand_out_plain() != VISITS) {
         printf("the two read different logs\n");
         return 1;
     }

@@ -193,7 +193,7 @@ static uint8_t *put_number(uint8_t *at, uint32_t x)
     return at + 4;
 }
 
-static uint8_t *put_mark(uint8_t *at, uint8_t tag, uint8_t length)
+static uint8_t *put_head(uint8_t *at, uint8_t tag, uint8_t length)
 {
     at[0] = tag;
     at[1] = 0;
@@ -294,25 +294,25 @@ struct olivastrum_written plain_write_plan(const set_t *set, const alloc_t *allo
         answer.number = OLIVASTRUM_BUFFER_TOO_SHORT;
         return answer;
     }
-    uint8_t *at = put_number(put_mark(out, 1, 4), set->head.ttrt);
+    uint8_t *at = put_number(put_head(out, 1, 4), set->head.ttrt);
     if (set->head.mode != OLIVASTRUM_TIMELY) {
-        at = put_mark(at, 4, 1);
+        at = put_head(at, 4, 1);
         *at++ = (uint8_t)set->head.mode;
     }
     if (set->head.frame != 1)
-        at = put_number(put_mark(at, 5, 4), set->head.frame);
+        at = put_number(put_head(at, 5, 4), set->head.frame);
     if (set->head.grid != 1)
-        at = put_number(put_mark(at, 6, 4), set->head.grid);
+        at = put_number(put_head(at, 6, 4), set->head.grid);
     for (uint32_t i = 0; i < set->n; i++) {
-        at = put_mark(at, 2, 16);
+        at = put_head(at, 2, 16);
         at = put_number(at, set->w[i]);
         at = put_number(at, set->c[i]);
         at = put_number(at, set->d[i]);
         at = put_number(at, set->p[i]);
     }
     for (uint32_t i = 0; i < set->n; i++)
-        at = put_number(put_mark(at, 3, 4), alloc->s[i]);
-    put_mark(at, 255, 0);
+        at = put_number(put_head(at, 3, 4), alloc->s[i]);
+    put_head(at, 255, 0);
     answer.length = needed;
     return answer;
 }
@@ -457,8 +457,11 @@ static int sound(const ring_t *ring)
     return fault == 0 && (fddi || ring->unused == unused);
 }
 
+/* What a station is offered: nothing where it is marked. */
 static uint32_t limit_of(const ring_t *ring, uint32_t p)
 {
+    if (ring->mark[p])
+        return 0;
     if (ring->set.head.mode == OLIVASTRUM_FDDI)
         return ring->late[p] > 0 ? 0 : ring->set.head.ttrt - ring->trt[p];
     uint64_t taken = ring->unused + ring->trt[p] + ring->set.head.frame - 1;
@@ -512,7 +515,7 @@ void plain_visit(ring_t *ring, struct olivastrum_ask ask, struct olivastrum_visi
     uint32_t lead = ring->set.head.mode == OLIVASTRUM_EARLIER ? async : 0; /* sent before the synchronous part */
     uint64_t served = ring->clock + lead;
     uint32_t sync = 0;
-    if (ring->rest[p] > 0 && ring->arrival[p] <= served)
+    if (!ring->mark[p] && ring->rest[p] > 0 && ring->arrival[p] <= served)
         sync = share < ring->rest[p] ? share : ring->rest[p];
 
     struct olivastrum_visit_record *record = &answer->record;
@@ -547,7 +550,7 @@ uint8_t plain_hand_in(ring_t *ring, const struct olivastrum_message *message)
         return OLIVASTRUM_NO_SUCH_STATION;
     if (length < 1 || length > ring->set.c[i])
         return OLIVASTRUM_BAD_LENGTH;
-    if (ring->rest[i] > 0)
+    if (ring->rest[i] > 0 || ring->mark[i])
         return OLIVASTRUM_STILL_HELD;
     if (arrival > MOST_CLOCK || (i < ring->visits && arrival <= ring->last[i]) ||
         (ring->had[i] && arrival < ring->arrival[i] + ring->set.p[i]))
@@ -555,5 +558,33 @@ uint8_t plain_hand_in(ring_t *ring, const struct olivastrum_message *message)
     ring->rest[i] = (uint32_t)length;
     ring->arrival[i] = arrival;
     ring->had[i] = 1;
+    return OLIVASTRUM_ACCEPTED;
+}
+
+void plain_mark(ring_t *ring, uint64_t station, struct olivastrum_mark_answer *answer)
+{
+    memset(answer, 0, sizeof *answer);
+    if (!sound(ring))
+        answer->number = OLIVASTRUM_UNSOUND;
+    else if (station >= ring->set.n)
+        answer->number = OLIVASTRUM_NO_SUCH_STATION;
+    if (answer->number != OLIVASTRUM_ACCEPTED || ring->mark[station])
+        return;
+    if (ring->rest[station] > 0) {
+        answer->withdrawn = 1;
+        answer->rest.ticks = ring->rest[station];
+        answer->arrival.ticks = ring->arrival[station];
+    }
+    ring->rest[station] = 0;
+    ring->mark[station] = 1;
+}
+
+uint8_t plain_unmark(ring_t *ring, uint64_t station)
+{
+    if (!sound(ring))
+        return OLIVASTRUM_UNSOUND;
+    if (station >= ring->set.n)
+        return OLIVASTRUM_NO_SUCH_STATION;
+    ring->mark[station] = 0;
     return OLIVASTRUM_ACCEPTED;
 }

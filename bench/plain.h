@@ -13,6 +13,8 @@ void plain_plan(const struct olivastrum_set *set, struct olivastrum_planned *ans
 void plain_open(const struct olivastrum_set *set, const struct olivastrum_alloc *alloc, struct olivastrum_opened *answer);
 void plain_visit(struct olivastrum_ring *ring, struct olivastrum_ask ask, struct olivastrum_visit_answer *answer);
 uint8_t plain_hand_in(struct olivastrum_ring *ring, const struct olivastrum_message *message);
+void plain_mark(struct olivastrum_ring *ring, uint64_t station, struct olivastrum_mark_answer *answer);
+uint8_t plain_unmark(struct olivastrum_ring *ring, uint64_t station);
 
 /* What a climb to FDDI's least vector took: rounds over the stations, and how often a station was raised, each time by a
  * quotient, or two. */

@@ -3,9 +3,9 @@
  *
  *     sheet bytes --olivastrum_read_request_sheet--> set --olivastrum_plan_set--> allocation
  *     set and allocation --olivastrum_write_plan_sheet--> sheet bytes
- *     set and allocation --olivastrum_open_ring--> ring --olivastrum_visit, olivastrum_hand_in--> the same ring, moved on
- *     set and allocation --olivastrum_begin_log, olivastrum_add_visit, olivastrum_end_log--> log bytes
- *     log bytes --olivastrum_read_log, olivastrum_log_entry--> set, allocation and visits
+ *     set and allocation --olivastrum_open_ring--> ring --olivastrum_visit, olivastrum_hand_in, olivastrum_mark, olivastrum_unmark--> the same ring, moved on
+ *     set and allocation --olivastrum_begin_log, olivastrum_add_visit, olivastrum_add_mark, olivastrum_end_log--> log bytes
+ *     log bytes --olivastrum_read_log, olivastrum_log_entry--> set, allocation, visits and marks
  *     log bytes --olivastrum_inspect_log--> the first record that no run could have given, if there is one
  *
  * Who owns what. The host owns all memory. A function looks at what it is handed while the call runs, keeps no
@@ -15,18 +15,18 @@
  * What the host owes. A pointer is never null, not even beside a length of 0. It points at as many bytes as its
  * length says, or at a whole ring, aligned for uint64_t. While a call runs nothing else reads or writes what is
  * lent to be written (a ring, an `out` buffer). Nothing more: every bit pattern of a set, an allocation, a
- * message, an ask, a ring, a recorder and a visit's record is a value, and gets its answer.
+ * message, an ask, a ring, a station, a recorder, a visit's record and a mark's entry is a value, and gets its answer.
  *
  * Refusals. `number` is 0 for accepted, or the refusal; the numbers are below, and within one call the lowest
  * that applies is given (1, 2 and 3: the first fault from the left of the sheet). A refused call changes nothing:
  * not a byte of a lent ring, not a byte of a lent buffer. What it returns beside `number` is blank, every number in
- * it 0; olivastrum_add_visit alone hands back the recorder as it was, so that the log can be ended. On a ring it stores
- * the same bytes again, so a refused call too is one that writes: a ring that two threads share is locked for it. An
- * inspected log is accepted only if its rule is 0 too.
+ * it 0; olivastrum_add_visit and olivastrum_add_mark alone hand back the recorder as it was, so that the log can be
+ * ended. On a ring it stores the same bytes again, so a refused call too is one that writes: a ring that two threads share
+ * is locked for it. An inspected log is accepted only if its rule is 0 too.
  *
- * Padding. olivastrum_set, olivastrum_alloc, olivastrum_ask, olivastrum_message, olivastrum_ring and
- * olivastrum_recorder have none, so two rings can be compared by their bytes. In the others the bytes between and after
- * what is named say nothing.
+ * Padding. olivastrum_set, olivastrum_alloc, olivastrum_ask, olivastrum_message, olivastrum_ring, olivastrum_recorder,
+ * olivastrum_visit_entry, olivastrum_mark_entry and olivastrum_next_entry have none, so two rings can be compared by their
+ * bytes. In the others the bytes between and after what is named say nothing.
  *
  * A recorder, with a ring that was just opened and buffers of its own:
  *
@@ -35,11 +35,17 @@
  *     ... for each visit that olivastrum_visit accepted:
  *         r = olivastrum_add_visit(r, answer.record, out, sizeof out);
  *         if (r.number) break;                              (14: no room; r stands where it stood)
+ *     ... and for each marking (1) or unmarking (0) that was accepted, before the next visit, one that changed nothing too:
+ *         if (!olivastrum_mark(&ring, station).number) {
+ *             struct olivastrum_mark_entry mark = {(uint32_t)station.number, 1};
+ *             r = olivastrum_add_mark(r, mark, out, sizeof out);
+ *             if (r.number) break;
+ *         }
  *     struct olivastrum_written log = olivastrum_end_log(r, out, sizeof out);
  *
  * Then the first log.length bytes of out are the log. A recorder that keeps the bytes elsewhere as they come may set
  * r.at to 0 once it has taken the first r.at bytes of out away: what follows is written from the start of out again, and
- * 23 bytes are room enough for a visit and the end.
+ * 23 bytes are room enough for a visit or a mark and the end.
  *
  * Stack. OLIVASTRUM_STACK_.. before each function says how many bytes of the caller's stack a call needs: what is
  * passed by value, and all that the function does. It is measured (tests/host/vendor). The room for the answer is not
@@ -62,9 +68,9 @@
 
 /* The version of the header and the library, as `./olivastrum version` prints it. */
 #define OLIVASTRUM_VERSION_MAJOR 0
-#define OLIVASTRUM_VERSION_MINOR 11
+#define OLIVASTRUM_VERSION_MINOR 12
 #define OLIVASTRUM_VERSION_PATCH 0
-#define OLIVASTRUM_VERSION "0.11.0"
+#define OLIVASTRUM_VERSION "0.12.0"
 
 #ifdef __cplusplus
 extern "C" {
@@ -85,10 +91,10 @@ enum {
     OLIVASTRUM_UNSOUND = 8,           /* the ring's state is unsound */
     OLIVASTRUM_NO_SUCH_STATION = 9,   /* station number not below N */
     OLIVASTRUM_BAD_LENGTH = 10,       /* message length 0 or above C; visit: frame length 0 or above F */
-    OLIVASTRUM_STILL_HELD = 11,       /* that station still holds an unsent message */
+    OLIVASTRUM_STILL_HELD = 11,       /* that station still holds an unsent message, or is marked */
     OLIVASTRUM_BAD_ARRIVAL = 12,      /* arrival time not allowed */
     OLIVASTRUM_CLOCK_TOO_HIGH = 13,   /* visit: the clock is above 1,000,000,000,000 */
-    OLIVASTRUM_BUFFER_TOO_SHORT = 14  /* the output buffer is too short for the sheet, or for a log's next visit and its end */
+    OLIVASTRUM_BUFFER_TOO_SHORT = 14  /* the output buffer is too short for the sheet, or for a log's next record and its end */
 };
 
 /* The most stations that a ring has, and so the places of each array. Places from N on are never looked at. */
@@ -107,10 +113,17 @@ enum {
 #define OLIVASTRUM_FRAME_BYTES 7u
 #define OLIVASTRUM_GRID_BYTES 7u
 
-/* A log: the fields of its plan sheet but the end; then for each visit tag 16, length 17, the station in one byte, and
- * start, limit, synchronous and asynchronous in four bytes each, the high byte first; then the end. So it has the bytes
- * of its plan sheet (with those of its mode, frame and grid, where it has these), and so many for each visit. */
+/* A log: the fields of its plan sheet but the end; then its records; then the end. A record is a visit: tag 16, length 17,
+ * the station in one byte, and start, limit, synchronous and asynchronous in four bytes each, the high byte first; or a
+ * mark: tag 17, length 2, the station and the mark in one byte each. A mark may stand before the first visit, between two
+ * and behind the last. So a log has the bytes of its plan sheet (with those of its mode, frame and grid, where it has
+ * these), and so many for each visit and for each mark. */
 #define OLIVASTRUM_VISIT_BYTES 20u
+#define OLIVASTRUM_MARK_BYTES 5u
+
+/* What kind a record is: its tag. */
+#define OLIVASTRUM_VISIT_TAG 16u
+#define OLIVASTRUM_MARK_TAG 17u
 
 /* A count of ticks, and a station's number from 0 in ring order. The one is never the other. */
 struct olivastrum_ticks {
@@ -158,6 +171,7 @@ struct olivastrum_ring {
     uint32_t token;                             /* the station that has the token */
     uint64_t arrival[OLIVASTRUM_MOST_STATIONS]; /* the held message's arrival, and after it the last accepted one */
     uint8_t had[OLIVASTRUM_MOST_STATIONS];      /* a message was ever accepted: 0 is no, anything else yes */
+    uint8_t mark[OLIVASTRUM_MOST_STATIONS];     /* the station is switched through: 0 is no, anything else yes */
     uint64_t last[OLIVASTRUM_MOST_STATIONS];    /* the start of the last visit, where the station is below visits; in the
                                                    2002 edition of that visit's synchronous part */
     uint64_t clock;
@@ -181,8 +195,8 @@ struct olivastrum_message {
 
 /* What happened at a visit. finish and margin (deadline less finish, negative when late) are 0 unless completed is 1.
  * The synchronous part begins at start, in the 2002 edition at start + asynchronous; finish is that moment + synchronous.
- * In FDDI trt is the timer as the token finds it, and a limit of 0 says that the token was late; a plan of mode 2 does not
- * promise a margin of 0 or more. */
+ * In FDDI trt is the timer as the token finds it, and a limit of 0 says that the token was late, where the station is not
+ * marked; a plan of mode 2 does not promise a margin of 0 or more. */
 struct olivastrum_visit_record {
     struct olivastrum_station station;
     struct olivastrum_ticks start;
@@ -205,12 +219,19 @@ struct olivastrum_recorder {
 };
 
 /* A visit as a log has it; any numbers, the station's has 8 bits. */
-struct olivastrum_entry {
+struct olivastrum_visit_entry {
     uint32_t station;
     uint32_t start;
     uint32_t limit;
     uint32_t synchronous;
     uint32_t asynchronous;
+};
+
+/* A mark as a log has it: 1, the station is switched through from here on, or 0, it is in again; any numbers of 8 bits
+ * may stand there. */
+struct olivastrum_mark_entry {
+    uint32_t station;
+    uint32_t mark;
 };
 
 /* ---- answers */
@@ -230,26 +251,30 @@ struct olivastrum_written {
     uint8_t number;
 };
 
-/* The place of the first field behind the allocations, and how many visits stand from there on. */
+/* The place of the first field behind the allocations, and how many records, visits and marks, stand from there on. */
 struct olivastrum_read_log {
     struct olivastrum_set set;
     struct olivastrum_alloc alloc;
     uint64_t first;
-    uint64_t visits;
+    uint64_t records;
     uint8_t number;
 };
 
-/* The place behind the entry is 0 where no visit stands. */
+/* What stands at a place of a log: its kind is its tag, 16 a visit and 17 a mark; kind and the place behind are 0 where no
+ * record stands. The numbers of a visit are 0 where it is none, and those of a mark where it is none. */
 struct olivastrum_next_entry {
-    struct olivastrum_entry entry;
+    uint32_t kind;
+    struct olivastrum_visit_entry visit;
+    struct olivastrum_mark_entry mark;
     uint64_t next;
 };
 
-/* How many visits a log has, the first record that breaks a rule, from 1, and the first rule that it breaks: 1 station,
- * 2 start, 3 limit, 4 synchronous, 5 asynchronous. A log is accepted where number, record and rule are all 0; where
- * number is not 0 it was not read, and all else is 0 too. */
+/* How many records a log has, visits and marks, the first of them that breaks a rule, from 1, and the first rule that it
+ * breaks: 1 station, 2 start, 3 limit, 4 synchronous, 5 asynchronous. A mark breaks the station rule where its station is
+ * not below N or it is neither 0 nor 1, and has no other rule. A log is accepted where number, record and rule are all 0;
+ * where number is not 0 it was not read, and all else is 0 too. */
 struct olivastrum_finding {
-    uint64_t visits;
+    uint64_t records;
     uint64_t record;
     uint8_t rule;
     uint8_t number;
@@ -270,6 +295,15 @@ struct olivastrum_visit_answer {
     uint8_t number;
 };
 
+/* What a marking took back: what remained of the message that the station held, and its arrival; both 0 unless withdrawn
+ * is 1. */
+struct olivastrum_mark_answer {
+    struct olivastrum_ticks rest;
+    struct olivastrum_ticks arrival;
+    uint8_t withdrawn;
+    uint8_t number;
+};
+
 /* ---- the library was compiled with these sizes */
 #ifdef __cplusplus
 #define OLIVASTRUM_SIZE(type, bytes) static_assert(sizeof(type) == (bytes), "the size of " #type)
@@ -284,7 +318,7 @@ OLIVASTRUM_SIZE(struct olivastrum_station, 8);
 OLIVASTRUM_SIZE(struct olivastrum_head, 16);
 OLIVASTRUM_SIZE(struct olivastrum_set, 2068);
 OLIVASTRUM_SIZE(struct olivastrum_alloc, 512);
-OLIVASTRUM_SIZE(struct olivastrum_ring, 6832);
+OLIVASTRUM_SIZE(struct olivastrum_ring, 6960);
 OLIVASTRUM_SIZE(struct olivastrum_ask, 8);
 OLIVASTRUM_SIZE(struct olivastrum_message, 24);
 OLIVASTRUM_SIZE(struct olivastrum_visit_record, 72);
@@ -292,12 +326,14 @@ OLIVASTRUM_SIZE(struct olivastrum_read_request, 2072);
 OLIVASTRUM_SIZE(struct olivastrum_read_plan, 2584);
 OLIVASTRUM_SIZE(struct olivastrum_written, 16);
 OLIVASTRUM_SIZE(struct olivastrum_planned, 516);
-OLIVASTRUM_SIZE(struct olivastrum_opened, 6840);
+OLIVASTRUM_SIZE(struct olivastrum_opened, 6968);
 OLIVASTRUM_SIZE(struct olivastrum_visit_answer, 80);
+OLIVASTRUM_SIZE(struct olivastrum_mark_answer, 24);
 OLIVASTRUM_SIZE(struct olivastrum_recorder, 24);
-OLIVASTRUM_SIZE(struct olivastrum_entry, 20);
+OLIVASTRUM_SIZE(struct olivastrum_visit_entry, 20);
+OLIVASTRUM_SIZE(struct olivastrum_mark_entry, 8);
 OLIVASTRUM_SIZE(struct olivastrum_read_log, 2608);
-OLIVASTRUM_SIZE(struct olivastrum_next_entry, 32);
+OLIVASTRUM_SIZE(struct olivastrum_next_entry, 40);
 OLIVASTRUM_SIZE(struct olivastrum_finding, 24);
 
 #undef OLIVASTRUM_SIZE
@@ -325,18 +361,30 @@ struct olivastrum_written olivastrum_write_plan_sheet(struct olivastrum_set set,
 #define OLIVASTRUM_STACK_PLAN_SET 8704
 struct olivastrum_planned olivastrum_plan_set(struct olivastrum_set set);
 
-/* Opens a ring: clock 0, the token at station 0, nothing held; or 2, 4, 5 or 7 with the blank ring. */
+/* Opens a ring: clock 0, the token at station 0, nothing held, no station marked; or 2, 4, 5 or 7 with the blank ring. */
 #define OLIVASTRUM_STACK_OPEN_RING 15360
 struct olivastrum_opened olivastrum_open_ring(struct olivastrum_set set, struct olivastrum_alloc alloc);
 
 /* A visit at the station that has the token, with frames asked for. The ring is changed where it stands; 8, 10 or 13
  * leave it as it was. */
-#define OLIVASTRUM_STACK_VISIT 30720
+#define OLIVASTRUM_STACK_VISIT 31232
 struct olivastrum_visit_answer olivastrum_visit(struct olivastrum_ring *ring, struct olivastrum_ask ask);
 
-/* Hands in a message. The ring is changed where it stands; 8 to 12 leave it as it was. Returns the number. */
-#define OLIVASTRUM_STACK_HAND_IN 25088
+/* Hands in a message. A station that is marked takes none (11). The ring is changed where it stands; 8 to 12 leave it as it
+ * was. Returns the number. */
+#define OLIVASTRUM_STACK_HAND_IN 25600
 uint8_t olivastrum_hand_in(struct olivastrum_ring *ring, struct olivastrum_message message);
+
+/* Switches a station through: from now on it is offered 0, sends nothing and takes no message (11), and the token walks
+ * through it. The message that it holds is withdrawn and handed back; its arrival stays the station's last accepted one.
+ * A station that is marked already stays as it is. The ring is changed where it stands; 8 or 9 leave it as it was. */
+#define OLIVASTRUM_STACK_MARK 36864
+struct olivastrum_mark_answer olivastrum_mark(struct olivastrum_ring *ring, struct olivastrum_station station);
+
+/* Switches a station in again; one that is not marked stays as it is. The ring is changed where it stands; 8 or 9 leave it
+ * as it was. Returns the number. */
+#define OLIVASTRUM_STACK_UNMARK 22528
+uint8_t olivastrum_unmark(struct olivastrum_ring *ring, struct olivastrum_station station);
 
 /* Begins a log: the plan's fields, without their end, in the first bytes of out. The recorder's counter is what the host
  * says it is at the ring's clock (0 and 0 give the log that the program's `log` writes). The rest of out is left as it
@@ -351,28 +399,34 @@ struct olivastrum_recorder olivastrum_begin_log(struct olivastrum_set set, struc
 #define OLIVASTRUM_STACK_ADD_VISIT 512
 struct olivastrum_recorder olivastrum_add_visit(struct olivastrum_recorder recorder, struct olivastrum_visit_record record, uint8_t *out, size_t length);
 
+/* Adds the record of an accepted marking or unmarking; recorder.clock and the counter stay. 14 where its field and the end
+ * do not fit: nothing is written, and the log can still be ended. Of any other numbers the low 8 bits count. */
+#define OLIVASTRUM_STACK_ADD_MARK 512
+struct olivastrum_recorder olivastrum_add_mark(struct olivastrum_recorder recorder, struct olivastrum_mark_entry mark, uint8_t *out, size_t length);
+
 /* Ends a log: its length, or 14. */
 #define OLIVASTRUM_STACK_END_LOG 512
 struct olivastrum_written olivastrum_end_log(struct olivastrum_recorder recorder, uint8_t *out, size_t length);
 
-/* Reads a log: its plan and where its visits are, or 1 to 5 or 7 with all blank. A plan sheet is a log without visits. */
+/* Reads a log: its plan and where its records are, or 1 to 5 or 7 with all blank. A plan sheet is a log without records. */
 #define OLIVASTRUM_STACK_READ_LOG 14848
 struct olivastrum_read_log olivastrum_read_log(const uint8_t *log, size_t length);
 
-/* The visit whose field begins at this place of a log, and the place behind it; all blank where none does. It looks at
- * the 20 bytes at the place and at nothing else. So begin at `first` of a log that was read, and go on from place to
- * place, `visits` times: at any other place bytes may look like a visit. */
+/* The record whose field begins at this place of a log, and the place behind it; all blank where none does. It looks at
+ * the 20 bytes of a visit or the 5 of a mark at the place and at nothing else. So begin at `first` of a log that was read,
+ * and go on from place to place, `records` times: at any other place bytes may look like a record. */
 #define OLIVASTRUM_STACK_LOG_ENTRY 512
 struct olivastrum_next_entry olivastrum_log_entry(const uint8_t *log, size_t length, uint64_t at);
 
-/* Inspects a log: whether a run of the published steps from an opened ring could have given its records, with any
- * synchronous amount up to S at each visit and some request in frames; else the first record that breaks a rule, and the
- * first rule that it breaks. Or 1 to 5 or 7, with the rest 0. */
-#define OLIVASTRUM_STACK_INSPECT_LOG 20992
+/* Inspects a log: whether a run of the published steps from an opened ring, with stations marked and unmarked as its marks
+ * say, could have given its visits, with any synchronous amount up to S at each visit of an unmarked station and some
+ * request in frames; a marked station is visited with limit 0 and sends nothing. Else the first record that breaks a rule,
+ * and the first rule that it breaks. Or 1 to 5 or 7, with the rest 0. */
+#define OLIVASTRUM_STACK_INSPECT_LOG 18944
 struct olivastrum_finding olivastrum_inspect_log(const uint8_t *log, size_t length);
 
 /* The most that a call of any of them needs. */
-#define OLIVASTRUM_STACK_MOST 30720
+#define OLIVASTRUM_STACK_MOST 36864
 
 #ifdef __cplusplus
 }

@@ -1,11 +1,12 @@
 //! The promises of every run from an opening, checked call by call on this program itself. FDDI
 //! has fewer of them: exact limits, deadlines and "never 11" are timely-token's. The limit of the
-//! 2002 edition looks back on one visit less.
+//! 2002 edition looks back on one visit less. A station that is switched through is offered nothing,
+//! sends nothing and holds nothing; the exact limit and "never 11" are of the others.
 
 use std::collections::VecDeque;
 
 use crate::planted::Planted;
-use crate::ring::{Message, Ring, Ticks, Visit};
+use crate::ring::{Held, Message, Ring, StationNumber, Ticks, Visit};
 use crate::rules::{Ask, Mode, Refusal, LAST_CLOCK, MOST_LATE, VISITS_END};
 use crate::text::{Answer, Call};
 
@@ -32,8 +33,14 @@ pub enum Broken {
     UnsentAtDeadline,
     /// The ring's state is unsound.
     Unsound,
-    /// A message that kept C and P, and came in time, was answered 11.
+    /// A message that kept C and P, and came in time, was answered 11 at an unmarked station.
     WrongElevenAnswer,
+    /// A visit of a marked station had a limit or sent something.
+    MarkedStationSent,
+    /// A marked station holds a message.
+    HeldUnderMark,
+    /// A marking handed back another message than was held, or more or less of it than was unsent.
+    WithdrawnOtherwise,
 }
 
 /// Follows a run by its visit records.
@@ -43,6 +50,8 @@ struct Watch {
     before: VecDeque<Ticks>,
     /// The start of each station's last visit, and of that visit's synchronous part.
     last_starts: Vec<Option<(Ticks, Ticks)>>,
+    /// The message that each station was last handed, with what is unsent of it.
+    unsent: Vec<Option<Held>>,
 }
 
 impl Watch {
@@ -51,6 +60,7 @@ impl Watch {
             spare: ring.plan().spare() as Ticks,
             before: VecDeque::from(vec![0; ring.size()]),
             last_starts: vec![None; ring.size()],
+            unsent: vec![None; ring.size()],
         }
     }
 
@@ -63,18 +73,41 @@ impl Watch {
         let before = self.last_starts[index].replace((visit.start, served));
         let apart = before.map(|(start, served)| (visit.start - start, visit.start - served));
         let synchronous = visit.synchronous <= ring.allocation(index);
+        self.sent(index, visit);
+        let amounts = [visit.limit, visit.synchronous, visit.asynchronous];
+        let passed_over = !ring.marked(index) || amounts == [0, 0, 0];
         let most = if visit.limit == 0 { 0 } else { visit.limit + ring.overrun() };
         let mut broken = broken(&[
             (in_time(ring, visit, apart), Broken::TokenLate),
             (synchronous, Broken::TooMuchSynchronous),
             (whole_frames(ask, visit), Broken::FramesNotExact),
             (visit.asynchronous <= most, Broken::TooMuchAsynchronous),
+            (passed_over, Broken::MarkedStationSent),
+            (none_held_under_mark(ring), Broken::HeldUnderMark),
             (sound(ring), Broken::Unsound),
         ]);
         if ring.mode() != Mode::Fddi {
             broken.extend(self.timely_visited(ring, visit));
         }
         broken
+    }
+
+    /// What a visit sent comes off its station's message.
+    fn sent(&mut self, index: usize, visit: &Visit) {
+        if let Some(held) = &mut self.unsent[index] {
+            held.remaining -= visit.synchronous;
+        }
+        self.unsent[index] = self.unsent[index].filter(|held| held.remaining > 0);
+    }
+
+    /// A marking of an unmarked station hands back all that is unsent; any other nothing.
+    fn marked(&mut self, ring: &Ring, index: usize, withdrawn: Option<Held>) -> Vec<Broken> {
+        let unsent = self.unsent[index].take();
+        broken(&[
+            (withdrawn == unsent, Broken::WithdrawnOtherwise),
+            (none_held_under_mark(ring), Broken::HeldUnderMark),
+            (sound(ring), Broken::Unsound),
+        ])
     }
 
     fn timely_visited(&mut self, ring: &Ring, visit: &Visit) -> Vec<Broken> {
@@ -86,12 +119,16 @@ impl Watch {
         let completed = visit.completed.is_none_or(|completed| completed.margin >= 0);
         let unsent = (0..ring.size()).all(|index| unsent_in_time(ring, index));
         broken(&[
-            (visit.limit == limit, Broken::LimitNotExact),
+            (ring.marked(visit.station.index()) || visit.limit == limit, Broken::LimitNotExact),
             (rotation <= self.spare + ring.overrun(), Broken::TooMuchInRotation),
             (completed, Broken::MessageLate),
             (unsent, Broken::UnsentAtDeadline),
         ])
     }
+}
+
+fn none_held_under_mark(ring: &Ring) -> bool {
+    (0..ring.size()).all(|index| !ring.marked(index) || ring.held(index).is_none())
 }
 
 /// Whether the frames sent are the most that fit: the last of them began below the limit, and if
@@ -156,13 +193,15 @@ fn sound(ring: &Ring) -> bool {
 }
 
 /// Whether a message keeps C and P, and is handed in when the clock has reached its arrival
-/// and it is later than the station's last start. Such a message is never answered 11.
+/// and it is later than the station's last start. Such a message is never answered 11, but where its
+/// station is marked.
 fn due(ring: &Ring, message: &Message) -> bool {
     let index = message.station.index();
     let longest = u64::from(ring.plan().request.stations[index].longest);
     (1..=longest).contains(&message.length)
         && message.arrival <= ring.clock() as u64
         && message.arrival as Ticks >= ring.earliest_arrival(index)
+        && !ring.marked(index)
 }
 
 fn handed_in(ring: &Ring, message: &Message, answer: Result<(), Refusal>) -> Vec<Broken> {
@@ -213,6 +252,10 @@ impl WatchedRing {
         match call {
             Call::Visit(ask) => self.visit(*ask),
             Call::HandIn(message) => self.hand_in(message),
+            Call::Mark(station) => self.mark(*station),
+            Call::Unmark(station) => {
+                (self.ring.unmark(*station).map(|()| Answer::Unmarked), vec![])
+            }
         }
     }
 
@@ -227,10 +270,25 @@ impl WatchedRing {
 
     fn hand_in(&mut self, message: &Message) -> (Result<Answer, Refusal>, Vec<Broken>) {
         let answer = self.ring.hand_in(message);
-        let broken = match self.watch {
-            Some(_) => handed_in(&self.ring, message, answer),
+        let broken = match &mut self.watch {
+            Some(watch) => {
+                if answer.is_ok() {
+                    let index = message.station.index();
+                    watch.unsent[index] = self.ring.held(index);
+                }
+                handed_in(&self.ring, message, answer)
+            }
             None => vec![],
         };
         (answer.map(|()| Answer::Taken), broken)
+    }
+
+    fn mark(&mut self, station: StationNumber) -> (Result<Answer, Refusal>, Vec<Broken>) {
+        let answer = self.ring.mark(station);
+        let broken = match (&mut self.watch, answer) {
+            (Some(watch), Ok(held)) => watch.marked(&self.ring, station.index(), held),
+            _ => vec![],
+        };
+        (answer.map(Answer::Marked), broken)
     }
 }

@@ -6,12 +6,13 @@ use std::io::{self, Read, Write};
 use crate::lines::Lines;
 use crate::notation::number;
 use crate::rules::MOST_STATIONS;
-use crate::rules::{header_number, require, Entry, Head, Plan, Refusal, Request, Station};
-use crate::sheet::{end_field, visit_field, write_plan, write_request};
+use crate::rules::{header_number, require, Entry, MarkEntry, VisitEntry};
+use crate::rules::{Head, Plan, Refusal, Request, Station};
+use crate::sheet::{end_field, record_field, write_plan, write_request};
 use crate::text::Fault;
 
 /// Writes the bytes of the sheet or log that a text describes. A line that cannot be read comes
-/// before every refusal. A fault behind the first visit leaves a log without its end.
+/// before every refusal. A fault behind the first record leaves a log without its end.
 pub fn compose(text: impl Read, out: &mut impl Write) -> io::Result<Result<(), Fault>> {
     let mut lines = Lines::new(text);
     let mut draft = Draft::default();
@@ -37,7 +38,7 @@ struct Draft {
     stations: Vec<Station>,
     allocation: Vec<u32>,
     misplaced: bool,
-    /// What became of the plan, once a visit stands behind it.
+    /// What became of the plan, once a record stands behind it.
     plan: Option<Result<(), Refusal>>,
 }
 
@@ -51,7 +52,8 @@ impl Draft {
             [b"frame", frame] => self.take_frame(number(frame)?),
             [b"grid", grid] => self.take_grid(number(grid)?),
             [b"station", ref numbers @ ..] => self.take_station(numbers)?,
-            [b"visit", ref numbers @ ..] => return self.take_visit(numbers),
+            [b"visit", ref numbers @ ..] => return Some(self.take_record(&visit(numbers)?)),
+            [b"mark", ref numbers @ ..] => return Some(self.take_record(&mark(numbers)?)),
             _ => return None,
         }
         Some(vec![])
@@ -104,27 +106,17 @@ impl Draft {
         Some(())
     }
 
-    /// A visit's field; behind the first also the fields of the plan, if it is accepted.
-    fn take_visit(&mut self, words: &[&[u8]]) -> Option<Vec<u8>> {
-        let [station, start, limit, synchronous, asynchronous] = *words else {
-            return None;
-        };
-        let entry = Entry {
-            station: number(station)?,
-            start: number(start)?,
-            limit: number(limit)?,
-            synchronous: number(synchronous)?,
-            asynchronous: number(asynchronous)?,
-        };
+    /// A record's field; before the first also the fields of the plan, if it is accepted.
+    fn take_record(&mut self, entry: &Entry) -> Vec<u8> {
         let mut bytes = vec![];
         if self.plan.is_none() {
-            let plan = self.plan_before_visits();
+            let plan = self.plan_before_records();
             self.plan = Some(plan.map(|fields| bytes = fields));
         }
         if self.goes_out() {
-            bytes.extend(visit_field(&entry));
+            bytes.extend(record_field(entry));
         }
-        Some(bytes)
+        bytes
     }
 
     /// Whether the bytes of a log still go out.
@@ -151,7 +143,7 @@ impl Draft {
     }
 
     /// Stations without allocations are no plan either, and refused for their count too.
-    fn plan_before_visits(&self) -> Result<Vec<u8>, Refusal> {
+    fn plan_before_records(&self) -> Result<Vec<u8>, Refusal> {
         let mut bytes = self.plan_sheet()?;
         bytes.truncate(bytes.len() - end_field().len());
         Ok(bytes)
@@ -166,4 +158,26 @@ impl Draft {
             None => self.plan_sheet(),
         }
     }
+}
+
+/// `STATION START LIMIT SYNC ASYNC`
+fn visit(words: &[&[u8]]) -> Option<Entry> {
+    let [station, start, limit, synchronous, asynchronous] = *words else {
+        return None;
+    };
+    Some(Entry::Visit(VisitEntry {
+        station: number(station)?,
+        start: number(start)?,
+        limit: number(limit)?,
+        synchronous: number(synchronous)?,
+        asynchronous: number(asynchronous)?,
+    }))
+}
+
+/// `STATION MARK`
+fn mark(words: &[&[u8]]) -> Option<Entry> {
+    let [station, mark] = *words else {
+        return None;
+    };
+    Some(Entry::Mark(MarkEntry { station: number(station)?, mark: number(mark)? }))
 }

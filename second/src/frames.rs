@@ -2,12 +2,13 @@
 
 use crate::check::WatchedRing;
 use crate::inspect::inspected;
-use crate::log::{Counter, Recorder};
+use crate::log::{noted, Counter, Recorder};
 use crate::notation::{from_hex, joined, number, parse, read_head, show_set, to_hex};
 use crate::planner;
 use crate::planted::Planted;
 use crate::ring::Ring;
-use crate::rules::{Entry, Plan, Refusal, Request, Station, MOST_STATIONS};
+use crate::rules::{Entry, MarkEntry, VisitEntry, MOST_STATIONS};
+use crate::rules::{Plan, Refusal, Request, Station};
 use crate::sheet::{read_log, read_plan, read_request, write_plan, write_request};
 use crate::state::{Place, State};
 use crate::streams::Streams;
@@ -50,7 +51,7 @@ fn try_answer(case: &str, planted: Planted) -> Option<String> {
         "record" => recording(rest, planted),
         "inspect" => Some(line(read_log(&from_hex(rest)?), |(plan, entries)| {
             match inspected(&plan, &entries, planted) {
-                (visits, None) => format!("accepted {visits}"),
+                (records, None) => format!("accepted {records}"),
                 (_, Some(finding)) => finding.to_string(),
             }
         })),
@@ -140,17 +141,21 @@ fn running(
     Some(line(opened, answered))
 }
 
-/// `PLANSET|STATION,START,LIMIT,SYNC,ASYNC|...`
+/// `PLANSET|STATION,START,LIMIT,SYNC,ASYNC|...`, and `STATION,MARK` for a mark.
 fn show_log(plan: &Plan, entries: &[Entry]) -> String {
     let mut parts = vec![show_set(&plan.request, &plan.allocation)];
     for entry in entries {
-        let Entry { station, start, limit, synchronous, asynchronous } = *entry;
-        parts.push(joined(&[station.into(), start, limit, synchronous, asynchronous]));
+        parts.push(match *entry {
+            Entry::Visit(VisitEntry { station, start, limit, synchronous, asynchronous }) => {
+                joined(&[station.into(), start, limit, synchronous, asynchronous])
+            }
+            Entry::Mark(MarkEntry { station, mark }) => joined(&[station, mark]),
+        });
     }
     parts.join("|")
 }
 
-/// Opens the ring, begins a log, makes every call and adds every visit, until one does not fit.
+/// Opens the ring, begins a log, makes every call and adds every record, until one does not fit.
 fn recording(rest: &str, planted: Planted) -> Option<String> {
     let mut parts = rest.split(';');
     let room = parse(parts.next()?)?;
@@ -166,12 +171,12 @@ fn recording(rest: &str, planted: Planted) -> Option<String> {
         Ok(begun) => begun,
         Err(refusal) => return Some(refusal.number().to_string()),
     };
-    let added = add_visits(&mut ring, &mut recorder, counter, &steps);
+    let added = add_records(&mut ring, &mut recorder, counter, &steps);
     let number = added.map_or_else(Refusal::number, |()| 0);
     Some(format!("{number} {}", to_hex(&recorder.end())))
 }
 
-fn add_visits(
+fn add_records(
     ring: &mut WatchedRing,
     recorder: &mut Recorder,
     counter: Counter,
@@ -179,10 +184,12 @@ fn add_visits(
 ) -> Result<(), Refusal> {
     for step in steps {
         for _ in 0..step.times {
-            match ring.answer(&step.call) {
-                Ok(Answer::Visited(visit)) => recorder.add(&counter.entry(&visit))?,
-                Ok(Answer::Taken) => (),
-                Err(_) => break,
+            let answer = ring.answer(&step.call);
+            if let Some(entry) = noted(&step.call, &answer, counter) {
+                recorder.add(&entry)?;
+            }
+            if answer.is_err() {
+                break;
             }
         }
     }
@@ -243,8 +250,8 @@ fn ring_text(head: [i128; 4], places: impl Iterator<Item = Vec<i128>>) -> String
     parts.join(";")
 }
 
-/// A ring that has no time of a visit or a message yet stores 0 for it. A late count stands
-/// behind, where it is not 0.
+/// A ring that has no time of a visit or a message yet stores 0 for it. A late count and a mark
+/// stand behind, up to the last of the two that is not 0.
 fn show_ring(ring: &Ring) -> String {
     let place = |index: usize| {
         let remaining = ring.held(index).map_or(0, |held| held.remaining);
@@ -252,8 +259,9 @@ fn show_ring(ring: &Ring) -> String {
         let had = i64::from(accepted.is_some());
         let [arrival, last] = [accepted, ring.last_start(index)].map(|time| time.unwrap_or(0));
         let timer = [ring.trt(index), ring.sent(index), remaining, had, arrival, last];
-        let late = Some(ring.late(index)).filter(|&late| late != 0);
-        timer.into_iter().chain(late).map(i128::from).collect()
+        let further = [ring.late(index), ring.marked(index).into()];
+        let shown = further.iter().rposition(|&number| number != 0).map_or(0, |place| place + 1);
+        timer.iter().chain(&further[..shown]).map(|&number| number.into()).collect()
     };
     let (token, visits) = (ring.token() as i128, ring.visits().into());
     let head = [ring.clock().into(), token, visits, ring.unused().into()];

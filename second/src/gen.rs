@@ -83,7 +83,8 @@ impl Kind {
 
     /// A kind and the sort of its sets: `KIND` is timely-token and has no F, `fddi-KIND` is FDDI,
     /// `earlier-KIND` is the 2002 edition; `uncut-KIND`, `fddi-uncut-KIND` and `earlier-uncut-KIND`
-    /// have an F, `grid-KIND`, `fddi-grid-KIND` and `earlier-grid-KIND` a g.
+    /// have an F, `grid-KIND`, `fddi-grid-KIND` and `earlier-grid-KIND` a g; stations are marked in
+    /// `marked-KIND`, `fddi-marked-KIND` and `earlier-marked-KIND`.
     pub fn from_name(name: &str) -> Option<(Kind, Sort)> {
         let names = |kind: Kind| Sort::ALL.map(|sort| (kind, sort));
         let mut every = Kind::ALL.into_iter().flat_map(names);

@@ -7,7 +7,7 @@ use std::ops::ControlFlow;
 
 use crate::planted::Planted;
 use crate::ring::Ticks;
-use crate::rules::{Ask, Entry, Mode, Plan};
+use crate::rules::{Ask, Entry, MarkEntry, Mode, Plan, VisitEntry};
 
 /// The rules of a record, in the order in which they are looked at.
 #[derive(Clone, Copy, Debug, PartialEq, Eq, PartialOrd, Ord, Hash)]
@@ -51,11 +51,13 @@ impl fmt::Display for Finding {
     }
 }
 
-/// What is known of a station: when its timer began, and what it last sent.
+/// What is known of a station: when its timer began, what it last sent, and whether it is switched
+/// through.
 #[derive(Clone, Copy, Debug)]
 struct Memory {
     timer_began: Ticks,
     sent: u32,
+    marked: bool,
 }
 
 /// Follows the records of a log.
@@ -63,7 +65,10 @@ pub struct Inspector {
     plan: Plan,
     planted: Planted,
     now: Ticks,
+    /// The records of both kinds, the visits among them, and whether the last record was a visit.
     records: u64,
+    visits: u64,
+    behind_visit: bool,
     /// What the counter showed at time 0, and then.
     first: u32,
     last: u32,
@@ -77,11 +82,21 @@ impl Inspector {
         let mut came = -(plan.request.walk_sum() as Ticks);
         let mut memories = vec![];
         for station in &plan.request.stations {
-            memories.push(Memory { timer_began: came, sent: 0 });
+            memories.push(Memory { timer_began: came, sent: 0, marked: false });
             came += Ticks::from(station.walk);
         }
-        let (plan, finding) = (plan.clone(), None);
-        Inspector { plan, planted, now: 0, records: 0, first: 0, last: 0, memories, finding }
+        Inspector {
+            plan: plan.clone(),
+            planted,
+            now: 0,
+            records: 0,
+            visits: 0,
+            behind_visit: false,
+            first: 0,
+            last: 0,
+            memories,
+            finding: None,
+        }
     }
 
     pub fn records(&self) -> u64 {
@@ -95,7 +110,11 @@ impl Inspector {
 
     /// The station that the token is at.
     pub fn station(&self) -> usize {
-        (self.records % self.memories.len() as u64) as usize
+        let passed = match self.planted {
+            Planted::MarkCountedAsVisit => self.records,
+            _ => self.visits,
+        };
+        (passed % self.memories.len() as u64) as usize
     }
 
     /// What the recorder's counter shows now; at the first record it may show anything.
@@ -111,9 +130,17 @@ impl Inspector {
         self.now - self.memories[index].timer_began
     }
 
-    /// The limit of the visit that is next.
+    /// Whether the station that the token is at is switched through.
+    pub fn marked(&self) -> bool {
+        self.memories[self.station()].marked
+    }
+
+    /// The limit of the visit that is next: nothing at a marked station.
     pub fn limit(&self) -> u32 {
         let here = self.station();
+        if self.marked() && self.planted != Planted::MarkedLimitByTimers {
+            return 0;
+        }
         let kept = match self.plan.request.mode() {
             Mode::Timely | Mode::Earlier => {
                 self.unused() + self.plan.request.head.overrun() as Ticks
@@ -143,14 +170,31 @@ impl Inspector {
 
     /// The first rule that a record breaks, with what was expected.
     fn judge(&self, entry: &Entry) -> ControlFlow<(Rule, String)> {
+        match entry {
+            Entry::Visit(visit) => self.judge_visit(visit),
+            Entry::Mark(mark) => self.judge_mark(mark),
+        }
+    }
+
+    /// A mark has one rule, which is named after the station.
+    fn judge_mark(&self, entry: &MarkEntry) -> ControlFlow<(Rule, String)> {
+        let MarkEntry { station, mark } = *entry;
+        let count = self.memories.len();
+        unless(usize::from(station) < count && mark <= 1, Rule::Station, || {
+            format!("expected a station below {count} and mark 0 or 1, found {station} {mark}")
+        })
+    }
+
+    fn judge_visit(&self, entry: &VisitEntry) -> ControlFlow<(Rule, String)> {
         let here = self.station();
-        let Entry { station, start, limit, synchronous, asynchronous } = *entry;
+        let VisitEntry { station, start, limit, synchronous, asynchronous } = *entry;
         unless(usize::from(station) == here, Rule::Station, || {
             format!("expected station {here}, found {station}")
         })?;
         unless(self.starts_at(start), Rule::Start, || {
             let [expected, found] = [self.counter(), start].map(|it| it.wrapping_sub(self.last));
-            format!("expected {expected} ticks after the record before, found {found}")
+            let before = if self.behind_visit { "record" } else { "visit" };
+            format!("expected {expected} ticks after the {before} before, found {found}")
         })?;
         let expected = self.limit();
         let compared = self.planted != Planted::LimitNotCompared;
@@ -158,6 +202,7 @@ impl Inspector {
             format!("expected limit {expected}, found {limit}")
         })?;
         let most = match self.planted {
+            _ if self.marked() => 0,
             Planted::SynchronousUpToC => self.plan.request.stations[here].longest,
             _ => self.plan.allocation[here],
         };
@@ -175,8 +220,9 @@ impl Inspector {
     }
 
     fn starts_at(&self, start: u32) -> bool {
-        match (self.records, self.planted) {
+        match (self.visits, self.planted) {
             (0, Planted::FirstStartCompared) => start == 0,
+            (0, Planted::FirstStartBoundByMark) if self.records > 0 => start == self.counter(),
             (0, _) => true,
             (_, Planted::WrappedStartRefused) => {
                 i64::from(start) == i64::from(self.first) + self.now
@@ -187,7 +233,7 @@ impl Inspector {
 
     /// When the timer of the token's station begins anew: in the 2002 edition behind the visit's
     /// asynchronous part. A late token of FDDI takes one TTRT off the timer.
-    fn timer_begins(&self, here: usize, entry: &Entry) -> Ticks {
+    fn timer_begins(&self, here: usize, entry: &VisitEntry) -> Ticks {
         match self.plan.request.mode() {
             Mode::Fddi if self.since(here) >= self.ttrt() => {
                 self.memories[here].timer_began + self.ttrt()
@@ -199,15 +245,26 @@ impl Inspector {
         }
     }
 
-    /// The visit of an accepted record happens.
+    /// What an accepted record says happens.
     fn follow(&mut self, entry: &Entry) {
+        self.behind_visit = matches!(entry, Entry::Visit(_));
+        match entry {
+            Entry::Visit(visit) => self.follow_visit(visit),
+            Entry::Mark(MarkEntry { station, mark }) => {
+                self.memories[usize::from(*station)].marked = *mark == 1;
+            }
+        }
+    }
+
+    fn follow_visit(&mut self, entry: &VisitEntry) {
         let here = self.station();
-        if self.records == 0 {
+        if self.visits == 0 {
             self.first = entry.start;
         }
+        self.visits += 1;
         self.last = entry.start;
-        self.memories[here] =
-            Memory { timer_began: self.timer_begins(here, entry), sent: entry.synchronous };
+        self.memories[here].timer_began = self.timer_begins(here, entry);
+        self.memories[here].sent = entry.synchronous;
         let walk = self.plan.request.stations[here].walk;
         self.now +=
             [entry.synchronous, entry.asynchronous, walk].map(Ticks::from).iter().sum::<Ticks>();

@@ -1,10 +1,11 @@
-//! Visit logs: what a recorder writes of a run, and a log of any length read field by field.
+//! Logs: what a recorder writes of a run, and a log of any length read field by field.
 
 use std::io::{self, BufReader, Read};
 
-use crate::ring::{Ticks, Visit};
-use crate::rules::{require, Entry, Plan, Refusal};
-use crate::sheet::{end_field, visit_field, write_plan, Passage, Row};
+use crate::ring::{StationNumber, Ticks, Visit};
+use crate::rules::{require, Entry, MarkEntry, Plan, Refusal, VisitEntry};
+use crate::sheet::{end_field, record_field, write_plan, Passage, Row};
+use crate::text::{Answer, Call};
 
 /// A recorder's counter has 32 bits and runs past its top to 0. It is derived from the clock: at
 /// some time it showed some number.
@@ -26,13 +27,25 @@ impl Counter {
 
     /// The entry of an accepted visit.
     pub fn entry(&self, visit: &Visit) -> Entry {
-        Entry {
+        Entry::Visit(VisitEntry {
             station: visit.station.0 as u8,
             start: self.at(visit.start),
             limit: visit.limit as u32,
             synchronous: visit.synchronous as u32,
             asynchronous: visit.asynchronous as u32,
-        }
+        })
+    }
+}
+
+/// What a recorder notes of a call and its answer: each accepted visit, and each accepted marking
+/// and unmarking, one that changed nothing too.
+pub fn noted(call: &Call, answer: &Result<Answer, Refusal>, counter: Counter) -> Option<Entry> {
+    let mark = |station: &StationNumber, mark| MarkEntry { station: station.0 as u8, mark };
+    match (call, answer) {
+        (_, Ok(Answer::Visited(visit))) => Some(counter.entry(visit)),
+        (Call::Mark(station), Ok(_)) => Some(Entry::Mark(mark(station, 1))),
+        (Call::Unmark(station), Ok(_)) => Some(Entry::Mark(mark(station, 0))),
+        _ => None,
     }
 }
 
@@ -63,9 +76,9 @@ impl Recorder {
         self.bytes.len() + more + end_field().len() <= self.room
     }
 
-    /// Adds a visit, or gives number 14.
+    /// Adds a record, or gives number 14.
     pub fn add(&mut self, entry: &Entry) -> Result<(), Refusal> {
-        let field = visit_field(entry);
+        let field = record_field(entry);
         require(self.has_room(field.len()), Refusal::NoRoom)?;
         self.bytes.extend(field);
         Ok(())
@@ -77,13 +90,13 @@ impl Recorder {
     }
 }
 
-/// The log of a plan and of any visits, unjudged as to room.
+/// The log of a plan and of any records, unjudged as to room.
 pub fn log_of(plan: &Plan, entries: &[Entry]) -> Result<Vec<u8>, Refusal> {
-    let visits: Vec<Vec<u8>> = entries.iter().map(visit_field).collect();
-    Ok([plan_fields(plan)?, visits.concat(), end_field()].concat())
+    let records: Vec<Vec<u8>> = entries.iter().map(record_field).collect();
+    Ok([plan_fields(plan)?, records.concat(), end_field()].concat())
 }
 
-/// A sheet or log read field by field, in memory that does not grow with its visits.
+/// A sheet or log read field by field, in memory that does not grow with its records.
 pub struct Stream<R> {
     input: BufReader<R>,
     passage: Passage,
@@ -91,8 +104,8 @@ pub struct Stream<R> {
 
 /// What a stream came to.
 pub enum Passed {
-    /// A visit; what is before the visits is whole.
-    Visit(Entry),
+    /// A visit or a mark; what is before the records is whole.
+    Record(Entry),
     /// The end, with nothing behind it.
     End,
 }
@@ -106,14 +119,14 @@ impl<R: Read> Stream<R> {
         &self.passage
     }
 
-    /// Goes on to the next visit or to the end; or number 1, 2 or 3, the first fault.
+    /// Goes on to the next record or to the end; or number 1, 2 or 3, the first fault.
     pub fn pass(&mut self) -> io::Result<Result<Passed, Refusal>> {
         while !self.passage.is_done() {
             if let Err(refusal) = self.pass_field()? {
                 return Ok(Err(refusal));
             }
             if let Some(entry) = self.passage.contents.entries.pop() {
-                return Ok(Ok(Passed::Visit(entry)));
+                return Ok(Ok(Passed::Record(entry)));
             }
         }
         let behind = self.filled(&mut [0])?;

@@ -65,10 +65,24 @@ pub enum Planted {
     MissingAsZeros,
     /// 31: of two plans an absent mode counts as 0.
     AbsentModeIsZero,
+    /// 32: a visit sends, and looks at its station's mark after that.
+    MarkAfterSending,
+    /// 33: the limit of a marked visit is taken from the timers, in a log too.
+    MarkedLimitByTimers,
+    /// 34: a withdrawn message's arrival is forgotten for number 12.
+    WithdrawnArrivalForgotten,
+    /// 35: at a marked visit u is not raised by S.
+    MarkedUnusedNotRaised,
+    /// 36: a log's mark is counted as a visit.
+    MarkCountedAsVisit,
+    /// 37: the withdrawn message is kept under the mark, and sent after unmarking.
+    KeptUnderMark,
+    /// 38: a log's mark before the first visit binds that visit's start.
+    FirstStartBoundByMark,
 }
 
 impl Planted {
-    pub const ALL: [Planted; 31] = [
+    pub const ALL: [Planted; 38] = [
         Planted::TimeForNobody,
         Planted::RoundedDown,
         Planted::LimitWithoutUnused,
@@ -100,6 +114,13 @@ impl Planted {
         Planted::NewBeforeOld,
         Planted::MissingAsZeros,
         Planted::AbsentModeIsZero,
+        Planted::MarkAfterSending,
+        Planted::MarkedLimitByTimers,
+        Planted::WithdrawnArrivalForgotten,
+        Planted::MarkedUnusedNotRaised,
+        Planted::MarkCountedAsVisit,
+        Planted::KeptUnderMark,
+        Planted::FirstStartBoundByMark,
     ];
 
     /// The error of a number, from 1 on.

@@ -2,7 +2,8 @@
 //! which began at −τ; the ring remembers when the token last came to each station, and derives
 //! every TRT and u from what it remembers. Of an FDDI station it remembers one moment too: the
 //! timer runs from there, and its late count is how many whole TTRTs it has run. In the 2002
-//! edition TRT runs from the end of the visit's asynchronous part, which comes first.
+//! edition TRT runs from the end of the visit's asynchronous part, which comes first. A station that
+//! is switched through holds nothing, and its visits are those of an idle one that is offered nothing.
 
 use crate::planted::Planted;
 use crate::rules::{require, Ask, Mode, Plan, Refusal, Station, LAST_TIME};
@@ -71,6 +72,8 @@ struct Memory {
     sent: Ticks,
     held: Option<Held>,
     last_accepted: Option<Ticks>,
+    /// Whether the station is switched through.
+    marked: bool,
 }
 
 #[derive(Clone, Debug, PartialEq, Eq)]
@@ -167,6 +170,11 @@ impl Ring {
         self.memories[index].last_accepted
     }
 
+    /// Whether a station is switched through.
+    pub fn marked(&self, index: usize) -> bool {
+        self.memories[index].marked
+    }
+
     /// When a station's synchronous part last began; the silent rotation has none.
     pub fn last_start(&self, index: usize) -> Option<Ticks> {
         self.visited(index).then_some(self.memories[index].served)
@@ -212,7 +220,10 @@ impl Ring {
         let start = self.clock;
         let trt = self.trt(here);
         let limit = self.limit(here);
-        let asynchronous = self.sent_in_frames(ask, limit);
+        let asynchronous = match self.passed_over(here) {
+            true => 0,
+            false => self.sent_in_frames(ask, self.unmarked_limit(here)),
+        };
         let served = match self.mode() {
             Mode::Timely | Mode::Fddi => start,
             Mode::Earlier => start + asynchronous,
@@ -223,7 +234,7 @@ impl Ring {
             Mode::Timely | Mode::Earlier => self.trt_began(served, synchronous + asynchronous),
             Mode::Fddi => self.fddi_timer_began(here),
         };
-        self.memories[here].sent = synchronous;
+        self.memories[here].sent = self.counted_as_sent(here, synchronous);
         let walk = Ticks::from(self.plan.request.stations[here].walk);
         self.clock = start + synchronous + asynchronous + walk;
         self.visits += 1;
@@ -231,8 +242,28 @@ impl Ring {
         Ok(Visit { station, start, trt, limit, synchronous, asynchronous, completed })
     }
 
-    /// The time before which the station may begin to send beside its synchronous part.
+    /// Whether the token walks through a station that sends nothing of either kind.
+    fn passed_over(&self, here: usize) -> bool {
+        self.marked(here) && self.planted != Planted::MarkAfterSending
+    }
+
+    /// What a station is offered: nothing where it is marked.
     fn limit(&self, here: usize) -> Ticks {
+        if self.marked(here) && self.planted != Planted::MarkedLimitByTimers {
+            return 0;
+        }
+        self.unmarked_limit(here)
+    }
+
+    fn counted_as_sent(&self, here: usize, synchronous: Ticks) -> Ticks {
+        match self.planted {
+            Planted::MarkedUnusedNotRaised if self.marked(here) => self.allocation(here),
+            _ => synchronous,
+        }
+    }
+
+    /// The time before which an unmarked station may begin to send beside its synchronous part.
+    fn unmarked_limit(&self, here: usize) -> Ticks {
         let kept = match (self.mode(), self.planted) {
             (Mode::Fddi, _) => 0,
             (_, Planted::LimitWithoutUnused) => self.overrun(),
@@ -280,16 +311,21 @@ impl Ring {
         }
     }
 
+    /// The message that a station sends of, looked at at this time.
+    fn served(&self, here: usize, now: Ticks) -> Option<Held> {
+        let arrived = self.held(here).filter(|held| self.has_arrived(held, now));
+        arrived.filter(|_| !self.passed_over(here))
+    }
+
     /// What a station may send of its message, looked at at this time.
     fn to_send(&self, here: usize, now: Ticks) -> Ticks {
-        let arrived = self.held(here).filter(|held| self.has_arrived(held, now));
-        arrived.map_or(0, |held| held.remaining.min(self.allocation(here)))
+        self.served(here, now).map_or(0, |held| held.remaining.min(self.allocation(here)))
     }
 
     /// Sends of the station's message what it may from this time on; gives the amount, and the
     /// completion if any.
     fn serve(&mut self, here: usize, now: Ticks) -> (Ticks, Option<Completed>) {
-        let Some(held) = self.held(here).filter(|held| self.has_arrived(held, now)) else {
+        let Some(held) = self.served(here, now) else {
             return (0, None);
         };
         let sent = self.to_send(here, now);
@@ -315,13 +351,41 @@ impl Ring {
         require(index < self.size(), Refusal::NoSuchStation)?;
         let longest = u64::from(self.plan.request.stations[index].longest);
         require((1..=longest).contains(&message.length), Refusal::WrongLength)?;
-        require(self.held(index).is_none(), Refusal::StillHeld)?;
+        require(self.held(index).is_none() && !self.marked(index), Refusal::StillHeld)?;
         require(message.arrival <= LAST_TIME, Refusal::WrongArrival)?;
         let arrival = message.arrival as Ticks;
         require(arrival >= self.earliest_arrival(index), Refusal::WrongArrival)?;
         let remaining = message.length as Ticks;
         self.memories[index].held = Some(Held { remaining, arrival });
         self.memories[index].last_accepted = Some(arrival);
+        Ok(())
+    }
+
+    /// Switches a station through, or gives number 9. The message that it held is withdrawn; its
+    /// arrival stays the last accepted one.
+    pub fn mark(&mut self, station: StationNumber) -> Result<Option<Held>, Refusal> {
+        let index = station.index();
+        require(index < self.size(), Refusal::NoSuchStation)?;
+        if self.marked(index) {
+            return Ok(None);
+        }
+        let planted = self.planted;
+        let memory = &mut self.memories[index];
+        memory.marked = true;
+        let withdrawn = memory.held;
+        if planted != Planted::KeptUnderMark {
+            memory.held = None;
+        }
+        if planted == Planted::WithdrawnArrivalForgotten && withdrawn.is_some() {
+            memory.last_accepted = None;
+        }
+        Ok(withdrawn)
+    }
+
+    /// Switches a station in again, or gives number 9.
+    pub fn unmark(&mut self, station: StationNumber) -> Result<(), Refusal> {
+        require(station.index() < self.size(), Refusal::NoSuchStation)?;
+        self.memories[station.index()].marked = false;
         Ok(())
     }
 
@@ -346,6 +410,7 @@ fn silent_rotation(stations: &[Station]) -> Vec<Memory> {
             sent: 0,
             held: None,
             last_accepted: None,
+            marked: false,
         });
         now += Ticks::from(station.walk);
     }

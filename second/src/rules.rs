@@ -317,7 +317,7 @@ pub fn fddi_least_time(ttrt: u32, deadline: u32, s: u64, before: u64) -> u64 {
 
 /// A visit as a log has it; any numbers. The start is what the recorder's counter showed.
 #[derive(Clone, Copy, Debug, PartialEq, Eq)]
-pub struct Entry {
+pub struct VisitEntry {
     pub station: u8,
     pub start: u32,
     pub limit: u32,
@@ -325,9 +325,28 @@ pub struct Entry {
     pub asynchronous: u32,
 }
 
+/// A mark as a log has it; any numbers. 1 says that the station is switched through from here on, 0
+/// that it is no longer.
+#[derive(Clone, Copy, Debug, PartialEq, Eq)]
+pub struct MarkEntry {
+    pub station: u8,
+    pub mark: u8,
+}
+
+/// A record of a log.
+#[derive(Clone, Copy, Debug, PartialEq, Eq)]
+pub enum Entry {
+    Visit(VisitEntry),
+    Mark(MarkEntry),
+}
+
 impl fmt::Display for Entry {
     fn fmt(&self, f: &mut fmt::Formatter) -> fmt::Result {
-        let Entry { station, start, limit, synchronous, asynchronous } = self;
-        write!(f, "visit {station} {start} {limit} {synchronous} {asynchronous}")
+        match self {
+            Entry::Visit(VisitEntry { station, start, limit, synchronous, asynchronous }) => {
+                write!(f, "visit {station} {start} {limit} {synchronous} {asynchronous}")
+            }
+            Entry::Mark(MarkEntry { station, mark }) => write!(f, "mark {station} {mark}"),
+        }
     }
 }

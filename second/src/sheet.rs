@@ -2,7 +2,8 @@
 //! place, and a writer.
 
 use crate::rules::MOST_STATIONS;
-use crate::rules::{header_number, require, Entry, Head, Plan, Refusal, Request, Station};
+use crate::rules::{header_number, require, Entry, MarkEntry, VisitEntry};
+use crate::rules::{Head, Plan, Refusal, Request, Station};
 
 const TTRT_TAG: u8 = 1;
 pub const STATION_TAG: u8 = 2;
@@ -11,6 +12,7 @@ const MODE_TAG: u8 = 4;
 pub const FRAME_TAG: u8 = 5;
 pub const GRID_TAG: u8 = 6;
 pub const VISIT_TAG: u8 = 16;
+pub const MARK_TAG: u8 = 17;
 const END_TAG: u8 = 255;
 
 /// What TTRT, the mode, F, g and the end take on a sheet.
@@ -39,7 +41,8 @@ enum Place {
     Framed,
     Stations,
     Allocations,
-    Visits,
+    /// Behind a visit or a mark.
+    Records,
     Done,
 }
 
@@ -73,14 +76,14 @@ impl Contents {
         self.allocation.len() == self.stations.len()
     }
 
-    /// The plan before any visit, judged.
+    /// The plan before any record, judged.
     pub fn judged_plan(&self) -> Result<Plan, Refusal> {
         let plan = self.plan();
         plan.judge()?;
         Ok(plan)
     }
 
-    /// The sheet before any visit, judged: a request where it has no allocations.
+    /// The sheet before any record, judged: a request where it has no allocations.
     pub fn judged(&self) -> Result<Sheet, Refusal> {
         if self.allocation.is_empty() {
             let request = self.request();
@@ -183,16 +186,25 @@ const PLAN_END: Row = Row {
 };
 
 const VISIT: Row = Row {
-    at: &[Place::Allocations, Place::Visits],
+    at: &[Place::Allocations, Place::Records],
     tag: VISIT_TAG,
     length: 17,
     when: Contents::all_allocated,
-    keep: |contents, body| contents.entries.push(entry(body)),
-    then: Place::Visits,
+    keep: |contents, body| contents.entries.push(visit(body)),
+    then: Place::Records,
+};
+
+const MARK: Row = Row {
+    at: &[Place::Allocations, Place::Records],
+    tag: MARK_TAG,
+    length: 2,
+    when: Contents::all_allocated,
+    keep: |contents, body| contents.entries.push(mark(body)),
+    then: Place::Records,
 };
 
 const LOG_END: Row = Row {
-    at: &[Place::Visits],
+    at: &[Place::Records],
     tag: END_TAG,
     length: 0,
     when: |_| true,
@@ -214,7 +226,7 @@ const PLAN_TABLE: &[Row] = &[
     PLAN_END,
 ];
 
-/// A log without a visit is a plan.
+/// A log without a record is a plan.
 pub const LOG_TABLE: &[Row] = &[
     TTRT_FIELD,
     MODE_FIELD,
@@ -225,6 +237,7 @@ pub const LOG_TABLE: &[Row] = &[
     NEXT_ALLOCATION,
     PLAN_END,
     VISIT,
+    MARK,
     LOG_END,
 ];
 
@@ -240,6 +253,7 @@ pub const ANY_TABLE: &[Row] = &[
     NEXT_ALLOCATION,
     PLAN_END,
     VISIT,
+    MARK,
     LOG_END,
 ];
 
@@ -258,15 +272,19 @@ fn station(body: &[u8]) -> Station {
     }
 }
 
-fn entry(body: &[u8]) -> Entry {
+fn visit(body: &[u8]) -> Entry {
     let numbers = &body[1..];
-    Entry {
+    Entry::Visit(VisitEntry {
         station: body[0],
         start: number(numbers, 0),
         limit: number(numbers, 1),
         synchronous: number(numbers, 2),
         asynchronous: number(numbers, 3),
-    }
+    })
+}
+
+fn mark(body: &[u8]) -> Entry {
+    Entry::Mark(MarkEntry { station: body[0], mark: body[1] })
 }
 
 impl Row {
@@ -334,13 +352,13 @@ pub fn read_plan(sheet: &[u8]) -> Result<Plan, Refusal> {
     contents(sheet, PLAN_TABLE)?.judged_plan()
 }
 
-/// The plan of a log and its visits, or number 1 to 5 or 7.
+/// The plan of a log and its records, or number 1 to 5 or 7.
 pub fn read_log(log: &[u8]) -> Result<(Plan, Vec<Entry>), Refusal> {
     let contents = contents(log, LOG_TABLE)?;
     Ok((contents.judged_plan()?, contents.entries))
 }
 
-/// A sheet of either kind and the visits behind a plan, or number 1 to 5 or 7.
+/// A sheet of either kind and the records behind a plan, or number 1 to 5 or 7.
 pub fn read_any(sheet: &[u8]) -> Result<(Sheet, Vec<Entry>), Refusal> {
     let contents = contents(sheet, ANY_TABLE)?;
     Ok((contents.judged()?, contents.entries))
@@ -372,13 +390,17 @@ pub fn end_field() -> Vec<u8> {
     field(END_TAG, &[])
 }
 
-/// The field of a visit.
-pub fn visit_field(entry: &Entry) -> Vec<u8> {
-    let Entry { station, start, limit, synchronous, asynchronous } = *entry;
-    let mut bytes = vec![VISIT_TAG, 0, 17, station];
-    let numbers = [start, limit, synchronous, asynchronous];
-    numbers.iter().for_each(|number| bytes.extend(number.to_be_bytes()));
-    bytes
+/// The field of a record.
+pub fn record_field(entry: &Entry) -> Vec<u8> {
+    match *entry {
+        Entry::Visit(VisitEntry { station, start, limit, synchronous, asynchronous }) => {
+            let mut bytes = vec![VISIT_TAG, 0, 17, station];
+            let numbers = [start, limit, synchronous, asynchronous];
+            numbers.iter().for_each(|number| bytes.extend(number.to_be_bytes()));
+            bytes
+        }
+        Entry::Mark(MarkEntry { station, mark }) => vec![MARK_TAG, 0, 2, station, mark],
+    }
 }
 
 /// The field of a mode, any byte.

@@ -1,9 +1,9 @@
-//! Any state of a ring, reachable or not: whether it is unsound (number 8), and what a visit and
-//! a handing in make of it. The steps are those of the rules, one after another, on the numbers
+//! Any state of a ring, reachable or not: whether it is unsound (number 8), and what a visit, a
+//! handing in, a marking and an unmarking make of it. The steps are those of the rules, one after another, on the numbers
 //! that a ring stores.
 
 use crate::notation::{number, read_head, show_head};
-use crate::ring::{Completed, Message, StationNumber, Ticks, Visit};
+use crate::ring::{Completed, Held, Message, StationNumber, Ticks, Visit};
 use crate::rules::{require, Ask, Mode, Plan, Refusal, Request, Station};
 use crate::rules::{LAST_CLOCK, LAST_TIME, MOST_LATE, VISITS_END};
 use crate::text::{Answer, Call};
@@ -20,6 +20,8 @@ pub struct Place {
     pub remaining: u32,
     /// Whether a message was ever accepted: 0 says no, anything else yes.
     pub had: u8,
+    /// Whether the station is switched through: 0 says no, anything else yes.
+    pub mark: u8,
     /// The arrival of the last accepted message.
     pub arrival: u64,
     /// The start of the last synchronous part, where there was a visit.
@@ -27,9 +29,10 @@ pub struct Place {
 }
 
 impl Place {
-    /// As they are shown: the late count behind the others, where it is not 0.
+    /// As they are shown: behind the others the late count and the mark, up to the last of the two
+    /// that is not 0.
     pub fn numbers(&self) -> Vec<i128> {
-        let Place { trt, late, sent, remaining, had, arrival, last } = *self;
+        let Place { trt, late, sent, remaining, had, mark, arrival, last } = *self;
         let mut numbers = vec![
             trt.into(),
             sent.into(),
@@ -38,9 +41,9 @@ impl Place {
             arrival.into(),
             last.into(),
         ];
-        if late != 0 {
-            numbers.push(late.into());
-        }
+        let further: [i128; 2] = [late.into(), mark.into()];
+        let shown = further.iter().rposition(|&number| number != 0).map_or(0, |place| place + 1);
+        numbers.extend(&further[..shown]);
         numbers
     }
 }
@@ -99,6 +102,8 @@ impl State {
         match call {
             Call::Visit(ask) => self.visit(*ask).map(Answer::Visited),
             Call::HandIn(message) => self.hand_in(message).map(|()| Answer::Taken),
+            Call::Mark(station) => self.mark(*station).map(Answer::Marked),
+            Call::Unmark(station) => self.unmark(*station).map(|()| Answer::Unmarked),
         }
     }
 
@@ -111,11 +116,12 @@ impl State {
         let here = self.token as usize;
         let (start, trt) = (self.clock, self.places[here].trt);
         let mode = self.plan.request.mode();
-        // 1: the limit; an FDDI timer goes to 0 or runs on.
-        let limit = match mode {
+        // 1: the limit; an FDDI timer goes to 0 or runs on. A marked station is offered nothing.
+        let unmarked = match mode {
             Mode::Timely | Mode::Earlier => self.timely_limit(here),
             Mode::Fddi => self.fddi_limit(here),
         };
+        let limit = if self.places[here].mark == 0 { unmarked } else { 0 };
         // 4: the asynchronous part, in whole frames; in the 2002 edition it comes before all else.
         let asynchronous = ask.sent(limit.into()) as u32;
         if mode == Mode::Earlier {
@@ -189,10 +195,11 @@ impl State {
         }
     }
 
-    /// Sends the smaller of S and what remains of a message that has arrived.
+    /// Sends the smaller of S and what remains of a message that has arrived; nothing at a marked
+    /// station.
     fn serve(&mut self, here: usize) -> (u32, Option<Completed>) {
         let place = &mut self.places[here];
-        if place.remaining == 0 || place.arrival > self.clock {
+        if place.mark != 0 || place.remaining == 0 || place.arrival > self.clock {
             return (0, None);
         }
         let sent = place.remaining.min(self.plan.allocation[here]);
@@ -214,7 +221,7 @@ impl State {
         require((1..=u64::from(longest)).contains(&message.length), Refusal::WrongLength)?;
         let visited = (index as u64) < self.visits;
         let place = &mut self.places[index];
-        require(place.remaining == 0, Refusal::StillHeld)?;
+        require(place.remaining == 0 && place.mark == 0, Refusal::StillHeld)?;
         let soon = place.had != 0 && message.arrival < place.arrival + u64::from(gap);
         let early = visited && message.arrival <= place.last;
         require(message.arrival <= LAST_TIME && !early && !soon, Refusal::WrongArrival)?;
@@ -224,8 +231,31 @@ impl State {
         Ok(())
     }
 
+    /// Switches a station through and gives what it held, or number 8 or 9.
+    pub fn mark(&mut self, station: StationNumber) -> Result<Option<Held>, Refusal> {
+        let place = self.place_to_switch(station)?;
+        if place.mark != 0 {
+            return Ok(None);
+        }
+        place.mark = 1;
+        let remaining = Ticks::from(std::mem::take(&mut place.remaining));
+        Ok((remaining > 0).then_some(Held { remaining, arrival: place.arrival as Ticks }))
+    }
+
+    /// Switches a station in again, or gives number 8 or 9.
+    pub fn unmark(&mut self, station: StationNumber) -> Result<(), Refusal> {
+        self.place_to_switch(station)?.mark = 0;
+        Ok(())
+    }
+
+    fn place_to_switch(&mut self, station: StationNumber) -> Result<&mut Place, Refusal> {
+        require(!self.unsound(), Refusal::Unsound)?;
+        self.places.get_mut(station.index()).ok_or(Refusal::NoSuchStation)
+    }
+
     /// `CLOCK,TOKEN,VISITS,U`, the head of the set, and for each station
-    /// `W,C,D,P,S,TRT,s,REMAINING,HAD,ARRIVAL,LAST`, with its late count behind or without.
+    /// `W,C,D,P,S,TRT,s,REMAINING,HAD,ARRIVAL,LAST`, behind these perhaps its late count, and behind
+    /// that perhaps its mark.
     pub fn read(parts: &[&str]) -> Option<State> {
         let [ring, head, places @ ..] = parts else {
             return None;
@@ -244,10 +274,11 @@ impl State {
     }
 
     fn add(&mut self, part: &str) -> Option<()> {
-        let (eleven, late) = match part.match_indices(',').nth(10) {
+        let (eleven, more) = match part.match_indices(',').nth(10) {
             Some((at, _)) => (&part[..at], &part[at + 1..]),
             None => (part, "0"),
         };
+        let (late, mark) = more.split_once(',').unwrap_or((more, "0"));
         let [walk, longest, deadline, gap, s, trt, sent, remaining, had, arrival, last] =
             words(eleven)?;
         self.plan.request.stations.push(Station {
@@ -263,6 +294,7 @@ impl State {
             sent: number(sent)?,
             remaining: number(remaining)?,
             had: number(had)?,
+            mark: number(mark.as_bytes())?,
             arrival: number(arrival)?,
             last: number(last)?,
         });

@@ -7,14 +7,14 @@ use crate::compose::compose;
 use crate::differences;
 use crate::inspect::Inspector;
 use crate::lines::Lines;
-use crate::log::{plan_fields, Counter, Passed, Stream};
+use crate::log::{noted, plan_fields, Counter, Passed, Stream};
 use crate::planner;
 use crate::planted::Planted;
 use crate::ring::Ring;
 use crate::rules::{Plan, Refusal};
-use crate::sheet::{end_field, read_plan, read_request, visit_field, write_plan};
+use crate::sheet::{end_field, read_plan, read_request, record_field, write_plan};
 use crate::sheet::{Sheet, ANY_TABLE, LOG_TABLE, PLAN_READ, REQUEST_READ};
-use crate::text::{self, answer_line, read_call, Answer, Fault};
+use crate::text::{self, answer_line, read_call, Fault};
 
 /// Where a command writes: standard output and standard error.
 pub struct Streams<O, E> {
@@ -66,14 +66,14 @@ impl<O: Write, E: Write> Streams<O, E> {
     /// and ends with the refusal if there is a fault behind its plan.
     fn show(&mut self, input: impl Read) -> io::Result<()> {
         let mut stream = Stream::new(input, ANY_TABLE);
-        // What is before the visits, once a visit has passed: shown, or refused.
+        // What is before the records, once a record has passed: shown, or refused.
         let mut before: Option<Result<(), Refusal>> = None;
         loop {
             let passed = stream.pass()?;
             let judged = || stream.passage().contents.judged();
             match passed {
                 Err(refusal) => return self.text(&refused(refusal)),
-                Ok(Passed::Visit(entry)) => {
+                Ok(Passed::Record(entry)) => {
                     if before.is_none() {
                         before = Some(self.shown(judged())?);
                     }
@@ -102,7 +102,7 @@ impl<O: Write, E: Write> Streams<O, E> {
             let opened = || opened().map(|plan| Inspector::new(&plan, planted));
             match passed {
                 Err(refusal) => return self.text(&refused(refusal)),
-                Ok(Passed::Visit(entry)) => {
+                Ok(Passed::Record(entry)) => {
                     if let Ok(inspector) = inspector.get_or_insert_with(opened) {
                         inspector.take(&entry);
                     }
@@ -144,7 +144,7 @@ impl<O: Write, E: Write> Streams<O, E> {
         Ok(())
     }
 
-    /// Writes the log of a run: the fields of its plan, a field for each visit, the end. The first
+    /// Writes the log of a run: the fields of its plan, a field for each record, the end. The first
     /// line that cannot be read is named when the calls have ended.
     pub fn log(&mut self, plan: &[u8], calls: impl Read, planted: Planted) -> io::Result<()> {
         let mut ring = match opened(plan, planted) {
@@ -158,9 +158,8 @@ impl<O: Write, E: Write> Streams<O, E> {
             match read_call(&line) {
                 Ok(None) => (),
                 Ok(Some(call)) => {
-                    if let Ok(Answer::Visited(visit)) = ring.answer(&call) {
-                        self.out.write_all(&visit_field(&Counter::ZERO.entry(&visit)))?;
-                    }
+                    let entry = noted(&call, &ring.answer(&call), Counter::ZERO);
+                    self.out.write_all(&entry.map_or(vec![], |entry| record_field(&entry)))?;
                 }
                 Err(fault) => unread = unread.or(Some(fault)),
             }

@@ -4,7 +4,7 @@ use std::fmt;
 
 use crate::lines::Line;
 use crate::notation::number;
-use crate::ring::{Message, StationNumber, Visit};
+use crate::ring::{Held, Message, Ring, StationNumber, Visit};
 use crate::rules::{header_number, Ask, Head, Plan, Refusal, Request, Station};
 use crate::sheet::Sheet;
 
@@ -29,6 +29,8 @@ impl fmt::Display for Fault {
 pub enum Call {
     Visit(Ask),
     HandIn(Message),
+    Mark(StationNumber),
+    Unmark(StationNumber),
 }
 
 /// `FRAMES LENGTH`; frames of one tick are shown without their length.
@@ -48,6 +50,8 @@ impl fmt::Display for Call {
             Call::HandIn(Message { station, length, arrival }) => {
                 write!(f, "message {} {length} {arrival}", station.0)
             }
+            Call::Mark(station) => write!(f, "mark {}", station.0),
+            Call::Unmark(station) => write!(f, "unmark {}", station.0),
         }
     }
 }
@@ -57,6 +61,9 @@ impl fmt::Display for Call {
 pub enum Answer {
     Visited(Visit),
     Taken,
+    /// A station is switched through; with the message that it held.
+    Marked(Option<Held>),
+    Unmarked,
 }
 
 impl fmt::Display for Answer {
@@ -64,6 +71,11 @@ impl fmt::Display for Answer {
         match self {
             Answer::Visited(visit) => show_visit(f, visit),
             Answer::Taken => write!(f, "taken"),
+            Answer::Marked(None) => write!(f, "marked"),
+            Answer::Marked(Some(Held { remaining, arrival })) => {
+                write!(f, "marked withdrawn {remaining} {arrival}")
+            }
+            Answer::Unmarked => write!(f, "unmarked"),
         }
     }
 }
@@ -74,6 +86,18 @@ fn show_visit(f: &mut fmt::Formatter, visit: &Visit) -> fmt::Result {
     match completed {
         Some(completed) => write!(f, "{} {}", completed.finish, completed.margin),
         None => write!(f, "- -"),
+    }
+}
+
+impl Call {
+    /// The answer of a ring to the call.
+    pub fn answer(&self, ring: &mut Ring) -> Result<Answer, Refusal> {
+        match self {
+            Call::Visit(ask) => ring.visit(*ask).map(Answer::Visited),
+            Call::HandIn(message) => ring.hand_in(message).map(|()| Answer::Taken),
+            Call::Mark(station) => ring.mark(*station).map(Answer::Marked),
+            Call::Unmark(station) => ring.unmark(*station).map(|()| Answer::Unmarked),
+        }
     }
 }
 
@@ -143,6 +167,8 @@ pub fn call(words: &[&[u8]]) -> Option<Call> {
             length: number(length)?,
             arrival: number(arrival)?,
         })),
+        [b"mark", station] => Some(Call::Mark(StationNumber(number(station)?))),
+        [b"unmark", station] => Some(Call::Unmark(StationNumber(number(station)?))),
         _ => None,
     }
 }

@@ -93,7 +93,8 @@ static void put_stations(const set_t *set, const alloc_t *alloc)
     put_set(set, alloc);
 }
 
-/* ---- a ring: `CLOCK,TOKEN,VISITS,U;TRT,s,REMAINING,HAD,ARRIVAL,LAST;..`, a late count behind LAST where it is not 0 */
+/* ---- a ring: `CLOCK,TOKEN,VISITS,U;TRT,s,REMAINING,HAD,ARRIVAL,LAST;..`, behind LAST a late count and a mark, up to the
+ * last of the two that is not 0 */
 static void put_ring(const ring_t *ring)
 {
     put_number(ring->clock);
@@ -107,8 +108,10 @@ static void put_ring(const ring_t *ring)
         put_after(',', ring->had[i]);
         put_after(',', ring->arrival[i]);
         put_after(',', ring->last[i]);
-        if (ring->late[i] != 0)
+        if (ring->late[i] != 0 || ring->mark[i] != 0)
             put_after(',', ring->late[i]);
+        if (ring->mark[i] != 0)
+            put_after(',', ring->mark[i]);
     }
 }
 
@@ -173,11 +176,51 @@ static void message(ring_t *ring, int shown)
         put("taken");
 }
 
+/* Makes a marking and says what it took back; the number of the answer. */
+static uint8_t mark(ring_t *ring, struct olivastrum_station station, int shown)
+{
+    struct olivastrum_mark_answer answer = marking(ring, station);
+    if (!shown)
+        return answer.number;
+    if (answer.number != 0) {
+        put_refused(answer.number);
+        return answer.number;
+    }
+    put("marked");
+    if (answer.withdrawn) {
+        put(" withdrawn");
+        put_after(' ', answer.rest.ticks);
+        put_after(' ', answer.arrival.ticks);
+    }
+    return 0;
+}
+
+static uint8_t unmark(ring_t *ring, struct olivastrum_station station, int shown)
+{
+    uint8_t refusal = unmarking(ring, station);
+    if (shown && refusal != 0)
+        put_refused(refusal);
+    else if (shown)
+        put("unmarked");
+    return refusal;
+}
+
+static struct olivastrum_station station(void)
+{
+    struct olivastrum_station named;
+    named.number = number32();
+    return named;
+}
+
 /* The call that stands here, made on the ring; its answer, if it is to be shown. */
 static void call(ring_t *ring, int shown)
 {
     if (passed("message ")) {
         message(ring, shown);
+    } else if (passed("mark ")) {
+        mark(ring, station(), shown);
+    } else if (passed("unmark ")) {
+        unmark(ring, station(), shown);
     } else if (passed("visit ")) {
         visits(ring, 1, shown);
     } else {
@@ -314,7 +357,8 @@ static void run_case(int answers_shown)
     }
 }
 
-/* What a ring stores of a station: `,TRT,s,REMAINING,HAD,ARRIVAL,LAST`, and a late count or none. */
+/* What a ring stores of a station: `,TRT,s,REMAINING,HAD,ARRIVAL,LAST`, a late count or none, and behind that a mark or
+ * none. */
 static void stored(ring_t *ring, uint32_t i)
 {
     pass(",");
@@ -330,12 +374,14 @@ static void stored(ring_t *ring, uint32_t i)
     pass(",");
     uint64_t last = number();
     uint32_t late = passed(",") ? number32() : 0;
+    uint8_t mark = passed(",") ? number8() : 0;
     if (i < MOST) {
         ring->trt[i] = trt;
         ring->late[i] = late;
         ring->sent[i] = sent;
         ring->rest[i] = rest;
         ring->had[i] = had;
+        ring->mark[i] = mark;
         ring->arrival[i] = arrival;
         ring->last[i] = last;
     }
@@ -380,6 +426,21 @@ static void state_case(void)
 
 /* ---- logs */
 
+/* `STATION,START,LIMIT,SYNC,ASYNC` of a visit, `STATION,MARK` of a mark. */
+static void put_entry(const struct olivastrum_next_entry *next)
+{
+    if (next->kind == OLIVASTRUM_MARK_TAG) {
+        put_after('|', next->mark.station);
+        put_after(',', next->mark.mark);
+        return;
+    }
+    put_after('|', next->visit.station);
+    put_after(',', next->visit.start);
+    put_after(',', next->visit.limit);
+    put_after(',', next->visit.synchronous);
+    put_after(',', next->visit.asynchronous);
+}
+
 /* `log HEX` */
 static void log_case(void)
 {
@@ -393,21 +454,27 @@ static void log_case(void)
     put(" ");
     put_set(&read.set, &read.alloc);
     uint64_t at = read.first;
-    for (uint64_t i = 0; i < read.visits; i++) {
+    for (uint64_t i = 0; i < read.records; i++) {
         struct olivastrum_next_entry next = entry_at(length, at);
-        put_after('|', next.entry.station);
-        put_after(',', next.entry.start);
-        put_after(',', next.entry.limit);
-        put_after(',', next.entry.synchronous);
-        put_after(',', next.entry.asynchronous);
+        put_entry(&next);
         at = next.next;
     }
-    /* What stands behind the last visit is none. */
+    /* What stands behind the last record is none. */
     if (entry_at(length, at).next != 0)
         put(" !too-long");
 }
 
-/* Makes the call that stands here on the ring, again and again as often as it says; each accepted visit is added. */
+/* Makes the marking or unmarking that stands here, and adds it where it was accepted. */
+static struct olivastrum_recorder recorded_mark(ring_t *ring, struct olivastrum_recorder recorder, size_t room, int marked)
+{
+    struct olivastrum_station named = station();
+    struct olivastrum_mark_entry entry = {(uint32_t)named.number, (uint32_t)marked};
+    uint8_t refusal = marked ? mark(ring, named, 0) : unmark(ring, named, 0);
+    return refusal != 0 ? recorder : adding_mark(recorder, entry, room);
+}
+
+/* Makes the call that stands here on the ring, again and again as often as it says; each accepted visit is added, and each
+ * accepted marking and unmarking. */
 static struct olivastrum_recorder recorded(ring_t *ring, struct olivastrum_recorder recorder, size_t room)
 {
     uint64_t count = 1;
@@ -415,6 +482,10 @@ static struct olivastrum_recorder recorded(ring_t *ring, struct olivastrum_recor
         message(ring, 0);
         return recorder;
     }
+    if (passed("mark "))
+        return recorded_mark(ring, recorder, room, 1);
+    if (passed("unmark "))
+        return recorded_mark(ring, recorder, room, 0);
     if (passed("visits ")) {
         count = number();
         pass(" ");
@@ -472,7 +543,7 @@ static void inspect_case(void)
         return;
     if (found.rule == 0) {
         put(" accepted");
-        put_after(' ', found.visits);
+        put_after(' ', found.records);
     } else {
         put(" record");
         put_after(' ', found.record);

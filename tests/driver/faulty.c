@@ -15,11 +15,15 @@ struct olivastrum_planned __real_olivastrum_plan_set(set_t set);
 struct olivastrum_opened __real_olivastrum_open_ring(set_t set, alloc_t alloc);
 struct olivastrum_visit_answer __real_olivastrum_visit(ring_t *ring, struct olivastrum_ask ask);
 uint8_t __real_olivastrum_hand_in(ring_t *ring, struct olivastrum_message message);
+struct olivastrum_mark_answer __real_olivastrum_mark(ring_t *ring, struct olivastrum_station station);
+uint8_t __real_olivastrum_unmark(ring_t *ring, struct olivastrum_station station);
 struct olivastrum_read_log __real_olivastrum_read_log(const uint8_t *log, size_t length);
 struct olivastrum_next_entry __real_olivastrum_log_entry(const uint8_t *log, size_t length, uint64_t at);
 struct olivastrum_recorder __real_olivastrum_begin_log(set_t set, alloc_t alloc, uint32_t counter, uint64_t clock, uint8_t *out, size_t length);
 struct olivastrum_recorder __real_olivastrum_add_visit(struct olivastrum_recorder recorder, struct olivastrum_visit_record record, uint8_t *out,
                                                        size_t length);
+struct olivastrum_recorder __real_olivastrum_add_mark(struct olivastrum_recorder recorder, struct olivastrum_mark_entry mark, uint8_t *out,
+                                                      size_t length);
 struct olivastrum_written __real_olivastrum_end_log(struct olivastrum_recorder recorder, uint8_t *out, size_t length);
 struct olivastrum_finding __real_olivastrum_inspect_log(const uint8_t *log, size_t length);
 
@@ -126,6 +130,7 @@ static void spoil_places(ring_t *ring)
     FAULT("ring-rest", spare, ring->rest[LAST]);
     FAULT("ring-arrival", spare, ring->arrival[LAST]);
     FAULT("ring-had", spare, ring->had[LAST]);
+    FAULT("ring-mark", spare, ring->mark[LAST]);
     FAULT("ring-last", spare, ring->last[LAST]);
     FAULT("ring-set", spare, ring->set.c[LAST]);
     FAULT("ring-alloc", spare, ring->alloc.s[LAST]);
@@ -173,6 +178,25 @@ uint8_t __wrap_olivastrum_hand_in(ring_t *ring, struct olivastrum_message messag
     return number;
 }
 
+struct olivastrum_mark_answer __wrap_olivastrum_mark(ring_t *ring, struct olivastrum_station station)
+{
+    struct olivastrum_mark_answer answer = __real_olivastrum_mark(ring, station);
+    spoil_ring(answer.number, ring);
+    FAULT("mark-refused", answer.number != 0, answer.withdrawn);
+    FAULT("mark-rest", answer.number == 0 && !answer.withdrawn, answer.rest.ticks);
+    FAULT("mark-arrival", answer.number == 0 && !answer.withdrawn, answer.arrival.ticks);
+    if (is_fault("mark-flag") && answer.withdrawn)
+        answer.withdrawn = 2;
+    return answer;
+}
+
+uint8_t __wrap_olivastrum_unmark(ring_t *ring, struct olivastrum_station station)
+{
+    uint8_t number = __real_olivastrum_unmark(ring, station);
+    spoil_ring(number, ring);
+    return number;
+}
+
 /* ---- logs */
 struct olivastrum_read_log __wrap_olivastrum_read_log(const uint8_t *log, size_t length)
 {
@@ -187,7 +211,12 @@ struct olivastrum_read_log __wrap_olivastrum_read_log(const uint8_t *log, size_t
 struct olivastrum_next_entry __wrap_olivastrum_log_entry(const uint8_t *log, size_t length, uint64_t at)
 {
     struct olivastrum_next_entry next = __real_olivastrum_log_entry(log, length, at);
-    FAULT("entry-none", next.next == 0, next.entry.station);
+    FAULT("entry-none", next.next == 0, next.visit.station);
+    FAULT("entry-both", next.kind == OLIVASTRUM_VISIT_TAG, next.mark.mark);
+    FAULT("entry-twice", next.kind == OLIVASTRUM_MARK_TAG, next.visit.limit);
+    FAULT("entry-kind", next.next == 0, next.kind);
+    if (is_fault("entry-tag") && next.next != 0)
+        next.kind = 1;
     if (is_fault("entry-far") && next.next != 0)
         next.next = length + 1;
     return next;
@@ -213,6 +242,17 @@ struct olivastrum_recorder __wrap_olivastrum_add_visit(struct olivastrum_recorde
     return next;
 }
 
+struct olivastrum_recorder __wrap_olivastrum_add_mark(struct olivastrum_recorder recorder, struct olivastrum_mark_entry mark, uint8_t *out,
+                                                      size_t length)
+{
+    struct olivastrum_recorder next = __real_olivastrum_add_mark(recorder, mark, out, length);
+    FAULT("marked-before", 1, out[0]);
+    FAULT("marked-left", next.at < length, out[next.at]);
+    FAULT("marked-refused", next.number != 0, next.counter);
+    FAULT("marked-clock", next.number == 0, next.clock);
+    return next;
+}
+
 struct olivastrum_written __wrap_olivastrum_end_log(struct olivastrum_recorder recorder, uint8_t *out, size_t length)
 {
     struct olivastrum_written ended = __real_olivastrum_end_log(recorder, out, length);
@@ -226,9 +266,9 @@ struct olivastrum_finding __wrap_olivastrum_inspect_log(const uint8_t *log, size
 {
     struct olivastrum_finding found = __real_olivastrum_inspect_log(log, length);
     spoil_sheet(log, length);
-    FAULT("found-refused", found.number != 0, found.visits);
+    FAULT("found-refused", found.number != 0, found.records);
     FAULT("found-none", found.number == 0 && found.rule == 0, found.record);
     if (is_fault("found-far") && found.rule != 0)
-        found.record = found.visits + 1;
+        found.record = found.records + 1;
     return found;
 }

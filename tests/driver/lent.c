@@ -157,6 +157,7 @@ struct olivastrum_opened opening(const set_t *set, const alloc_t *alloc)
     must(all_zero(ring->sent, sizeof ring->sent), "not-blank");
     must(all_zero(ring->rest, sizeof ring->rest) && all_zero(ring->arrival, sizeof ring->arrival), "not-blank");
     must(all_zero(ring->had, sizeof ring->had) && all_zero(ring->last, sizeof ring->last), "not-blank");
+    must(all_zero(ring->mark, sizeof ring->mark), "not-blank");
     return opened;
 }
 
@@ -192,6 +193,7 @@ static void ring_kept(const ring_t *was, const ring_t *is)
     must(SAME_PAST(n, is->trt, was->trt) && SAME_PAST(n, is->late, was->late), "past-n");
     must(SAME_PAST(n, is->sent, was->sent) && SAME_PAST(n, is->rest, was->rest), "past-n");
     must(SAME_PAST(n, is->arrival, was->arrival) && SAME_PAST(n, is->had, was->had) && SAME_PAST(n, is->last, was->last), "past-n");
+    must(SAME_PAST(n, is->mark, was->mark), "past-n");
 }
 
 /* What a refused call may not change. */
@@ -233,13 +235,36 @@ uint8_t handing_in(ring_t *ring, struct olivastrum_message message)
     return number;
 }
 
+struct olivastrum_mark_answer marking(ring_t *ring, struct olivastrum_station station)
+{
+    ring_t *lent_ring = lend_ring(ring);
+    struct olivastrum_mark_answer answer = olivastrum_mark(lent_ring, station);
+    ring_kept(ring, lent_ring);
+    refused_kept(answer.number, ring, lent_ring);
+    must(answer.number == 0 || answer.withdrawn == 0, "not-blank");
+    must(answer.withdrawn <= 1, "flag");
+    must(answer.withdrawn == 1 || (answer.rest.ticks == 0 && answer.arrival.ticks == 0), "not-blank");
+    *ring = *lent_ring;
+    return answer;
+}
+
+uint8_t unmarking(ring_t *ring, struct olivastrum_station station)
+{
+    ring_t *lent_ring = lend_ring(ring);
+    uint8_t number = olivastrum_unmark(lent_ring, station);
+    ring_kept(ring, lent_ring);
+    refused_kept(number, ring, lent_ring);
+    *ring = *lent_ring;
+    return number;
+}
+
 /* ---- logs */
 struct olivastrum_read_log reading_log(const uint8_t *log, size_t length)
 {
     struct olivastrum_read_log read = olivastrum_read_log(lend_sheet(log, length), length);
     sheet_unchanged(log, length);
     read_set(read.number, &read.set);
-    must(read.number == 0 || (all_zero(&read.alloc, sizeof read.alloc) && read.first == 0 && read.visits == 0), "not-blank");
+    must(read.number == 0 || (all_zero(&read.alloc, sizeof read.alloc) && read.first == 0 && read.records == 0), "not-blank");
     must(zero_past(read.set.n, read.alloc.s), "past-n");
     return read;
 }
@@ -248,7 +273,10 @@ struct olivastrum_next_entry entry_at(size_t length, uint64_t at)
 {
     struct olivastrum_next_entry next = olivastrum_log_entry(lent + GUARD, length, at);
     must(guarded(0, GUARD) && guarded(GUARD + length, length + 2 * GUARD), "touched");
-    must(next.next != 0 || all_zero(&next.entry, sizeof next.entry), "not-blank");
+    must(next.kind == OLIVASTRUM_VISIT_TAG || all_zero(&next.visit, sizeof next.visit), "not-blank");
+    must(next.kind == OLIVASTRUM_MARK_TAG || all_zero(&next.mark, sizeof next.mark), "not-blank");
+    must(next.next != 0 || next.kind == 0, "not-blank");
+    must(next.next == 0 || next.kind == OLIVASTRUM_VISIT_TAG || next.kind == OLIVASTRUM_MARK_TAG, "flag");
     must(next.next == 0 || (next.next > at && next.next <= length), "too-long");
     return next;
 }
@@ -257,9 +285,9 @@ struct olivastrum_finding inspecting(const uint8_t *log, size_t length)
 {
     struct olivastrum_finding found = olivastrum_inspect_log(lend_sheet(log, length), length);
     sheet_unchanged(log, length);
-    must(found.number == 0 || (found.visits == 0 && found.record == 0 && found.rule == 0), "not-blank");
+    must(found.number == 0 || (found.records == 0 && found.record == 0 && found.rule == 0), "not-blank");
     must((found.record == 0) == (found.rule == 0), "not-blank");
-    must(found.record <= found.visits && found.rule <= 5, "too-long");
+    must(found.record <= found.records && found.rule <= 5, "too-long");
     return found;
 }
 
@@ -279,25 +307,48 @@ struct olivastrum_recorder beginning_log(const set_t *set, const alloc_t *alloc,
     return recorder;
 }
 
+/* What stands of a log while something is added behind it. */
+static uint8_t standing[MOST_BYTES];
+
+static uint64_t stands(struct olivastrum_recorder recorder, size_t room)
+{
+    uint64_t was = recorder.at <= room ? recorder.at : room;
+    memcpy(standing, lent + GUARD, was);
+    return was;
+}
+
+static int same_recorder(struct olivastrum_recorder was, struct olivastrum_recorder is)
+{
+    return is.at == was.at && is.clock == was.clock && is.counter == was.counter;
+}
+
 struct olivastrum_recorder adding_visit(struct olivastrum_recorder recorder, struct olivastrum_visit_record record, size_t room)
 {
-    static uint8_t written[MOST_BYTES];
-    uint64_t was = recorder.at <= room ? recorder.at : room;
-    memcpy(written, lent + GUARD, was);
+    uint64_t was = stands(recorder, room);
     struct olivastrum_recorder next = olivastrum_add_visit(recorder, record, lent + GUARD, room);
-    must(same(written, lent + GUARD, was), "touched");
-    must(next.number == 0 || (next.at == recorder.at && next.clock == recorder.clock && next.counter == recorder.counter), "changed");
+    must(same(standing, lent + GUARD, was), "touched");
+    must(next.number == 0 || same_recorder(recorder, next), "changed");
+    log_kept(next.at, room);
+    return next;
+}
+
+/* A mark has no time: the counter stays. */
+struct olivastrum_recorder adding_mark(struct olivastrum_recorder recorder, struct olivastrum_mark_entry mark, size_t room)
+{
+    uint64_t was = stands(recorder, room);
+    struct olivastrum_recorder next = olivastrum_add_mark(recorder, mark, lent + GUARD, room);
+    must(same(standing, lent + GUARD, was), "touched");
+    must(next.number == 0 || next.at == recorder.at, "changed");
+    must(next.clock == recorder.clock && next.counter == recorder.counter, "changed");
     log_kept(next.at, room);
     return next;
 }
 
 struct olivastrum_written ending_log(struct olivastrum_recorder recorder, size_t room, const uint8_t **log)
 {
-    static uint8_t written[MOST_BYTES];
-    uint64_t was = recorder.at <= room ? recorder.at : room;
-    memcpy(written, lent + GUARD, was);
+    uint64_t was = stands(recorder, room);
     struct olivastrum_written ended = olivastrum_end_log(recorder, lent + GUARD, room);
-    must(same(written, lent + GUARD, was), "touched");
+    must(same(standing, lent + GUARD, was), "touched");
     must(ended.number == 0 || ended.length == 0, "not-blank");
     log_kept(ended.number == 0 ? ended.length : was, room);
     *log = lent + GUARD;

@@ -33,6 +33,8 @@ struct olivastrum_opened opening(const set_t *set, const alloc_t *alloc);
  * as counted (1 or more), until one is refused; the last one's answer. */
 struct olivastrum_visit_answer visiting(ring_t *ring, uint64_t count, struct olivastrum_ask ask);
 uint8_t handing_in(ring_t *ring, struct olivastrum_message message);
+struct olivastrum_mark_answer marking(ring_t *ring, struct olivastrum_station station);
+uint8_t unmarking(ring_t *ring, struct olivastrum_station station);
 
 /* Reading a log: it is lent between guard bytes, and stays there for its entries. */
 struct olivastrum_read_log reading_log(const uint8_t *log, size_t length);
@@ -44,5 +46,6 @@ struct olivastrum_finding inspecting(const uint8_t *log, size_t length);
 /* Writing a log into a room between guard bytes, where it stays until the next log is begun. */
 struct olivastrum_recorder beginning_log(const set_t *set, const alloc_t *alloc, uint32_t counter, uint64_t clock, size_t room);
 struct olivastrum_recorder adding_visit(struct olivastrum_recorder recorder, struct olivastrum_visit_record record, size_t room);
+struct olivastrum_recorder adding_mark(struct olivastrum_recorder recorder, struct olivastrum_mark_entry mark, size_t room);
 struct olivastrum_written ending_log(struct olivastrum_recorder recorder, size_t room, const uint8_t **log);
 #endif

@@ -1,7 +1,7 @@
 /*
  * A host in C that does the whole job with the worked run of the build definition: it reads a request, plans, writes
  * and reads the plan sheet, opens the ring, hands in messages and visits, and holds each number to the definition's; it
- * writes the log of the run, reads it back and inspects it.
+ * writes the log of the run, reads it back and inspects it; and the same of a run in which a station is switched through.
  * Refused calls must leave every byte of the ring and of the buffers as they were, and any bytes at all in place of a
  * ring must get an answer. The header's structs and constants are held to the Rattle sources (tests/host/run says how).
  * Prints `ok`, or the first line that failed.
@@ -44,7 +44,8 @@ static int layouts(void)
     SAME(FIELDS_WRITTEN, sizeof(struct olivastrum_written), AT(olivastrum_written, length), AT(olivastrum_written, number));
     SAME(FIELDS_RING, sizeof(ring_t), AT(olivastrum_ring, set), AT(olivastrum_ring, alloc), AT(olivastrum_ring, trt), AT(olivastrum_ring, late),
          AT(olivastrum_ring, sent), AT(olivastrum_ring, rest), AT(olivastrum_ring, token), AT(olivastrum_ring, arrival),
-         AT(olivastrum_ring, had), AT(olivastrum_ring, last), AT(olivastrum_ring, clock), AT(olivastrum_ring, visits), AT(olivastrum_ring, unused));
+         AT(olivastrum_ring, had), AT(olivastrum_ring, mark), AT(olivastrum_ring, last), AT(olivastrum_ring, clock), AT(olivastrum_ring, visits),
+         AT(olivastrum_ring, unused));
     SAME(FIELDS_ASK, sizeof(struct olivastrum_ask), AT(olivastrum_ask, frames), AT(olivastrum_ask, length));
     SAME(FIELDS_MESSAGE, sizeof(struct olivastrum_message), AT(olivastrum_message, station), AT(olivastrum_message, length),
          AT(olivastrum_message, arrival));
@@ -53,22 +54,28 @@ static int layouts(void)
          AT(olivastrum_visit_record, asynchronous), AT(olivastrum_visit_record, finish), AT(olivastrum_visit_record, margin),
          AT(olivastrum_visit_record, completed));
     SAME(FIELDS_VISIT_ANSWER, sizeof(struct olivastrum_visit_answer), AT(olivastrum_visit_answer, record), AT(olivastrum_visit_answer, number));
+    SAME(FIELDS_MARK_ANSWER, sizeof(struct olivastrum_mark_answer), AT(olivastrum_mark_answer, rest), AT(olivastrum_mark_answer, arrival),
+         AT(olivastrum_mark_answer, withdrawn), AT(olivastrum_mark_answer, number));
     SAME(FIELDS_OPENED, sizeof(struct olivastrum_opened), AT(olivastrum_opened, ring), AT(olivastrum_opened, number));
-    SAME(FIELDS_ENTRY, sizeof(struct olivastrum_entry), AT(olivastrum_entry, station), AT(olivastrum_entry, start), AT(olivastrum_entry, limit),
-         AT(olivastrum_entry, synchronous), AT(olivastrum_entry, asynchronous));
-    SAME(FIELDS_NEXT_ENTRY, sizeof(struct olivastrum_next_entry), AT(olivastrum_next_entry, entry), AT(olivastrum_next_entry, next));
+    SAME(FIELDS_VISIT_ENTRY, sizeof(struct olivastrum_visit_entry), AT(olivastrum_visit_entry, station), AT(olivastrum_visit_entry, start),
+         AT(olivastrum_visit_entry, limit), AT(olivastrum_visit_entry, synchronous), AT(olivastrum_visit_entry, asynchronous));
+    SAME(FIELDS_MARK_ENTRY, sizeof(struct olivastrum_mark_entry), AT(olivastrum_mark_entry, station), AT(olivastrum_mark_entry, mark));
+    SAME(FIELDS_LOG_ENTRY, sizeof(struct olivastrum_next_entry), AT(olivastrum_next_entry, kind), AT(olivastrum_next_entry, visit),
+         AT(olivastrum_next_entry, mark), AT(olivastrum_next_entry, next));
     SAME(FIELDS_READ_LOG, sizeof(struct olivastrum_read_log), AT(olivastrum_read_log, set), AT(olivastrum_read_log, alloc),
-         AT(olivastrum_read_log, first), AT(olivastrum_read_log, visits), AT(olivastrum_read_log, number));
+         AT(olivastrum_read_log, first), AT(olivastrum_read_log, records), AT(olivastrum_read_log, number));
     SAME(FIELDS_RECORDER, sizeof(struct olivastrum_recorder), AT(olivastrum_recorder, at), AT(olivastrum_recorder, clock),
          AT(olivastrum_recorder, counter), AT(olivastrum_recorder, number));
-    SAME(FIELDS_FINDING, sizeof(struct olivastrum_finding), AT(olivastrum_finding, visits), AT(olivastrum_finding, record),
+    SAME(FIELDS_FINDING, sizeof(struct olivastrum_finding), AT(olivastrum_finding, records), AT(olivastrum_finding, record),
          AT(olivastrum_finding, rule), AT(olivastrum_finding, number));
 
     CHECK(sizeof(struct olivastrum_set) == 5 * 4 + 4 * 128 * 4);
     CHECK(sizeof(struct olivastrum_alloc) == 128 * 4);
     CHECK(sizeof(struct olivastrum_ask) == 2 * 4);
     CHECK(sizeof(struct olivastrum_message) == 3 * 8);
-    CHECK(sizeof(ring_t) == sizeof(struct olivastrum_set) + sizeof(struct olivastrum_alloc) + 4 * 128 * 4 + 4 + 2 * 128 * 8 + 128 + 3 * 8);
+    CHECK(sizeof(struct olivastrum_visit_entry) == 5 * 4 && sizeof(struct olivastrum_mark_entry) == 2 * 4);
+    CHECK(sizeof(struct olivastrum_next_entry) == 4 + 5 * 4 + 2 * 4 + 8);
+    CHECK(sizeof(ring_t) == sizeof(struct olivastrum_set) + sizeof(struct olivastrum_alloc) + 4 * 128 * 4 + 4 + 2 * 128 * 8 + 2 * 128 + 3 * 8);
     return 1;
 }
 
@@ -79,6 +86,7 @@ static int constants(void)
 #include "numbers.h"
     CHECK(OLIVASTRUM_REQUEST_BYTES(1) == 29 && OLIVASTRUM_REQUEST_BYTES(128) == 2442);
     CHECK(OLIVASTRUM_PLAN_BYTES(1) == 36 && OLIVASTRUM_PLAN_BYTES(128) == 3338);
+    CHECK(OLIVASTRUM_VISIT_TAG == 16 && OLIVASTRUM_VISIT_BYTES == 3 + 17 && OLIVASTRUM_MARK_TAG == 17 && OLIVASTRUM_MARK_BYTES == 3 + 2);
     return 1;
 }
 
@@ -244,6 +252,18 @@ static int hand_in_refused(ring_t *ring, uint64_t station, uint64_t length, uint
     return 1;
 }
 
+/* a marking and a mark taken off that must be refused with this number, and leave every byte of the ring */
+static int mark_refused(ring_t *ring, uint64_t station, uint8_t number)
+{
+    ring_t before = *ring;
+    struct olivastrum_station door = {station};
+    struct olivastrum_mark_answer answer = olivastrum_mark(ring, door);
+    CHECK(answer.number == number && answer.withdrawn == 0 && answer.rest.ticks == 0 && answer.arrival.ticks == 0);
+    CHECK(olivastrum_unmark(ring, door) == number);
+    CHECK(memcmp(ring, &before, sizeof before) == 0);
+    return 1;
+}
+
 /* frames of one tick, which may be cut anywhere */
 static struct olivastrum_ask ticks(uint32_t frames)
 {
@@ -279,6 +299,7 @@ static int opening(ring_t *ring, struct olivastrum_set set, struct olivastrum_al
     CHECK(ring->trt[0] == 2 && all_zero(ring->trt + 1, sizeof ring->trt - 4) && all_zero(ring->late, sizeof ring->late));
     CHECK(all_zero(ring->sent, sizeof ring->sent) && all_zero(ring->rest, sizeof ring->rest));
     CHECK(all_zero(ring->arrival, sizeof ring->arrival) && all_zero(ring->had, sizeof ring->had) && all_zero(ring->last, sizeof ring->last));
+    CHECK(all_zero(ring->mark, sizeof ring->mark));
     return 1;
 }
 
@@ -304,6 +325,35 @@ static const int64_t rows[][8] = {
     {0, 100, 100, 0, 20, 0, 120, 80},
     {1, 122, 82, 18, 20, 18, 142, 58},
 };
+
+/* Station 0 of the opened ring switched through for one visit, and in again. */
+static int switched_through(ring_t ring)
+{
+    struct olivastrum_station door = {0};
+    CHECK(mark_refused(&ring, STATIONS, OLIVASTRUM_NO_SUCH_STATION));
+    CHECK(mark_refused(&ring, UINT64_MAX, OLIVASTRUM_NO_SUCH_STATION));
+    CHECK(olivastrum_hand_in(&ring, message(0, 20, 0)) == 0);
+    ring_t before = ring;
+    struct olivastrum_mark_answer taken = olivastrum_mark(&ring, door);
+    CHECK(taken.number == 0 && taken.withdrawn == 1 && taken.rest.ticks == 20 && taken.arrival.ticks == 0);
+    before.rest[0] = 0, before.mark[0] = 1;
+    CHECK(memcmp(&ring, &before, sizeof before) == 0);
+    taken = olivastrum_mark(&ring, door);
+    CHECK(taken.number == 0 && taken.withdrawn == 0 && taken.rest.ticks == 0 && taken.arrival.ticks == 0);
+    CHECK(memcmp(&ring, &before, sizeof before) == 0);
+    CHECK(hand_in_refused(&ring, 0, 20, 100, OLIVASTRUM_STILL_HELD));
+    struct olivastrum_visit_answer answer = olivastrum_visit(&ring, ticks(1000));
+    struct olivastrum_visit_record *r = &answer.record;
+    CHECK(answer.number == 0 && r->station.number == 0 && r->start.ticks == 0 && r->trt.ticks == 2 && r->completed == 0);
+    CHECK(r->limit.ticks == 0 && r->synchronous.ticks == 0 && r->asynchronous.ticks == 0);
+    CHECK(ring.clock == 2 && ring.visits == 1 && ring.token == 1 && ring.unused == 80 && ring.sent[0] == 0 && ring.trt[0] == 2);
+    CHECK(olivastrum_unmark(&ring, door) == 0 && ring.mark[0] == 0);
+    before = ring;
+    CHECK(olivastrum_unmark(&ring, door) == 0 && memcmp(&ring, &before, sizeof before) == 0);
+    CHECK(hand_in_refused(&ring, 0, 20, 99, OLIVASTRUM_BAD_ARRIVAL));
+    CHECK(olivastrum_hand_in(&ring, message(0, 20, 100)) == 0);
+    return 1;
+}
 
 static int worked_run(ring_t *ring)
 {
@@ -379,24 +429,25 @@ static int recording(struct olivastrum_set set, struct olivastrum_alloc alloc, u
 static int read_back(const struct olivastrum_set *set, const struct olivastrum_alloc *alloc, const uint8_t *log)
 {
     struct olivastrum_read_log read = olivastrum_read_log(log, LOG_BYTES);
-    CHECK(read.number == 0 && read.first == OLIVASTRUM_PLAN_BYTES(STATIONS) - 3 && read.visits == VISITS);
+    CHECK(read.number == 0 && read.first == OLIVASTRUM_PLAN_BYTES(STATIONS) - 3 && read.records == VISITS);
     CHECK(memcmp(&read.set, set, sizeof *set) == 0 && memcmp(&read.alloc, alloc, sizeof *alloc) == 0);
     uint64_t at = read.first;
     for (size_t k = 0; k < VISITS; k++) {
         struct olivastrum_next_entry next = olivastrum_log_entry(log, LOG_BYTES, at);
         const int64_t *row = rows[k];
-        CHECK(next.next == at + OLIVASTRUM_VISIT_BYTES);
-        CHECK(next.entry.station == row[0] && next.entry.start == (uint32_t)(COUNTER + (uint64_t)row[1]) && next.entry.limit == row[3]);
-        CHECK(next.entry.synchronous == row[4] && next.entry.asynchronous == row[5]);
+        CHECK(next.kind == OLIVASTRUM_VISIT_TAG && next.next == at + OLIVASTRUM_VISIT_BYTES && all_zero(&next.mark, sizeof next.mark));
+        CHECK(next.visit.station == row[0] && next.visit.start == (uint32_t)(COUNTER + (uint64_t)row[1]) && next.visit.limit == row[3]);
+        CHECK(next.visit.synchronous == row[4] && next.visit.asynchronous == row[5]);
         at = next.next;
     }
-    CHECK(olivastrum_log_entry(log, LOG_BYTES, at).next == 0);
+    struct olivastrum_next_entry none = olivastrum_log_entry(log, LOG_BYTES, at);
+    CHECK(all_zero(&none, sizeof none));
     return 1;
 }
 
-static int is_finding(struct olivastrum_finding found, uint64_t visits, uint64_t record, uint8_t rule, uint8_t number)
+static int is_finding(struct olivastrum_finding found, uint64_t records, uint64_t record, uint8_t rule, uint8_t number)
 {
-    return found.visits == visits && found.record == record && found.rule == rule && found.number == number;
+    return found.records == records && found.record == record && found.rule == rule && found.number == number;
 }
 
 /* The log that the ring wrote is accepted, and so is its plan alone. A number that is one higher is found, and the log as it
@@ -436,6 +487,81 @@ static int logs(struct olivastrum_set set, struct olivastrum_alloc alloc)
     return recording(set, alloc, COUNTER, log) && read_back(&set, &alloc, log) && inspecting(log);
 }
 
+/* ---- the log of a run in which station 1 is switched through for a visit: a mark, two visits, a mark */
+enum { MARKS = 2, MARKED_VISITS = 2, MARKED_BYTES = OLIVASTRUM_PLAN_BYTES(STATIONS) + MARKS * OLIVASTRUM_MARK_BYTES + MARKED_VISITS * OLIVASTRUM_VISIT_BYTES };
+
+/* Adds a mark; in a byte less than its field and the end take it must be refused, with nothing written. */
+static int add_mark(struct olivastrum_recorder *recorder, uint32_t station, uint32_t mark, uint8_t *log, size_t length)
+{
+    struct olivastrum_mark_entry entry = {station, mark};
+    uint8_t before[MARKED_BYTES];
+    memcpy(before, log, length);
+    struct olivastrum_recorder refused = olivastrum_add_mark(*recorder, entry, log, recorder->at + OLIVASTRUM_MARK_BYTES + 2);
+    CHECK(refused.number == OLIVASTRUM_BUFFER_TOO_SHORT && refused.at == recorder->at);
+    CHECK(refused.clock == recorder->clock && refused.counter == recorder->counter && memcmp(log, before, length) == 0);
+    struct olivastrum_recorder added = olivastrum_add_mark(*recorder, entry, log, length);
+    CHECK(added.number == 0 && added.at == recorder->at + OLIVASTRUM_MARK_BYTES);
+    CHECK(added.clock == recorder->clock && added.counter == recorder->counter);
+    const uint8_t field[] = {OLIVASTRUM_MARK_TAG, 0, 2, (uint8_t)station, (uint8_t)mark};
+    CHECK(memcmp(log + recorder->at, field, sizeof field) == 0);
+    CHECK(memcmp(log, before, recorder->at) == 0 && memcmp(log + added.at, before + added.at, length - added.at) == 0);
+    *recorder = added;
+    return 1;
+}
+
+static int is_mark(const uint8_t *log, size_t length, uint64_t at, uint32_t station, uint32_t mark)
+{
+    struct olivastrum_next_entry next = olivastrum_log_entry(log, length, at);
+    CHECK(next.kind == OLIVASTRUM_MARK_TAG && next.next == at + OLIVASTRUM_MARK_BYTES && all_zero(&next.visit, sizeof next.visit));
+    CHECK(next.mark.station == station && next.mark.mark == mark);
+    return 1;
+}
+
+static int marked_log(struct olivastrum_set set, struct olivastrum_alloc alloc)
+{
+    uint8_t log[MARKED_BYTES];
+    memset(log, 0xa5, sizeof log);
+    struct olivastrum_station door = {1};
+    ring_t ring = olivastrum_open_ring(set, alloc).ring;
+    struct olivastrum_recorder recorder = olivastrum_begin_log(set, alloc, COUNTER, ring.clock, log, sizeof log);
+    CHECK(recorder.number == 0 && olivastrum_mark(&ring, door).number == 0);
+    CHECK(add_mark(&recorder, 1, 1, log, sizeof log));
+    for (int k = 0; k < MARKED_VISITS; k++)
+        recorder = olivastrum_add_visit(recorder, olivastrum_visit(&ring, ticks(5)).record, log, sizeof log);
+    CHECK(recorder.number == 0 && olivastrum_unmark(&ring, door) == 0);
+    CHECK(add_mark(&recorder, 1, 0, log, sizeof log));
+    struct olivastrum_written written = olivastrum_end_log(recorder, log, sizeof log);
+    CHECK(written.number == 0 && written.length == sizeof log);
+
+    /* read back: both marks round the visits, the second of which is of the marked station */
+    struct olivastrum_read_log read = olivastrum_read_log(log, sizeof log);
+    CHECK(read.number == 0 && read.records == MARKS + MARKED_VISITS);
+    CHECK(is_mark(log, sizeof log, read.first, 1, 1));
+    uint64_t second = read.first + OLIVASTRUM_MARK_BYTES + OLIVASTRUM_VISIT_BYTES;
+    struct olivastrum_next_entry through = olivastrum_log_entry(log, sizeof log, second);
+    CHECK(through.kind == OLIVASTRUM_VISIT_TAG && through.visit.station == 1 && through.visit.start == (uint32_t)(COUNTER + 7u));
+    CHECK(through.visit.limit == 0 && through.visit.synchronous == 0 && through.visit.asynchronous == 0);
+    CHECK(is_mark(log, sizeof log, through.next, 1, 0));
+    CHECK(olivastrum_log_entry(log, sizeof log, through.next + OLIVASTRUM_MARK_BYTES).kind == 0);
+
+    /* inspected: accepted; a mark that is neither 0 nor 1, or of a station that there is not, breaks the station rule */
+    CHECK(is_finding(olivastrum_inspect_log(log, sizeof log), MARKS + MARKED_VISITS, 0, 0, 0));
+    log[read.first + 4] = 2;
+    CHECK(is_finding(olivastrum_inspect_log(log, sizeof log), MARKS + MARKED_VISITS, 1, 1, 0));
+    log[read.first + 4] = 1, log[read.first + 3] = STATIONS;
+    CHECK(is_finding(olivastrum_inspect_log(log, sizeof log), MARKS + MARKED_VISITS, 1, 1, 0));
+    /* with another station marked, the limit of station 1's visit is wrong; so it is in a log without the mark */
+    log[read.first + 3] = 2;
+    CHECK(is_finding(olivastrum_inspect_log(log, sizeof log), MARKS + MARKED_VISITS, 3, 3, 0));
+    log[read.first + 3] = 1, log[read.first + 4] = 0;
+    CHECK(is_finding(olivastrum_inspect_log(log, sizeof log), MARKS + MARKED_VISITS, 3, 3, 0));
+    /* of any other numbers the low 8 bits are written */
+    recorder.at -= OLIVASTRUM_MARK_BYTES;
+    CHECK(add_mark(&recorder, 0x12345678u, 0xffffff00u, log, sizeof log));
+    CHECK(is_mark(log, sizeof log, through.next, 0x78, 0));
+    return 1;
+}
+
 /* ---- rings that no opening gives */
 static uint64_t dice = 88172645463325252u;
 
@@ -450,6 +576,7 @@ static uint8_t throw_byte(void)
 static int unsound(ring_t *ring)
 {
     CHECK(visit_refused(ring, OLIVASTRUM_UNSOUND));
+    CHECK(mark_refused(ring, throw_byte(), OLIVASTRUM_UNSOUND));
     CHECK(hand_in_refused(ring, throw_byte(), throw_byte(), throw_byte(), OLIVASTRUM_UNSOUND));
     return 1;
 }
@@ -490,13 +617,23 @@ static int any_bytes(const ring_t *sound)
     same.late[0] = 7;
     CHECK(memcmp(&ring, &same, sizeof same) == 0);
 
+    /* a byte that is neither 0 nor 1 in `mark` is a yes, and a marked station that holds a message keeps it and sends nothing */
+    ring = *sound, ring.mark[ring.token] = 0x80, ring.rest[ring.token] = 5, ring.arrival[ring.token] = 0;
+    uint32_t token = ring.token;
+    struct olivastrum_visit_answer through = olivastrum_visit(&ring, ticks(5));
+    CHECK(through.number == 0 && through.record.limit.ticks == 0 && through.record.synchronous.ticks == 0 && through.record.asynchronous.ticks == 0);
+    CHECK(ring.rest[token] == 5 && ring.mark[token] == 0x80 && ring.sent[token] == 0);
+    struct olivastrum_station marked = {token};
+    struct olivastrum_mark_answer nothing = olivastrum_mark(&ring, marked);
+    CHECK(nothing.number == 0 && nothing.withdrawn == 0 && ring.rest[token] == 5 && ring.mark[token] == 0x80);
+
     /* a byte that is neither 0 nor 1 in `had` is a yes, and places past N are never looked at */
-    ring = *sound, ring.had[2] = 0x80, ring.trt[STATIONS] = 0xffffffffu, ring.set.w[127] = 0xffffffffu;
+    ring = *sound, ring.had[2] = 0x80, ring.trt[STATIONS] = 0xffffffffu, ring.set.w[127] = 0xffffffffu, ring.mark[STATIONS] = 1;
     ring_t other = *sound;
     struct olivastrum_visit_answer a = olivastrum_visit(&ring, ticks(5)), b = olivastrum_visit(&other, ticks(5));
     CHECK(a.number == 0 && b.number == 0);
     CHECK(memcmp(&a.record, &b.record, offsetof(struct olivastrum_visit_record, completed) + 1) == 0);
-    CHECK(ring.had[2] == 0x80 && ring.trt[STATIONS] == 0xffffffffu && ring.set.w[127] == 0xffffffffu);
+    CHECK(ring.had[2] == 0x80 && ring.trt[STATIONS] == 0xffffffffu && ring.set.w[127] == 0xffffffffu && ring.mark[STATIONS] == 1);
     return 1;
 }
 
@@ -604,12 +741,12 @@ static int earlier_log(struct olivastrum_set set, struct olivastrum_alloc alloc)
     struct olivastrum_written written = olivastrum_end_log(recorder, log, sizeof log);
     CHECK(written.number == 0 && written.length == LENGTH);
     struct olivastrum_finding found = olivastrum_inspect_log(log, LENGTH);
-    CHECK(found.number == 0 && found.visits == 2 && found.record == 0 && found.rule == 0);
+    CHECK(is_finding(found, 2, 0, 0, 0));
     /* Without its mode field. */
     for (size_t at = 7; at + OLIVASTRUM_MODE_BYTES < LENGTH; at++)
         log[at] = log[at + OLIVASTRUM_MODE_BYTES];
     found = olivastrum_inspect_log(log, LENGTH - OLIVASTRUM_MODE_BYTES);
-    CHECK(found.number == 0 && found.visits == 2 && found.record == 2 && found.rule == 3);
+    CHECK(is_finding(found, 2, 2, 3, 0));
     return 1;
 }
 
@@ -688,7 +825,7 @@ int main(void)
     struct olivastrum_alloc alloc;
     if (!layouts() || !constants() || !places() || !planning(&set, &alloc) || !opening(&ring, set, alloc))
         return 1;
-    if (!asked_less(ring) || !worked_run(&ring) || !logs(set, alloc) || !any_bytes(&ring) || !older_ring() || !uncut_ring() || !earlier_ring() || !stepped_ring())
+    if (!asked_less(ring) || !switched_through(ring) || !worked_run(&ring) || !logs(set, alloc) || !marked_log(set, alloc) || !any_bytes(&ring) || !older_ring() || !uncut_ring() || !earlier_ring() || !stepped_ring())
         return 1;
     puts("ok");
     return 0;

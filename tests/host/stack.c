@@ -25,7 +25,9 @@ static struct olivastrum_message message;
 static struct olivastrum_ask ask;
 static struct olivastrum_recorder recorder;
 static struct olivastrum_visit_record record;
-static uint8_t sheet[OLIVASTRUM_PLAN_BYTES(128) + OLIVASTRUM_MODE_BYTES + OLIVASTRUM_FRAME_BYTES + OLIVASTRUM_VISIT_BYTES + 1];
+static struct olivastrum_station station;
+static struct olivastrum_mark_entry mark_entry;
+static uint8_t sheet[OLIVASTRUM_PLAN_BYTES(128) + OLIVASTRUM_MODE_BYTES + OLIVASTRUM_FRAME_BYTES + OLIVASTRUM_VISIT_BYTES + OLIVASTRUM_MARK_BYTES + 1];
 static size_t length;
 
 /* ---- the calls: what is passed by value is copied to the stack, and the answer goes where `answer` is */
@@ -69,6 +71,16 @@ static uint8_t hand_in(void)
     return olivastrum_hand_in(&ring, message);
 }
 
+static struct olivastrum_mark_answer mark(void)
+{
+    return olivastrum_mark(&ring, station);
+}
+
+static uint8_t unmark(void)
+{
+    return olivastrum_unmark(&ring, station);
+}
+
 static struct olivastrum_recorder begin_log(void)
 {
     return olivastrum_begin_log(set, alloc, 4294967295u, 7, sheet, length);
@@ -77,6 +89,11 @@ static struct olivastrum_recorder begin_log(void)
 static struct olivastrum_recorder add_visit(void)
 {
     return olivastrum_add_visit(recorder, record, sheet, length);
+}
+
+static struct olivastrum_recorder add_mark(void)
+{
+    return olivastrum_add_mark(recorder, mark_entry, sheet, length);
 }
 
 static struct olivastrum_written end_log(void)
@@ -114,8 +131,11 @@ static struct function {
     {"olivastrum_open_ring", (call *)open_it, OLIVASTRUM_STACK_OPEN_RING, 0},
     {"olivastrum_visit", (call *)visit, OLIVASTRUM_STACK_VISIT, 0},
     {"olivastrum_hand_in", (call *)hand_in, OLIVASTRUM_STACK_HAND_IN, 0},
+    {"olivastrum_mark", (call *)mark, OLIVASTRUM_STACK_MARK, 0},
+    {"olivastrum_unmark", (call *)unmark, OLIVASTRUM_STACK_UNMARK, 0},
     {"olivastrum_begin_log", (call *)begin_log, OLIVASTRUM_STACK_BEGIN_LOG, 0},
     {"olivastrum_add_visit", (call *)add_visit, OLIVASTRUM_STACK_ADD_VISIT, 0},
+    {"olivastrum_add_mark", (call *)add_mark, OLIVASTRUM_STACK_ADD_MARK, 0},
     {"olivastrum_end_log", (call *)end_log, OLIVASTRUM_STACK_END_LOG, 0},
     {"olivastrum_read_log", (call *)read_log, OLIVASTRUM_STACK_READ_LOG, 0},
     {"olivastrum_log_entry", (call *)log_entry, OLIVASTRUM_STACK_LOG_ENTRY, 0},
@@ -173,13 +193,16 @@ static struct olivastrum_set stations(uint32_t mode, uint32_t frame, uint32_t n)
     return made;
 }
 
-/* A log of one visit, a plan sheet or a request sheet; all writers and all readers get each of them. */
+/* A log of a mark and a visit, a plan sheet or a request sheet; all writers and all readers get each of them. */
 static void with_sheets(void)
 {
     recorder = olivastrum_begin_log(set, alloc, 4294967295u, 7, sheet, sizeof sheet);
+    recorder = olivastrum_add_mark(recorder, mark_entry, sheet, sizeof sheet);
     recorder = olivastrum_add_visit(recorder, record, sheet, sizeof sheet);
     length = olivastrum_end_log(recorder, sheet, sizeof sheet).length;
     recorder.at -= recorder.at < OLIVASTRUM_VISIT_BYTES ? 0 : OLIVASTRUM_VISIT_BYTES;
+    measure_all();
+    recorder.at -= recorder.at < OLIVASTRUM_MARK_BYTES ? 0 : OLIVASTRUM_MARK_BYTES; /* the entry is the mark */
     measure_all();
     length = olivastrum_write_plan_sheet(set, alloc, sheet, sizeof sheet).length;
     measure_all();
@@ -200,12 +223,18 @@ static void with_stations(uint32_t mode, uint32_t frame, uint32_t n)
     alloc = olivastrum_plan_set(set).alloc;
     ring = olivastrum_open_ring(set, alloc).ring;
     message = (struct olivastrum_message){{0}, {300}, {0}};
+    station.number = 0;
+    mark_entry = (struct olivastrum_mark_entry){0, 0};
     struct olivastrum_ring moved = ring;
     record = olivastrum_visit(&moved, ask).record;
     with_sheets();
     olivastrum_hand_in(&ring, message);
     with_sheets();
+    olivastrum_mark(&ring, station);
+    mark_entry.mark = 1;
+    with_sheets();
     message.station.number = 200;
+    station.number = 200;
     ask.length = frame + 1;
     with_sheets();
     set.c[0] = 100000000; /* no plan */

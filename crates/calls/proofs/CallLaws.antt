@@ -7,16 +7,18 @@ use mathlib.Core.Logic.{_≢_}
 use native.Mathlib.Omega.{arith}
 use borrow.Author.Tests.{lt-ltb}
 use lib.ListN.{length}
+use Rattle.units.specs.declared.Station.{Station}
 use Rattle.rings.specs.Steps.{Ask, visited}
 use Rattle.rings.specs.HandingIn.{handedIn}
+use Rattle.rings.specs.Marking.{marked, unmarked}
 use Rattle.rings.specs.declared.Message.{Message}
 use Rattle.rings.specs.declared.Ring.{Ring}
 use Rattle.text.specs.Text.{newline, decimalOf, line}
 use Rattle.lines.specs.Scan.{freshScan, letterRead, characterRead, stepped, codeOf, nextLine}
 use Rattle.lines.specs.ScanLaws.{steppedOver, withNumbers, wordScan, typed, AllSmall, small-none, small-and, typed-read, line-typed, hasNoEnd, no-end-typed}
-use Rattle.calls.specs.Calls.{visitWord, messageWord, visitCalled, messageCalled, called}
-use Rattle.calls.specs.RunText.{visitText, takenText, answerText}
-use Rattle.calls.proofs.RunLaws.{called-visit, called-message, line-said}
+use Rattle.calls.specs.Calls.{visitWord, messageWord, markWord, unmarkWord, visitCalled, messageCalled, markCalled, unmarkCalled, called}
+use Rattle.calls.specs.RunText.{visitText, takenText, markText, unmarkText, answerText}
+use Rattle.calls.proofs.RunLaws.{called-visit, called-message, called-mark, called-unmark, line-said}
 use Rattle.calls.specs.Promised.{Says}
 use Rattle.calls.specs.declared.Called.{Called}
 use Rattle.calls.specs.declared.Run.{Run}
@@ -31,6 +33,14 @@ visit-word = refl
 message-word : steppedOver freshScan messageWord ≡ wordScan messageWord
 unfolding steppedOver stepped characterRead letterRead
 message-word = refl
+
+mark-word : steppedOver freshScan markWord ≡ wordScan markWord
+unfolding steppedOver stepped characterRead letterRead
+mark-word = refl
+
+unmark-word : steppedOver freshScan unmarkWord ≡ wordScan unmarkWord
+unfolding steppedOver stepped characterRead letterRead
+unmark-word = refl
 
 -- ---- a typed line does what its word and its numbers ask for
 
@@ -107,3 +117,32 @@ message-called u m fresh l₁ l₂ l₃ =
     rw (line-typed messageWord (numbersOf m))
     (typed-says u messageWord (numbersOf m) (messageCalled (handedIn (u .ring) m)) fresh message-word (omega arith) refl (omega arith)
     (numbers-small m (omega arith) l₂ l₃) (message-typed (u .ring) m l₁))
+
+-- ---- `mark STATION` and `unmark STATION`
+
+stationScan : List ℕ → Station → Scan
+stationScan word p = withNumbers (wordScan word) (p .0 ∷ [])
+
+mark-typed : (ring : Ring) (p : Station) → p .0 < 2 ^ 32 → markCalled p (marked ring p) ≡ called ring (stationScan markWord p)
+unfolding stationScan withNumbers
+mark-typed ring p l = called-mark ring (stationScan markWord p) (marked ring p) (rw (lt-ltb (p .0) (2 ^ 32) l)) refl
+
+unmark-typed : (ring : Ring) (p : Station) → p .0 < 2 ^ 32 → unmarkCalled p (unmarked ring p) ≡ called ring (stationScan unmarkWord p)
+unfolding stationScan withNumbers
+unmark-typed ring p l = called-unmark ring (stationScan unmarkWord p) (unmarked ring p) (rw (lt-ltb (p .0) (2 ^ 32) l)) refl
+
+pub mark-called : (u : Run) (p : Station) → u .scan ≡ freshScan → p .0 < 2 ^ 32
+    → Says u (line (markWord ∷ decimalOf (p .0) ∷ [])) (markText (marked (u .ring) p .answer)) (marked (u .ring) p .ring)
+unfolding hasNoEnd stationScan answerText
+mark-called u p fresh l =
+    rw (line-typed markWord (p .0 ∷ []))
+    (typed-says u markWord (p .0 ∷ []) (markCalled p (marked (u .ring) p)) fresh mark-word (omega arith) refl (omega arith)
+    (small-and (p .0) [] (omega arith) small-none) (mark-typed (u .ring) p l))
+
+pub unmark-called : (u : Run) (p : Station) → u .scan ≡ freshScan → p .0 < 2 ^ 32
+    → Says u (line (unmarkWord ∷ decimalOf (p .0) ∷ [])) (unmarkText (unmarked (u .ring) p .number)) (unmarked (u .ring) p .ring)
+unfolding hasNoEnd stationScan answerText
+unmark-called u p fresh l =
+    rw (line-typed unmarkWord (p .0 ∷ []))
+    (typed-says u unmarkWord (p .0 ∷ []) (unmarkCalled p (unmarked (u .ring) p)) fresh unmark-word (omega arith) refl (omega arith)
+    (small-and (p .0) [] (omega arith) small-none) (unmark-typed (u .ring) p l))

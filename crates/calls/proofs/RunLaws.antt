@@ -5,7 +5,7 @@ use mathlib.Core.Bool.{Bool, true, false, true≢false, _&&_, _||_}
 use mathlib.Core.List.{List, [], _∷_, _++_, append-assoc, append-nil}
 use mathlib.Core.Logic.{_≢_}
 use native.Mathlib.Omega.{arith}
-use borrow.Author.Tests.{ltb-true, lt-ltb, le-ltb, eq-eqb, ne-eqb}
+use borrow.Author.Tests.{ltb-true, lt-ltb, le-ltb, eqb-true, eq-eqb, ne-eqb}
 use lib.Dec.{ltb, eqb}
 use lib.IntN.{ℤ, pos, negsuc}
 use lib.Signed.{ltZ}
@@ -18,19 +18,21 @@ use Rattle.rings.specs.Opening.{opening}
 use Rattle.rings.specs.declared.Opened.{Opened}
 use Rattle.rings.specs.Steps.{visited}
 use Rattle.rings.specs.HandingIn.{handedIn}
+use Rattle.rings.specs.Marking.{marked, unmarked}
 use Rattle.rings.specs.declared.Ring.{Ring}
 use Rattle.rings.specs.declared.Visited.{Visited}
 use Rattle.rings.specs.declared.Taken.{Taken}
+use Rattle.rings.specs.declared.MarkedRing.{MarkedRing}
 use Rattle.text.specs.Text.{line, lineOn, space, newline, decimalOf, pageSize}
 use Rattle.text.specs.TextLaws.{line-first, line-next, take-piece, printed, not-printed}
 use Rattle.calls.specs.Bytes.{movedOver, outOver, someOver}
-use Rattle.calls.specs.Calls.{isVisit, askIn, isMessage, messageIn, answered, visitCalled, messageCalled, unreadable, called}
+use Rattle.calls.specs.Calls.{visitWord, messageWord, markWord, unmarkWord, isVisit, askIn, isMessage, messageIn, namesStation, isMark, isUnmark, stationIn, answered, visitCalled, messageCalled, markCalled, unmarkCalled, unreadable, switched, called}
 use Rattle.calls.specs.Runs.{runFrom, openedRun, lineEnds, lineGoesOn, byteOn, runOn, answerAt, unreadAt, runAfter, someUnread, pieceSize, pieceOf}
-use Rattle.calls.specs.RunText.{dash, signOf, signedOf, completion, answerText, saidAt, saidOver, RanPiece, RanOn}
+use Rattle.calls.specs.RunText.{withdrawnWord, dash, signOf, signedOf, completion, withdrawnWords, answerText, saidAt, saidOver, RanPiece, RanOn}
 use Rattle.calls.specs.declared.Answer.{Answer}
 use Rattle.calls.specs.declared.Answer.the-variants.{Nothing}
 use Rattle.lines.specs.ScanLaws.{steppedOver, hasNoEnd, first-and-rest}
-use Rattle.lines.specs.Scan.{isReadable, isEmptyLine}
+use Rattle.lines.specs.Scan.{codeOf, isReadable, isEmptyLine}
 use Rattle.calls.specs.declared.Run.{Run}
 use Rattle.calls.specs.declared.LineStep.{LineStep}
 use Rattle.calls.specs.declared.Ran.{Ran}
@@ -63,6 +65,15 @@ unfolding completion
 completion-some zero finish margin e = absurd (e refl)
 completion-some (suc k) finish margin e = refl
 
+pub line-on-three : (w v u : List ℕ) → lineOn (w ∷ v ∷ u ∷ []) ≡ (((space ∷ w) ++ (space ∷ v)) ++ (space ∷ u)) ++ (newline ∷ [])
+unfolding lineOn
+line-on-three w v u = simp append-assoc
+
+pub withdrawn-some : (k rest arrival : ℕ) → k ≢ 0 → withdrawnWords k rest arrival ≡ withdrawnWord ∷ decimalOf rest ∷ decimalOf arrival ∷ []
+unfolding withdrawnWords
+withdrawn-some zero rest arrival e = absurd (e refl)
+withdrawn-some (suc k) rest arrival e = refl
+
 -- ---- what one line does
 
 module _ (ring : Ring) (s : Scan) where
@@ -78,11 +89,63 @@ module _ (ring : Ring) (s : Scan) where
   unfolding called
   called-message t e i j m = rw (e, i, j) (ap messageCalled m)
 
-  pub called-unread : isEmptyLine s ≡ false → isVisit s ≡ false → isMessage s ≡ false → unreadable ring ≡ called ring s
+  pub called-switched : isEmptyLine s ≡ false → isVisit s ≡ false → isMessage s ≡ false → switched ring s ≡ called ring s
   unfolding called
-  called-unread e i j = rw (e, i, j)
+  called-switched e i j = rw (e, i, j)
 
--- a visit's frames are a 32-bit number
+  pub switched-mark : (m : MarkedRing) → isMark s ≡ true → m ≡ marked ring (stationIn s) → markCalled (stationIn s) m ≡ switched ring s
+  unfolding switched
+  switched-mark m i e = rw i (ap (markCalled (stationIn s)) e)
+
+  pub switched-unmark : (t : Taken) → isMark s ≡ false → isUnmark s ≡ true → t ≡ unmarked ring (stationIn s) → unmarkCalled (stationIn s) t ≡ switched ring s
+  unfolding switched
+  switched-unmark t i j e = rw (i, j) (ap (unmarkCalled (stationIn s)) e)
+
+  pub switched-unread : isMark s ≡ false → isUnmark s ≡ false → unreadable ring ≡ switched ring s
+  unfolding switched
+  switched-unread i j = rw (i, j)
+
+-- ---- a line that names a station has its own word
+
+and-none : (b : Bool) → (b && false) ≡ false
+and-none true = refl
+and-none false = refl
+
+module _ (s : Scan) (code : ℕ) (names : namesStation code s ≡ true) where
+  no-word : (other : ℕ) → code ≢ other → eqb (s .word) other ≡ false
+  no-word other e =
+      let word = eqb-true (s .word) code (and-true (eqb (s .word) code) _ (and-true (isReadable s) _ names .1) .0) in
+      ne-eqb (s .word) other (λ w. e (sym word ∙ w))
+
+  no-call : (other : ℕ) (more : Bool) → code ≢ other → (isReadable s && (eqb (s .word) other && more)) ≡ false
+  no-call other more e = rw (no-word other e) (and-none (isReadable s))
+
+  pub not-empty : code ≢ 0 → isEmptyLine s ≡ false
+  not-empty e = rw (no-word 0 e) (and-none (isReadable s))
+
+  pub no-visit : code ≢ codeOf visitWord → isVisit s ≡ false
+  no-visit e = no-call (codeOf visitWord) _ e
+
+  pub no-message : code ≢ codeOf messageWord → isMessage s ≡ false
+  no-message e = no-call (codeOf messageWord) _ e
+
+  pub no-mark : code ≢ codeOf markWord → isMark s ≡ false
+  no-mark e = no-call (codeOf markWord) _ e
+
+-- so it is answered as it is, whatever else a line may be
+pub called-mark : (ring : Ring) (s : Scan) (m : MarkedRing) → isMark s ≡ true → m ≡ marked ring (stationIn s) → markCalled (stationIn s) m ≡ called ring s
+called-mark ring s m i e =
+    let c = codeOf markWord in
+    switched-mark ring s m i e ∙ called-switched ring s (not-empty s c i (omega arith)) (no-visit s c i (omega arith)) (no-message s c i (omega arith))
+
+pub called-unmark : (ring : Ring) (s : Scan) (t : Taken) → isUnmark s ≡ true → t ≡ unmarked ring (stationIn s) → unmarkCalled (stationIn s) t ≡ called ring s
+called-unmark ring s t i e =
+    let c = codeOf unmarkWord in
+    switched-unmark ring s t (no-mark s c i (omega arith)) i e ∙ called-switched ring s (not-empty s c i (omega arith)) (no-visit s c i (omega arith)) (no-message s c i (omega arith))
+
+-- ---- a visit's numbers
+
+-- its frames are a 32-bit number
 numbers-fit : (s : Scan) → isVisit s ≡ true
     → (ltb (at (s .values) 0) (2 ^ 32) ≡ true) × ((eqb (s .count) 1 || (eqb (s .count) 2 && ltb (at (s .values) 1) (2 ^ 32))) ≡ true)
 numbers-fit s i = and-true (ltb (at (s .values) 0) (2 ^ 32)) _ (and-true (eqb (s .word) 508_575_312_244) _ (and-true (isReadable s) _ i .1) .1)

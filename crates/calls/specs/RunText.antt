@@ -6,12 +6,13 @@ use lib.IntN.{ℤ, pos, negsuc}
 use lib.ListN.{take}
 use Rattle.rings.specs.declared.VisitRecord.{VisitRecord}
 use Rattle.rings.specs.declared.VisitAnswer.{VisitAnswer}
+use Rattle.rings.specs.declared.MarkAnswer.{MarkAnswer}
 use Rattle.text.specs.Text.{space, decimalOf, line, PutShort, Printed, textOr, unreadLine}
 use Rattle.calls.specs.Bytes.{outOver}
 use Rattle.calls.specs.Calls.{visitWord}
 use Rattle.calls.specs.Runs.{runOn, answerAt, runAfter, someUnread, pieceSize, pieceOf}
 use Rattle.calls.specs.declared.Answer.{Answer}
-use Rattle.calls.specs.declared.Answer.the-variants.{Nothing, Visit, HandIn, Unread}
+use Rattle.calls.specs.declared.Answer.the-variants.{Nothing, Visit, HandIn, Mark, Unmark, Unread}
 use Rattle.calls.specs.declared.Run.{Run}
 use Rattle.calls.specs.declared.Ran.{Ran}
 
@@ -20,6 +21,18 @@ use Rattle.calls.specs.declared.Ran.{Ran}
 -- "taken"
 abbrev pub takenWord : List ℕ
 takenWord = 116 ∷ 97 ∷ 107 ∷ 101 ∷ 110 ∷ []
+
+-- "marked"
+abbrev pub markedWord : List ℕ
+markedWord = 109 ∷ 97 ∷ 114 ∷ 107 ∷ 101 ∷ 100 ∷ []
+
+-- "withdrawn"
+abbrev pub withdrawnWord : List ℕ
+withdrawnWord = 119 ∷ 105 ∷ 116 ∷ 104 ∷ 100 ∷ 114 ∷ 97 ∷ 119 ∷ 110 ∷ []
+
+-- "unmarked"
+abbrev pub unmarkedWord : List ℕ
+unmarkedWord = 117 ∷ 110 ∷ 109 ∷ 97 ∷ 114 ∷ 107 ∷ 101 ∷ 100 ∷ []
 
 -- "-"
 abbrev pub dash : ℕ
@@ -70,11 +83,26 @@ visitText a = textOr (a .number) (visitLine (a .«record»))
 abbrev pub takenText : ℕ → List ℕ
 takenText number = textOr number (line (takenWord ∷ []))
 
+-- `withdrawn`, what remained of the message, and its arrival; nothing where none was withdrawn
+unfoldable pub withdrawnWords : ℕ → ℕ → ℕ → List (List ℕ)
+withdrawnWords zero rest arrival = []
+withdrawnWords (suc k) rest arrival = withdrawnWord ∷ decimalOf rest ∷ decimalOf arrival ∷ []
+
+-- `marked`, or `marked withdrawn REST ARRIVAL`, or the refusal
+abbrev pub markText : MarkAnswer → List ℕ
+markText a = textOr (a .number) (line (markedWord ∷ withdrawnWords (a .withdrawn) (a .rest .0) (a .arrival .0)))
+
+-- `unmarked`, or the refusal
+abbrev pub unmarkText : ℕ → List ℕ
+unmarkText number = textOr number (line (unmarkedWord ∷ []))
+
 -- what is printed of an answer to line n
 unfoldable pub answerText : Answer → ℕ → List ℕ
 answerText Nothing n = []
 answerText (Visit a) n = visitText a
 answerText (HandIn number) n = takenText number
+answerText (Mark p a) n = markText a
+answerText (Unmark p number) n = unmarkText number
 answerText Unread n = unreadLine n
 
 -- ---- what is printed at a byte, and at all of them

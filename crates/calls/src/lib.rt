@@ -6,11 +6,12 @@ ghost use Prim.Native.Nat.{_+_, _≤_, min};
 ghost use lib.ListN.{length};
 ghost use Rattle.sheets.specs.Reading.{readPlan};
 ghost use Rattle.text.specs.Text.{PutShort, space, lineOn};
-ghost use Rattle.calls.specs.Calls.{isVisit, askIn, isMessage, messageIn, called};
+ghost use Rattle.calls.specs.Calls.{isVisit, askIn, isMessage, messageIn, namesStation, stationIn, switched, called};
 ghost use Rattle.calls.specs.Runs.{runFrom, openedRun, lineEnds, pieceSize, Piece};
-ghost use Rattle.calls.specs.RunText.{withoutSign, signedOf, completion, arrivalWords, amountWords, visitLine, visitText, takenText, answerText, RanPiece, RanOn};
+ghost use Rattle.calls.specs.RunText.{withoutSign, signedOf, completion, arrivalWords, amountWords, visitLine, visitText, takenText, withdrawnWords, markText, unmarkText, answerText, RanPiece, RanOn};
 use lines::Scan;
 use rings::Ask;
+use rings::MarkAnswer;
 use rings::Message;
 use rings::Ring;
 use rings::VisitAnswer;
@@ -21,10 +22,14 @@ use units::Station;
 use units::Ticks;
 use units::numbers;
 
-// The letters of `visit` and of `message`, each as one number to base 256.
+// The letters of `visit`, `message`, `mark` and `unmark`, each as one number to base 256.
 const VISIT: u64 = 508_575_312_244;
 
 const MESSAGE: u64 = 30_792_318_992_869_221;
+
+const MARK: u64 = 1_835_102_827;
+
+const UNMARK: u64 = 129_117_141_955_179;
 
 // How many bytes are read at once.
 const PIECE_SIZE: usize = 256;
@@ -45,6 +50,10 @@ pub enum Answer {
     Visit(VisitAnswer),
     // A message was handed in: 0, or the refusal.
     HandIn(u8),
+    // This station was to be switched through: what the marking answered.
+    Mark(Station, MarkAnswer),
+    // This station was to be switched in again: 0, or the refusal.
+    Unmark(Station, u8),
     // The line is neither empty nor a call.
     Unread,
 }
@@ -129,6 +138,25 @@ fn message_in(s: Scan) -> Message
         length: Ticks(length),
         arrival: Ticks(arrival),
     }
+}
+
+// The line is this word and one station number.
+fn names_station(s: Scan, word: u64) -> bool
+    ensures { λ r. ⌜ r ≡ namesStation word s ⌝ }
+{
+    let readable = !(s.phase == lines::UNREADABLE);
+    let values = s.values;
+    let station_fits = values[0] < 4_294_967_296;
+    readable & ((s.word == word) & ((s.count == 1) & station_fits))
+}
+
+// The station that the line names.
+fn station_in(s: Scan) -> Station
+    ensures { λ r. ⌜ r ≡ stationIn s ⌝ }
+{
+    let values = s.values;
+    let station = values[0];
+    Station(station)
 }
 
 // ---- the answers
@@ -229,6 +257,44 @@ fn put_taken(page: &mut [u8], at: usize, number: u8) -> usize
     text::put_end(page, taken)
 }
 
+// What remained of the message that was withdrawn, and its arrival; nothing where none was; and the line's end.
+fn put_withdrawn(page: &mut [u8], at: usize, answer: MarkAnswer) -> usize
+    requires { ⌜ at + 63 ≤ length (now page) ⌝ }
+    ensures { λ r. ⌜ PutShort 63 (now (page .entry)) at (lineOn (withdrawnWords (answer .withdrawn) (answer .rest .0) (answer .arrival .0))) (now (page .exit)) r ⌝ }
+{
+    if answer.withdrawn == 0 {
+        return text::put_end(page, at);
+    }
+    let named = text::put_short(page, at, b" withdrawn");
+    let remained = text::put_field(page, named, answer.rest.0);
+    let arrived = text::put_field(page, remained, answer.arrival.0);
+    text::put_end(page, arrived)
+}
+
+// `marked`, with the message that was withdrawn; or the refusal.
+fn put_mark(page: &mut [u8], at: usize, answer: MarkAnswer) -> usize
+    requires { ⌜ at + 240 ≤ length (now page) ⌝ }
+    ensures { λ r. ⌜ PutShort 240 (now (page .entry)) at (markText answer) (now (page .exit)) r ⌝ }
+{
+    if answer.number != numbers::ACCEPTED {
+        return text::put_refused(page, at, answer.number);
+    }
+    let named = text::put_short(page, at, b"marked");
+    put_withdrawn(page, named, answer)
+}
+
+// `unmarked`, or the refusal.
+fn put_unmark(page: &mut [u8], at: usize, number: u8) -> usize
+    requires { ⌜ at + 240 ≤ length (now page) ⌝ }
+    ensures { λ r. ⌜ PutShort 240 (now (page .entry)) at (unmarkText number) (now (page .exit)) r ⌝ }
+{
+    if number != numbers::ACCEPTED {
+        return text::put_refused(page, at, number);
+    }
+    let named = text::put_short(page, at, b"unmarked");
+    text::put_end(page, named)
+}
+
 // What is printed of an answer; a line that cannot be read is named.
 fn put_answer(page: &mut [u8], at: usize, answer: Answer, line: u64) -> usize
     requires { ⌜ at + 240 ≤ length (now page) ⌝ }
@@ -238,11 +304,44 @@ fn put_answer(page: &mut [u8], at: usize, answer: Answer, line: u64) -> usize
         Answer::Nothing => at,
         Answer::Visit(visit) => put_visit(page, at, visit),
         Answer::HandIn(number) => put_taken(page, at, number),
+        Answer::Mark(_, marking) => put_mark(page, at, marking),
+        Answer::Unmark(_, refusal) => put_unmark(page, at, refusal),
         Answer::Unread => text::put_unread(page, at, line),
     }
 }
 
 // ---- one line
+
+// What a line that is no visit and no message asks for, and what the ring does: a station is switched through, or in again.
+fn switch_line(ring: Ring, s: Scan) -> Called
+    ensures { λ r. ⌜ r ≡ switched ring s ⌝ }
+{
+    let station = station_in(s);
+    if names_station(s, MARK) {
+        let marked = ring.mark(station);
+        let through = marked.ring;
+        let told = marked.answer;
+        return Called {
+            ring: through,
+            answer: Answer::Mark(station, told),
+            unread: false,
+        };
+    }
+    if names_station(s, UNMARK) {
+        let taken = ring.unmark(station);
+        let inside = taken.ring;
+        return Called {
+            ring: inside,
+            answer: Answer::Unmark(station, taken.number),
+            unread: false,
+        };
+    }
+    Called {
+        ring,
+        answer: Answer::Unread,
+        unread: true,
+    }
+}
 
 // What a line asks for, and what the ring does.
 fn call_line(ring: Ring, s: Scan) -> Called
@@ -274,11 +373,7 @@ fn call_line(ring: Ring, s: Scan) -> Called
             unread: false,
         };
     }
-    Called {
-        ring,
-        answer: Answer::Unread,
-        unread: true,
-    }
+    switch_line(ring, s)
 }
 
 // The line ends: the run on the next line, and what the line did.

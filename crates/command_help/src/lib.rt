@@ -60,8 +60,8 @@ With no command it is `plan`. For example:
 fn put_lines(before: bool) -> bool {
     more(
         before,
-        b"The calls are lines `visit FRAMES`, `visit FRAMES LENGTH` and `message STATION LENGTH ARRIVAL`.
-A text has, in this order, lines `ttrt TTRT`, `mode M`, `frame F`, `grid G`, `station W C D P` or `station W C D P S`, and `visit STATION START LIMIT SYNC ASYNC`.
+        b"The calls are lines `visit FRAMES`, `visit FRAMES LENGTH`, `message STATION LENGTH ARRIVAL`, `mark STATION` and `unmark STATION`.
+A text has, in this order, lines `ttrt TTRT`, `mode M`, `frame F`, `grid G`, `station W C D P` or `station W C D P S`, and behind them `visit STATION START LIMIT SYNC ASYNC` and `mark STATION MARK`, one for each record of a log.
 A mode is 2, FDDI, or 3, the 2002 edition of timely-token; without that line it is the 2003 edition.
 README.md and docs/ say what the letters, the numbers of the refusals and the exit statuses mean.
 ",

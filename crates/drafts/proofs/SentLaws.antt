@@ -1,9 +1,9 @@
--- The laws of what goes out of a log while its text is read: how much a line lets out, and that nothing does before the first visit.
+-- The laws of what goes out of a log while its text is read: how much a line lets out, and that nothing does before the first record.
 use Prim.Native.Nat.{ℕ, _+_, _≤_, _<_, min}
 use mathlib.Core.Path.{_≡_, refl, sym, ap, _∙_}
 use mathlib.Core.Bool.{Bool, true, false, true≢false, cond, not, _&&_, _||_}
 use mathlib.Core.List.{List, [], _∷_, _++_, append-assoc, append-nil}
-use mathlib.Core.Logic.{inl, inr, ⊎-elim, _≢_}
+use mathlib.Core.Logic.{_⊎_, inl, inr, ⊎-elim, _≢_}
 use native.Mathlib.Omega.{arith}
 use borrow.Author.Tests.{leb-true, eqb-true, eq-eqb, ne-eqb, le-leb, lt-ltb, le-ltb, not-true}
 use lib.Dec.{leb, ltb, eqb}
@@ -18,9 +18,12 @@ use Rattle.plans.specs.declared.Alloc.{Alloc}
 use Rattle.fields.specs.Fields.{modeTag}
 use Rattle.fields.specs.RowLaws.{laid-first}
 use Rattle.fields.proofs.HeaderLaws.{same-or-not}
-use Rattle.entries.specs.Entry.{visitLength, entryBytes}
+use Rattle.entries.specs.Visit.{visitLength}
+use Rattle.entries.specs.Entry.{entryBytes}
 use Rattle.entries.specs.declared.Entry.{Entry}
-use Rattle.entries.proofs.EntryLaws.{entry-length}
+use Rattle.entries.specs.declared.Entry.the-variants.{Visit, Mark}
+use Rattle.entries.proofs.VisitLaws.{visit-length}
+use Rattle.entries.proofs.MarkLaws.{mark-length}
 use Rattle.sheets.specs.Layout.{endBytes, fieldsOf}
 use Rattle.sheets.specs.Reading.{judgedSheet}
 use Rattle.sheets.specs.Writing.{refusedWriting, writeAnswer, roomNumber, laidAfter, WroteFields, PutAt}
@@ -32,29 +35,51 @@ use Rattle.text.specs.TextLaws.{put-none, take-piece, printed, not-printed}
 use Rattle.lines.specs.Scan.{freshScan, stepped, codeOf, isReadable, isEmptyLine}
 use Rattle.lines.specs.ScanLaws.{steppedOver, hasNoEnd, first-and-rest}
 use Rattle.lines.specs.declared.Scan.{Scan}
-use Rattle.drafts.specs.Compose.{visitWord, isLine, isTtrt, lineTag, isStation, isPlanStation, isVisitLine, NumbersFit, misplaced, withTtrt, withFurther, withStation, visitedKind, withVisit, withUnread, visitDrafted, lineDrafted, onNextLine, composeStart, composeOn, composeAfter, isWhole, composedAnswer, composedBuffer, WroteDraft, draftOf}
+use Rattle.drafts.specs.Compose.{visitWord, markWord, isLine, isTtrt, lineTag, isStation, isPlanStation, isVisitLine, isMarkLine, isRecordLine, NumbersFit, misplaced, withTtrt, withFurther, withStation, loggedKind, withRecord, withUnread, recordDrafted, lineDrafted, onNextLine, composeStart, composeOn, composeAfter, isWhole, composedAnswer, composedBuffer, WroteDraft, draftOf}
 use Rattle.drafts.specs.ComposeLaws.{line-fits, text-goes-on, text-line-ends, atRest}
-use Rattle.drafts.specs.Sent.{entryIn, goesOut, planSent, sentBy, sentAt, sentOver, endAnswer, endBuffer, WroteEnd, PlanRoom, LineRoom, pieceSize, mostFields, mostSent, ComposedPiece, pieceOf, ComposedOn, sentOf, noVisit, Broken}
+use Rattle.drafts.specs.Sent.{visitIn, markIn, entryIn, goesOut, planSent, sentBy, sentAt, sentOver, endAnswer, endBuffer, WroteEnd, PlanRoom, LineRoom, pieceSize, mostFields, mostSent, ComposedPiece, pieceOf, ComposedOn, sentOf, noRecord, Broken}
 use Rattle.drafts.specs.declared.Draft.{Draft}
 use Rattle.drafts.specs.declared.Composing.{Composing}
 use Rattle.drafts.specs.declared.Composed.{Composed}
 
--- ---- a visit's line
+-- ---- a record's line
 
-module _ (s : Scan) (v : isVisitLine s ≡ true) where
-  as-line : isLine s (codeOf visitWord) 5 ≡ true
-  as-line = and-true (isLine s (codeOf visitWord) 5) _ v .0
+-- a line that is read has its word
+line-worded : (s : Scan) (code count : ℕ) → isLine s code count ≡ true → (isReadable s ≡ true) × (s .word ≡ code)
+line-worded s code count h =
+    let readable = and-true (isReadable s) _ h in
+    (readable .0, eqb-true (s .word) code (and-true (eqb (s .word) code) _ (readable .1) .0))
 
-  pub visit-fits : NumbersFit s
-  visit-fits = line-fits s (codeOf visitWord) 5 as-line
+module _ (s : Scan) (h : isRecordLine s ≡ true) where
+  -- it is a visit's or a mark's
+  visit-or-mark : (isLine s (codeOf visitWord) 5 ≡ true) ⊎ (isLine s (codeOf markWord) 2 ≡ true)
+  visit-or-mark =
+      ⊎-elim (λ (v : isVisitLine s ≡ true). inl (and-true (isLine s (codeOf visitWord) 5) _ v .0))
+      (λ (v : isVisitLine s ≡ false).
+      let m : isMarkLine s ≡ true = rw v at h in
+      inr (and-true (isLine s (codeOf markWord) 2) _ m .0))
+      (true-or-false (isVisitLine s))
+
+  pub record-fits : NumbersFit s
+  record-fits = ⊎-elim (line-fits s (codeOf visitWord) 5) (line-fits s (codeOf markWord) 2) visit-or-mark
 
   -- it is no other line
-  pub visit-drafted : (d : Draft) → lineDrafted d s ≡ withVisit d
-  unfolding lineDrafted visitDrafted lineTag
-  visit-drafted d =
-      let readable = and-true (isReadable s) _ as-line in
-      let worded = and-true (eqb (s .word) (codeOf visitWord)) _ (readable .1) in
-      rw (v, readable .0, eqb-true (s .word) (codeOf visitWord) (worded .0)) refl
+  pub record-drafted : (d : Draft) → lineDrafted d s ≡ withRecord d
+  unfolding lineDrafted recordDrafted lineTag
+  record-drafted d =
+      ⊎-elim (λ (v : isLine s (codeOf visitWord) 5 ≡ true). let worded = line-worded s (codeOf visitWord) 5 v in rw (h, worded .0, worded .1) refl)
+      (λ (m : isLine s (codeOf markWord) 2 ≡ true). let worded = line-worded s (codeOf markWord) 2 m in rw (h, worded .0, worded .1) refl)
+      visit-or-mark
+
+-- the entry that it names
+module _ (s : Scan) where
+  pub entry-visit : isVisitLine s ≡ true → entryIn s ≡ Visit (visitIn s)
+  unfolding entryIn
+  entry-visit v = rw v refl
+
+  pub entry-mark : isVisitLine s ≡ false → entryIn s ≡ Mark (markIn s)
+  unfolding entryIn
+  entry-mark v = rw v refl
 
 -- what holds of a draft behind every kind of line holds behind a line
 either : (P : Draft → Type 0) (b : Bool) (x y : Draft) → P x → P y → P (cond b x y)
@@ -63,12 +88,12 @@ either P false x y p q = q
 
 module _ (P : Draft → Type 0) (d : Draft) (s : Scan) where
   behind-line : (isEmptyLine s ≡ true → P d) → P (withTtrt d (at (s .values) 0)) → P (withFurther d (lineTag s) (at (s .values) 0))
-      → P (withStation d s 1) → P (withStation d s 2) → P (visitDrafted d s) → P (lineDrafted d s)
+      → P (withStation d s 1) → P (withStation d s 2) → P (recordDrafted d s) → P (lineDrafted d s)
   unfolding lineDrafted
-  behind-line same ttrt further station planned visit =
+  behind-line same ttrt further station planned recorded =
       let some =
       either P (isTtrt s) _ _ ttrt
-      (either P (leb modeTag (lineTag s)) _ _ further (either P (isStation s) _ _ station (either P (isPlanStation s) _ _ planned visit))) in
+      (either P (leb modeTag (lineTag s)) _ _ further (either P (isStation s) _ _ station (either P (isPlanStation s) _ _ planned recorded))) in
       ⊎-elim (λ (e : isEmptyLine s ≡ true). rw e (same e)) (λ (e : isEmptyLine s ≡ false). rw e some) (true-or-false (isEmptyLine s))
 
 -- ---- the kind of the stations
@@ -77,8 +102,8 @@ and-false : (b : Bool) → (b && false) ≡ false
 and-false true = refl
 and-false false = refl
 
--- behind a visit it stays
-module _ (d : Draft) (s : Scan) (visited : 3 ≤ d .kind) where
+-- behind a record it stays
+module _ (d : Draft) (s : Scan) (logged : 3 ≤ d .kind) where
   SameKind : Draft → Type 0
   SameKind x = x .kind ≡ d .kind
 
@@ -90,20 +115,20 @@ module _ (d : Draft) (s : Scan) (visited : 3 ≤ d .kind) where
       let nowhere = and-false (leb 1 (d .head)) in
       rw (ne-eqb (d .kind) 0 (omega arith), ne-eqb (d .kind) kind (omega arith), few, nowhere) refl
 
-  visit-stays : withVisit d .kind ≡ d .kind
-  unfolding withVisit
-  visit-stays = rw (ne-eqb (d .kind) 2 (omega arith), le-ltb (d .kind) 3 visited) refl
+  record-stays : withRecord d .kind ≡ d .kind
+  unfolding withRecord
+  record-stays = rw (ne-eqb (d .kind) 2 (omega arith), le-ltb (d .kind) 3 logged) refl
 
   pub kind-stays : lineDrafted d s .kind ≡ d .kind
-  unfolding SameKind withTtrt withFurther visitDrafted withUnread
+  unfolding SameKind withTtrt withFurther recordDrafted withUnread
   kind-stays =
       behind-line SameKind d s (λ e. refl) (either SameKind (eqb (d .head) 0) _ _ refl refl)
       (either SameKind (leb 1 (d .head) && (ltb (d .head) (lineTag s) && eqb (d .set .n) 0)) _ _ refl refl)
       (station-stays 1 (omega arith)) (station-stays 2 (omega arith))
-      (either SameKind (isVisitLine s) _ _ visit-stays refl)
+      (either SameKind (isRecordLine s) _ _ record-stays refl)
 
--- a line that is no visit makes no log
-module _ (d : Draft) (s : Scan) (other : isVisitLine s ≡ false) (before : d .kind ≤ 2) where
+-- a line that is no record makes no log
+module _ (d : Draft) (s : Scan) (other : isRecordLine s ≡ false) (before : d .kind ≤ 2) where
   NoLog : Draft → Type 0
   NoLog x = x .kind ≤ 2
 
@@ -111,16 +136,16 @@ module _ (d : Draft) (s : Scan) (other : isVisitLine s ≡ false) (before : d .k
   unfolding NoLog withStation
   station-none kind l = either NoLog (leb 1 (d .head) && (ltb (d .set .n) 128 && (eqb (d .kind) 0 || eqb (d .kind) kind))) _ _ l before
 
-  visit-none : NoLog (visitDrafted d s)
-  unfolding NoLog visitDrafted withUnread
-  visit-none = rw other before
+  record-none : NoLog (recordDrafted d s)
+  unfolding NoLog recordDrafted withUnread
+  record-none = rw other before
 
   pub no-log : lineDrafted d s .kind ≤ 2
   unfolding NoLog withTtrt withFurther
   no-log =
       behind-line NoLog d s (λ e. before) (either NoLog (eqb (d .head) 0) _ _ before before)
       (either NoLog (leb 1 (d .head) && (ltb (d .head) (lineTag s) && eqb (d .set .n) 0)) _ _ before before)
-      (station-none 1 (omega arith)) (station-none 2 (omega arith)) visit-none
+      (station-none 1 (omega arith)) (station-none 2 (omega arith)) record-none
 
 -- ---- a broken text
 
@@ -136,43 +161,43 @@ module _ (d : Draft) (s : Scan) (b : Broken d) where
   unfolding withUnread
   unread-too = ⊎-elim (λ (u : d .unread ≢ 0). inl (rw (ne-eqb (d .unread) 0 u) u)) (λ (w : d .wrong ≢ 0). inr w) b
 
-  visit-too : Broken (withVisit d)
-  unfolding withVisit
-  visit-too = either Broken (eqb (d .kind) 2) _ _ b (either Broken (ltb (d .kind) 3) _ _ misplaced-too b)
+  record-too : Broken (withRecord d)
+  unfolding withRecord
+  record-too = either Broken (eqb (d .kind) 2) _ _ b (either Broken (ltb (d .kind) 3) _ _ misplaced-too b)
 
   pub stays-broken : Broken (lineDrafted d s)
-  unfolding withTtrt withFurther withStation visitDrafted
+  unfolding withTtrt withFurther withStation recordDrafted
   stays-broken =
       behind-line Broken d s (λ e. b) (either Broken (eqb (d .head) 0) _ _ b misplaced-too)
       (either Broken (leb 1 (d .head) && (ltb (d .head) (lineTag s) && eqb (d .set .n) 0)) _ _ b misplaced-too)
       (either Broken (leb 1 (d .head) && (ltb (d .set .n) 128 && (eqb (d .kind) 0 || eqb (d .kind) 1))) _ _ b misplaced-too)
       (either Broken (leb 1 (d .head) && (ltb (d .set .n) 128 && (eqb (d .kind) 0 || eqb (d .kind) 2))) _ _ b misplaced-too)
-      (either Broken (isVisitLine s) _ _ visit-too unread-too)
+      (either Broken (isRecordLine s) _ _ record-too unread-too)
 
 -- ---- what a line lets out
 
-accepted-plan : (t : Set) (a : Alloc) → visitedKind t a ≡ 3 → judgedSheet true t a ≡ 0
-unfolding visitedKind judgedSheet
+accepted-plan : (t : Set) (a : Alloc) → loggedKind t a ≡ 3 → judgedSheet true t a ≡ 0
+unfolding loggedKind judgedSheet
 accepted-plan t a h =
     ⊎-elim (λ (e : eqb (judgedPlan t a) 0 ≡ true). eqb-true (judgedPlan t a) 0 e)
     (λ (e : eqb (judgedPlan t a) 0 ≡ false). let wrong : _≡_ {A = ℕ} 4 3 = rw e at h in absurd (omega arith))
     (true-or-false (eqb (judgedPlan t a) 0))
 
--- where bytes go out behind a visit, its plan was accepted
-module _ (d : Draft) (out : goesOut (withVisit d) ≡ true) where
-  pub out-kind : withVisit d .kind ≡ 3
-  out-kind = eqb-true (withVisit d .kind) 3 (and-true (isWhole (withVisit d)) _ out .1)
+-- where bytes go out behind a record, its plan was accepted
+module _ (d : Draft) (out : goesOut (withRecord d) ≡ true) where
+  pub out-kind : withRecord d .kind ≡ 3
+  out-kind = eqb-true (withRecord d .kind) 3 (and-true (isWhole (withRecord d)) _ out .1)
 
-  first-kind : d .kind ≡ 2 → withVisit d .kind ≡ visitedKind (d .set) (d .alloc)
-  unfolding withVisit
+  first-kind : d .kind ≡ 2 → withRecord d .kind ≡ loggedKind (d .set) (d .alloc)
+  unfolding withRecord
   first-kind e = rw (eq-eqb (d .kind) 2 e) refl
 
   pub out-judged : d .kind ≡ 2 → judgedSheet true (d .set) (d .alloc) ≡ 0
   out-judged e = accepted-plan (d .set) (d .alloc) (sym (first-kind e) ∙ out-kind)
 
--- and behind the first visit of an accepted plan they do
-pub first-out : (d : Draft) → isWhole d ≡ true → d .kind ≡ 2 → judgedSheet true (d .set) (d .alloc) ≡ 0 → goesOut (withVisit d) ≡ true
-unfolding withVisit visitedKind judgedSheet
+-- and behind the first record of an accepted plan they do
+pub first-out : (d : Draft) → isWhole d ≡ true → d .kind ≡ 2 → judgedSheet true (d .set) (d .alloc) ≡ 0 → goesOut (withRecord d) ≡ true
+unfolding withRecord loggedKind judgedSheet
 first-out d whole planned judged = rw (eq-eqb (d .kind) 2 planned, eq-eqb (judgedPlan (d .set) (d .alloc)) 0 judged, whole) refl
 
 pub fields-few : (t : Set) (a : Alloc) → judgedSheet true t a ≡ 0 → length (fieldsOf true t a) ≤ mostFields
@@ -187,27 +212,26 @@ pub plan-none : (d : Draft) → d .kind ≢ 2 → planSent d ≡ []
 unfolding planSent
 plan-none d e = rw (ne-eqb (d .kind) 2 e) refl
 
-pub sent-visit : (d : Draft) (s : Scan) → isVisitLine s ≡ true → goesOut (withVisit d) ≡ true → sentBy d s ≡ planSent d ++ entryBytes (entryIn s)
+pub sent-record : (d : Draft) (s : Scan) → isRecordLine s ≡ true → goesOut (withRecord d) ≡ true → sentBy d s ≡ planSent d ++ entryBytes (entryIn s)
 unfolding sentBy
-sent-visit d s v out = rw (v, out) refl
+sent-record d s h out = rw (h, out) refl
 
-pub sent-other : (d : Draft) (s : Scan) → isVisitLine s ≡ false → sentBy d s ≡ []
+pub sent-other : (d : Draft) (s : Scan) → isRecordLine s ≡ false → sentBy d s ≡ []
 unfolding sentBy
-sent-other d s v = rw v refl
+sent-other d s h = rw h refl
 
-pub sent-stopped : (d : Draft) (s : Scan) → goesOut (withVisit d) ≡ false → sentBy d s ≡ []
+pub sent-stopped : (d : Draft) (s : Scan) → goesOut (withRecord d) ≡ false → sentBy d s ≡ []
 unfolding sentBy
-sent-stopped d s out = rw (out, and-false (isVisitLine s)) refl
+sent-stopped d s out = rw (out, and-false (isRecordLine s)) refl
 
 -- ---- put into a page
 
--- a visit's field that has room
-pub visit-put : {before after : List ℕ} {a number : ℕ} (e : Entry) → PutAt a (entryBytes e) 3 before after number → a + 23 ≤ length before → Put before a (entryBytes e) after (a + 20)
+-- a field that has room
+pub field-put : {before after : List ℕ} {a number : ℕ} (field : List ℕ) (size : ℕ) → length field ≡ size → PutAt a field 3 before after number → a + size + 3 ≤ length before → Put before a field after (a + size)
 unfolding laidAfter
-visit-put {before} {after} {a} e p room =
-    let long = entry-length e in
-    let fits : roomNumber (a + length (entryBytes e) + 3) (length before) ≡ 0 =
-    held (leb (a + length (entryBytes e) + 3) (length before)) 14 0 (le-leb (a + length (entryBytes e) + 3) (length before) (omega arith)) in
+field-put {before} {after} {a} field size long p room =
+    let fits : roomNumber (a + length field + 3) (length before) ≡ 0 =
+    held (leb (a + length field + 3) (length before)) 14 0 (le-leb (a + length field + 3) (length before) (omega arith)) in
     record { page = rw fits at (p .buffer); next = omega arith }
 
 module _ (d : Draft) (a : ℕ) (before : List ℕ) (room : PlanRoom d a before) where
@@ -223,11 +247,11 @@ module _ (d : Draft) (a : ℕ) (before : List ℕ) (room : PlanRoom d a before) 
       let end = fields-end true (d .set) (d .alloc) before after w wrote none in
       rw (plan-first d k, here) (record { page = there; next = omega arith })
 
-  -- behind the first visit nothing is put
+  -- behind the first record nothing is put
   pub no-plan-put : d .kind ≢ 2 → Put before a (planSent d) before a
   no-plan-put k = rw (plan-none d k) (put-none before a)
 
--- a visit's field has room behind them
+-- a record's field has room behind them
 pub plan-room : (d : Draft) (a : ℕ) (page : List ℕ) → LineRoom d a page → (d .kind ≡ 2 → judgedSheet true (d .set) (d .alloc) ≡ 0) → a + length (planSent d) + 23 ≤ length page
 plan-room d a page room judged =
     ⊎-elim (λ (e : d .kind ≡ 2).
@@ -237,7 +261,12 @@ plan-room d a page room judged =
 
 -- ---- how much a line lets out
 
--- how many bytes it has, and that before the first visit it has none
+-- no record's field has more bytes than a visit's
+pub field-short : (e : Entry) → length (entryBytes e) ≤ visitLength
+field-short (Visit v) = omega (arith, visit-length v)
+field-short (Mark m) = omega (arith, mark-length m)
+
+-- how many bytes it has, and that before the first record it has none
 pub record LineSent (d : Draft) (s : Scan) : Type 0 where
   pub long : length (sentBy d s) ≤ mostFields + visitLength
   pub short : 3 ≤ d .kind → length (sentBy d s) ≤ 20
@@ -260,11 +289,11 @@ module _ (d : Draft) (s : Scan) where
       (λ (e : d .kind ≢ 2). omega (arith, ap length (plan-none d e)))
       (same-or-not (d .kind) 2)
 
-  visit-sent : isVisitLine s ≡ true → goesOut (withVisit d) ≡ true → LineSent d s
-  visit-sent v out =
-      let size = ap length (sent-visit d s v out) ∙ length-append (planSent d) (entryBytes (entryIn s)) in
-      let field = entry-length (entryIn s) in
-      let drafted = ap (λ (x : Draft). x .kind) (visit-drafted s v d) ∙ out-kind d out in
+  record-sent : isRecordLine s ≡ true → goesOut (withRecord d) ≡ true → LineSent d s
+  record-sent h out =
+      let size = ap length (sent-record d s h out) ∙ length-append (planSent d) (entryBytes (entryIn s)) in
+      let field = field-short (entryIn s) in
+      let drafted = ap (λ (x : Draft). x .kind) (record-drafted s h d) ∙ out-kind d out in
       record {
         long = omega (arith, plan-long (out-judged d out));
         short = λ h. omega (arith, ap length (plan-none d (omega arith)));
@@ -274,12 +303,12 @@ module _ (d : Draft) (s : Scan) where
 
   pub line-sent : LineSent d s
   line-sent =
-      ⊎-elim (λ (v : isVisitLine s ≡ true).
-      ⊎-elim (λ (out : goesOut (withVisit d) ≡ true). visit-sent v out)
-      (λ (out : goesOut (withVisit d) ≡ false). nothing-sent (sent-stopped d s out))
-      (true-or-false (goesOut (withVisit d))))
-      (λ (v : isVisitLine s ≡ false). nothing-sent (sent-other d s v))
-      (true-or-false (isVisitLine s))
+      ⊎-elim (λ (h : isRecordLine s ≡ true).
+      ⊎-elim (λ (out : goesOut (withRecord d) ≡ true). record-sent h out)
+      (λ (out : goesOut (withRecord d) ≡ false). nothing-sent (sent-stopped d s out))
+      (true-or-false (goesOut (withRecord d))))
+      (λ (h : isRecordLine s ≡ false). nothing-sent (sent-other d s h))
+      (true-or-false (isRecordLine s))
 
 -- ---- the text, byte after byte
 
@@ -342,7 +371,7 @@ no-bytes : (xs : List ℕ) → length xs ≡ 0 → xs ≡ []
 no-bytes [] e = refl
 no-bytes (x ∷ xs) e = absurd (omega (arith, e))
 
--- before the first visit nothing has gone out
+-- before the first record nothing has gone out
 module _ (c : Composing) (b : ℕ) (l : composeOn c b .draft .kind ≤ 2) where
   byte-silent : (c .draft .kind ≤ 2) × (sentAt c b ≡ [])
   byte-silent =
@@ -429,7 +458,7 @@ module _ (P : Draft → Type 0) (line : (d : Draft) (s : Scan) → P d → P (on
       (rw (byte-nothing c b p, rest .0) refl, rest .1)
 
 broken-sent : (d : Draft) (s : Scan) → Broken d → sentBy d s ≡ []
-broken-sent d s b = sent-stopped d s (rw (broken-whole (withVisit d) (visit-too d s b)) refl)
+broken-sent d s b = sent-stopped d s (rw (broken-whole (withRecord d) (record-too d s b)) refl)
 
 pub broken-text : (c : Composing) (bs : List ℕ) → Broken (c .draft) → (sentOver c bs ≡ []) × Broken (composeAfter c bs .draft)
 broken-text = nothing-out Broken stays-broken broken-sent
@@ -439,8 +468,8 @@ OfRefused d = d .kind ≡ 4
 
 refused-sent : (d : Draft) (s : Scan) → d .kind ≡ 4 → sentBy d s ≡ []
 refused-sent d s k =
-    let other : withVisit d .kind ≢ 3 = omega (arith, k, visit-stays d s (omega arith)) in
-    sent-stopped d s (rw (ne-eqb (withVisit d .kind) 3 other) (and-false (isWhole (withVisit d))))
+    let other : withRecord d .kind ≢ 3 = omega (arith, k, record-stays d s (omega arith)) in
+    sent-stopped d s (rw (ne-eqb (withRecord d .kind) 3 other) (and-false (isWhole (withRecord d))))
 
 pub refused-plan-text : (c : Composing) (bs : List ℕ) → c .draft .kind ≡ 4 → (sentOver c bs ≡ []) × (composeAfter c bs .draft .kind ≡ 4)
 unfolding OfRefused
@@ -450,40 +479,55 @@ pub broken-end : (d : Draft) (out : List ℕ) → Broken d → (endAnswer d out 
 unfolding endAnswer endBuffer composedAnswer composedBuffer
 broken-end d out b = let e = broken-whole d b in (rw e refl, rw e refl)
 
--- no line of it is a visit
-module _ (c : Composing) (b : ℕ) (h : cond (eqb b newline) (not (isVisitLine (c .scan))) true ≡ true) (few : c .draft .kind ≤ 2) where
+-- no line of it is a record
+module _ (c : Composing) (b : ℕ) (h : cond (eqb b newline) (not (isRecordLine (c .scan))) true ≡ true) (few : c .draft .kind ≤ 2) where
   other-byte : (sentAt c b ≡ []) × (composeOn c b .draft .kind ≤ 2)
   unfolding sentAt composeOn
   other-byte =
       ⊎-elim (λ (e : eqb b newline ≡ true).
-      let other = not-true (isVisitLine (c .scan)) (rw e at h) in
+      let other = not-true (isRecordLine (c .scan)) (rw e at h) in
       rw e (sent-other (c .draft) (c .scan) other, no-log (c .draft) (c .scan) other few))
       (λ (e : eqb b newline ≡ false). rw e (refl, few))
       (true-or-false (eqb b newline))
 
-other-text : (c : Composing) (bs : List ℕ) → noVisit c bs ≡ true → c .draft .kind ≤ 2 → composeAfter c bs .draft .kind ≤ 2
-unfolding noVisit composeAfter
+other-text : (c : Composing) (bs : List ℕ) → noRecord c bs ≡ true → c .draft .kind ≤ 2 → composeAfter c bs .draft .kind ≤ 2
+unfolding noRecord composeAfter
 other-text c [] h few = few
 other-text c (b ∷ bs) h few =
-    let both = and-true (cond (eqb b newline) (not (isVisitLine (c .scan))) true) _ h in
+    let both = and-true (cond (eqb b newline) (not (isRecordLine (c .scan))) true) _ h in
     other-text (composeOn c b) bs (both .1) (other-byte c b (both .0) few .1)
 
 -- so its last bytes are its sheet
-pub no-visit-text : (text out : List ℕ) → noVisit composeStart (text ++ (newline ∷ [])) ≡ true
+pub no-record-text : (text out : List ℕ) → noRecord composeStart (text ++ (newline ∷ [])) ≡ true
     → (sentOf text ≡ []) × (endAnswer (draftOf text) out ≡ composedAnswer (draftOf text) out) × (endBuffer (draftOf text) out ≡ composedBuffer (draftOf text) out)
-no-visit-text text out h =
+no-record-text text out h =
     let few = other-text composeStart (text ++ (newline ∷ [])) h (omega arith) in
     let sheet = end-of-sheet (draftOf text) out (not-a-log (draftOf text) few) in
     (text-silent composeStart (text ++ (newline ∷ [])) few .1, sheet .0, sheet .1)
 
+-- ---- numbers that are too large
+
+module _ (s : Scan) where
+  pub wide-station : 256 ≤ at (s .values) 0 → isRecordLine s ≡ false
+  wide-station l = rw (le-ltb (at (s .values) 0) 256 l, and-false (isLine s (codeOf visitWord) 5), and-false (isLine s (codeOf markWord) 2)) refl
+
+  pub wide-mark : s .word ≡ codeOf markWord → 256 ≤ at (s .values) 1 → isRecordLine s ≡ false
+  wide-mark w l =
+      ⊎-elim (λ (v : isVisitLine s ≡ true).
+      let visit = line-worded s (codeOf visitWord) 5 (and-true (isLine s (codeOf visitWord) 5) _ v .0) .1 in
+      absurd (omega (arith, w, visit)))
+      (λ (v : isVisitLine s ≡ false).
+      rw (v, le-ltb (at (s .values) 1) 256 l, and-false (ltb (at (s .values) 0) 256), and-false (isLine s (codeOf markWord) 2)) refl)
+      (true-or-false (isVisitLine s))
+
 -- ---- lines out of place
 
-pub early-visit : (d : Draft) → d .kind < 2 → Broken (withVisit d)
-unfolding withVisit
-early-visit d l = rw (ne-eqb (d .kind) 2 (omega arith), lt-ltb (d .kind) 3 (omega arith)) (inr (λ e. absurd (omega (arith, e))))
+pub early-record : (d : Draft) → d .kind < 2 → Broken (withRecord d)
+unfolding withRecord
+early-record d l = rw (ne-eqb (d .kind) 2 (omega arith), lt-ltb (d .kind) 3 (omega arith)) (inr (λ e. absurd (omega (arith, e))))
 
--- behind a visit
-module _ (d : Draft) (s : Scan) (visited : 3 ≤ d .kind) where
+-- behind a record
+module _ (d : Draft) (s : Scan) (logged : 3 ≤ d .kind) where
   misplaced-here : Broken (misplaced d)
   misplaced-here = inr (λ e. absurd (omega (arith, e)))
 
@@ -510,11 +554,11 @@ module _ (d : Draft) (s : Scan) (visited : 3 ≤ d .kind) where
   unread-late some =
       ⊎-elim (λ (e : d .unread ≡ 0). inl (rw (eq-eqb (d .unread) 0 e) some)) (λ (e : d .unread ≢ 0). inl (rw (ne-eqb (d .unread) 0 e) e)) (same-or-not (d .unread) 0)
 
-  other-late : d .line ≢ 0 → isVisitLine s ≡ false → Broken (visitDrafted d s)
-  unfolding visitDrafted
+  other-late : d .line ≢ 0 → isRecordLine s ≡ false → Broken (recordDrafted d s)
+  unfolding recordDrafted
   other-late some other = rw other (unread-late some)
 
-  pub late-line : 1 ≤ d .head → d .set .n ≢ 0 → d .line ≢ 0 → isEmptyLine s ≡ false → isVisitLine s ≡ false → Broken (lineDrafted d s)
+  pub late-line : 1 ≤ d .head → d .set .n ≢ 0 → d .line ≢ 0 → isEmptyLine s ≡ false → isRecordLine s ≡ false → Broken (lineDrafted d s)
   late-line head some counted full other =
       behind-line Broken d s (λ e. absurd (true≢false (sym e ∙ full))) (ttrt-late head _) (further-late some _ _)
       (station-late 1 (omega arith)) (station-late 2 (omega arith)) (other-late counted other)

@@ -81,9 +81,21 @@ isPlanStation s = isLine s (codeOf stationWord) 5
 abbrev pub visitWord : List ℕ
 visitWord = 118 ∷ 105 ∷ 115 ∷ 105 ∷ 116 ∷ []
 
+-- "mark"
+abbrev pub markWord : List ℕ
+markWord = 109 ∷ 97 ∷ 114 ∷ 107 ∷ []
+
 -- `visit STATION START LIMIT SYNC ASYNC`, the station a number of one byte
 abbrev pub isVisitLine : Scan → Bool
 isVisitLine s = isLine s (codeOf visitWord) 5 && ltb (at (s .values) 0) 256
+
+-- `mark STATION MARK`, both numbers of one byte
+abbrev pub isMarkLine : Scan → Bool
+isMarkLine s = isLine s (codeOf markWord) 2 && (ltb (at (s .values) 0) 256 && ltb (at (s .values) 1) 256)
+
+-- a record of a log: a visit or a mark
+abbrev pub isRecordLine : Scan → Bool
+isRecordLine s = isVisitLine s || isMarkLine s
 
 -- ---- the draft
 
@@ -159,17 +171,17 @@ withStation d s kind =
     })
     (misplaced d)
 
--- the kind of a plan's stations behind a visit: 3 where the plan is accepted, 4 where it is refused
-unfoldable pub visitedKind : Set → Alloc → ℕ
-visitedKind t a = cond (eqb (judgedPlan t a) accepted) 3 4
+-- the kind of a plan's stations behind a record: 3 where the plan is accepted, 4 where it is refused
+unfoldable pub loggedKind : Set → Alloc → ℕ
+loggedKind t a = cond (eqb (judgedPlan t a) accepted) 3 4
 
 -- the same, with stations of another kind
 abbrev pub ofKind : Draft → ℕ → Draft
 ofKind d kind = record { set = d .set; alloc = d .alloc; line = d .line; unread = d .unread; head = d .head; kind = kind; wrong = d .wrong }
 
--- a visit stands behind a plan's stations, or behind another visit; at the first one the plan is judged
-unfoldable pub withVisit : Draft → Draft
-withVisit d = cond (eqb (d .kind) 2) (ofKind d (visitedKind (d .set) (d .alloc))) (cond (ltb (d .kind) 3) (misplaced d) d)
+-- a record stands behind a plan's stations, or behind another record; at the first one the plan is judged
+unfoldable pub withRecord : Draft → Draft
+withRecord d = cond (eqb (d .kind) 2) (ofKind d (loggedKind (d .set) (d .alloc))) (cond (ltb (d .kind) 3) (misplaced d) d)
 
 -- the first line that cannot be read is named
 unfoldable pub withUnread : Draft → Draft
@@ -184,17 +196,17 @@ withUnread d =
       wrong = d .wrong;
     }
 
--- a visit, or a line that cannot be read
-unfoldable pub visitDrafted : Draft → Scan → Draft
-visitDrafted d s = cond (isVisitLine s) (withVisit d) (withUnread d)
+-- a record, or a line that cannot be read
+unfoldable pub recordDrafted : Draft → Scan → Draft
+recordDrafted d s = cond (isRecordLine s) (withRecord d) (withUnread d)
 
--- one line; behind a visit every line but another visit stands out of place, since TTRT is there, stations are, and they are of kind 3 or 4
+-- one line; behind a record every line but another record stands out of place, since TTRT is there, stations are, and they are of kind 3 or 4
 unfoldable pub lineDrafted : Draft → Scan → Draft
 lineDrafted d s =
     cond (isEmptyLine s) d
     (cond (isTtrt s) (withTtrt d (at (s .values) 0))
     (cond (leb modeTag (lineTag s)) (withFurther d (lineTag s) (at (s .values) 0))
-    (cond (isStation s) (withStation d s 1) (cond (isPlanStation s) (withStation d s 2) (visitDrafted d s)))))
+    (cond (isStation s) (withStation d s 1) (cond (isPlanStation s) (withStation d s 2) (recordDrafted d s)))))
 
 -- the next line
 abbrev pub onNextLine : Draft → Draft

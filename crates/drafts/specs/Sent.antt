@@ -1,4 +1,4 @@
--- What goes out of a log while its text is read: at the first visit its plan's fields, at each visit the visit's field, and the end when the text has ended.
+-- What goes out of a log while its text is read: at the first record its plan's fields, at each record the record's field, and the end when the text has ended.
 use Prim.Native.Nat.{ℕ, _+_, _*_, _≤_}
 use mathlib.Core.Path.{_≡_}
 use mathlib.Core.Bool.{Bool, true, cond, not, _&&_}
@@ -7,15 +7,19 @@ use mathlib.Core.Logic.{_⊎_, _≢_}
 use lib.Dec.{ltb, eqb}
 use lib.ListN.{length, take, drop}
 use Rattle.units.specs.Places.{at}
-use Rattle.entries.specs.Entry.{visitLength, entryBytes}
+use Rattle.entries.specs.Visit.{visitLength}
+use Rattle.entries.specs.Entry.{entryBytes}
+use Rattle.entries.specs.declared.VisitEntry.{VisitEntry}
+use Rattle.entries.specs.declared.MarkEntry.{MarkEntry}
 use Rattle.entries.specs.declared.Entry.{Entry}
+use Rattle.entries.specs.declared.Entry.the-variants.{Visit, Mark}
 use Rattle.sheets.specs.Layout.{endBytes, fieldsOf}
 use Rattle.sheets.specs.Reading.{judgedSheet}
 use Rattle.sheets.specs.Writing.{writeAnswer, roomNumber, laidAfter}
 use Rattle.sheets.specs.declared.Written.{Written}
 use Rattle.text.specs.Text.{newline, Put, Printed, pageSize}
 use Rattle.lines.specs.declared.Scan.{Scan}
-use Rattle.drafts.specs.Compose.{isVisitLine, withVisit, composeStart, composeOn, composeAfter, isWhole, composedAnswer, composedBuffer, draftOf}
+use Rattle.drafts.specs.Compose.{isVisitLine, isRecordLine, withRecord, composeStart, composeOn, composeAfter, isWhole, composedAnswer, composedBuffer, draftOf}
 use Rattle.drafts.specs.declared.Draft.{Draft}
 use Rattle.drafts.specs.declared.Composing.{Composing}
 use Rattle.drafts.specs.declared.Composed.{Composed}
@@ -23,8 +27,8 @@ use Rattle.drafts.specs.declared.Composed.{Composed}
 -- ---- one line
 
 -- the visit that a line names
-abbrev pub entryIn : Scan → Entry
-entryIn s =
+abbrev pub visitIn : Scan → VisitEntry
+visitIn s =
     record {
       station = at (s .values) 0;
       start = at (s .values) 1;
@@ -33,17 +37,25 @@ entryIn s =
       asynchronous = at (s .values) 4;
     }
 
+-- the mark that a line names
+abbrev pub markIn : Scan → MarkEntry
+markIn s = record { station = at (s .values) 0; mark = at (s .values) 1 }
+
+-- the entry that a record's line names
+unfoldable pub entryIn : Scan → Entry
+entryIn s = cond (isVisitLine s) (Visit (visitIn s)) (Mark (markIn s))
+
 -- the text is a log's so far: its plan was accepted, and every line was read, each in its place
 abbrev pub goesOut : Draft → Bool
 goesOut d = isWhole d && eqb (d .kind) 3
 
--- what goes out before a visit: at the first one the plan's fields
+-- what goes out before a record: at the first one the plan's fields
 unfoldable pub planSent : Draft → List ℕ
 planSent d = cond (eqb (d .kind) 2) (fieldsOf true (d .set) (d .alloc)) []
 
--- what a line lets out: a visit its field; any other line nothing, nor a visit where the plan is refused or a line before could not be read or stood out of place
+-- what a line lets out: a record its field; any other line nothing, nor a record where the plan is refused or a line before could not be read or stood out of place
 unfoldable pub sentBy : Draft → Scan → List ℕ
-sentBy d s = cond (isVisitLine s && goesOut (withVisit d)) (planSent d ++ entryBytes (entryIn s)) []
+sentBy d s = cond (isRecordLine s && goesOut (withRecord d)) (planSent d ++ entryBytes (entryIn s)) []
 
 -- ---- the text, byte after byte
 
@@ -79,13 +91,18 @@ pub record WroteEnd (d : Draft) (before after : List ℕ) (w : Written) : Type 0
 abbrev pub mostFields : ℕ
 mostFields = 3_400
 
--- at the first visit the plan was accepted, nothing has gone out, and its fields have room
+-- at the first record the plan was accepted, nothing has gone out, and its fields have room
 pub record PlanRoom (d : Draft) (a : ℕ) (page : List ℕ) : Type 0 where
   pub judged : d .kind ≡ 2 → judgedSheet true (d .set) (d .alloc) ≡ 0
   pub first : d .kind ≡ 2 → a ≡ 0
   pub large : mostFields + visitLength + 3 ≤ length page
 
--- a line's bytes have room: before the first visit nothing has gone out
+-- a record's field has room, and the end behind it
+pub record RecordRoom (s : Scan) (a : ℕ) (page : List ℕ) : Type 0 where
+  pub line : isRecordLine s ≡ true
+  pub room : a + 23 ≤ length page
+
+-- a line's bytes have room: before the first record nothing has gone out
 pub record LineRoom (d : Draft) (a : ℕ) (page : List ℕ) : Type 0 where
   pub first : d .kind ≤ 2 → a ≡ 0
   pub room : a + 23 ≤ length page
@@ -95,7 +112,7 @@ pub record LineRoom (d : Draft) (a : ℕ) (page : List ℕ) : Type 0 where
 abbrev pub pieceSize : ℕ
 pieceSize = 2_048
 
--- how many bytes go out at most over so many bytes of text
+-- how many bytes go out at most over so many bytes of text: a record's field has no more than a visit's
 abbrev pub mostSent : ℕ → ℕ
 mostSent n = mostFields + visitLength * n
 
@@ -141,10 +158,10 @@ pub record Makes (text bytes : List ℕ) : Type 0 where
   pub composes : Composes text first last
   pub all : first ++ last ≡ bytes
 
--- no line of the text is a visit
-unfoldable pub noVisit : Composing → List ℕ → Bool
-noVisit c [] = true
-noVisit c (b ∷ bs) = cond (eqb b newline) (not (isVisitLine (c .scan))) true && noVisit (composeOn c b) bs
+-- no line of the text is a record
+unfoldable pub noRecord : Composing → List ℕ → Bool
+noRecord c [] = true
+noRecord c (b ∷ bs) = cond (eqb b newline) (not (isRecordLine (c .scan))) true && noRecord (composeOn c b) bs
 
 -- a line before could not be read, or stood out of place
 abbrev pub Broken : Draft → Type 0

@@ -4,7 +4,7 @@ mod sending;
 ghost use mathlib.Core.Path.{_≡_};
 ghost use Prim.Native.Nat.{_<_, _^_, min};
 ghost use lib.ListN.{length};
-ghost use Rattle.drafts.specs.Compose.{allFit, isLine, lineTag, misplaced, withTtrt, withFurther, NumbersFit, setAnd, allocAnd, withStation, isVisitLine, visitedKind, withVisit, withUnread, visitDrafted, lineDrafted, onNextLine, composeStart, isWhole, WroteDraft};
+ghost use Rattle.drafts.specs.Compose.{allFit, isLine, lineTag, misplaced, withTtrt, withFurther, NumbersFit, setAnd, allocAnd, withStation, isVisitLine, isMarkLine, isRecordLine, loggedKind, withRecord, withUnread, recordDrafted, lineDrafted, onNextLine, composeStart, isWhole, WroteDraft};
 ghost use Rattle.drafts.specs.Sent.{goesOut, WroteEnd, Piece, ComposedPiece, ComposedOn};
 use lines::Scan;
 use plans::Alloc;
@@ -13,7 +13,7 @@ use sheets::Written;
 use text::PAGE_SIZE;
 use units::numbers;
 
-// The letters of `ttrt`, of `mode`, of `frame`, of `grid`, of `station` and of `visit`, each as one number to base 256.
+// The letters of `ttrt`, of `mode`, of `frame`, of `grid`, of `station`, of `visit` and of `mark`, each as one number to base 256.
 const TTRT: u64 = 1_953_788_532;
 
 const MODE: u64 = 1_836_016_741;
@@ -25,6 +25,8 @@ const GRID: u64 = 1_735_551_332;
 const STATION: u64 = 32_497_584_235_442_030;
 
 const VISIT: u64 = 508_575_312_244;
+
+const MARK: u64 = 1_835_102_827;
 
 // How many bytes are read at once.
 const PIECE_SIZE: usize = 2_048;
@@ -40,7 +42,7 @@ pub struct Draft {
     pub unread: u64,
     // The highest tag of the header's lines that were read, as on a sheet: 0 none, 1 TTRT, 4 the mode, 5 F, 6 g.
     pub head: u8,
-    // The stations are a request's, 1, or a plan's, 2; 0: none was read. Behind a visit 3 where the plan was accepted, 4 where it was refused.
+    // The stations are a request's, 1, or a plan's, 2; 0: none was read. Behind a record 3 where the plan was accepted, 4 where it was refused.
     pub kind: u8,
     // 1: a line stood out of place.
     pub wrong: u8,
@@ -230,9 +232,25 @@ pub(crate) fn is_visit_line(s: Scan) -> bool
     is_line(s, VISIT, 5) & short
 }
 
-// The kind of a plan's stations behind a visit.
-fn visited_kind(t: Set, a: Alloc) -> u8
-    ensures { λ r. ⌜ r ≡ visitedKind t a ⌝ }
+// `mark STATION MARK`.
+fn is_mark_line(s: Scan) -> bool
+    ensures { λ r. ⌜ r ≡ isMarkLine s ⌝ }
+{
+    let values = s.values;
+    let short = (values[0] < 256) & (values[1] < 256);
+    is_line(s, MARK, 2) & short
+}
+
+// A visit or a mark.
+pub(crate) fn is_record_line(s: Scan) -> bool
+    ensures { λ r. ⌜ r ≡ isRecordLine s ⌝ }
+{
+    is_visit_line(s) | is_mark_line(s)
+}
+
+// The kind of a plan's stations behind a record.
+fn logged_kind(t: Set, a: Alloc) -> u8
+    ensures { λ r. ⌜ r ≡ loggedKind t a ⌝ }
 {
     if plans::judge_plan(t, a) == numbers::ACCEPTED {
         return 3;
@@ -240,14 +258,14 @@ fn visited_kind(t: Set, a: Alloc) -> u8
     4
 }
 
-// A visit behind a plan's stations, or behind another visit.
-pub(crate) fn with_visit(d: Draft) -> Draft
-    ensures { λ r. ⌜ r ≡ withVisit d ⌝ }
+// A record behind a plan's stations, or behind another record.
+pub(crate) fn with_record(d: Draft) -> Draft
+    ensures { λ r. ⌜ r ≡ withRecord d ⌝ }
 {
     if d.kind == 2 {
         let set = d.set;
         let alloc = d.alloc;
-        let kind = visited_kind(set, alloc);
+        let kind = logged_kind(set, alloc);
         return Draft {
             set,
             alloc,
@@ -298,12 +316,12 @@ fn line_tag(s: Scan) -> u8
     0
 }
 
-// A visit, or a line that cannot be read.
-fn visit_drafted(d: Draft, s: Scan) -> Draft
-    ensures { λ r. ⌜ r ≡ visitDrafted d s ⌝ }
+// A record, or a line that cannot be read.
+fn record_drafted(d: Draft, s: Scan) -> Draft
+    ensures { λ r. ⌜ r ≡ recordDrafted d s ⌝ }
 {
-    if is_visit_line(s) {
-        return with_visit(d);
+    if is_record_line(s) {
+        return with_record(d);
     }
     with_unread(d)
 }
@@ -332,7 +350,7 @@ fn line_drafted(d: Draft, s: Scan) -> Draft
     if is_line(s, STATION, 5) {
         return with_station(d, s, 2);
     }
-    visit_drafted(d, s)
+    record_drafted(d, s)
 }
 
 // The next line.
@@ -465,7 +483,7 @@ pub fn compose_end(d: Draft, out: &mut [u8]) -> Written
     if !goes_out(d) {
         return write_draft(d, out);
     }
-    let number = sheets::visits::put_end(out, 0);
+    let number = sheets::records::put_end(out, 0);
     if number != numbers::ACCEPTED {
         return Written { length: 0, number };
     }

@@ -1,22 +1,21 @@
 // What a line of a log's text lets out.
 ghost use mathlib.Core.Path.{_≡_};
-ghost use Prim.Native.Nat.{_+_, _≤_};
-ghost use lib.ListN.{length};
 ghost use Rattle.entries.specs.Entry.{entryBytes};
 ghost use Rattle.text.specs.Text.{Put};
 ghost use Rattle.drafts.specs.Compose.{NumbersFit};
-ghost use Rattle.drafts.specs.Sent.{entryIn, planSent, sentBy, PlanRoom, LineRoom};
+ghost use Rattle.drafts.specs.Sent.{visitIn, markIn, entryIn, planSent, sentBy, PlanRoom, RecordRoom, LineRoom};
 use crate::Draft;
-use entries::Entry;
+use entries::MarkEntry;
+use entries::VisitEntry;
 use lines::Scan;
 
 // The visit that a line names.
-fn entry_in(s: Scan) -> Entry
+fn visit_in(s: Scan) -> VisitEntry
     requires { ⌜ NumbersFit s ⌝ }
-    ensures { λ r. ⌜ r ≡ entryIn s ⌝ }
+    ensures { λ r. ⌜ r ≡ visitIn s ⌝ }
 {
     let values = s.values;
-    Entry {
+    VisitEntry {
         station: crate::narrow(values[0]),
         start: crate::narrow(values[1]),
         limit: crate::narrow(values[2]),
@@ -25,7 +24,18 @@ fn entry_in(s: Scan) -> Entry
     }
 }
 
-// At the first visit, the fields of the plan.
+// The mark that a line names.
+fn mark_in(s: Scan) -> MarkEntry
+    requires { ⌜ NumbersFit s ⌝ }
+    ensures { λ r. ⌜ r ≡ markIn s ⌝ }
+{
+    let values = s.values;
+    let station = crate::narrow(values[0]);
+    let mark = crate::narrow(values[1]);
+    MarkEntry { station, mark }
+}
+
+// At the first record, the fields of the plan.
 fn put_plan(page: &mut [u8], at: usize, d: Draft) -> usize
     requires { ⌜ PlanRoom d at (now page) ⌝ }
     ensures { λ r. ⌜ Put (now (page .entry)) at (planSent d) (now (page .exit)) r ⌝ }
@@ -39,13 +49,19 @@ fn put_plan(page: &mut [u8], at: usize, d: Draft) -> usize
     at
 }
 
-// A visit's field.
-fn put_visit(page: &mut [u8], at: usize, entry: Entry) -> usize
-    requires { ⌜ at + 23 ≤ length (now page) ⌝ }
-    ensures { λ r. ⌜ Put (now (page .entry)) at (entryBytes entry) (now (page .exit)) r ⌝ }
+// A record's field, a visit's or a mark's.
+fn put_record(page: &mut [u8], at: usize, s: Scan) -> usize
+    requires { ⌜ RecordRoom s at (now page) ⌝ }
+    ensures { λ r. ⌜ Put (now (page .entry)) at (entryBytes (entryIn s)) (now (page .exit)) r ⌝ }
 {
-    sheets::visits::put_visit(page, at, entry);
-    at + entries::VISIT_LENGTH
+    if crate::is_visit_line(s) {
+        let visit = visit_in(s);
+        sheets::records::put_visit(page, at, visit);
+        return at + entries::VISIT_LENGTH;
+    }
+    let mark = mark_in(s);
+    sheets::records::put_mark(page, at, mark);
+    at + entries::MARK_LENGTH
 }
 
 // What a line lets out, put into the page from the place on; the place behind it.
@@ -53,14 +69,13 @@ pub(crate) fn put_line(page: &mut [u8], at: usize, d: Draft, s: Scan) -> usize
     requires { ⌜ LineRoom d at (now page) ⌝ }
     ensures { λ r. ⌜ Put (now (page .entry)) at (sentBy d s) (now (page .exit)) r ⌝ }
 {
-    if !crate::is_visit_line(s) {
+    if !crate::is_record_line(s) {
         return at;
     }
-    let behind = crate::with_visit(d);
+    let behind = crate::with_record(d);
     if !crate::goes_out(behind) {
         return at;
     }
-    let entry = entry_in(s);
     let begun = put_plan(page, at, d);
-    put_visit(page, begun, entry)
+    put_record(page, begun, s)
 }

@@ -8,10 +8,11 @@ use lib.Dec.{eqb}
 use borrow.Author.Tests.{eq-eqb, ne-eqb}
 use Rattle.text.specs.Text.{newline, space, line, refusedLine}
 use Rattle.text.specs.TextLaws.{line-first, line-next, line-end, text-accepted, text-refused}
+use Rattle.entries.specs.declared.Entry.{Entry}
 use Rattle.piece_inspections.specs.Inspecting.{inspectNumber}
 use Rattle.piece_inspections.specs.declared.Inspecting.{Inspecting}
 use Rattle.finding_texts.specs.FindingText.{acceptedLine, stationWord, startWord, limitWord, synchronousWord, asynchronousWord, ruleWord}
-use Rattle.finding_texts.specs.FindingText.{limitPart, mostPart, framesAim, ticksPart, beforePart, aimOf, unitOf, brokenText, readText, findingText}
+use Rattle.finding_texts.specs.FindingText.{limitPart, mostPart, framesAim, ticksPart, aimOf, beforeOf, unitOf, brokenText, readText, findingText}
 
 -- ---- words
 
@@ -61,13 +62,13 @@ module _ (rule : ℕ) where
   unfolding aimOf
   frames-aim longest a b c e = rw (ne-eqb rule 1 a, ne-eqb rule 2 b, ne-eqb rule 3 c, e) refl
 
-  pub no-unit : rule ≢ 2 → [] ≡ unitOf rule
+  pub no-unit : (before : Entry) → rule ≢ 2 → [] ≡ unitOf rule before
   unfolding unitOf
-  no-unit e = rw (ne-eqb rule 2 e) refl
+  no-unit before e = rw (ne-eqb rule 2 e) refl
 
-  pub start-unit : rule ≡ 2 → ticksPart ++ beforePart ≡ unitOf rule
+  pub start-unit : (before : Entry) → rule ≡ 2 → ticksPart ++ beforeOf before ≡ unitOf rule before
   unfolding unitOf
-  start-unit e = rw e refl
+  start-unit before e = rw e refl
 
 -- ---- what is printed
 
@@ -75,7 +76,7 @@ module _ (k : Inspecting) where
   pub refused-text : inspectNumber k ≢ 0 → refusedLine (inspectNumber k) ≡ findingText k
   refused-text some = sym (text-refused (inspectNumber k) (readText k) some)
 
-  pub accepted-text : inspectNumber k ≡ 0 → k .looked .inspection .rule ≡ 0 → acceptedLine (k .looked .inspection .visits) ≡ findingText k
+  pub accepted-text : inspectNumber k ≡ 0 → k .looked .inspection .rule ≡ 0 → acceptedLine (k .looked .inspection .records) ≡ findingText k
   unfolding readText
   accepted-text z none = sym (text-accepted (inspectNumber k) (readText k) z ∙ rw (eq-eqb (k .looked .inspection .rule) 0 none) refl)
 

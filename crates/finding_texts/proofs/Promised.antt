@@ -2,25 +2,30 @@
 use Prim.Native.Nat.{ℕ, _^_, _<_}
 use mathlib.Core.Path.{_≡_, refl, sym, ap, _∙_}
 use mathlib.Core.Bool.{true, false}
-use mathlib.Core.List.{List, _++_}
+use mathlib.Core.List.{List, [], _∷_, _++_}
 use mathlib.Core.Logic.{_≢_, _↔_, ⊎-elim}
 use borrow.Author.Tests.{eqb-true, eq-eqb, ne-eqb}
 use Rattle.units.specs.JudgingLaws.{and-true, true-and}
 use Rattle.sets.specs.declared.Set.{Set}
 use Rattle.plans.specs.declared.Alloc.{Alloc}
 use Rattle.scan.proofs.ScanLaws.{zero-or-not}
+use Rattle.entries.specs.declared.VisitEntry.{VisitEntry}
+use Rattle.entries.specs.declared.MarkEntry.{MarkEntry}
+use Rattle.entries.specs.declared.Entry.{Entry}
+use Rattle.entries.specs.declared.Entry.the-variants.{Visit, Mark}
 use Rattle.logs.specs.Reading.{readLog, entriesIn}
 use Rattle.inspection.specs.Records.{inspectionOf}
 use Rattle.inspection.specs.Findings.{compared, foundIn, findingIn}
 use Rattle.inspection.specs.declared.Inspection.{Inspection}
 use Rattle.inspection.specs.declared.Finding.{Finding}
 use Rattle.inspection.proofs.FindingLaws.{finding-refused, finding-read}
-use Rattle.text.specs.Text.{refusedLine}
+use Rattle.text.specs.Text.{decimalWithin, lineOn, line, refusedLine}
 use Rattle.piece_inspections.specs.Inspecting.{inspectOver, inspectStart, inspectNumber}
 use Rattle.piece_inspections.specs.declared.Inspecting.{Inspecting}
 use Rattle.piece_inspections.proofs.Promised.{promised as pieces}
-use Rattle.finding_texts.specs.FindingText.{acceptedLine, recordLine, comparedLine, brokenText, findingText, isAccepted}
+use Rattle.finding_texts.specs.FindingText.{acceptedLine, ruleWord, recordLine, aimOf, unitOf, peopleLine, brokenText, findingText, isAccepted}
 use Rattle.finding_texts.specs.Promised.{Names, SaidAlready, Promised}
+use Rattle.finding_texts.specs.Promised.{acceptedSaid, stationBroken, startBroken, limitBroken, synchronousBroken, asynchronousBroken, markCompared, startAfterVisit, startAfterMark}
 use Rattle.finding_texts.proofs.LineLaws.{refused-text, accepted-text, broken-text}
 
 module _ (bs : List ℕ) where
@@ -45,20 +50,22 @@ module _ (bs : List ℕ) where
     rule-is : inspectStart bs .looked .inspection .rule ≡ findingIn bs .rule
     rule-is = pieces .same-rule bs read
 
-    accepted-said : findingIn bs .visits < 2 ^ 64 → findingIn bs .rule ≡ 0 → findingText (inspectStart bs) ≡ acceptedLine (findingIn bs .visits)
+    accepted-said : findingIn bs .records < 2 ^ 64 → findingIn bs .rule ≡ 0 → findingText (inspectStart bs) ≡ acceptedLine (findingIn bs .records)
     accepted-said few none =
-        sym (accepted-text (inspectStart bs) (kept-is ∙ z) (rule-is ∙ none)) ∙ ap (λ (n : ℕ). acceptedLine n) (pieces .same-visits bs read few none)
+        sym (accepted-text (inspectStart bs) (kept-is ∙ z) (rule-is ∙ none)) ∙ ap (λ (n : ℕ). acceptedLine n) (pieces .same-records bs read few none)
 
-    broken-said : findingIn bs .visits < 2 ^ 64 → findingIn bs .rule ≢ 0 → Names bs (findingText (inspectStart bs))
+    broken-said : findingIn bs .records < 2 ^ 64 → findingIn bs .rule ≢ 0 → Names bs (findingText (inspectStart bs))
     unfolding brokenText
     broken-said few some =
         let k = inspectStart bs in
+        let b = k .looked .before in
         let e = k .looked .last in
         let state = k .looked .inspection in
         let found = findingIn bs in
-        let both : ℕ → ℕ → Inspection → Set → Alloc → List ℕ = λ number rule s t a. recordLine number rule ++ comparedLine rule (t .head .frame) (compared s t a e) in
+        let both : ℕ → ℕ → Inspection → Set → Alloc → List ℕ = λ number rule s t a. recordLine number rule ++ peopleLine rule (t .head .frame) b e (compared s t a e) in
         let plan = pieces .same-plan-read bs read in
         record {
+          before = b;
           entry = e;
           breaks = pieces .same-broken bs read few some;
           lines =
@@ -84,7 +91,7 @@ module _ (bs : List ℕ) where
 not-accepted : (k : Inspecting) → inspectNumber k ≢ 0 → isAccepted k ≡ false
 not-accepted k some = rw (ne-eqb (inspectNumber k) 0 some) refl
 
-behind-fault : (k : Inspecting) (bs : List ℕ) → k .visits .number ≢ 0 → SaidAlready k bs
+behind-fault : (k : Inspecting) (bs : List ℕ) → k .gathered .number ≢ 0 → SaidAlready k bs
 behind-fault k bs n =
     let same = pieces .fault-ends k bs n in
     let some : inspectNumber (inspectOver k bs) ≢ 0 = λ z. same .1 (sym (same .0) ∙ z) in (
@@ -92,5 +99,37 @@ behind-fault k bs n =
       not-accepted (inspectOver k bs) some ∙ sym (not-accepted k (same .1)),
     )
 
+-- ---- to the byte
+
+accepted-bytes : acceptedLine 26 ≡ acceptedSaid
+unfolding line lineOn decimalWithin
+accepted-bytes = refl
+
+rule-bytes : recordLine 9 1 ∷ recordLine 9 2 ∷ recordLine 9 3 ∷ recordLine 9 4 ∷ recordLine 9 5 ∷ []
+    ≡ stationBroken ∷ startBroken ∷ limitBroken ∷ synchronousBroken ∷ asynchronousBroken ∷ []
+unfolding ruleWord line lineOn decimalWithin
+rule-bytes = refl
+
+mark-bytes : (rule longest : ℕ) (before : Entry)
+    → peopleLine rule longest before (Mark (record { station = 5; mark = 2 })) (record { expected = 4; found = 5 }) ≡ markCompared
+unfolding decimalWithin
+mark-bytes rule longest before = refl
+
+start-bytes : (longest : ℕ) (v : VisitEntry) → ((b : VisitEntry) → peopleLine 2 longest (Visit b) (Visit v) (record { expected = 19; found = 20 }) ≡ startAfterVisit)
+    × ((m : MarkEntry) → peopleLine 2 longest (Mark m) (Visit v) (record { expected = 19; found = 20 }) ≡ startAfterMark)
+unfolding aimOf unitOf decimalWithin
+start-bytes longest v = (λ b. refl, λ m. refl)
+
 pub promised : Promised
-promised = record { refused = refused-said; accepted = accepted-said; broken = broken-said; fault-ends = behind-fault; status = told }
+promised =
+    record {
+      refused = refused-said;
+      accepted = accepted-said;
+      broken = broken-said;
+      fault-ends = behind-fault;
+      status = told;
+      accepted-worded = accepted-bytes;
+      rules-worded = rule-bytes;
+      mark-worded = mark-bytes;
+      start-worded = start-bytes;
+    }

@@ -5,6 +5,8 @@ use mathlib.Core.Bool.{Bool, cond, _&&_, _||_}
 use mathlib.Core.List.{List, [], _∷_, _++_}
 use lib.Dec.{eqb}
 use Rattle.text.specs.Text.{newline, space, decimalOf, line, textOr, Printed}
+use Rattle.entries.specs.declared.Entry.{Entry}
+use Rattle.entries.specs.declared.Entry.the-variants.{Visit, Mark}
 use Rattle.inspection.specs.Findings.{compared, brokenRecord}
 use Rattle.inspection.specs.declared.Compared.{Compared}
 use Rattle.piece_inspections.specs.Inspecting.{inspectNumber}
@@ -17,9 +19,9 @@ use Rattle.finding_texts.specs.declared.Found.{Found}
 abbrev pub acceptedWord : List ℕ
 acceptedWord = 97 ∷ 99 ∷ 99 ∷ 101 ∷ 112 ∷ 116 ∷ 101 ∷ 100 ∷ []
 
--- `accepted`, and how many visits the log has
+-- `accepted`, and how many records the log has, visits and marks
 abbrev pub acceptedLine : ℕ → List ℕ
-acceptedLine visits = line (acceptedWord ∷ decimalOf visits ∷ [])
+acceptedLine records = line (acceptedWord ∷ decimalOf records ∷ [])
 
 -- "record"
 abbrev pub recordWord : List ℕ
@@ -95,6 +97,18 @@ ticksPart = 32 ∷ 116 ∷ 105 ∷ 99 ∷ 107 ∷ 115 ∷ 32 ∷ 97 ∷ 102 ∷ 
 abbrev pub beforePart : List ℕ
 beforePart = 32 ∷ 114 ∷ 101 ∷ 99 ∷ 111 ∷ 114 ∷ 100 ∷ 32 ∷ 98 ∷ 101 ∷ 102 ∷ 111 ∷ 114 ∷ 101 ∷ []
 
+-- " visit before"
+abbrev pub visitPart : List ℕ
+visitPart = 32 ∷ 118 ∷ 105 ∷ 115 ∷ 105 ∷ 116 ∷ 32 ∷ 98 ∷ 101 ∷ 102 ∷ 111 ∷ 114 ∷ 101 ∷ []
+
+-- " a station below"
+abbrev pub belowPart : List ℕ
+belowPart = 32 ∷ 97 ∷ 32 ∷ 115 ∷ 116 ∷ 97 ∷ 116 ∷ 105 ∷ 111 ∷ 110 ∷ 32 ∷ 98 ∷ 101 ∷ 108 ∷ 111 ∷ 119 ∷ []
+
+-- " and mark 0 or 1"
+abbrev pub markPart : List ℕ
+markPart = 32 ∷ 97 ∷ 110 ∷ 100 ∷ 32 ∷ 109 ∷ 97 ∷ 114 ∷ 107 ∷ 32 ∷ 48 ∷ 32 ∷ 111 ∷ 114 ∷ 32 ∷ 49 ∷ []
+
 -- ` whole frames of one length up to F, begun below`
 abbrev pub framesAim : ℕ → List ℕ
 framesAim longest = ((wholePart ++ lengthPart) ++ (space ∷ decimalOf longest)) ++ begunPart
@@ -107,13 +121,30 @@ aimOf rule longest =
     (cond (eqb rule 3) limitPart
     (cond (eqb rule 4 || eqb longest 1) mostPart (framesAim longest))))
 
--- a start is counted in ticks after the record before
-unfoldable pub unitOf : ℕ → List ℕ
-unitOf rule = cond (eqb rule 2) (ticksPart ++ beforePart) []
+-- what a start is counted from: the record before; where that is a mark, the visit before
+abbrev pub beforeOf : Entry → List ℕ
+beforeOf (Visit v) = beforePart
+beforeOf (Mark m) = visitPart
 
-abbrev pub comparedLine : ℕ → ℕ → Compared → List ℕ
-comparedLine rule longest c =
-    (((((expectedWord ++ aimOf rule longest) ++ (space ∷ decimalOf (c .expected))) ++ unitOf rule) ++ foundPart) ++ (space ∷ decimalOf (c .found))) ++ (newline ∷ [])
+-- a start is counted in ticks, behind this record
+unfoldable pub unitOf : ℕ → Entry → List ℕ
+unitOf rule before = cond (eqb rule 2) (ticksPart ++ beforeOf before) []
+
+-- of a visit
+abbrev pub comparedLine : ℕ → ℕ → Entry → Compared → List ℕ
+comparedLine rule longest before c =
+    (((((expectedWord ++ aimOf rule longest) ++ (space ∷ decimalOf (c .expected))) ++ unitOf rule before) ++ foundPart) ++ (space ∷ decimalOf (c .found))) ++ (newline ∷ [])
+
+-- of a mark: `expected a station below N and mark 0 or 1, found STATION MARK`
+abbrev pub markLine : Compared → ℕ → List ℕ
+markLine c mark =
+    ((((((expectedWord ++ belowPart) ++ (space ∷ decimalOf (c .expected))) ++ markPart) ++ foundPart) ++ (space ∷ decimalOf (c .found))) ++ (space ∷ decimalOf mark))
+    ++ (newline ∷ [])
+
+-- of either, with the record before it
+abbrev pub peopleLine : ℕ → ℕ → Entry → Entry → Compared → List ℕ
+peopleLine rule longest before (Visit v) c = comparedLine rule longest before c
+peopleLine rule longest before (Mark m) c = markLine c (m .mark)
 
 -- ---- all of it
 
@@ -121,11 +152,12 @@ comparedLine rule longest c =
 unfoldable pub brokenText : Inspecting → List ℕ
 brokenText k =
     recordLine (brokenRecord (k .looked .inspection)) (k .looked .inspection .rule)
-    ++ comparedLine (k .looked .inspection .rule) (k .start .set .head .frame) (compared (k .looked .inspection) (k .start .set) (k .start .alloc) (k .looked .last))
+    ++ peopleLine (k .looked .inspection .rule) (k .start .set .head .frame) (k .looked .before) (k .looked .last)
+    (compared (k .looked .inspection) (k .start .set) (k .start .alloc) (k .looked .last))
 
 -- a log that was read: accepted, or broken
 unfoldable pub readText : Inspecting → List ℕ
-readText k = cond (eqb (k .looked .inspection .rule) 0) (acceptedLine (k .looked .inspection .visits)) (brokenText k)
+readText k = cond (eqb (k .looked .inspection .rule) 0) (acceptedLine (k .looked .inspection .records)) (brokenText k)
 
 -- any log: what was found, or the refusal
 abbrev pub findingText : Inspecting → List ℕ

@@ -4,7 +4,8 @@ ghost use mathlib.Core.List.{_∷_};
 ghost use Prim.Native.Nat.{_+_, _≤_};
 ghost use lib.ListN.{length};
 ghost use Rattle.text.specs.Text.{space, PutShort, Printed, pageSize};
-ghost use Rattle.finding_texts.specs.FindingText.{acceptedLine, ruleWord, recordLine, framesAim, aimOf, unitOf, comparedLine, brokenText, findingText, isAccepted, FoundOn};
+ghost use Rattle.finding_texts.specs.FindingText.{acceptedLine, ruleWord, recordLine, framesAim, aimOf, beforeOf, unitOf, comparedLine, markLine, peopleLine, brokenText, findingText, isAccepted, FoundOn};
+use entries::Entry;
 use inspection::Compared;
 use piece_inspections::Inspecting;
 use text::PAGE_SIZE;
@@ -18,12 +19,12 @@ pub struct Found {
 }
 
 // `accepted N`.
-fn put_accepted(page: &mut [u8], at: usize, visits: u64) -> usize
+fn put_accepted(page: &mut [u8], at: usize, records: u64) -> usize
     requires { ⌜ at + 42 ≤ length (now page) ⌝ }
-    ensures { λ r. ⌜ PutShort 42 (now (page .entry)) at (acceptedLine visits) (now (page .exit)) r ⌝ }
+    ensures { λ r. ⌜ PutShort 42 (now (page .entry)) at (acceptedLine records) (now (page .exit)) r ⌝ }
 {
     let named = text::put_short(page, at, b"accepted");
-    let counted = text::put_field(page, named, visits);
+    let counted = text::put_field(page, named, records);
     text::put_end(page, counted)
 }
 
@@ -92,30 +93,82 @@ fn put_aim(page: &mut [u8], at: usize, rule: u8, longest: u32) -> usize
     put_frames(page, at, longest)
 }
 
+// What a start is counted from: the record before; where that is a mark, the visit before.
+fn put_before(page: &mut [u8], at: usize, before: Entry) -> usize
+    requires { ⌜ at + 20 ≤ length (now page) ⌝ }
+    ensures { λ r. ⌜ PutShort 20 (now (page .entry)) at (beforeOf before) (now (page .exit)) r ⌝ }
+{
+    match before {
+        Entry::Visit(_) => text::put_short(page, at, b" record before"),
+        Entry::Mark(_) => text::put_short(page, at, b" visit before"),
+    }
+}
+
 // What it is counted in: of a start ` ticks after the record before`.
-fn put_unit(page: &mut [u8], at: usize, rule: u8) -> usize
+fn put_unit(page: &mut [u8], at: usize, rule: u8, before: Entry) -> usize
     requires { ⌜ at + 40 ≤ length (now page) ⌝ }
-    ensures { λ r. ⌜ PutShort 40 (now (page .entry)) at (unitOf rule) (now (page .exit)) r ⌝ }
+    ensures { λ r. ⌜ PutShort 40 (now (page .entry)) at (unitOf rule before) (now (page .exit)) r ⌝ }
 {
     if rule != 2 {
         return at;
     }
     let ticks = text::put_short(page, at, b" ticks after the");
-    text::put_short(page, ticks, b" record before")
+    put_before(page, ticks, before)
 }
 
-// The number that was expected, and the one that was found.
-fn put_compared(page: &mut [u8], at: usize, rule: u8, longest: u32, compared: Compared) -> usize
+// Of a visit: the number that was expected, and the one that was found.
+fn put_compared(
+    page: &mut [u8],
+    at: usize,
+    rule: u8,
+    longest: u32,
+    before: Entry,
+    compared: Compared,
+) -> usize
     requires { ⌜ at + 204 ≤ length (now page) ⌝ }
-    ensures { λ r. ⌜ PutShort 204 (now (page .entry)) at (comparedLine rule longest compared) (now (page .exit)) r ⌝ }
+    ensures { λ r. ⌜ PutShort 204 (now (page .entry)) at (comparedLine rule longest before compared) (now (page .exit)) r ⌝ }
 {
     let named = text::put_short(page, at, b"expected");
     let aimed = put_aim(page, named, rule, longest);
     let expected = text::put_field(page, aimed, units::wide(compared.expected));
-    let counted = put_unit(page, expected, rule);
+    let counted = put_unit(page, expected, rule, before);
     let came = text::put_short(page, counted, b", found");
     let found = text::put_field(page, came, units::wide(compared.found));
     text::put_end(page, found)
+}
+
+// Of a mark: what it must be, its station and its mark.
+fn put_mark(page: &mut [u8], at: usize, compared: Compared, mark: u32) -> usize
+    requires { ⌜ at + 204 ≤ length (now page) ⌝ }
+    ensures { λ r. ⌜ PutShort 204 (now (page .entry)) at (markLine compared mark) (now (page .exit)) r ⌝ }
+{
+    let named = text::put_short(page, at, b"expected");
+    let below = text::put_short(page, named, b" a station below");
+    let stations = text::put_field(page, below, units::wide(compared.expected));
+    let marks = text::put_short(page, stations, b" and mark 0 or 1");
+    let said = text::put_short(page, marks, b", found");
+    let station = text::put_field(page, said, units::wide(compared.found));
+    let both = text::put_field(page, station, units::wide(mark));
+    text::put_end(page, both)
+}
+
+// The line for people, by the kind of the record.
+fn put_people(
+    page: &mut [u8],
+    at: usize,
+    rule: u8,
+    longest: u32,
+    before: Entry,
+    entry: Entry,
+    compared: Compared,
+) -> usize
+    requires { ⌜ at + 204 ≤ length (now page) ⌝ }
+    ensures { λ r. ⌜ PutShort 204 (now (page .entry)) at (peopleLine rule longest before entry compared) (now (page .exit)) r ⌝ }
+{
+    match entry {
+        Entry::Visit(_) => put_compared(page, at, rule, longest, before, compared),
+        Entry::Mark(mark) => put_mark(page, at, compared, mark.mark),
+    }
 }
 
 // ---- all of it
@@ -127,11 +180,22 @@ fn put_broken(page: &mut [u8], inspecting: Inspecting) -> usize
 {
     let set = inspecting.start.set;
     let alloc = inspecting.start.alloc;
-    let state = inspecting.looked.inspection;
+    let looked = inspecting.looked;
+    let state = looked.inspection;
     let finding = inspection::found(state, 0);
     let named = put_record(page, 0, finding.record, state.rule);
-    let compared = inspection::compare(state, set, alloc, inspecting.looked.last);
-    put_compared(page, named, state.rule, set.head.frame, compared)
+    let before = looked.before;
+    let last = looked.last;
+    let compared = inspection::compare(state, set, alloc, last);
+    put_people(
+        page,
+        named,
+        state.rule,
+        set.head.frame,
+        before,
+        last,
+        compared,
+    )
 }
 
 // What is printed when all was read. A page that is too small gets nothing.
@@ -147,7 +211,7 @@ fn put_text(inspecting: Inspecting, page: &mut [u8]) -> usize
     }
     let state = inspecting.looked.inspection;
     if state.rule == 0 {
-        return put_accepted(page, 0, state.visits);
+        return put_accepted(page, 0, state.records);
     }
     put_broken(page, inspecting)
 }

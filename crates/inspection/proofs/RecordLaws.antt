@@ -11,15 +11,17 @@ use Rattle.units.specs.Places.{at}
 use Rattle.sets.specs.declared.Head.{Head}
 use Rattle.sets.specs.declared.Set.{Set}
 use Rattle.plans.specs.declared.Alloc.{Alloc}
+use Rattle.entries.specs.declared.VisitEntry.{VisitEntry}
+use Rattle.entries.specs.declared.MarkEntry.{MarkEntry}
 use Rattle.entries.specs.declared.Entry.{Entry}
+use Rattle.entries.specs.declared.Entry.the-variants.{Visit, Mark}
 use Rattle.entries.specs.Entry.{nextEntry}
 use Rattle.entries.specs.declared.NextEntry.{NextEntry}
 use Rattle.rings.specs.Timers.{lead}
 use Rattle.logs.specs.Reading.{handedFrom}
 use Rattle.inspection.specs.Counter.{ticksLater, ticksBetween}
-use Rattle.inspection.specs.Opening.{begun}
-use Rattle.inspection.specs.Rules.{place, dueWith, expected, brokenRule}
-use Rattle.inspection.specs.Records.{baseWith, courseWith, movedOn, stoppedAt, judged, inspected, inspectedAll, inspectionOf}
+use Rattle.inspection.specs.Rules.{placeOf, place, dueWith, expected, brokenRule}
+use Rattle.inspection.specs.Records.{baseWith, courseWith, visitedOn, markOf, switchedOn, movedOn, stoppedAt, judged, inspected, inspectedAll}
 use Rattle.inspection.specs.declared.Course.{Course}
 use Rattle.inspection.specs.declared.Inspection.{Inspection}
 use Rattle.inspection.specs.declared.Expected.{Expected}
@@ -44,18 +46,44 @@ module _ (h : Head) (clock base lead : ℕ) where
 
 -- ---- one record more
 
+-- the inspection with this count of records
+abbrev pub counting : Inspection → ℕ → Inspection
+counting s records =
+    record {
+      base = s .base;
+      sent = s .sent;
+      mark = s .mark;
+      course = s .course;
+      records = records;
+      rule = s .rule;
+    }
+
 module _ (s : Inspection) (t : Set) (a : Alloc) (p : ℕ) (here : p ≡ place s) where
   -- what is asked with the numbers at the place of the token's station is what the record must say
-  pub asked-there : (start : ℕ) (due : Expected) → due ≡ dueWith (s .course) (s .visits) (t .head) (at (s .base) p) (at (a .s) p) start → due ≡ expected s t a start
-  asked-there start due is = rw here at is
+  pub asked-there : (due : Expected) → due ≡ dueWith (s .course) (t .head) (t .n) (at (s .mark) p) (at (s .base) p) (at (a .s) p) → due ≡ expected s t a
+  asked-there due is = rw here at is
 
-  -- an inspection is the moved one if what is stored in it is
-  pub stored : (e : Entry) (now : Inspection) → now ≡ s → (ahead base visits : ℕ) (course : Course) → ahead ≡ lead t (e .asynchronous)
+  -- a visit: an inspection is the moved one if what is stored in it is
+  pub visit-stored : (v : VisitEntry) (now next : Inspection) → now ≡ s → (ahead base records : ℕ) (course : Course) → ahead ≡ lead t (v .asynchronous)
       → base ≡ baseWith (t .head) (s .course .clock) (at (s .base) p) ahead
-      → course ≡ courseWith (s .course) (t .n) (at (a .s) p) (at (now .sent) p) (at (t .w) p) e → visits ≡ (now .visits + 1) % 2 ^ 64
-      → record { base = set (now .base) p base; sent = set (now .sent) p (e .synchronous); course = course; visits = visits; rule = now .rule } ≡ movedOn s t a e
-  unfolding movedOn
-  stored e now same ahead base visits course leads is goes counts = rw (is, goes, counts, leads, same, here) refl
+      → course ≡ courseWith (s .course) (t .n) (at (a .s) p) (at (now .sent) p) (at (t .w) p) v
+      → next ≡ record { base = set (now .base) p base; sent = set (now .sent) p (v .synchronous); mark = now .mark; course = course; records = now .records; rule = now .rule }
+      → records ≡ (next .records + 1) % 2 ^ 64 → counting next records ≡ visitedOn s t a v
+  unfolding visitedOn
+  visit-stored v now next same ahead base records course leads is goes stores counts = rw (counts, stores, is, goes, leads, same, here) refl
+
+-- a mark: the same
+pub mark-stored : (s : Inspection) (m : MarkEntry) (now next : Inspection) → now ≡ s → (p mark records : ℕ) → p ≡ placeOf (m .station) → mark ≡ markOf (m .mark)
+    → next ≡ record { base = now .base; sent = now .sent; mark = set (now .mark) p mark; course = now .course; records = now .records; rule = now .rule }
+    → records ≡ (next .records + 1) % 2 ^ 64 → counting next records ≡ switchedOn s m
+unfolding switchedOn
+mark-stored s m now next same p mark records here is stores counts = rw (counts, stores, here, is, same) refl
+
+-- no record that keeps every rule breaks one
+moved-rule : (s : Inspection) (t : Set) (a : Alloc) (e : Entry) → movedOn s t a e .rule ≡ s .rule
+unfolding visitedOn switchedOn
+moved-rule s t a (Visit v) = refl
+moved-rule s t a (Mark m) = refl
 
 judged-broken : (k : ℕ) (s : Inspection) (t : Set) (a : Alloc) (e : Entry) → k ≢ 0 → judged k s t a e ≡ stoppedAt s k
 unfolding judged
@@ -69,12 +97,12 @@ module _ (s : Inspection) (t : Set) (a : Alloc) (e : Entry) where
   inspected-stays n = rw (ne-eqb (s .rule) 0 n) refl
 
   -- this record breaks one
-  pub inspected-stops : s .rule ≡ 0 → (k : ℕ) → k ≡ brokenRule (expected s t a (e .start)) e → k ≢ 0 → inspected s t a e ≡ stoppedAt s k
+  pub inspected-stops : s .rule ≡ 0 → (k : ℕ) → k ≡ brokenRule (expected s t a) e → k ≢ 0 → inspected s t a e ≡ stoppedAt s k
   unfolding inspected
   inspected-stops z k is n = rw (eq-eqb (s .rule) 0 z, ← is) (judged-broken k s t a e n)
 
   -- it keeps them all
-  pub inspected-moves : s .rule ≡ 0 → brokenRule (expected s t a (e .start)) e ≡ 0 → inspected s t a e ≡ movedOn s t a e
+  pub inspected-moves : s .rule ≡ 0 → brokenRule (expected s t a) e ≡ 0 → inspected s t a e ≡ movedOn s t a e
   unfolding inspected judged
   inspected-moves z none = rw (eq-eqb (s .rule) 0 z, none) refl
 
@@ -92,9 +120,8 @@ module _ (t : Set) (a : Alloc) (bs : List ℕ) (whole : Inspection) where
     pub rule : s .rule ≡ 0
     pub rest : inspectedAll s t a (handedFrom left bs at) ≡ whole
 
-  pub going-first : (s : Inspection) (at left : ℕ) → s ≡ begun t a → whole ≡ inspectionOf t a (handedFrom left bs at) → Going s at left
-  unfolding begun
-  going-first s at left is all = record { rule = ap (λ (x : Inspection). x .rule) is; rest = ap (λ (x : Inspection). inspectedAll x t a (handedFrom left bs at)) is ∙ sym all }
+  pub going-first : (s : Inspection) (at left : ℕ) → s .rule ≡ 0 → whole ≡ inspectedAll s t a (handedFrom left bs at) → Going s at left
+  going-first s at left none all = record { rule = none; rest = sym all }
 
   module _ (s : Inspection) (at : ℕ) where
     -- the first of the records that are left
@@ -103,18 +130,17 @@ module _ (t : Set) (a : Alloc) (bs : List ℕ) (whole : Inspection) where
     split zero l = absurd (omega arith)
     split (suc left) l = let d : suc left - 1 ≡ left = omega arith in rw d refl
 
-    module _ (left : ℕ) (l : 0 < left) (G : Going s at left) (handed : NextEntry) (is : handed ≡ nextEntry bs at) (due : Expected) (asks : due ≡ expected s t a (handed .entry .start)) where
+    module _ (left : ℕ) (l : 0 < left) (G : Going s at left) (handed : NextEntry) (is : handed ≡ nextEntry bs at) (due : Expected) (asks : due ≡ expected s t a) where
       first-left : inspectedAll (inspected s t a (handed .entry)) t a (handedFrom (left - 1) bs (handed .next)) ≡ whole
       first-left = rw is (sym (split left l) ∙ G .rest)
 
       -- it keeps every rule
       pub going-next : (next : Inspection) → next ≡ movedOn s t a (handed .entry) → brokenRule due (handed .entry) ≡ 0 → Going next (handed .next) (left - 1)
-      unfolding movedOn
       going-next next on none =
-          let none-asked : brokenRule (expected s t a (handed .entry .start)) (handed .entry) ≡ 0 = rw asks at none in
+          let none-asked : brokenRule (expected s t a) (handed .entry) ≡ 0 = rw asks at none in
           rw on
           (record {
-            rule = G .rule;
+            rule = moved-rule s t a (handed .entry) ∙ G .rule;
             rest = ap (λ (x : Inspection). inspectedAll x t a (handedFrom (left - 1) bs (handed .next))) (sym (inspected-moves s t a (handed .entry) (G .rule) none-asked)) ∙ first-left;
           })
 
@@ -122,7 +148,7 @@ module _ (t : Set) (a : Alloc) (bs : List ℕ) (whole : Inspection) where
       pub going-stops : (k : ℕ) → k ≡ brokenRule due (handed .entry) → k ≢ 0 → stoppedAt s k ≡ whole
       going-stops k breaks n =
           let es = handedFrom (left - 1) bs (handed .next) in
-          let breaks-asked : k ≡ brokenRule (expected s t a (handed .entry .start)) (handed .entry) = rw asks at breaks in
+          let breaks-asked : k ≡ brokenRule (expected s t a) (handed .entry) = rw asks at breaks in
           sym (all-stays (stoppedAt s k) t a es n) ∙ ap (λ (x : Inspection). inspectedAll x t a es) (sym (inspected-stops s t a (handed .entry) (G .rule) k breaks-asked n)) ∙ first-left
 
     -- none is left

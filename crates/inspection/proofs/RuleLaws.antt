@@ -1,30 +1,18 @@
--- The start that is due; and the first test that fails: what is left of the tests says it, once those before hold.
-use Prim.Native.Nat.{ℕ, suc, _+_, _-_, _≤_}
-use mathlib.Core.Path.{_≡_, refl, ap, _∙_}
-use mathlib.Core.Bool.{Bool, true, false}
-use mathlib.Core.List.{List, _∷_}
-use mathlib.Core.Logic.{_≢_}
+-- The first test that fails: what is left of the tests says it, once those before hold.
+use Prim.Native.Nat.{ℕ, suc, _+_, _-_, _≤_, _<_}
+use mathlib.Core.Path.{_≡_, refl, sym, ap, _∙_}
+use mathlib.Core.Bool.{Bool, true, false, true≢false}
+use mathlib.Core.List.{List, [], _∷_}
+use mathlib.Core.Logic.{⊎-elim}
 use native.Mathlib.Omega.{arith}
-use borrow.Author.Tests.{eq-eqb, ne-eqb}
-use lib.ListN.{length, getD, drop}
-use lib.Seq.{drop-cons, drop-length}
+use lib.ListN.{length, getD, drop, drop-of-length-le, List·getD-eq-default}
+use lib.Seq.{drop-cons}
 use Rattle.units.specs.JudgingLaws.{held, failed}
-use Rattle.inspection.specs.Counter.{ticksLater}
-use Rattle.inspection.specs.Rules.{dueStart, firstFailed}
-
--- ---- the start
-
--- of the first record anything
-pub due-first : (visits last span start : ℕ) → visits ≡ 0 → dueStart visits last span start ≡ start
-unfolding dueStart
-due-first visits last span start z = rw (eq-eqb visits 0 z)
-
--- of a later one what the record before took, after its start
-pub due-later : (visits last span start : ℕ) → visits ≢ 0 → dueStart visits last span start ≡ ticksLater last span
-unfolding dueStart
-due-later visits last span start n = rw (ne-eqb visits 0 n)
-
--- ---- the first test that fails
+use Rattle.units.specs.SmallLaws.{below-or-not}
+use Rattle.entries.specs.declared.Entry.{Entry}
+use Rattle.entries.specs.declared.Entry.the-variants.{Visit, Mark}
+use Rattle.inspection.specs.Rules.{rulesKept, firstFailed}
+use Rattle.inspection.specs.declared.Expected.{Expected}
 
 module _ (tests : List Bool) where
   -- the tests from number k on
@@ -36,19 +24,30 @@ module _ (tests : List Bool) where
       let e : suc (k - 1) ≡ k + 1 - 1 = omega arith in
       drop-cons tests (k - 1) true (omega arith) ∙ ap (λ (j : ℕ). getD tests (k - 1) true ∷ drop j tests) e
 
-  -- test k holds: those from k + 1 on say it
-  pub failed-later : (k : ℕ) → 1 ≤ k → k ≤ length tests → getD tests (k - 1) true ≡ true → firstFailed k (from k) ≡ firstFailed (k + 1) (from (k + 1))
+  -- none is left
+  pub failed-none : (k : ℕ) → length tests < k → firstFailed k (from k) ≡ 0
   unfolding firstFailed
-  failed-later k some l h = ap (firstFailed k) (split k some l) ∙ held _ k _ h
+  failed-none k past =
+      let none : from k ≡ [] = drop-of-length-le tests {i = k - 1} (omega arith) in
+      rw none refl
+
+  -- test k holds, or there is none: those from k + 1 on say it
+  pub failed-later : (k : ℕ) → 1 ≤ k → getD tests (k - 1) true ≡ true → firstFailed k (from k) ≡ firstFailed (k + 1) (from (k + 1))
+  unfolding firstFailed
+  failed-later k some h =
+      ⊎-elim (λ (past : length tests < k). failed-none k past ∙ sym (failed-none (k + 1) (omega arith)))
+      (λ (l : k ≤ length tests). ap (firstFailed k) (split k some l) ∙ held _ k _ h)
+      (below-or-not (length tests) k)
 
   -- it fails: it is the first
-  pub failed-here : (k : ℕ) → 1 ≤ k → k ≤ length tests → getD tests (k - 1) true ≡ false → firstFailed k (from k) ≡ k
+  pub failed-here : (k : ℕ) → 1 ≤ k → getD tests (k - 1) true ≡ false → firstFailed k (from k) ≡ k
   unfolding firstFailed
-  failed-here k some l h = ap (firstFailed k) (split k some l) ∙ failed _ k _ h
+  failed-here k some h =
+      ⊎-elim (λ (past : length tests < k). absurd (true≢false (sym (List·getD-eq-default tests true {n = k - 1} (omega arith)) ∙ h)))
+      (λ (l : k ≤ length tests). ap (firstFailed k) (split k some l) ∙ failed _ k _ h)
+      (below-or-not (length tests) k)
 
-  -- none is left
-  pub failed-none : (k : ℕ) → k ≡ length tests + 1 → firstFailed k (from k) ≡ 0
-  unfolding firstFailed
-  failed-none k e =
-      let past : k - 1 ≡ length tests = omega arith in
-      rw (past, drop-length tests) refl
+-- a record has five rules at most
+pub five-at-most : (x : Expected) (e : Entry) → length (rulesKept x e) ≤ 5
+five-at-most x (Visit v) = omega arith
+five-at-most x (Mark m) = omega arith

@@ -1,5 +1,6 @@
 -- An inspection before its first record: the silent first rotation has ended, and the token is at station 0.
 use Prim.Native.Nat.{ℕ, _%_, _^_}
+use mathlib.Core.Bool.{true}
 use mathlib.Core.List.{List}
 use Rattle.units.specs.Places.{at, sumBelow, fill}
 use Rattle.sets.specs.Rules.{tau}
@@ -12,20 +13,22 @@ use Rattle.inspection.specs.declared.Inspection.{Inspection}
 unfoldable pub passingTimes : ℕ → List ℕ → List ℕ
 passingTimes n w = fill n (λ i. sumBelow i (at w) % 2 ^ 32) zeros
 
--- τ has passed, nothing was sent, and u is the sum of S
+-- τ has passed, nothing was sent, no station is marked, and u is the sum of S
 unfoldable pub begun : Set → Alloc → Inspection
 begun t a =
     record {
       base = passingTimes (t .n) (t .w);
       sent = zeros;
+      mark = zeros;
       course =
           record {
             token = 0;
             clock = tau t % 2 ^ 32;
             unused = sumBelow (t .n) (at (a .s)) % 2 ^ 32;
+            first = true;
             start = 0;
             span = 0;
           };
-      visits = 0;
+      records = 0;
       rule = 0;
     }

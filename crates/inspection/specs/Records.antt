@@ -1,6 +1,6 @@
 -- What becomes of an inspection with a record, and with one record after another.
 use Prim.Native.Nat.{ℕ, zero, suc, _+_, _-_, _%_, _^_}
-use mathlib.Core.Bool.{cond}
+use mathlib.Core.Bool.{false, cond}
 use mathlib.Core.List.{List, [], _∷_}
 use lib.Dec.{leb, eqb}
 use lib.ListN.{set}
@@ -9,7 +9,10 @@ use Rattle.units.specs.Places.{at}
 use Rattle.sets.specs.declared.Head.{Head}
 use Rattle.sets.specs.declared.Set.{Set}
 use Rattle.plans.specs.declared.Alloc.{Alloc}
+use Rattle.entries.specs.declared.VisitEntry.{VisitEntry}
+use Rattle.entries.specs.declared.MarkEntry.{MarkEntry}
 use Rattle.entries.specs.declared.Entry.{Entry}
+use Rattle.entries.specs.declared.Entry.the-variants.{Visit, Mark}
 use Rattle.rings.specs.State.{following}
 use Rattle.rings.specs.Timers.{lead}
 use Rattle.inspection.specs.Counter.{ticksLater, ticksBetween}
@@ -18,7 +21,7 @@ use Rattle.inspection.specs.Rules.{placeOf, place, expected, brokenRule}
 use Rattle.inspection.specs.declared.Course.{Course}
 use Rattle.inspection.specs.declared.Inspection.{Inspection}
 
--- ---- a record that keeps every rule moves the inspection on
+-- ---- a visit that keeps every rule moves the inspection on
 
 -- where the clock stands when the token station's timer is at 0, now that the token has come: when its synchronous part starts, but an FDDI timer that has run for TTRT or longer loses just that
 unfoldable pub baseWith : Head → ℕ → ℕ → ℕ → ℕ
@@ -34,25 +37,49 @@ abbrev pub spanWith : ℕ → ℕ → ℕ → ℕ
 spanWith synchronous asynchronous walk = ticksLater (ticksLater synchronous asynchronous) walk
 
 -- the ring as a whole behind the visit, with S, s of before and w of its station
-abbrev pub courseWith : Course → ℕ → ℕ → ℕ → ℕ → Entry → Course
-courseWith c n share before walk e =
+abbrev pub courseWith : Course → ℕ → ℕ → ℕ → ℕ → VisitEntry → Course
+courseWith c n share before walk v =
     record {
       token = following n (placeOf (c .token));
-      clock = ticksLater (c .clock) (spanWith (e .synchronous) (e .asynchronous) walk);
-      unused = unusedWith (c .unused) share before (e .synchronous);
-      start = e .start;
-      span = spanWith (e .synchronous) (e .asynchronous) walk;
+      clock = ticksLater (c .clock) (spanWith (v .synchronous) (v .asynchronous) walk);
+      unused = unusedWith (c .unused) share before (v .synchronous);
+      first = false;
+      start = v .start;
+      span = spanWith (v .synchronous) (v .asynchronous) walk;
     }
 
-unfoldable pub movedOn : Inspection → Set → Alloc → Entry → Inspection
-movedOn s t a e =
+unfoldable pub visitedOn : Inspection → Set → Alloc → VisitEntry → Inspection
+visitedOn s t a v =
     record {
-      base = set (s .base) (place s) (baseWith (t .head) (s .course .clock) (at (s .base) (place s)) (lead t (e .asynchronous)));
-      sent = set (s .sent) (place s) (e .synchronous);
-      course = courseWith (s .course) (t .n) (at (a .s) (place s)) (at (s .sent) (place s)) (at (t .w) (place s)) e;
-      visits = (s .visits + 1) % 2 ^ 64;
+      base = set (s .base) (place s) (baseWith (t .head) (s .course .clock) (at (s .base) (place s)) (lead t (v .asynchronous)));
+      sent = set (s .sent) (place s) (v .synchronous);
+      mark = s .mark;
+      course = courseWith (s .course) (t .n) (at (a .s) (place s)) (at (s .sent) (place s)) (at (t .w) (place s)) v;
+      records = (s .records + 1) % 2 ^ 64;
       rule = s .rule;
     }
+
+-- ---- a mark that keeps its rule is counted, and changes its station's mark alone
+
+-- the mark that is kept: 0 is no, anything else yes
+unfoldable pub markOf : ℕ → ℕ
+markOf mark = cond (eqb mark 0) 0 1
+
+unfoldable pub switchedOn : Inspection → MarkEntry → Inspection
+switchedOn s m =
+    record {
+      base = s .base;
+      sent = s .sent;
+      mark = set (s .mark) (placeOf (m .station)) (markOf (m .mark));
+      course = s .course;
+      records = (s .records + 1) % 2 ^ 64;
+      rule = s .rule;
+    }
+
+-- a record of either kind
+abbrev pub movedOn : Inspection → Set → Alloc → Entry → Inspection
+movedOn s t a (Visit v) = visitedOn s t a v
+movedOn s t a (Mark m) = switchedOn s m
 
 -- ---- one that breaks a rule stops it
 
@@ -61,8 +88,9 @@ stoppedAt s rule =
     record {
       base = s .base;
       sent = s .sent;
+      mark = s .mark;
       course = s .course;
-      visits = s .visits;
+      records = s .records;
       rule = rule;
     }
 
@@ -75,7 +103,7 @@ judged (suc k) s t a e = stoppedAt s (suc k)
 
 -- one record more; behind a broken rule nothing further is looked at
 unfoldable pub inspected : Inspection → Set → Alloc → Entry → Inspection
-inspected s t a e = cond (eqb (s .rule) 0) (judged (brokenRule (expected s t a (e .start)) e) s t a e) s
+inspected s t a e = cond (eqb (s .rule) 0) (judged (brokenRule (expected s t a) e) s t a e) s
 
 -- one record after another
 unfoldable pub inspectedAll : Inspection → Set → Alloc → List Entry → Inspection

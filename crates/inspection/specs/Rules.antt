@@ -1,8 +1,8 @@
 -- What a record must say, and the first of the five rules that it breaks.
 use Prim.Native.Nat.{ℕ, _+_, _-_, _%_}
-use mathlib.Core.Bool.{Bool, true, cond}
+use mathlib.Core.Bool.{Bool, true, cond, _&&_, _||_}
 use mathlib.Core.List.{List, [], _∷_}
-use lib.Dec.{leb, eqb}
+use lib.Dec.{leb, ltb, eqb}
 use lib.ListN.{getD}
 use Rattle.units.specs.Numbers.{fddi}
 use Rattle.units.specs.Places.{at}
@@ -10,8 +10,11 @@ use Rattle.units.specs.Judging.{orElse}
 use Rattle.sets.specs.declared.Head.{Head}
 use Rattle.sets.specs.declared.Set.{Set}
 use Rattle.plans.specs.declared.Alloc.{Alloc}
+use Rattle.entries.specs.declared.VisitEntry.{VisitEntry}
+use Rattle.entries.specs.declared.MarkEntry.{MarkEntry}
 use Rattle.entries.specs.declared.Entry.{Entry}
-use Rattle.inspection.specs.Counter.{ticksLater, ticksBetween}
+use Rattle.entries.specs.declared.Entry.the-variants.{Visit, Mark}
+use Rattle.inspection.specs.Counter.{ticksBetween}
 use Rattle.inspection.specs.Frames.{framesFit}
 use Rattle.inspection.specs.declared.Course.{Course}
 use Rattle.inspection.specs.declared.Inspection.{Inspection}
@@ -24,56 +27,64 @@ placeOf token = token % 128
 abbrev pub place : Inspection → ℕ
 place s = placeOf (s .course .token)
 
--- the start: of the first record anything, of a later one what the record before took, after its start
-unfoldable pub dueStart : ℕ → ℕ → ℕ → ℕ → ℕ
-dueStart visits last span start = cond (eqb visits 0) start (ticksLater last span)
-
 -- the limit: FDDI, TTRT less what the timer has run, held at 0; timely-token, the larger of TTRT − (F − 1) − u − TRT and 0
 unfoldable pub limitWith : Head → ℕ → ℕ → ℕ
 limitWith h unused run = cond (eqb (h .mode) fddi) (h .ttrt - run) (h .ttrt - (h .frame - 1) - unused - run)
 
--- what the next record must say, if it is one that starts so: by the moment and S of the token's station. Since that moment its timer has run: TRT, or an FDDI timer with TTRT for each time that it is late
-abbrev pub dueWith : Course → ℕ → Head → ℕ → ℕ → ℕ → Expected
-dueWith c visits h base share start =
+-- a marked station is offered 0 and sends nothing: of what would else be allowed, 0
+unfoldable pub unlessMarked : ℕ → ℕ → ℕ
+unlessMarked mark allowed = cond (ltb 0 mark) 0 allowed
+
+-- what the next record must say: by the mark, the moment and S of the token's station. Since that moment its timer has run: TRT, or an FDDI timer with TTRT for each time that it is late
+abbrev pub dueWith : Course → Head → ℕ → ℕ → ℕ → ℕ → Expected
+dueWith c h n mark base share =
     record {
       station = placeOf (c .token);
-      start = dueStart visits (c .start) (c .span) start;
-      limit = limitWith h (c .unused) (ticksBetween base (c .clock));
-      share = share;
+      first = c .first;
+      last = c .start;
+      span = c .span;
+      limit = unlessMarked mark (limitWith h (c .unused) (ticksBetween base (c .clock)));
+      share = unlessMarked mark share;
       longest = h .frame;
+      count = n;
     }
 
--- the same, with the moment and S that the arrays have at the station's place
-abbrev pub expected : Inspection → Set → Alloc → ℕ → Expected
-expected s t a start = dueWith (s .course) (s .visits) (t .head) (at (s .base) (place s)) (at (a .s) (place s)) start
+-- the same, with the mark, the moment and S that the arrays have at the station's place
+abbrev pub expected : Inspection → Set → Alloc → Expected
+expected s t a = dueWith (s .course) (t .head) (t .n) (at (s .mark) (place s)) (at (s .base) (place s)) (at (a .s) (place s))
 
--- ---- the five rules
+-- ---- the five rules of a visit
 
 -- it is the token's station
-abbrev pub stationKept : Expected → Entry → Bool
-stationKept x e = eqb (e .station) (x .station)
+abbrev pub stationKept : Expected → VisitEntry → Bool
+stationKept x v = eqb (v .station) (x .station)
 
--- it starts when the record before had ended
-abbrev pub startKept : Expected → Entry → Bool
-startKept x e = eqb (e .start) (x .start)
+-- the first visit starts at any moment; of a later one the wrapping difference of the two starts is what the visit before took
+abbrev pub startKept : Expected → VisitEntry → Bool
+startKept x v = x .first || eqb (ticksBetween (x .last) (v .start)) (x .span)
 
 -- the limit is that of the published steps
-abbrev pub limitKept : Expected → Entry → Bool
-limitKept x e = eqb (e .limit) (x .limit)
+abbrev pub limitKept : Expected → VisitEntry → Bool
+limitKept x v = eqb (v .limit) (x .limit)
 
 -- the synchronous amount is at most S
-abbrev pub synchronousKept : Expected → Entry → Bool
-synchronousKept x e = leb (e .synchronous) (x .share)
+abbrev pub synchronousKept : Expected → VisitEntry → Bool
+synchronousKept x v = leb (v .synchronous) (x .share)
 
 -- some request in frames gives the asynchronous amount
-abbrev pub asynchronousKept : Expected → Entry → Bool
-asynchronousKept x e = framesFit (x .limit) (x .longest) (e .asynchronous)
+abbrev pub asynchronousKept : Expected → VisitEntry → Bool
+asynchronousKept x v = framesFit (x .limit) (x .longest) (v .asynchronous)
 
--- in their order
+-- ---- the one rule of a mark, the station rule: its station is below N, and it is 0 or 1
+abbrev pub markKept : Expected → MarkEntry → Bool
+markKept x m = ltb (m .station) (x .count) && ltb (m .mark) 2
+
+-- ---- the rules of a record, in their order
 abbrev pub rulesKept : Expected → Entry → List Bool
-rulesKept x e = stationKept x e ∷ startKept x e ∷ limitKept x e ∷ synchronousKept x e ∷ asynchronousKept x e ∷ []
+rulesKept x (Visit v) = stationKept x v ∷ startKept x v ∷ limitKept x v ∷ synchronousKept x v ∷ asynchronousKept x v ∷ []
+rulesKept x (Mark m) = markKept x m ∷ []
 
--- rule k, from 1 on
+-- rule k, from 1 on; one that the record does not have is kept
 abbrev pub ruleKept : Expected → Entry → ℕ → Bool
 ruleKept x e k = getD (rulesKept x e) (k - 1) true
 

@@ -3,15 +3,15 @@ mod counter;
 mod frames;
 mod moving;
 mod opening;
-mod records;
+pub mod records;
 mod rules;
 
 ghost use mathlib.Core.Path.{_≡_};
 ghost use Rattle.inspection.specs.Opening.{begun};
 ghost use Rattle.inspection.specs.Rules.{expected};
-ghost use Rattle.inspection.specs.Records.{inspected};
-ghost use Rattle.inspection.specs.Findings.{compared, findingOf, refusedFinding, findingIn};
+ghost use Rattle.inspection.specs.Findings.{visitCompared, compared, findingOf, refusedFinding, findingIn};
 use entries::Entry;
+use entries::VisitEntry;
 use plans::Alloc;
 use sets::Set;
 use units::numbers;
@@ -24,7 +24,9 @@ pub struct Course {
     pub clock: u32,
     // u, the sum of S − s. An FDDI inspection does not look at it.
     pub unused: u32,
-    // The start of the record before, and the ticks that it took.
+    // No visit has passed yet: the first one may start at any moment.
+    pub first: bool,
+    // The start of the visit before, and the ticks that it took.
     pub start: u32,
     pub span: u32,
 }
@@ -33,24 +35,32 @@ pub struct Course {
 pub struct Inspection {
     // For each station where the clock stood when its timer was at 0; an FDDI timer counts with TTRT for each time that it is late.
     pub base: [u32; 128],
-    // s of each station: the synchronous amount of its last record.
+    // s of each station: the synchronous amount of its last visit.
     pub sent: [u32; 128],
+    // Whether each station is switched through: 0 is no, anything else yes.
+    pub mark: [u8; 128],
     pub course: Course,
-    // The records so far that keep every rule.
-    pub visits: u64,
+    // The records so far that keep every rule, visits and marks.
+    pub records: u64,
     // The rule that the record behind these breaks; 0: none so far.
     pub rule: u8,
 }
 
-// What the next record must say.
+// What the next record must say: of a mark the last number alone is looked at.
 pub struct Expected {
     pub station: u32,
-    pub start: u32,
+    // The first visit may start at any moment.
+    pub first: bool,
+    // A later one this many ticks after that start, on a counter that runs past its top to 0: the start of the visit before, and what that one took.
+    pub last: u32,
+    pub span: u32,
     pub limit: u32,
-    // S, the most that may be sent of synchronous traffic.
+    // S, the most that may be sent of synchronous traffic; 0 where the station is marked, and then the limit is 0 too.
     pub share: u32,
     // F, the longest frame.
     pub longest: u32,
+    // N: a mark's station is below it.
+    pub count: u32,
 }
 
 // What a record must say by a rule, and what it says.
@@ -59,10 +69,10 @@ pub struct Compared {
     pub found: u32,
 }
 
-// What the inspection of a log answers: how many visits it has; the first record that breaks a rule, from 1, and the rule, 1 station, 2 start, 3 limit, 4 synchronous, 5 asynchronous; both 0 where none does. Or the refusal of reading it, with all else 0.
+// What the inspection of a log answers: how many records it has, visits and marks; the first record that breaks a rule, from 1, and the rule, 1 station, 2 start, 3 limit, 4 synchronous, 5 asynchronous; both 0 where none does. Or the refusal of reading it, with all else 0.
 #[repr(C)]
 pub struct Finding {
-    pub visits: u64,
+    pub records: u64,
     pub record: u64,
     pub rule: u8,
     pub number: u8,
@@ -81,86 +91,84 @@ pub fn begin(set: Set, alloc: Alloc) -> Inspection
         token: 0,
         clock,
         unused,
+        first: true,
         start: 0,
         span: 0,
     };
     Inspection {
         base,
         sent: [0; 128],
+        mark: [0; 128],
         course,
-        visits: 0,
+        records: 0,
         rule: 0,
     }
 }
 
-// What the next record must say; a first record may start at any moment, so also when it does.
-pub fn expect(state: Inspection, set: Set, alloc: Alloc, start: u32) -> Expected
-    ensures { λ r. ⌜ r ≡ expected state set alloc start ⌝ }
+// What the next record must say.
+pub fn expect(state: Inspection, set: Set, alloc: Alloc) -> Expected
+    ensures { λ r. ⌜ r ≡ expected state set alloc ⌝ }
 {
     let course = state.course;
     let p = rules::place(course.token);
     let base = state.base[p];
     let share = alloc.s[p];
-    rules::due(course, state.visits, set.head, base, share, start)
+    rules::due(course, set.head, set.n, state.mark[p], base, share)
 }
 
-// One record more. Behind a broken rule nothing further is looked at.
-pub fn inspect_entry(state: Inspection, set: Set, alloc: Alloc, entry: Entry) -> Inspection
-    ensures { λ r. ⌜ r ≡ inspected state set alloc entry ⌝ }
+// What a visit must say by this rule, and what it says: the start as ticks after the visit before, of the asynchronous amount the limit.
+fn compare_visit(due: Expected, visit: VisitEntry, rule: u8) -> Compared
+    ensures { λ r. ⌜ r ≡ visitCompared rule due visit ⌝ }
 {
-    if state.rule != 0 {
-        return state;
-    }
-    let due = expect(state, set, alloc, entry.start);
-    let rule = rules::first_broken(due, entry);
-    if rule != 0 {
-        return moving::stopped(state, rule);
-    }
-    moving::moved_on(state, set, alloc, entry)
-}
-
-// What the record behind the visits of an inspection must say by the rule that it breaks, and what it says: the start as ticks after the record before, of the asynchronous amount the limit.
-pub fn compare(state: Inspection, set: Set, alloc: Alloc, entry: Entry) -> Compared
-    ensures { λ r. ⌜ r ≡ compared state set alloc entry ⌝ }
-{
-    let due = expect(state, set, alloc, entry.start);
-    let course = state.course;
-    let ticks = counter::between(course.start, entry.start);
-    let rule = state.rule;
+    let ticks = counter::between(due.last, visit.start);
     match rule {
         1 => Compared {
             expected: due.station,
-            found: entry.station,
+            found: visit.station,
         },
         2 => Compared {
-            expected: course.span,
+            expected: due.span,
             found: ticks,
         },
         3 => Compared {
             expected: due.limit,
-            found: entry.limit,
+            found: visit.limit,
         },
         4 => Compared {
             expected: due.share,
-            found: entry.synchronous,
+            found: visit.synchronous,
         },
         _ => Compared {
             expected: due.limit,
-            found: entry.asynchronous,
+            found: visit.asynchronous,
         },
     }
 }
 
-// What an inspection has found of a log with so many visits.
-pub fn found(state: Inspection, visits: u64) -> Finding
-    ensures { λ r. ⌜ r ≡ findingOf state visits ⌝ }
+// What the record behind those of an inspection must say by the rule that it breaks, and what it says: a visit as above; a mark N, below which its station must be, and its station.
+pub fn compare(state: Inspection, set: Set, alloc: Alloc, entry: Entry) -> Compared
+    ensures { λ r. ⌜ r ≡ compared state set alloc entry ⌝ }
+{
+    let due = expect(state, set, alloc);
+    match entry {
+        Entry::Visit(visit) => compare_visit(due, visit, state.rule),
+        Entry::Mark(mark) => Compared {
+            expected: due.count,
+            found: mark.station,
+        },
+    }
+}
+
+// What an inspection has found of a log with so many records.
+pub fn found(state: Inspection, records: u64) -> Finding
+    ensures { λ r. ⌜ r ≡ findingOf state records ⌝ }
 {
     let mut record: u64 = 0;
     if state.rule != 0 {
-        record = std::num::wrapping_add_u64(state.visits, 1);
+        record = std::num::wrapping_add_u64(state.records, 1);
     }
     Finding {
-        visits,
+        records,
         record,
         rule: state.rule,
         number: numbers::ACCEPTED,
@@ -172,7 +180,7 @@ fn refused(number: u8) -> Finding
     ensures { λ r. ⌜ r ≡ refusedFinding number ⌝ }
 {
     Finding {
-        visits: 0,
+        records: 0,
         record: 0,
         rule: 0,
         number,
@@ -189,6 +197,7 @@ pub fn inspect_log(log: &[u8]) -> Finding
     }
     let set = read.set;
     let alloc = read.alloc;
-    let state = records::inspect_records(set, alloc, log, read.first, read.visits);
-    found(state, read.visits as u64)
+    let begun = begin(set, alloc);
+    let state = records::inspect_records(begun, set, alloc, log, read.first, read.records);
+    found(state, read.records as u64)
 }

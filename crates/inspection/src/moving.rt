@@ -1,10 +1,8 @@
-// What becomes of an inspection with a record: it stops at a broken rule, or the record's visit moves it on.
+// What becomes of an inspection with a record that keeps every rule: a visit moves it on, a mark changes a mark.
 use super::Course;
-use super::Inspection;
 use super::counter;
 use super::rules;
-use entries::Entry;
-use plans::Alloc;
+use entries::VisitEntry;
 use sets::Head;
 use sets::Set;
 use units::numbers;
@@ -12,7 +10,7 @@ ghost use mathlib.Core.Path.{_≡_};
 ghost use Prim.Native.Nat.{_<_};
 ghost use Rattle.rings.specs.State.{following};
 ghost use Rattle.rings.specs.Timers.{lead};
-ghost use Rattle.inspection.specs.Records.{baseWith, unusedWith, spanWith, courseWith, stoppedAt, movedOn};
+ghost use Rattle.inspection.specs.Records.{baseWith, unusedWith, spanWith, courseWith, markOf};
 
 // Of the asynchronous amount, what comes before the synchronous part: all of it in the 2002 edition, else nothing.
 pub(crate) fn lead_of(set: Set, asynchronous: u32) -> u32
@@ -62,47 +60,31 @@ fn next_station(n: u32, station: u32) -> u32
     if next < n { next } else { 0 }
 }
 
-// The record behind these visits breaks this rule.
-pub(crate) fn stopped(state: Inspection, rule: u8) -> Inspection
-    ensures { λ r. ⌜ r ≡ stoppedAt state rule ⌝ }
-{
-    let mut next = state;
-    next.rule = rule;
-    next
-}
-
-// The ring as a whole behind a record that keeps every rule, with S, s of before and w of its station.
+// The ring as a whole behind a visit that keeps every rule, with S, s of before and w of its station.
 pub(crate) fn course_after(
     course: Course,
     n: u32,
     share: u32,
     before: u32,
     walk: u32,
-    entry: Entry,
+    visit: VisitEntry,
 ) -> Course
-    ensures { λ r. ⌜ r ≡ courseWith course n share before walk entry ⌝ }
+    ensures { λ r. ⌜ r ≡ courseWith course n share before walk visit ⌝ }
 {
-    let span = span_of(entry.synchronous, entry.asynchronous, walk);
+    let span = span_of(visit.synchronous, visit.asynchronous, walk);
     Course {
         token: next_station(n, course.token % 128),
         clock: counter::later(course.clock, span),
-        unused: unused_after(course.unused, share, before, entry.synchronous),
-        start: entry.start,
+        unused: unused_after(course.unused, share, before, visit.synchronous),
+        first: false,
+        start: visit.start,
         span,
     }
 }
 
-// The visit of a record that keeps every rule.
-pub(crate) fn moved_on(state: Inspection, set: Set, alloc: Alloc, entry: Entry) -> Inspection
-    ensures { λ r. ⌜ r ≡ movedOn state set alloc entry ⌝ }
+// The mark that is kept of a mark's record: 0 is no, anything else yes.
+pub(crate) fn mark_of(mark: u32) -> u8
+    ensures { λ r. ⌜ r ≡ markOf mark ⌝ }
 {
-    let course = state.course;
-    let p = rules::place(course.token);
-    let lead = lead_of(set, entry.asynchronous);
-    let mut next = state;
-    next.base[p] = base_after(set.head, course.clock, state.base[p], lead);
-    next.course = course_after(course, set.n, alloc.s[p], state.sent[p], set.w[p], entry);
-    next.sent[p] = entry.synchronous;
-    next.visits = std::num::wrapping_add_u64(state.visits, 1);
-    next
+    if mark == 0 { 0 } else { 1 }
 }

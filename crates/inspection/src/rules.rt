@@ -1,14 +1,17 @@
-// The five rules: station, start, limit, synchronous, asynchronous.
+// The five rules: station, start, limit, synchronous, asynchronous. A mark has the first alone.
 use super::Course;
 use super::Expected;
 use super::counter;
 use super::frames;
 use entries::Entry;
+use entries::MarkEntry;
+use entries::VisitEntry;
 use sets::Head;
 use units::numbers;
 ghost use mathlib.Core.Path.{_≡_};
 ghost use Prim.Native.Nat.{_-_, _≤_};
-ghost use Rattle.inspection.specs.Rules.{placeOf, dueStart, limitWith, dueWith, ruleKept, brokenRule};
+ghost use Rattle.entries.specs.declared.Entry.the-variants.{Visit, Mark};
+ghost use Rattle.inspection.specs.Rules.{placeOf, limitWith, unlessMarked, dueWith, ruleKept};
 
 // The larger of a − b and 0.
 pub(crate) fn less(a: u32, b: u32) -> u32
@@ -24,16 +27,6 @@ pub(crate) fn place(token: u32) -> usize
     (token % 128) as usize
 }
 
-// When a record must start: the first one at any moment, a later one as many ticks after the one before as that one took.
-fn start_due(visits: u64, last: u32, span: u32, start: u32) -> u32
-    ensures { λ r. ⌜ r ≡ dueStart visits last span start ⌝ }
-{
-    if visits == 0 {
-        return start;
-    }
-    counter::later(last, span)
-}
-
 // The limit, for a timer that has run so long: FDDI what it leaves of TTRT, timely-token what F − 1, u and it leave.
 fn limit_at(head: Head, unused: u32, run: u32) -> u32
     ensures { λ r. ⌜ r ≡ limitWith head unused run ⌝ }
@@ -44,25 +37,54 @@ fn limit_at(head: Head, unused: u32, run: u32) -> u32
     less(less(less(head.ttrt, less(head.frame, 1)), unused), run)
 }
 
-// What the next record must say, if it is one that starts so: with the moment and S of the token's station.
-pub(crate) fn due(
-    course: Course,
-    visits: u64,
-    head: Head,
-    base: u32,
-    share: u32,
-    start: u32,
-) -> Expected
-    ensures { λ r. ⌜ r ≡ dueWith course visits head base share start ⌝ }
+// A marked station is offered 0 and sends nothing: of what would else be allowed, 0.
+fn unless_marked(mark: u8, allowed: u32) -> u32
+    ensures { λ r. ⌜ r ≡ unlessMarked mark allowed ⌝ }
+{
+    if 0 < mark { 0 } else { allowed }
+}
+
+// What the next record must say: with the mark, the moment and S of the token's station.
+pub(crate) fn due(course: Course, head: Head, n: u32, mark: u8, base: u32, share: u32) -> Expected
+    ensures { λ r. ⌜ r ≡ dueWith course head n mark base share ⌝ }
 {
     let run = counter::between(base, course.clock);
+    let offered = limit_at(head, course.unused, run);
     Expected {
         station: course.token % 128,
-        start: start_due(visits, course.start, course.span, start),
-        limit: limit_at(head, course.unused, run),
-        share,
+        first: course.first,
+        last: course.start,
+        span: course.span,
+        limit: unless_marked(mark, offered),
+        share: unless_marked(mark, share),
         longest: head.frame,
+        count: n,
     }
+}
+
+// The visit keeps this one of the rules, from 1 to 5.
+fn visit_kept(due: Expected, visit: VisitEntry, rule: u8) -> bool
+    requires { ⌜ (1 ≤ rule) × (rule ≤ 5) ⌝ }
+    ensures { λ r. ⌜ r ≡ ruleKept due (Visit visit) rule ⌝ }
+{
+    match rule {
+        1 => visit.station == due.station,
+        2 => due.first | (counter::between(due.last, visit.start) == due.span),
+        3 => visit.limit == due.limit,
+        4 => visit.synchronous <= due.share,
+        _ => frames::frames_fit(due.limit, due.longest, visit.asynchronous),
+    }
+}
+
+// The mark keeps this one of the rules: the first, and it has no other.
+fn mark_kept(due: Expected, mark: MarkEntry, rule: u8) -> bool
+    requires { ⌜ 1 ≤ rule ⌝ }
+    ensures { λ r. ⌜ r ≡ ruleKept due (Mark mark) rule ⌝ }
+{
+    if rule == 1 {
+        return (mark.station < due.count) & (mark.mark < 2);
+    }
+    true
 }
 
 // The record keeps this one of the rules, from 1 to 5.
@@ -70,25 +92,8 @@ pub(crate) fn rule_kept(due: Expected, entry: Entry, rule: u8) -> bool
     requires { ⌜ (1 ≤ rule) × (rule ≤ 5) ⌝ }
     ensures { λ r. ⌜ r ≡ ruleKept due entry rule ⌝ }
 {
-    match rule {
-        1 => entry.station == due.station,
-        2 => entry.start == due.start,
-        3 => entry.limit == due.limit,
-        4 => entry.synchronous <= due.share,
-        _ => frames::frames_fit(due.limit, due.longest, entry.asynchronous),
+    match entry {
+        Entry::Visit(visit) => visit_kept(due, visit, rule),
+        Entry::Mark(mark) => mark_kept(due, mark, rule),
     }
-}
-
-// The first of the rules that the record breaks; 0: none.
-pub(crate) fn first_broken(due: Expected, entry: Entry) -> u8
-    ensures { λ r. ⌜ r ≡ brokenRule due entry ⌝ }
-{
-    let mut rule: u8 = 1;
-    while rule <= 5 {
-        if !rule_kept(due, entry, rule) {
-            return rule;
-        }
-        rule += 1;
-    }
-    0
 }

@@ -3,7 +3,7 @@ use Prim.Native.Nat.{ℕ, zero, suc, _+_, _-_, _*_, _/_, _%_, _^_, _≤_, _<_}
 use mathlib.Core.Path.{_≡_, refl, sym, ap, _∙_}
 use mathlib.Core.Bool.{Bool, true, false, _||_}
 use mathlib.Core.List.{List, [], _∷_}
-use mathlib.Core.Logic.{_⊎_, inl, inr, _≢_, ⊎-elim, _↔_}
+use mathlib.Core.Logic.{_≢_, ⊎-elim, _↔_}
 use mathlib.Core.Option.{none, some}
 use native.Mathlib.Nat.{mul-mod-left, mul-comm, div-add-mod', div-le-self, mul-le-mul-right}
 use native.Mathlib.Omega.{arith}
@@ -13,23 +13,27 @@ use lib.ListN.{length, getD}
 use Rattle.units.specs.Small.{roundedUp}
 use Rattle.units.specs.SmallLaws.{below-or-not, one-more, shares-enough}
 use Rattle.units.specs.JudgingLaws.{Decides, true-or-false, and-true, true-and, decides-le, held, failed, passed}
-use Rattle.units.specs.Places.{at}
 use Rattle.plans.specs.PlanLaws.{given-none}
+use Rattle.entries.specs.declared.VisitEntry.{VisitEntry}
+use Rattle.entries.specs.declared.MarkEntry.{MarkEntry}
 use Rattle.entries.specs.declared.Entry.{Entry}
+use Rattle.entries.specs.declared.Entry.the-variants.{Visit, Mark}
 use Rattle.rings.specs.Timers.{limit}
 use Rattle.rings.specs.Frames.{framesFrom, framesSent, framesTime}
 use Rattle.rings.specs.FrameLaws.{frames-sent, frames-within}
 use Rattle.rings.specs.Steps.{Ask}
 use Rattle.rings.specs.declared.Ring.{Ring}
-use Rattle.inspection.specs.Counter.{ticksLater}
+use Rattle.inspection.specs.Counter.{ticksLater, ticksBetween}
 use Rattle.inspection.specs.Frames.{givenBy, framesFit}
-use Rattle.inspection.specs.Rules.{dueStart, expected, rulesKept, firstFailed}
+use Rattle.inspection.specs.Rules.{expected, rulesKept, firstFailed}
 use Rattle.inspection.specs.declared.Inspection.{Inspection}
 use Rattle.inspection.proofs.FrameLaws.{any-of, any-at}
 use Rattle.inspection_rules.specs.Gives.{Asked}
-use Rattle.inspection_rules.specs.Broken.{StartRule, RuleOf, lastOf, took}
+use Rattle.inspection_rules.specs.Broken.{StartRule, VisitRule, OnlyRule, RuleOf, lastOf, took}
+use Rattle.inspection_rules.specs.Promised.{Started}
 use Rattle.inspection_rules.proofs.Reaching.{Reached, plan, limit-small}
-use Rattle.inspection_rules.proofs.Standing.{Stands, place-is, limit-is}
+use Rattle.inspection_rules.proofs.Standing.{due-between, Stands, place-is, limit-is, most-is}
+use Rattle.inspection_rules.proofs.Following.{some-or-none}
 
 -- ---- frames
 
@@ -93,51 +97,49 @@ asked-decides r K amount =
 
 -- ---- the tests of a record
 
--- there is a last record, or there is none
-pub last-or-none : (es : List Entry) → ((b : Entry) × (lastOf es ≡ some b)) ⊎ (es ≡ [])
-unfolding lastOf
-last-or-none [] = inr refl
-last-or-none (e ∷ []) = inl (e, refl)
-last-or-none (e ∷ f ∷ es) =
-    ⊎-elim (λ (w : (b : Entry) × (lastOf (f ∷ es) ≡ some b)). inl w)
-    (λ (n : f ∷ es ≡ []). let z : _≡_ {A = ℕ} 0 1 = cc n in absurd (omega arith))
-    (last-or-none (f ∷ es))
+module _ (counter : ℕ) (r : Ring) (K : Reached r) (s : Inspection) (S : Stands counter r s) (before : List Entry) where
+  -- the last visit before, if there is one, and what it took lead to the ring's clock
+  pub record Behind : Type 0 where
+    pub visited : (b : VisitEntry) → lastOf before ≡ some b → 0 < r .visits
+    pub unvisited : lastOf before ≡ none → r .visits ≡ 0
+    pub led : (b : VisitEntry) → lastOf before ≡ some b → (counter + r .clock) % 2 ^ 32 ≡ (b .start + took (r .set) b) % 2 ^ 32
 
-pub none-last : lastOf [] ≡ none
-unfolding lastOf
-none-last = refl
+  module _ (B : Behind) where
+    start-decides : (v : VisitEntry) → v .start < 2 ^ 32 → Decides (s .course .first || eqb (ticksBetween (s .course .start) (v .start)) (s .course .span)) (StartRule (r .set) before v)
+    start-decides v small =
+        ⊎-elim (λ (w : (b : VisitEntry) × (lastOf before ≡ some b)).
+        let some-visits = B .visited (w .0) (w .1) in
+        let due : ticksLater (s .course .start) (s .course .span) ≡ (w .0 .start + took (r .set) (w .0)) % 2 ^ 32 = S .due some-visits ∙ B .led (w .0) (w .1) in
+        let both = due-between (s .course .start) (s .course .span) (v .start) (S .last) (S .span) small in
+        rw (S .first, ne-eqb (r .visits) 0 (λ z. omega (arith, some-visits, z))) (
+          λ h b is. let same : w .0 ≡ b = cc (w .1, is) in both .1 (eqb-true _ _ h) ∙ due ∙ ap (λ (x : VisitEntry). (x .start + took (r .set) x) % 2 ^ 32) same,
+          λ rule. eq-eqb _ _ (both .0 (rule (w .0) (w .1) ∙ sym due)),
+        ))
+        (λ (n : lastOf before ≡ none).
+        rw (S .first, eq-eqb (r .visits) 0 (B .unvisited n))
+        (λ h b is. let z : _≡_ {A = ℕ} 0 1 = cc (is, n) in absurd (omega arith), λ rule. refl))
+        (some-or-none (lastOf before))
 
-module _ (counter : ℕ) (r : Ring) (K : Reached r) (s : Inspection) (S : Stands counter r s) (before : List Entry) (counted : r .visits ≡ length before)
-    (last : (b : Entry) → lastOf before ≡ some b → (counter + r .clock) % 2 ^ 32 ≡ (b .start + took (r .set) b) % 2 ^ 32) (e : Entry) where
-  start-decides : Decides (eqb (e .start) (dueStart (s .visits) (s .course .start) (s .course .span) (e .start))) (StartRule (r .set) before e)
-  unfolding dueStart
-  start-decides =
-      ⊎-elim (λ (w : (b : Entry) × (lastOf before ≡ some b)).
-      let some-visits : s .visits ≢ 0 = λ z. no-visit w (omega (arith, S .visits)) in
-      let due : ticksLater (s .course .start) (s .course .span) ≡ (w .0 .start + took (r .set) (w .0)) % 2 ^ 32 = S .due (omega (arith, S .visits, some-visits)) ∙ last (w .0) (w .1) in
-      rw (ne-eqb (s .visits) 0 some-visits, due)
-      (λ h b is. let same : w .0 ≡ b = cc (w .1, is) in eqb-true _ _ h ∙ ap (λ (x : Entry). (x .start + took (r .set) x) % 2 ^ 32) same, λ rule. eq-eqb _ _ (rule (w .0) (w .1))))
-      (λ (n : before ≡ []).
-      let no-visits : s .visits ≡ 0 = S .visits ∙ counted ∙ ap length n in
-      rw (eq-eqb (s .visits) 0 no-visits)
-      (λ h b is. let z : _≡_ {A = ℕ} 0 1 = cc (is, ap lastOf n, none-last) in absurd (omega arith), λ rule. eq-eqb (e .start) (e .start) refl))
-      (last-or-none before)
-    where
-      no-visit : ((b : Entry) × (lastOf before ≡ some b)) → r .visits ≡ 0 → ⊥
-      no-visit w z = go before (w .1) (sym counted ∙ z)
-        where
-          go : (es : List Entry) → lastOf es ≡ some (w .0) → length es ≡ 0 → ⊥
-          go [] is n = let z : _≡_ {A = ℕ} 0 1 = cc (is, none-last) in omega arith
-          go (x ∷ xs) is n = omega arith
+    -- the tests of a visit, from the first on, decide its rules, from number 1 on
+    visit-decides : (v : VisitEntry) → v .start < 2 ^ 32 → (k : ℕ) → Decides (getD (rulesKept (expected s (r .set) (r .alloc)) (Visit v)) k true) (VisitRule (r .set) r before v (suc k))
+    visit-decides v small zero = rw (place-is r K counter s S) (eqb-true _ _, eq-eqb _ _)
+    visit-decides v small (suc zero) = start-decides v small
+    visit-decides v small (suc (suc zero)) = rw (limit-is r K counter s S) (eqb-true _ _, eq-eqb _ _)
+    visit-decides v small (suc (suc (suc zero))) = rw (most-is r K counter s S) (decides-le _ _)
+    visit-decides v small (suc (suc (suc (suc zero)))) = rw (limit-is r K counter s S) (asked-decides r K (v .asynchronous))
+    visit-decides v small (suc (suc (suc (suc (suc k))))) = (λ _. tt, λ _. refl)
 
-  -- the tests, from the first on, decide the rules, from number 1 on
-  pub rules-decide : (k : ℕ) → Decides (getD (rulesKept (expected s (r .set) (r .alloc) (e .start)) e) k true) (RuleOf (r .set) r before e (suc k))
-  rules-decide zero = rw (place-is r K counter s S) (eqb-true _ _, eq-eqb _ _)
-  rules-decide (suc zero) = start-decides
-  rules-decide (suc (suc zero)) = rw (limit-is r K counter s S) (eqb-true _ _, eq-eqb _ _)
-  rules-decide (suc (suc (suc zero))) = rw (place-is r K counter s S) (decides-le _ _)
-  rules-decide (suc (suc (suc (suc zero)))) = rw (limit-is r K counter s S) (asked-decides r K (e .asynchronous))
-  rules-decide (suc (suc (suc (suc (suc k))))) = (λ _. tt, λ _. refl)
+    -- the one test of a mark decides its one rule
+    mark-decides : (m : MarkEntry) (k : ℕ) → Decides (getD (rulesKept (expected s (r .set) (r .alloc)) (Mark m)) k true) (OnlyRule r m (suc k))
+    mark-decides m zero = (
+      λ h. let both = and-true _ _ h in (ltb-true _ _ (both .0), ltb-true _ _ (both .1)),
+      λ rule. true-and _ _ (lt-ltb _ _ (rule .0)) (lt-ltb _ _ (rule .1)),
+    )
+    mark-decides m (suc k) = (λ _. tt, λ _. refl)
+
+    pub rules-decide : (e : Entry) → Started e → (k : ℕ) → Decides (getD (rulesKept (expected s (r .set) (r .alloc)) e) k true) (RuleOf (r .set) r before e (suc k))
+    rules-decide (Visit v) small = visit-decides v small
+    rules-decide (Mark m) small = mark-decides m
 
 -- ---- the first test that fails
 

@@ -10,9 +10,10 @@
 --     Amounts      which amounts some request sends
 --     Comparing    what is compared differs
 --     Expecting    what is expected is what the ring says
+--     Marks        what a mark does to the visits behind it
 --     Model        the records of a run could be given
 --     Kept         what a recorder keeps of a run
---     Witness      an FDDI log, computed
+--     Witness      an FDDI log and a log with marks, computed
 --     Places       places from N on are never looked at
 --     Editions     the two editions told apart
 --     Logs         the finding of a log's bytes
@@ -28,6 +29,7 @@ pub mod One
 pub mod Amounts
 pub mod Comparing
 pub mod Expecting
+pub mod Marks
 pub mod Model
 pub mod Kept
 pub mod Witness

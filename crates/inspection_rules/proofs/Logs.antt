@@ -1,5 +1,5 @@
 -- The finding of a log's bytes: what its reading handed out, inspected.
-use Prim.Native.Nat.{ℕ, _+_, _*_, _^_, _<_}
+use Prim.Native.Nat.{ℕ, _+_, _^_, _<_}
 use mathlib.Core.Path.{_≡_, sym, ap, _∙_}
 use mathlib.Core.List.{List, [], _∷_}
 use native.Mathlib.Omega.{arith}
@@ -10,9 +10,10 @@ use Rattle.plans.specs.PlanLaws.{given-none}
 use Rattle.plans.specs.declared.Alloc.{Alloc}
 use Rattle.fields.specs.Bytes.{AllBytes}
 use Rattle.entries.specs.declared.Entry.{Entry}
+use Rattle.entries.specs.declared.Entry.the-variants.{Visit, Mark}
 use Rattle.sheet_rules.specs.Promised.{planLength, firstPlaces, firstAllocations}
 use Rattle.sheet_rules.proofs.Promised.{promised as sheets-promised}
-use Rattle.logs.specs.Layout.{logOf, AllFit}
+use Rattle.logs.specs.Layout.{entriesBytes, logOf, AllFit}
 use Rattle.logs.specs.Reading.{readLog, entriesIn}
 use Rattle.logs.specs.declared.ReadLog.{ReadLog}
 use Rattle.log_rules.specs.Promised.{GivesBack}
@@ -27,7 +28,8 @@ use Rattle.inspection_rules.proofs.Places.{inspection-same}
 -- every start that fits its field is a 32-bit number
 pub fit-starts : (es : List Entry) → AllFit es → Starts es
 fit-starts [] all = tt
-fit-starts (e ∷ es) all = (all .0 .start, fit-starts es (all .1))
+fit-starts (Visit v ∷ es) all = (all .0 .start, fit-starts es (all .1))
+fit-starts (Mark m ∷ es) all = (tt, fit-starts es (all .1))
 
 module _ (bs : List ℕ) (z : readLog bs .number ≡ 0) where
   pub found-there : findingIn bs ≡ foundIn bs
@@ -42,8 +44,8 @@ module _ (bs : List ℕ) (z : readLog bs .number ≡ 0) where
     log-recorded =
         let w = logs-promised .again bs bytes z in
         let es = entriesIn bs in
-        let long : length bs ≡ planLength (readLog bs .set) + 20 * length es = ap length (w .0) ∙ logs-promised .long (readLog bs .set) (readLog bs .alloc) es in
-        record { starts = fit-starts es (w .1 .1); few = omega arith }
+        let long : length bs ≡ planLength (readLog bs .set) + length (entriesBytes es) = ap length (w .0) ∙ logs-promised .long (readLog bs .set) (readLog bs .alloc) es in
+        record { starts = fit-starts es (w .1 .1); few = omega (arith, long, logs-promised .entries-long es, logs-promised .two-kinds es) }
 
 -- ---- a log that is laid out is found as its records are inspected
 
@@ -61,5 +63,5 @@ module _ (t : Set) (a : Alloc) (es : List Entry) (h : judgedPlan t a ≡ 0) (fit
       ap (λ (r : ReadLog). inspectionOf (r .set) (r .alloc) es) (B .answer) ∙
       sym
       (inspection-same t (firstPlaces t) a (firstAllocations (t .n) a) (count .1) (count .0) (sheets-promised .back-same t (count .1)) (sheets-promised .back-allocations (t .n) a (count .1)) es) in
-      found-there bs number ∙ ap (λ (l : List Entry). findingOf (inspectionOf (readLog bs .set) (readLog bs .alloc) l) (readLog bs .visits)) (B .entries) ∙
-      ap (λ (s : Inspection). findingOf s (readLog bs .visits)) plan ∙ ap (λ (r : ReadLog). findingOf (inspectionOf t a es) (r .visits)) (B .answer)
+      found-there bs number ∙ ap (λ (l : List Entry). findingOf (inspectionOf (readLog bs .set) (readLog bs .alloc) l) (readLog bs .records)) (B .entries) ∙
+      ap (λ (s : Inspection). findingOf s (readLog bs .records)) plan ∙ ap (λ (r : ReadLog). findingOf (inspectionOf t a es) (r .records)) (B .answer)

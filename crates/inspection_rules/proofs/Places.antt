@@ -13,12 +13,13 @@ use Rattle.sets.specs.Judged.{zeros}
 use Rattle.sets.specs.declared.Set.{Set}
 use Rattle.plans.specs.declared.Alloc.{Alloc}
 use Rattle.entries.specs.declared.Entry.{Entry}
+use Rattle.entries.specs.declared.Entry.the-variants.{Visit, Mark}
 use Rattle.rings.specs.State.{following}
 use Rattle.rings.specs.Timers.{lead}
 use Rattle.promises.proofs.Course.{following-is, same-or-not}
 use Rattle.inspection.specs.Opening.{passingTimes, begun}
 use Rattle.inspection.specs.Rules.{place, expected, brokenRule}
-use Rattle.inspection.specs.Records.{movedOn, judged, inspected, inspectedAll, inspectionOf}
+use Rattle.inspection.specs.Records.{visitedOn, switchedOn, movedOn, judged, inspected, inspectedAll, inspectionOf}
 use Rattle.inspection.specs.declared.Inspection.{Inspection}
 use Rattle.inspection.specs.declared.Expected.{Expected}
 use Rattle.inspection.proofs.RecordLaws.{inspected-stays, inspected-stops, inspected-moves}
@@ -39,38 +40,41 @@ module _ (t u : Set) (a b : Alloc) (few : t .n ≤ 128) (some : 1 ≤ t .n) (sam
   abbrev Inside : Inspection → Type 0
   Inside s = place s < t .n
 
+  module _ (s : Inspection) (inside : Inside s) where
+    expected-same : expected s t a ≡ expected s u b
+    expected-same = rw (same .header, same .count, shares (place s) inside) refl
+
+    moved-same : (e : Entry) → movedOn s t a e ≡ movedOn s u b e
+    unfolding visitedOn lead
+    moved-same (Visit v) = rw (same .header, same .count, shares (place s) inside, same .walk (place s) inside) refl
+    moved-same (Mark m) = refl
+
+    -- and so is the one that it moves on to
+    moved-inside : (e : Entry) → Inside (movedOn s t a e)
+    unfolding visitedOn switchedOn
+    moved-inside (Visit v) =
+        ⊎-elim (λ (w : (place s + 1 < t .n) × (following (t .n) (place s) ≡ place s + 1)). omega (arith, w .0, w .1))
+        (λ (w : (place s + 1 ≡ t .n) × (following (t .n) (place s) ≡ 0)). omega (arith, w .1))
+        (following-is (t .n) (place s) inside)
+    moved-inside (Mark m) = inside
+
   module _ (s : Inspection) (inside : Inside s) (e : Entry) where
-    expected-same : expected s t a (e .start) ≡ expected s u b (e .start)
-    expected-same = rw (same .header, shares (place s) inside) refl
-
-    moved-same : movedOn s t a e ≡ movedOn s u b e
-    unfolding movedOn lead
-    moved-same = rw (same .header, same .count, shares (place s) inside, same .walk (place s) inside) refl
-
     judged-same : (k : ℕ) → judged k s t a e ≡ judged k s u b e
     unfolding judged
-    judged-same zero = moved-same
+    judged-same zero = moved-same s inside e
     judged-same (suc k) = refl
 
     inspected-same : inspected s t a e ≡ inspected s u b e
     unfolding inspected
     inspected-same =
-        ap (λ (x : Expected). cond (eqb (s .rule) 0) (judged (brokenRule x e) s t a e) s) expected-same ∙
-        ap (λ (x : Inspection). cond (eqb (s .rule) 0) x s) (judged-same (brokenRule (expected s u b (e .start)) e))
-
-    -- and so is the one that it moves on to
-    moved-inside : Inside (movedOn s t a e)
-    unfolding movedOn
-    moved-inside =
-        ⊎-elim (λ (w : (place s + 1 < t .n) × (following (t .n) (place s) ≡ place s + 1)). omega (arith, w .0, w .1))
-        (λ (w : (place s + 1 ≡ t .n) × (following (t .n) (place s) ≡ 0)). omega (arith, w .1))
-        (following-is (t .n) (place s) inside)
+        ap (λ (x : Expected). cond (eqb (s .rule) 0) (judged (brokenRule x e) s t a e) s) (expected-same s inside) ∙
+        ap (λ (x : Inspection). cond (eqb (s .rule) 0) x s) (judged-same (brokenRule (expected s u b) e))
 
     inspected-inside : Inside (inspected s t a e)
     inspected-inside =
-        let k = brokenRule (expected s t a (e .start)) e in
+        let k = brokenRule (expected s t a) e in
         ⊎-elim (λ (z : s .rule ≡ 0).
-        ⊎-elim (λ (none : k ≡ 0). rw (inspected-moves s t a e z none) moved-inside)
+        ⊎-elim (λ (none : k ≡ 0). rw (inspected-moves s t a e z none) (moved-inside s inside e))
         (λ (n : k ≢ 0). rw (inspected-stops s t a e z k refl n) inside)
         (same-or-not k 0))
         (λ (n : s .rule ≢ 0). rw (inspected-stays s t a e n) inside)

@@ -1,24 +1,26 @@
 -- The proof of what `specs/Promised.antt` promises.
-use Prim.Native.Nat.{ℕ, _+_, _-_, _^_, _≤_, _<_}
-use mathlib.Core.Path.{_≡_, refl, sym, ap, _∙_}
-use mathlib.Core.List.{List, [], _∷_, _++_, reverse}
+use Prim.Native.Nat.{ℕ, _+_, _-_, _%_, _^_, _≤_, _<_}
+use mathlib.Core.Path.{_≡_, refl, sym, ap, subst, _∙_}
+use mathlib.Core.List.{List, [], _∷_, _++_, map, reverse}
 use mathlib.Core.Logic.{_⊎_, _≢_, ⊎-elim, _↔_}
+use native.Mathlib.Nat.{mod-eq-of-lt}
 use native.Mathlib.Omega.{arith}
 use lib.ListN.{length, length-append, take}
 use Rattle.sets.specs.declared.Set.{Set}
 use Rattle.plans.specs.Planned.{judgedPlan}
 use Rattle.plans.specs.declared.Alloc.{Alloc}
+use Rattle.entries.specs.declared.MarkEntry.{MarkEntry}
 use Rattle.entries.specs.declared.Entry.{Entry}
+use Rattle.entries.specs.declared.Entry.the-variants.{Visit, Mark}
 use Rattle.rings.specs.Opening.{openedRing}
 use Rattle.fields.specs.Bytes.{AllBytes}
 use Rattle.sheet_rules.specs.Promised.{planLength}
 use Rattle.logs.specs.Layout.{logOf, AllFit}
 use Rattle.logs.specs.Reading.{readLog, entriesIn}
-use Rattle.log_rules.specs.Recorded.{beginning, recorded, keptOf, endAnswer, endBuffer, entriesOf}
+use Rattle.log_rules.specs.Recorded.{says, beginning, recorded, keptOf, endAnswer, endBuffer, toldIn, entriesOf}
 use Rattle.log_rules.proofs.RunLaws.{run-fits}
-use Rattle.promises.specs.Run.{Call, recordsOf}
+use Rattle.promises.specs.Run.{Call, Event, eventsOf}
 use Rattle.promises.proofs.Course.{same-or-not}
-use Rattle.promises.proofs.Promised.{promised as runs-promised}
 use Rattle.inspection.specs.Opening.{begun}
 use Rattle.inspection.specs.Records.{inspectedAll, inspectionOf}
 use Rattle.inspection.specs.Findings.{brokenRecord, foundIn, findingIn}
@@ -26,45 +28,55 @@ use Rattle.inspection.specs.declared.Inspection.{Inspection}
 use Rattle.inspection.specs.declared.Finding.{Finding}
 use Rattle.inspection_rules.specs.Gives.{ringAfter, Gives}
 use Rattle.inspection_rules.specs.Broken.{Rule, FirstBroken}
-use Rattle.inspection_rules.specs.Promised.{Recorded, Promised}
+use Rattle.inspection_rules.specs.Promised.{Started, Starts, Recorded, stationOf, Promised}
 use Rattle.inspection_rules.proofs.Following.{gives-join, gives-split}
 use Rattle.inspection.proofs.RecordLaws.{all-stays}
 use Rattle.inspection.proofs.FindingLaws.{one-named, none-named, handed-length, finding-refused}
-use Rattle.inspection_rules.proofs.Finding.{all-join, set-is, visits-are, reaches, could-keeps, keeps-could, Ends, ends}
+use Rattle.inspection_rules.proofs.Finding.{all-join, set-is, reaches, could-keeps, keeps-could, Stopped, ends}
 use Rattle.inspection_rules.proofs.Further.{further}
-use Rattle.inspection_rules.proofs.Next.{start-between, one-more}
+use Rattle.inspection_rules.proofs.Next.{start-free, start-between, one-more}
 use Rattle.inspection_rules.proofs.One.{not-both, one-finding}
 use Rattle.inspection_rules.proofs.Amounts.{which-amounts}
 use Rattle.inspection_rules.proofs.Comparing.{differs}
 use Rattle.inspection_rules.proofs.Expecting.{expects, compares}
-use Rattle.inspection_rules.proofs.Model.{model-gives, model-length, no-records, could-written}
-use Rattle.inspection_rules.proofs.Kept.{keptEntries, kept-length, kept-few, kept-fit, kept-gives, kept-log}
-use Rattle.inspection_rules.proofs.Witness.{late-log}
+use Rattle.inspection_rules.proofs.Model.{marks-so, unmarks-so, model-gives, model-length, no-events, could-written}
+use Rattle.inspection_rules.proofs.Marks.{marks-after, judged-in, walks-through, marks-alone, nothing-new}
+use Rattle.inspection_rules.proofs.Kept.{keptEntries, kept-length, kept-fit, kept-gives, kept-log}
+use Rattle.inspection_rules.proofs.Witness.{late-log, marked-log}
 use Rattle.inspection_rules.proofs.Places.{inspection-same}
 use Rattle.inspection_rules.proofs.Editions.{editions}
 use Rattle.inspection_rules.proofs.Logs.{fit-starts, found-there, log-plan, log-recorded, found-back}
 
 -- ---- what an inspection ends with
 
-module _ (t : Set) (a : Alloc) (es : List Entry) (h : judgedPlan t a ≡ 0) (R : Recorded es) where
-  ended : Ends t a h es (inspectionOf t a es)
-  ended = ends t a h es (R .starts) (R .few)
-
-  accepted-gives : (inspectionOf t a es .rule ≡ 0) ↔ Gives t a es
-  accepted-gives = (
-    λ z. ⊎-elim (λ A. (A .counter, A .given)) (λ f. absurd (f .0 z)) ended,
-    λ g. ⊎-elim (λ A. A .stands .rule) (λ f. absurd (not-both t a h es g _ _ (f .1))) ended,
+module _ (t : Set) (a : Alloc) (es : List Entry) (h : judgedPlan t a ≡ 0) where
+  accepted-gives : Starts es → (inspectionOf t a es .rule ≡ 0) ↔ Gives t a es
+  accepted-gives starts = (
+    λ z. ⊎-elim (λ A. (A .counter, A .given)) (λ f. absurd (f .rule z)) (ends t a h es starts),
+    λ g. ⊎-elim (λ A. A .stands .rule) (λ f. absurd (not-both t a h es g _ _ (f .first))) (ends t a h es starts),
   )
 
-  all-counted : inspectionOf t a es .rule ≡ 0 → inspectionOf t a es .visits ≡ length es
-  all-counted z = ⊎-elim (λ A. A .stands .visits ∙ visits-are t a h es) (λ f. absurd (f .0 z)) ended
+  module _ (R : Recorded es) where
+    all-counted : inspectionOf t a es .rule ≡ 0 → inspectionOf t a es .records ≡ length es
+    all-counted z = ⊎-elim (λ A. A .counted ∙ mod-eq-of-lt (R .few)) (λ f. absurd (f .rule z)) (ends t a h es (R .starts))
 
-  first-found : inspectionOf t a es .rule ≢ 0 → FirstBroken t a es (inspectionOf t a es .visits + 1) (inspectionOf t a es .rule)
-  first-found n = ⊎-elim (λ A. absurd (n (A .stands .rule))) (λ f. f .1) ended
+    -- the named record is one of those that a 64-bit number counts
+    number-is : (f : Stopped t a h es (inspectionOf t a es)) → f .number ≡ inspectionOf t a es .records + 1
+    number-is f =
+        let F = f .first in
+        let long = ap length (F .place) ∙ length-append (F .before) (F .entry ∷ F .behind) in
+        let few : (f .number - 1) % 2 ^ 64 ≡ f .number - 1 = mod-eq-of-lt (omega (arith, R .few, long, F .counted)) in
+        omega (arith, F .counted, f .counted, few)
+
+    first-found : inspectionOf t a es .rule ≢ 0 → FirstBroken t a es (inspectionOf t a es .records + 1) (inspectionOf t a es .rule)
+    first-found n =
+        ⊎-elim (λ A. absurd (n (A .stands .rule)))
+        (λ f. subst (λ (number : ℕ). FirstBroken t a es number (inspectionOf t a es .rule)) (number-is f) (f .first))
+        (ends t a h es (R .starts))
 
 -- ---- the five rules
 
-all-rules : (t : Set) (a : Alloc) (before : List Entry) (e : Entry) → judgedPlan t a ≡ 0 → Gives t a before → e .start < 2 ^ 32
+all-rules : (t : Set) (a : Alloc) (before : List Entry) (e : Entry) → judgedPlan t a ≡ 0 → Gives t a before → Started e
     → ((k : ℕ) → Rule t a before e k) ↔ Gives t a (before ++ (e ∷ []))
 all-rules t a before e h g small = (
   λ rules.
@@ -77,11 +89,9 @@ all-rules t a before e h g small = (
 
 -- ---- a station number that is not below N
 
-beyond-n : (t : Set) (a : Alloc) (before : List Entry) (e : Entry) (behind : List Entry) → judgedPlan t a ≡ 0 → Gives t a before → t .n ≤ e .station
+beyond-n : (t : Set) (a : Alloc) (before : List Entry) (e : Entry) (behind : List Entry) → judgedPlan t a ≡ 0 → Gives t a before → t .n ≤ stationOf e
     → FirstBroken t a (before ++ e ∷ behind) (length before + 1) 1
 beyond-n t a before e behind h g above =
-    let K = reaches t a h (g .0) before (g .1) in
-    let n = ap (λ (x : Set). x .n) (set-is t a h before) in
     record {
       before = before;
       entry = e;
@@ -91,29 +101,49 @@ beyond-n t a before e behind h g above =
       given = g;
       known = (omega arith, omega arith);
       kept = λ k low b. absurd (omega arith);
-      broken = λ is. absurd (omega (arith, K .token));
+      broken = outside e above;
+    }
+  where
+    outside : (e : Entry) → t .n ≤ stationOf e → ¬ Rule t a before e 1
+    outside (Visit v) above is = absurd (omega (arith, above, is, reaches t a h (g .0) before (g .1) .token, ap (λ (x : Set). x .n) (set-is t a h before)))
+    outside (Mark m) above is = absurd (omega (arith, above, is .0, ap (λ (x : Set). x .n) (set-is t a h before)))
+
+neither : (t : Set) (a : Alloc) (before : List Entry) (m : MarkEntry) (behind : List Entry) → judgedPlan t a ≡ 0 → Gives t a before → 2 ≤ m .mark
+    → FirstBroken t a (before ++ Mark m ∷ behind) (length before + 1) 1
+neither t a before m behind h g above =
+    record {
+      before = before;
+      entry = Mark m;
+      behind = behind;
+      place = refl;
+      counted = refl;
+      given = g;
+      known = (omega arith, omega arith);
+      kept = λ k low b. absurd (omega arith);
+      broken = λ is. absurd (omega (arith, above, is .1));
     }
 
--- ---- a log without visits, and those of the model
+-- ---- a log without records, and those of the model
 
-nothing-visited : (t : Set) (a : Alloc) → (inspectionOf t a [] .rule ≡ 0) × (inspectionOf t a [] .visits ≡ 0)
+nothing-recorded : (t : Set) (a : Alloc) → (inspectionOf t a [] .rule ≡ 0) × (inspectionOf t a [] .records ≡ 0)
 unfolding inspectedAll begun
-nothing-visited t a = (refl, refl)
+nothing-recorded t a = (refl, refl)
 
--- records that fit their fields, some of those of a run
-fit-recorded : (t : Set) (a : Alloc) (es : List Entry) (calls : List Call) → judgedPlan t a ≡ 0 → AllFit es → length es ≤ length (recordsOf t a calls) → Recorded es
-fit-recorded t a es calls h fit most = record { starts = fit-starts es fit; few = omega (arith, runs-promised .judged t a h .common .bounded calls) }
+-- records that fit their fields and could be given
+fit-accepted : (t : Set) (a : Alloc) (es : List Entry) → judgedPlan t a ≡ 0 → AllFit es → Gives t a es → inspectionOf t a es .rule ≡ 0
+fit-accepted t a es h fit g = accepted-gives t a es h (fit-starts es fit) .1 g
 
 model-accepted : (t : Set) (a : Alloc) (counter : ℕ) (calls : List Call) → judgedPlan t a ≡ 0 → inspectionOf t a (entriesOf counter t a calls) .rule ≡ 0
-model-accepted t a counter calls h =
-    let es = entriesOf counter t a calls in
-    let R = fit-recorded t a es calls h (run-fits t a counter calls) (omega (arith, model-length t a counter calls)) in
-    accepted-gives t a es h R .1 (counter, model-gives t a counter calls h)
+model-accepted t a counter calls h = fit-accepted t a (entriesOf counter t a calls) h (run-fits t a counter calls) (counter, model-gives t a counter calls h)
 
 -- of a plan that does not meet the rules there are none
 run-accepted : (t : Set) (a : Alloc) (counter : ℕ) (calls : List Call) → inspectionOf t a (entriesOf counter t a calls) .rule ≡ 0
 run-accepted t a counter calls =
-    ⊎-elim (model-accepted t a counter calls) (λ n. rw (no-records t a n calls) (nothing-visited t a .0)) (same-or-not (judgedPlan t a) 0)
+    ⊎-elim (λ h. model-accepted t a counter calls h)
+    (λ n.
+    let none : entriesOf counter t a calls ≡ [] = ap (λ (events : List Event). map (says counter) (reverse (toldIn events))) (no-events t a n calls) in
+    rw none (nothing-recorded t a .0))
+    (same-or-not (judgedPlan t a) 0)
 
 -- ---- the finding of a log
 
@@ -135,11 +165,11 @@ module _ (bs : List ℕ) (bytes : AllBytes bs) (short : length bs < 2 ^ 64) (z :
 
   log-gives : (findingIn bs .rule ≡ 0) ↔ Gives (readLog bs .set) (readLog bs .alloc) (entriesIn bs)
   log-gives =
-      let both = accepted-gives (readLog bs .set) (readLog bs .alloc) (entriesIn bs) h R in
+      let both = accepted-gives (readLog bs .set) (readLog bs .alloc) (entriesIn bs) h (R .starts) in
       (λ z. both .0 (sym rule-is ∙ z), λ g. rule-is ∙ both .1 g)
 
   -- the record that is named is the one behind those that are counted
-  named-there : state .rule ≢ 0 → brokenRecord state ≡ state .visits + 1
+  named-there : state .rule ≢ 0 → brokenRecord state ≡ state .records + 1
   named-there some =
       let f = first-found (readLog bs .set) (readLog bs .alloc) (entriesIn bs) h R some in
       let long = ap length (f .place) ∙ length-append (f .before) (f .entry ∷ f .behind) in
@@ -167,8 +197,8 @@ module _ (bs : List ℕ) (bytes : AllBytes bs) (short : length bs < 2 ^ 64) (z :
       let a = readLog bs .alloc in
       let some : state .rule ≢ 0 = λ none. omega (arith, record-is, none-named state none) in
       let is : state ≡ inspectionOf t a (before ++ e ∷ other) = ap (inspectionOf t a) here in
-      let counted : inspectionOf t a (before ++ e ∷ other) .visits ≡ length before =
-      omega (arith, ap (λ (s : Inspection). s .visits) is, record-is, named-there some) in
+      let counted : inspectionOf t a (before ++ e ∷ other) .records ≡ length before =
+      omega (arith, ap (λ (s : Inspection). s .records) is, record-is, named-there some) in
       let same = further t a before e other another (omega (arith, R .few, ap length here)) (λ none. some (ap (λ (s : Inspection). s .rule) is ∙ none)) counted in
       let all : inspectionOf (readLog cs .set) (readLog cs .alloc) (entriesIn cs) ≡ state = rw (sets, allocs, there) (same ∙ sym is) in (
         ap (λ (f : Finding). f .«record») (found-there cs zc) ∙ ap brokenRecord all ∙ sym record-is,
@@ -176,20 +206,19 @@ module _ (bs : List ℕ) (bytes : AllBytes bs) (short : length bs < 2 ^ 64) (z :
       )
 
 -- the log of records that are accepted
-log-clean : (t : Set) (a : Alloc) (es : List Entry) (visits : ℕ) → judgedPlan t a ≡ 0 → AllFit es → inspectionOf t a es .rule ≡ 0 → length es ≡ visits
-    → findingIn (logOf t a es) ≡ record { visits = visits; «record» = 0; rule = 0; number = 0 }
-log-clean t a es visits h fit none many = found-back t a es h fit ∙ rw (none-named (inspectionOf t a es) none, none, many) refl
+log-clean : (t : Set) (a : Alloc) (es : List Entry) (records : ℕ) → judgedPlan t a ≡ 0 → AllFit es → inspectionOf t a es .rule ≡ 0 → length es ≡ records
+    → findingIn (logOf t a es) ≡ record { records = records; «record» = 0; rule = 0; number = 0 }
+log-clean t a es records h fit none many = found-back t a es h fit ∙ rw (none-named (inspectionOf t a es) none, none, many) refl
 
 recorded-accepted : (t : Set) (a : Alloc) (counter : ℕ) (calls : List Call) (out : List ℕ) → judgedPlan t a ≡ 0 → planLength t ≤ length out
     → let begins = beginning t a counter 0 out in
-    let visits = reverse (recordsOf t a calls) in
-    let s = recorded begins visits in
-    findingIn (take (endAnswer s .length) (endBuffer s)) ≡ record { visits = length (keptOf begins visits); «record» = 0; rule = 0; number = 0 }
+    let told = reverse (toldIn (eventsOf t a calls)) in
+    let s = recorded begins told in
+    findingIn (take (endAnswer s .length) (endBuffer s)) ≡ record { records = length (keptOf begins told); «record» = 0; rule = 0; number = 0 }
 recorded-accepted t a counter calls out h room =
     let es = keptEntries t a h counter calls out room in
     let fit = kept-fit t a h counter calls out room in
-    let R = fit-recorded t a es calls h fit (kept-few t a h counter calls out room) in
-    let none = accepted-gives t a es h R .1 (counter, kept-gives t a h counter calls out room) in
+    let none = fit-accepted t a es h fit (counter, kept-gives t a h counter calls out room) in
     ap findingIn (kept-log t a h counter calls out room) ∙ log-clean t a es _ h fit none (kept-length t a h counter calls out room)
 
 pub promised : Promised
@@ -199,26 +228,36 @@ promised =
       counted = all-counted;
       found = first-found;
       five-rules = all-rules;
-      wrapping = λ t a before b e h. start-between t a h before b e;
+      wrapping = λ t a before b v h. start-between t a h before b v;
+      free-start = start-free;
       goes-on = λ t a es h. one-more t a h es;
       one-finding = λ t a es number other rule another h. one-finding t a h es number other rule another;
       not-both = λ t a es h. not-both t a h es;
       no-further = further;
       stopped = λ s t a es more n. all-join s t a es more ∙ all-stays (inspectedAll s t a es) t a more n;
       pieces = all-join;
-      no-visit = nothing-visited;
+      no-record = nothing-recorded;
       beyond = beyond-n;
+      no-mark = neither;
       amounts = which-amounts;
+      marks = marks-after;
+      station-in = judged-in;
+      through = walks-through;
+      alone = marks-alone;
+      as-marked = marks-so;
+      as-unmarked = unmarks-so;
+      without-marks = nothing-new;
+      marked-log = marked-log;
       first-places = λ t u a b es count same shares. inspection-same t u a b (count .1) (count .0) same shares es;
       written-visit = λ t a before h g counter. could-written counter (ringAfter (openedRing t a) before) (reaches t a h (g .0) before (g .1));
       runs = run-accepted;
       editions = editions;
       late-log = late-log;
-      expects = λ t a before counter own h R g. expects t a h before counter R g own;
+      expects = λ t a before counter h R g. expects t a h before counter R g;
       compares = λ t a es h R number rule f. compares t a h es R number rule f;
       differ = differs;
       log-refused = λ bs n. finding-refused (readLog bs .number) (foundIn bs) n;
-      log-read = λ bs z. (ap (λ (f : Finding). f .number) (found-there bs z), ap (λ (f : Finding). f .visits) (found-there bs z) ∙ sym (handed-length (readLog bs .visits) bs (readLog bs .first)));
+      log-read = λ bs z. (ap (λ (f : Finding). f .number) (found-there bs z), ap (λ (f : Finding). f .records) (found-there bs z) ∙ sym (handed-length (readLog bs .records) bs (readLog bs .first)));
       log-accepted = log-gives;
       log-unnamed = log-names;
       log-found = log-breaks;

@@ -1,5 +1,5 @@
 -- What every ring keeps that records could lead to, whatever its clock: its timers stay small, so that differences on a 32-bit counter tell them.
-use Prim.Native.Nat.{ℕ, _+_, _-_, _*_, _≤_, _<_}
+use Prim.Native.Nat.{ℕ, zero, suc, _+_, _-_, _*_, _≤_, _<_}
 use mathlib.Core.Path.{_≡_, refl, ap, _∙_}
 use mathlib.Core.List.{List}
 use mathlib.Core.Logic.{_≢_, ⊎-elim}
@@ -13,25 +13,28 @@ use Rattle.sets.specs.Judged.{zeros}
 use Rattle.sets.specs.declared.Set.{Set}
 use Rattle.plans.specs.Planned.{judgedPlan}
 use Rattle.plans.specs.declared.Alloc.{Alloc}
-use Rattle.entries.specs.declared.Entry.{Entry}
+use Rattle.entries.specs.declared.VisitEntry.{VisitEntry}
 use Rattle.timers.specs.Kept.{TokenRule, Visit, Kept}
 use Rattle.timers.proofs.Promised.{promised as timers-promised}
-use Rattle.rings.specs.State.{count, ttrt, overrun, following, share, unusedAt, Shaped, timersOf, withMessages, withCourse, noMessages}
-use Rattle.rings.specs.Timers.{Fddi, timerOf, hasRun, limit, lead, rise, timersAfter, timelyAfter}
-use Rattle.rings.specs.TimerLaws.{fddi-or-not, limit-timely, after-timely}
+use Rattle.rings.specs.State.{count, ttrt, overrun, following, share, unusedAt, Marked, Unmarked, Shaped, timersOf, Messages, withMessages, withCourse, noMessages}
+use Rattle.rings.specs.Timers.{Fddi, timerOf, hasRun, timersOffer, limit, lead, rise, timersAfter, timelyAfter}
+use Rattle.rings.specs.TimerLaws.{fddi-or-not, marked-or-not, limit-within, offer-timely, after-timely}
 use Rattle.rings.specs.Opening.{openedRing}
 use Rattle.rings.specs.Sound.{Sound}
 use Rattle.rings.specs.Steps.{moved}
+use Rattle.rings.specs.RingLaws.{most-within}
+use Rattle.rings.specs.Marking.{switchedThrough, switchedIn}
+use Rattle.rings.specs.MarkLaws.{ring-marked, ring-unmarked}
 use Rattle.rings.specs.FrameLaws.{frames-within, frames-none}
 use Rattle.rings.specs.declared.Ring.{Ring}
 use Rattle.rings.proofs.ShapeLaws.{messages-shaped, course-shaped, moved-shaped}
-use Rattle.rings.proofs.StationLaws.{limit-ran, ran-here, ran-there, moved-below, moved-long, opened-ran, opened-below}
+use Rattle.rings.proofs.StationLaws.{offer-ran, ran-here, ran-there, moved-below, moved-long, opened-ran, opened-below}
 use Rattle.ring_rules.proofs.OpenedLaws.{fresh}
 use Rattle.promises.specs.Facts.{timerPlan}
 use Rattle.promises.proofs.Sums.{sum-changed}
 use Rattle.promises.proofs.Course.{Plan, following-is, same-or-not}
 use Rattle.promises.proofs.Opening.{plan-of}
-use Rattle.inspection_rules.specs.Gives.{Could}
+use Rattle.inspection_rules.specs.Gives.{CouldVisit, switched}
 
 -- no visit takes longer
 abbrev pub longest : ℕ
@@ -75,7 +78,7 @@ module _ (r : Ring) (K : Reached r) where
   allotted i l = omega (arith, plan .token, sum-part (count r) (at (r .alloc .s)) i l, sum-part (count r) (at (r .set .w)) i l)
 
   still-shaped : Shaped (still r)
-  still-shaped = messages-shaped _ (course-shaped r (K .shaped) _ (K .shaped .sent) refl) _ refl refl refl
+  still-shaped = messages-shaped _ (course-shaped r (K .shaped) _ (K .shaped .sent) refl) _ refl refl refl refl
 
   still-sound : Fddi (r .set) → Sound (still r)
   still-sound e =
@@ -103,12 +106,13 @@ module _ (r : Ring) (K : Reached r) where
 
   -- ---- the limit
 
-  pub limit-lapped : Fddi (r .set) → limit r ≡ ttrt r - hasRun (r .set) (timersOf r) (r .token)
-  unfolding limit
-  limit-lapped e = limit-ran (still r) still-shaped (still-sound e) e
+  pub offer-lapped : Fddi (r .set) → timersOffer r ≡ ttrt r - hasRun (r .set) (timersOf r) (r .token)
+  unfolding timersOffer
+  offer-lapped e = offer-ran (still r) still-shaped (still-sound e) e
 
+  -- a marked station's is 0, and any other one's what the timers offer
   pub limit-small : limit r ≤ ttrt r
-  limit-small = ⊎-elim (λ e. omega (arith, limit-lapped e)) (λ n. omega (arith, limit-timely r n)) (fddi-or-not (r .set))
+  limit-small = ⊎-elim (λ e. omega (arith, limit-within r, offer-lapped e)) (λ n. omega (arith, limit-within r, offer-timely r n)) (fddi-or-not (r .set))
 
 -- ---- lists
 
@@ -122,27 +126,30 @@ module _ (n p x y : ℕ) (xs : List ℕ) (few : n ≤ length xs) where
 
 -- ---- one visit more
 
-module _ (counter : ℕ) (r : Ring) (K : Reached r) (e : Entry) (C : Could counter r e) where
+module _ (counter : ℕ) (r : Ring) (K : Reached r) (v : VisitEntry) (C : CouldVisit counter r v) where
   abbrev pub next : Ring
-  next = moved r (e .synchronous) (e .asynchronous)
+  next = moved r (v .synchronous) (v .asynchronous)
 
   abbrev pub passes : ℕ
-  passes = rise r (e .synchronous) (e .asynchronous)
+  passes = rise r (v .synchronous) (v .asynchronous)
 
   few : count r ≤ 128
   few = plan r K .few
 
   -- the last frame runs on past the limit by at most F − 1; at limit 0 none is sent
-  async-within : e .asynchronous ≤ limit r + overrun r
+  async-within : v .asynchronous ≤ limit r + overrun r
   async-within =
       let A = C .asynchronous in
       omega (arith, A .sent, frames-within (limit r) (A .ask) (A .named .0), A .named .1)
 
-  async-shut : limit r ≡ 0 → e .asynchronous ≡ 0
+  async-shut : limit r ≡ 0 → v .asynchronous ≡ 0
   async-shut z = C .asynchronous .sent ∙ rw z (frames-none (C .asynchronous .ask))
 
+  sync-within : v .synchronous ≤ share r (r .token)
+  sync-within = omega (arith, C .synchronous, most-within r)
+
   pub passes-short : passes ≤ longest
-  passes-short = omega (arith, async-within, limit-small r K, C .synchronous, allotted r K (r .token) (K .token), plan r K .rotation .1)
+  passes-short = omega (arith, async-within, limit-small r K, sync-within, allotted r K (r .token) (K .token), plan r K .rotation .1)
 
   pub token-next : next .token ≡ following (count r) (r .token)
   unfolding moved
@@ -154,17 +161,17 @@ module _ (counter : ℕ) (r : Ring) (K : Reached r) (e : Entry) (C : Could count
       (λ (b : (r .token + 1 ≡ count r) × (following (count r) (r .token) ≡ 0)). omega (arith, token-next, b .1, K .token))
       (following-is (count r) (r .token) (K .token))
 
-  sent-here : at (next .sent) (r .token) ≡ e .synchronous
+  sent-here : at (next .sent) (r .token) ≡ v .synchronous
   unfolding moved
-  sent-here = getD-set-same (r .sent) (r .token) (e .synchronous) 0 (omega (arith, few, K .token, K .shaped .sent))
+  sent-here = getD-set-same (r .sent) (r .token) (v .synchronous) 0 (omega (arith, few, K .token, K .shaped .sent))
 
   sent-there : (i : ℕ) → i ≢ r .token → at (next .sent) i ≡ at (r .sent) i
   unfolding moved
-  sent-there i d = getD-set-other (r .sent) (r .token) i (e .synchronous) 0 d
+  sent-there i d = getD-set-other (r .sent) (r .token) i (v .synchronous) 0 d
 
   sents-next : (i : ℕ) → i < count r → at (next .sent) i ≤ share r i
   sents-next i l =
-      ⊎-elim (λ (b : i ≡ r .token). rw b (omega (arith, sent-here, C .synchronous)))
+      ⊎-elim (λ (b : i ≡ r .token). rw b (omega (arith, sent-here, sync-within)))
       (λ (b : i ≢ r .token). omega (arith, sent-there i b, K .sents i l))
       (same-or-not i (r .token))
 
@@ -172,17 +179,17 @@ module _ (counter : ℕ) (r : Ring) (K : Reached r) (e : Entry) (C : Could count
 
   module _ (n : ¬ Fddi (r .set)) where
     -- TRT went to 0 when the synchronous part started
-    pub early-here : at (next .trt) (r .token) ≡ passes - lead (r .set) (e .asynchronous)
+    pub early-here : at (next .trt) (r .token) ≡ passes - lead (r .set) (v .asynchronous)
     unfolding moved timelyAfter
-    early-here = rw (after-timely r n (e .synchronous) (e .asynchronous)) (raised-here (count r) (r .token) passes _ (r .trt) (omega (arith, few, K .shaped .trt)) (K .token))
+    early-here = rw (after-timely r n (v .synchronous) (v .asynchronous)) (raised-here (count r) (r .token) passes _ (r .trt) (omega (arith, few, K .shaped .trt)) (K .token))
 
     pub early-there : (i : ℕ) → i < count r → i ≢ r .token → at (next .trt) i ≡ at (r .trt) i + passes
     unfolding moved timelyAfter
-    early-there i l d = rw (after-timely r n (e .synchronous) (e .asynchronous)) (raised-there (count r) (r .token) passes _ (r .trt) (omega (arith, few, K .shaped .trt)) i l d)
+    early-there i l d = rw (after-timely r n (v .synchronous) (v .asynchronous)) (raised-there (count r) (r .token) passes _ (r .trt) (omega (arith, few, K .shaped .trt)) i l d)
 
-    pub early-unused : next .unused ≡ r .unused - unusedAt r (r .token) + (share r (r .token) - e .synchronous)
+    pub early-unused : next .unused ≡ r .unused - unusedAt r (r .token) + (share r (r .token) - v .synchronous)
     unfolding moved timelyAfter
-    early-unused = rw (after-timely r n (e .synchronous) (e .asynchronous)) refl
+    early-unused = rw (after-timely r n (v .synchronous) (v .asynchronous)) refl
 
     -- the sum of S − s has changed by this station's alone
     unused-next : next .unused ≡ sumBelow (count r) (λ i. share r i - at (next .sent) i)
@@ -190,7 +197,7 @@ module _ (counter : ℕ) (r : Ring) (K : Reached r) (e : Entry) (C : Could count
         let f = unusedAt r in
         let g : ℕ → ℕ = λ i. share r i - at (next .sent) i in
         let p = r .token in
-        let here : at (next .sent) p ≡ e .synchronous = sent-here in
+        let here : at (next .sent) p ≡ v .synchronous = sent-here in
         let changed : sumBelow (count r) g + f p ≡ sumBelow (count r) f + g p =
         sum-changed (count r) p f g (K .token) (λ i d. ap (λ (x : ℕ). share r i - x) (sent-there i d)) in
         let own : f p ≤ sumBelow (count r) f = sum-part (count r) f p (K .token) in
@@ -230,24 +237,24 @@ module _ (counter : ℕ) (r : Ring) (K : Reached r) (e : Entry) (C : Could count
   module _ (f : Fddi (r .set)) where
     pub lapped-here : hasRun (r .set) (timersOf next) (r .token) ≡ hasRun (r .set) (timersOf r) (r .token) - ttrt r + passes
     unfolding moved timersAfter timelyAfter
-    lapped-here = ran-here (still r) (still-shaped r K) (still-sound r K f) f (e .synchronous) (e .asynchronous)
+    lapped-here = ran-here (still r) (still-shaped r K) (still-sound r K f) f (v .synchronous) (v .asynchronous)
 
     pub lapped-there : (i : ℕ) → i < count r → i ≢ r .token → hasRun (r .set) (timersOf next) i ≡ hasRun (r .set) (timersOf r) i + passes
     unfolding moved timersAfter timelyAfter
-    lapped-there = ran-there (still r) (still-shaped r K) (still-sound r K f) f (e .synchronous) (e .asynchronous)
+    lapped-there = ran-there (still r) (still-shaped r K) (still-sound r K f) f (v .synchronous) (v .asynchronous)
 
     lapped-below : (i : ℕ) → i < count r → at (next .trt) i < ttrt r
     unfolding moved timersAfter timelyAfter
-    lapped-below = moved-below (still r) (still-shaped r K) (still-sound r K f) f (e .synchronous) (e .asynchronous)
+    lapped-below = moved-below (still r) (still-shaped r K) (still-sound r K f) f (v .synchronous) (v .asynchronous)
 
     visit : Visit (timerPlan (r .set) (r .alloc)) (hasRun (r .set) (timersOf r)) (hasRun (r .set) (timersOf next)) (r .token) passes
     visit =
-        let offered = limit-lapped r K f in
+        let offered = offer-lapped r K f in
         record {
-          sync = e .synchronous;
-          async = e .asynchronous;
-          within = C .synchronous;
-          early = timers-promised .early (ttrt r) (overrun r) (hasRun (r .set) (timersOf r) (r .token)) (e .asynchronous) (omega (arith, offered, async-within)) (λ none. async-shut (offered ∙ none));
+          sync = v .synchronous;
+          async = v .asynchronous;
+          within = sync-within;
+          early = timers-promised .early (ttrt r) (overrun r) (hasRun (r .set) (timersOf r) (r .token)) (v .asynchronous) (omega (arith, offered, limit-within r, async-within)) (λ none. async-shut (omega (arith, offered, limit-within r, none)));
           length = refl;
           here = lapped-here;
           there = lapped-there;
@@ -271,13 +278,13 @@ module _ (counter : ℕ) (r : Ring) (K : Reached r) (e : Entry) (C : Could count
 
     lapped-long : (length (next .trt) ≡ 128) × (length (next .late) ≡ 128)
     unfolding moved timersAfter timelyAfter
-    lapped-long = moved-long (still r) (still-shaped r K) (still-sound r K f) f (e .synchronous) (e .asynchronous)
+    lapped-long = moved-long (still r) (still-shaped r K) (still-sound r K f) f (v .synchronous) (v .asynchronous)
 
   timers-long : (length (next .trt) ≡ 128) × (length (next .late) ≡ 128)
   unfolding moved timelyAfter
   timers-long =
       ⊎-elim lapped-long
-      (λ n. rw (after-timely r n (e .synchronous) (e .asynchronous)) (length-set (raise (count r) passes (r .trt)) _ _ ∙ (raise-length (count r) _ (r .trt) ∙ K .shaped .trt), K .shaped .late))
+      (λ n. rw (after-timely r n (v .synchronous) (v .asynchronous)) (length-set (raise (count r) passes (r .trt)) _ _ ∙ (raise-length (count r) _ (r .trt) ∙ K .shaped .trt), K .shaped .late))
       (fddi-or-not (r .set))
 
   pub reached-next : Reached next
@@ -291,6 +298,30 @@ module _ (counter : ℕ) (r : Ring) (K : Reached r) (e : Entry) (C : Could count
         timely = early-next;
         fddi = lapped-next;
       }
+
+-- ---- one mark more: nothing of this goes by the messages or the marks
+
+module _ (r : Ring) (K : Reached r) where
+  reached-messages : (m : Messages) → length (m .rest) ≡ 128 → length (m .arrival) ≡ 128 → length (m .had) ≡ 128 → length (m .mark) ≡ 128 → Reached (withMessages m r)
+  reached-messages m rest arrival had mark =
+      record {
+        judged = K .judged;
+        token = K .token;
+        shaped = messages-shaped r (K .shaped) m rest arrival had mark;
+        sents = K .sents;
+        timely = λ n. let E = K .timely n in record { unused = E .unused; past = E .past; coming = E .coming };
+        fddi = λ f. let L = K .fddi f in record { below = L .below; kept = L .kept };
+      }
+
+  pub reached-switched : (i on : ℕ) → Reached (switched r i on)
+  unfolding switched switchedIn switchedThrough
+  reached-switched i zero = reached-messages _ (K .shaped .rest) (K .shaped .arrival) (K .shaped .had) (length-set (r .mark) i 0 ∙ K .shaped .mark)
+  reached-switched i (suc k) =
+      ⊎-elim (λ (m : Marked r i). rw (ring-marked r i m) K)
+      (λ (u : Unmarked r i).
+      rw (ring-unmarked r i u)
+      (reached-messages _ (length-set (r .rest) i 0 ∙ K .shaped .rest) (K .shaped .arrival) (K .shaped .had) (length-set (r .mark) i 1 ∙ K .shaped .mark)))
+      (marked-or-not r i)
 
 -- ---- the opened ring
 

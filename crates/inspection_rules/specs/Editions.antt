@@ -13,8 +13,8 @@ across mode other = inspectionOf (pairOf other) shares (entriesOf 0 (pairOf mode
 
 pub record Editions : Type 0 where
   -- both send 15 and 83 at the first visit. At station 0's second one the 2002 edition offers 83 again, as the 83 of before are not in its timer; the 2003 edition offers 0
-  pub earlier-by-timely : (across earlier timely .visits ≡ 2) × (across earlier timely .rule ≡ 3)
-  pub timely-by-earlier : (across timely earlier .visits ≡ 2) × (across timely earlier .rule ≡ 3)
+  pub earlier-by-timely : (across earlier timely .records ≡ 2) × (across earlier timely .rule ≡ 3)
+  pub timely-by-earlier : (across timely earlier .records ≡ 2) × (across timely earlier .rule ≡ 3)
   -- by its own steps each is accepted
-  pub own-earlier : (across earlier earlier .visits ≡ 3) × (across earlier earlier .rule ≡ 0)
-  pub own-timely : (across timely timely .visits ≡ 3) × (across timely timely .rule ≡ 0)
+  pub own-earlier : (across earlier earlier .records ≡ 3) × (across earlier earlier .rule ≡ 0)
+  pub own-timely : (across timely timely .records ≡ 3) × (across timely timely .rule ≡ 0)

@@ -3,10 +3,13 @@ use Prim.Native.Nat.{ℕ}
 use mathlib.Core.Path.{_≡_}
 use mathlib.Core.Logic.{_≢_}
 use Rattle.rings.specs.Steps
+use Rattle.units.specs.declared.Station.{Station}
 use Rattle.rings.specs.HandingIn
+use Rattle.rings.specs.Marking
 use Rattle.rings.specs.declared.Ring.{Ring}
 use Rattle.rings.specs.declared.Message.{Message}
 use Rattle.rings.specs.declared.VisitAnswer.{VisitAnswer}
+use Rattle.rings.specs.declared.MarkAnswer.{MarkAnswer}
 
 -- a visit at the lent ring, with these asynchronous frames asked for
 pub record VisitLent (entry : Ring) (ask : Steps.Ask) (exit : Ring) (answer : VisitAnswer) : Type 0 where
@@ -25,3 +28,21 @@ pub record HandInLent (entry : Ring) (message : Message) (exit : Ring) (number :
   pub answered : number ≡ HandingIn.handedIn entry message .number
   -- a refused handing in leaves each field of the ring as it was
   pub refused : number ≢ 0 → exit ≡ entry
+
+-- a station of the lent ring switched through
+pub record MarkLent (entry : Ring) (station : Station) (exit : Ring) (told : MarkAnswer) : Type 0 where
+  -- the ring in the host's memory is the ring after the marking
+  pub ring : exit ≡ Marking.marked entry station .ring
+  -- the number and what was withdrawn are the marking's
+  pub answered : told ≡ Marking.marked entry station .answer
+  -- a refused marking leaves each field of the ring as it was
+  pub refused : told .number ≢ 0 → exit ≡ entry
+
+-- a station of the lent ring switched in again
+pub record UnmarkLent (entry : Ring) (station : Station) (exit : Ring) (said : ℕ) : Type 0 where
+  -- the ring in the host's memory is the ring without the mark
+  pub ring : exit ≡ Marking.unmarked entry station .ring
+  -- the number is that of taking the mark off
+  pub answered : said ≡ Marking.unmarked entry station .number
+  -- a refused call leaves each field of the ring as it was
+  pub refused : said ≢ 0 → exit ≡ entry

@@ -1,12 +1,18 @@
 -- What is promised of a call on a lent ring; `proofs/Promised.antt` proves it, and `lent` stands on it.
 use Rattle.rings.specs.Steps.{Ask, visited}
+use Rattle.units.specs.declared.Station.{Station}
 use Rattle.rings.specs.HandingIn.{handedIn}
+use Rattle.rings.specs.Marking.{marked, unmarked}
 use Rattle.rings.specs.declared.Ring.{Ring}
 use Rattle.rings.specs.declared.Message.{Message}
-use Rattle.lending.specs.Lent.{VisitLent, HandInLent}
+use Rattle.lending.specs.Lent.{VisitLent, HandInLent, MarkLent, UnmarkLent}
 
 pub record Promised : Type 0 where
   -- the ring and the answer of a visit by value are what the host finds behind a visit at its ring
   pub visit : (ring : Ring) (ask : Ask) → VisitLent ring ask (visited ring ask .ring) (visited ring ask .answer)
   -- and those of a handing in by value are what it finds behind a handing in
   pub hand-in : (ring : Ring) (message : Message) → HandInLent ring message (handedIn ring message .ring) (handedIn ring message .number)
+  -- those of a marking by value are what it finds behind a marking
+  pub mark : (ring : Ring) (station : Station) → MarkLent ring station (marked ring station .ring) (marked ring station .answer)
+  -- and those of taking the mark off are what it finds behind that
+  pub unmark : (ring : Ring) (station : Station) → UnmarkLent ring station (unmarked ring station .ring) (unmarked ring station .number)

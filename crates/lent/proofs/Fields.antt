@@ -18,12 +18,14 @@ use Rattle.rings.proofs.Ask.Laws as Ask
 use Rattle.rings.proofs.Message.Laws as Message
 use Rattle.rings.proofs.VisitRecord.Laws as VisitRecord
 use Rattle.rings.proofs.VisitAnswer.Laws as VisitAnswer
+use Rattle.rings.proofs.MarkAnswer.Laws as MarkAnswer
 use Rattle.rings.proofs.Opened.Laws as Opened
-use Rattle.entries.proofs.Entry.Laws as Entry
-use Rattle.entries.proofs.NextEntry.Laws as NextEntry
+use Rattle.entries.proofs.VisitEntry.Laws as VisitEntry
+use Rattle.entries.proofs.MarkEntry.Laws as MarkEntry
 use Rattle.logs.proofs.ReadLog.Laws as ReadLog
 use Rattle.logs.proofs.Recorder.Laws as Recorder
 use Rattle.inspection.proofs.Finding.Laws as Finding
+use Rattle.lent.proofs.LogEntry.Laws as LogEntry
 
 abbrev place : Option (Ty × ℕ) → ℕ
 place none = 0
@@ -59,7 +61,7 @@ read-plan = refl
 written : layout Written.mir 2 ≡ 16 ∷ 0 ∷ 8 ∷ []
 written = refl
 
-ring : layout Ring.mir 13 ≡ 6832 ∷ 0 ∷ 2068 ∷ 2580 ∷ 3092 ∷ 3604 ∷ 4116 ∷ 4628 ∷ 4632 ∷ 5656 ∷ 5784 ∷ 6808 ∷ 6816 ∷ 6824 ∷ []
+ring : layout Ring.mir 14 ≡ 6960 ∷ 0 ∷ 2068 ∷ 2580 ∷ 3092 ∷ 3604 ∷ 4116 ∷ 4628 ∷ 4632 ∷ 5656 ∷ 5784 ∷ 5912 ∷ 6936 ∷ 6944 ∷ 6952 ∷ []
 ring = refl
 
 ask : layout Ask.mir 2 ≡ 8 ∷ 0 ∷ 4 ∷ []
@@ -74,14 +76,20 @@ visit-record = refl
 visit-answer : layout VisitAnswer.mir 2 ≡ 80 ∷ 0 ∷ 72 ∷ []
 visit-answer = refl
 
-opened : layout Opened.mir 2 ≡ 6840 ∷ 0 ∷ 6832 ∷ []
+mark-answer : layout MarkAnswer.mir 4 ≡ 24 ∷ 0 ∷ 8 ∷ 16 ∷ 17 ∷ []
+mark-answer = refl
+
+opened : layout Opened.mir 2 ≡ 6968 ∷ 0 ∷ 6960 ∷ []
 opened = refl
 
-entry : layout Entry.mir 5 ≡ 20 ∷ 0 ∷ 4 ∷ 8 ∷ 12 ∷ 16 ∷ []
-entry = refl
+visit-entry : layout VisitEntry.mir 5 ≡ 20 ∷ 0 ∷ 4 ∷ 8 ∷ 12 ∷ 16 ∷ []
+visit-entry = refl
 
-next-entry : layout NextEntry.mir 2 ≡ 32 ∷ 0 ∷ 24 ∷ []
-next-entry = refl
+mark-entry : layout MarkEntry.mir 2 ≡ 8 ∷ 0 ∷ 4 ∷ []
+mark-entry = refl
+
+log-entry : layout LogEntry.mir 4 ≡ 40 ∷ 0 ∷ 4 ∷ 24 ∷ 32 ∷ []
+log-entry = refl
 
 read-log : layout ReadLog.mir 5 ≡ 2608 ∷ 0 ∷ 2068 ∷ 2584 ∷ 2592 ∷ 2600 ∷ []
 read-log = refl

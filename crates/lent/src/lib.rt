@@ -6,18 +6,23 @@ ghost use Rattle.plans.specs.Planned.{blankAlloc, planned};
 ghost use Rattle.sheets.specs.Reading.{readRequest, readPlan};
 ghost use Rattle.sheets.specs.Writing.{Wrote};
 ghost use Rattle.rings.specs.Opening.{opening};
-ghost use Rattle.lending.specs.Lent.{VisitLent, HandInLent};
+ghost use Rattle.lending.specs.Lent.{VisitLent, HandInLent, MarkLent, UnmarkLent};
 ghost use Rattle.entries.specs.Entry.{nextEntry};
+ghost use Rattle.lent.specs.Told.{toldOf, told};
 ghost use Rattle.logs.specs.Reading.{readLog};
-ghost use Rattle.logs.specs.Writing.{Began, Added, EndedLog};
+ghost use Rattle.logs.specs.Writing.{Began, Added, AddedMark, EndedLog};
 ghost use Rattle.inspection.specs.Findings.{findingIn};
+use entries::Entry;
+use entries::MarkEntry;
 use entries::NextEntry;
+use entries::VisitEntry;
 use inspection::Finding;
 use logs::ReadLog;
 use logs::Recorder;
 use plans::Alloc;
 use plans::Planned;
 use rings::Ask;
+use rings::MarkAnswer;
 use rings::Message;
 use rings::Opened;
 use rings::Ring;
@@ -27,6 +32,17 @@ use sets::Set;
 use sheets::ReadPlan;
 use sheets::ReadRequest;
 use sheets::Written;
+use units::Station;
+
+// What stands at a place of a log: an exported function returns no enum, so a number says the kind. It is the field's tag, 16 of a visit and 17 of a mark; 0 where no entry stands. The numbers of another kind are 0.
+#[repr(C)]
+pub struct LogEntry {
+    pub kind: u32,
+    pub visit: VisitEntry,
+    pub mark: MarkEntry,
+    // The place behind the entry; 0 where none stands.
+    pub next: usize,
+}
 
 // Reads a request sheet from the lent bytes.
 #[no_mangle]
@@ -96,6 +112,26 @@ pub extern "C" fn olivastrum_hand_in(ring: &mut Ring, message: Message) -> u8
     taken.number
 }
 
+// Switching a station of the lent ring through: its mark is set, and the message that it holds is withdrawn.
+#[no_mangle]
+pub extern "C" fn olivastrum_mark(ring: &mut Ring, station: Station) -> MarkAnswer
+    ensures { λ answer. ⌜ MarkLent (now (ring .entry)) station (now (ring .exit)) answer ⌝ }
+{
+    let marked = Ring::mark(*ring, station);
+    *ring = marked.ring;
+    marked.answer
+}
+
+// Switching a station of the lent ring in again: its mark is taken off.
+#[no_mangle]
+pub extern "C" fn olivastrum_unmark(ring: &mut Ring, station: Station) -> u8
+    ensures { λ number. ⌜ UnmarkLent (now (ring .entry)) station (now (ring .exit)) number ⌝ }
+{
+    let unmarked = Ring::unmark(*ring, station);
+    *ring = unmarked.ring;
+    unmarked.number
+}
+
 // Begins a log in the first bytes of the lent buffer: the plan's fields, without the end.
 #[no_mangle]
 pub extern "C" fn olivastrum_begin_log(
@@ -122,6 +158,18 @@ pub extern "C" fn olivastrum_add_visit(
     logs::add_visit(recorder, visit, out)
 }
 
+// Adds a mark to a log in the lent buffer.
+#[no_mangle]
+pub extern "C" fn olivastrum_add_mark(
+    recorder: Recorder,
+    mark: MarkEntry,
+    out: &mut [u8],
+) -> Recorder
+    ensures { λ r. ⌜ AddedMark recorder mark (now (out .entry)) (now (out .exit)) r ⌝ }
+{
+    logs::add_mark(recorder, mark, out)
+}
+
 // Ends a log in the lent buffer.
 #[no_mangle]
 pub extern "C" fn olivastrum_end_log(recorder: Recorder, out: &mut [u8]) -> Written
@@ -138,12 +186,49 @@ pub extern "C" fn olivastrum_read_log(log: &[u8]) -> ReadLog
     logs::read_log(log)
 }
 
-// Hands out the visit whose field stands at the place of the lent bytes, and the place behind it.
-#[no_mangle]
-pub extern "C" fn olivastrum_log_entry(log: &[u8], at: usize) -> NextEntry
-    ensures { λ r. ⌜ r ≡ nextEntry (now (log .entry)) at ⌝ }
+// An entry as a host is told of it.
+fn told_of(entry: Entry, next: usize) -> LogEntry
+    ensures { λ r. ⌜ r ≡ toldOf entry next ⌝ }
 {
-    logs::log_entry(log, at)
+    match entry {
+        Entry::Visit(visit) => LogEntry {
+            kind: entries::VISIT_TAG as u32,
+            visit,
+            mark: entries::blank_mark(),
+            next,
+        },
+        Entry::Mark(mark) => LogEntry {
+            kind: entries::MARK_TAG as u32,
+            visit: entries::blank_visit(),
+            mark,
+            next,
+        },
+    }
+}
+
+// What was handed out, as a host is told of it.
+fn told_entry(handed: NextEntry) -> LogEntry
+    ensures { λ r. ⌜ r ≡ told handed ⌝ }
+{
+    if handed.next == 0 {
+        return LogEntry {
+            kind: 0,
+            visit: entries::blank_visit(),
+            mark: entries::blank_mark(),
+            next: 0,
+        };
+    }
+    let entry = handed.entry;
+    told_of(entry, handed.next)
+}
+
+// Hands out the entry whose field stands at the place of the lent bytes, and the place behind it.
+#[no_mangle]
+pub extern "C" fn olivastrum_log_entry(log: &[u8], at: usize) -> LogEntry
+    ensures { λ r. ⌜ r ≡ told (nextEntry (now (log .entry)) at) ⌝ }
+{
+    let handed = logs::log_entry(log, at);
+    told_entry(handed)
 }
 
 // Inspects a log on the lent bytes: whether a run could have given its records, or the first record and rule broken.

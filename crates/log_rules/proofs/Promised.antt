@@ -1,12 +1,12 @@
 -- The promises hold because a recording lays one field behind the other, the walk goes by all of them, and each is read where it was laid.
-use Prim.Native.Nat.{ℕ, zero, suc, _+_, _-_, _*_, _%_, _^_, _≤_, _<_}
+use Prim.Native.Nat.{ℕ, zero, suc, _+_, _-_, _%_, _^_, _≤_, _<_}
 use mathlib.Core.Path.{_≡_, refl, sym, ap, subst, _∙_}
 use mathlib.Core.Bool.{true, false, _&&_}
 use mathlib.Core.List.{List, [], _∷_, _++_, map, reverse, append-assoc, append-nil}
 use mathlib.Core.Logic.{_⊎_, inl, inr, ⊎-elim, _↔_, _≢_}
 use native.Mathlib.Nat.{mod-eq-of-lt}
 use native.Mathlib.Omega.{arith}
-use lib.ListN.{length, drop, length-map, length-reverse}
+use lib.ListN.{length, drop}
 use lib.Seq.{take-at}
 use borrow.Author.Tests.{leb-true}
 use Rattle.units.specs.Numbers.{timely}
@@ -31,9 +31,16 @@ use Rattle.scan.specs.FirstFault.{WellFormed, WholeSheet, not-allowed as not-al
 use Rattle.scan.specs.declared.Scanned.{Scanned}
 use Rattle.scan.proofs.ScanLaws.{zero-or-not, end-there}
 use Rattle.scan.proofs.PassedLaws.{through}
-use Rattle.entries.specs.Entry.{entryBytes, entryAt, EntryFits, visitStands, nextEntry}
+use Rattle.entries.specs.Visit.{visitBytes, visitAt, VisitFits}
+use Rattle.entries.specs.Mark.{markBytes, markAt, MarkFits}
+use Rattle.entries.specs.Entry.{entryBytes, EntryFits, nextEntry}
+use Rattle.entries.specs.declared.VisitEntry.{VisitEntry}
+use Rattle.entries.specs.declared.MarkEntry.{MarkEntry}
 use Rattle.entries.specs.declared.Entry.{Entry}
-use Rattle.entries.proofs.EntryLaws.{VisitThere, entry-length, visit-there, there-visit, handed-there, stands-visit, stands-read}
+use Rattle.entries.specs.declared.Entry.the-variants.{Visit, Mark}
+use Rattle.entries.proofs.VisitLaws.{visit-length, visit-there, there-visit, stands-visit, stands-read}
+use Rattle.entries.proofs.MarkLaws.{mark-length, mark-there, there-mark, stands-mark, mark-read}
+use Rattle.entries.proofs.EntryLaws.{Standing, a-visit, a-mark, nothing, standing, handed-visit, handed-mark, handed-none}
 use Rattle.sheets.specs.Layout.{mark, headUpTo, furtherBytes, stationWith, allocationWith, fieldsOf, fieldsLength, endBytes, sheetOf, planSheet, sheetLength}
 use Rattle.sheets.specs.Reading.{setIn, allocIn, judgedSheet, readPlan}
 use Rattle.sheets.specs.ReadLaws.{then-none, sheet-accepted}
@@ -44,69 +51,93 @@ use Rattle.sheet_rules.specs.Promised.{firstPlaces, firstAllocations, planLengt
 use Rattle.sheet_rules.proofs.BackLaws.{behindAll}
 use Rattle.sheet_rules.proofs.Promised.{not-low, promised as sheets-promised}
 use Rattle.rings.specs.declared.VisitRecord.{VisitRecord}
-use Rattle.logs.specs.Layout.{visitsBytes, logOf, AllFit}
+use Rattle.logs.specs.Layout.{entriesBytes, logOf, AllFit}
 use Rattle.logs.specs.Walked.{logWalked}
 use Rattle.logs.specs.FirstFault.{LogFault, no-start, not-allowed, cut-body, follows, FirstLogFault, WholeLog}
 use Rattle.logs.specs.Reading.{logNumber, refusedLog, readLog, entriesIn}
-use Rattle.logs.specs.Writing.{begunWith, beginNumber, begun, begunBuffer, entryOf, added, ended, endedBuffer}
+use Rattle.logs.specs.Writing.{begunWith, beginNumber, begun, begunBuffer, visitOf, added, addedMark, ended, endedBuffer}
 use Rattle.logs.specs.declared.ReadLog.{ReadLog}
 use Rattle.logs.specs.declared.Recorder.{Recorder}
 use Rattle.logs.specs.declared.Walked.{Walked}
-use Rattle.logs.proofs.WalkLaws.{visit-not-allowed, log-fault-there, log-end-there, log-shape-fault, log-shape-whole}
+use Rattle.logs.proofs.RecordLaws.{record-there}
+use Rattle.logs.proofs.WalkLaws.{record-not-allowed, log-fault-there, log-end-there, log-shape-fault, log-shape-whole}
 use Rattle.logs.proofs.ReadingLaws.{read-number, read-refused, number-walk, number-judged}
 use Rattle.logs.proofs.WritingLaws.{begun-refused}
-use Rattle.promises.specs.Run.{Call, recordsOf}
-use Rattle.log_rules.specs.Recorded.{beginning, recorded, keptOf, endAnswer, endBuffer, recordFor, entriesOf}
-use Rattle.log_rules.specs.Promised.{GivenLog, FieldOf, Leaves, GivesBack, Promised}
+use Rattle.promises.specs.Run.{Call, eventsOf}
+use Rattle.log_rules.specs.Recorded.{Told, beginning, recorded, keptOf, endAnswer, endBuffer, entryFor, recordFor, toldFor, toldIn, entriesOf}
+use Rattle.log_rules.specs.Promised.{GivenLog, FieldOf, MarkFieldOf, visitCount, markCount, Leaves, GivesBack, Promised}
 use Rattle.log_rules.proofs.CounterLaws.{counter-rises, counter-wraps, counter-on, counter-clock}
-use Rattle.log_rules.proofs.WrittenLaws.{log-long, room-short, begins-with, begins-fields, laid-fourteen, leaves-log, keeps-all}
-use Rattle.log_rules.proofs.WrittenLaws.{adds-with, adds-field, adds-not, adds-nothing, ends-with, ends-field}
+use Rattle.log_rules.proofs.WrittenLaws.{entries-length, log-long, room-short, begins-with, begins-fields, laid-fourteen, leaves-log, keeps-all}
+use Rattle.log_rules.proofs.WrittenLaws.{adds-with, adds-field, adds-not, adds-nothing, marks-with, marks-field, marks-not, marks-nothing, ends-with, ends-field}
 use Rattle.log_rules.proofs.BackLaws.{cut-short, laid-number, log-back, entries-back}
-use Rattle.log_rules.proofs.AgainLaws.{went, may-end, counted, was-read, was-whole, was-judged, visits-read, log-again, judged-again, entries-fit}
-use Rattle.log_rules.proofs.RunLaws.{visit-small, visit-station, entry-says, run-entries, run-fits}
+use Rattle.log_rules.proofs.AgainLaws.{records-first, records-none, went, may-end, counted, was-read, was-whole, was-judged, records-read, log-again, judged-again, entries-fit}
+use Rattle.log_rules.proofs.RunLaws.{visit-small, visit-station, entry-says, marking-told, marking-refused, unmarking-told, unmarking-refused, message-untold, run-entries, run-fits}
 
 -- ---- the bytes of a log
 
 none-more : (t : Set) (a : Alloc) → logOf t a [] ≡ planSheet t a
-unfolding logOf visitsBytes sheetOf
+unfolding logOf entriesBytes sheetOf
 none-more t a = ap (λ (s : List ℕ). s ++ endBytes) (append-nil (fieldsOf true t a))
 
-visits-last : (es : List Entry) (e : Entry) → visitsBytes (es ++ (e ∷ [])) ≡ visitsBytes es ++ entryBytes e
-unfolding visitsBytes
-visits-last [] e = append-nil (entryBytes e)
-visits-last (d ∷ es) e = ap (λ (s : List ℕ). entryBytes d ++ s) (visits-last es e) ∙ sym (append-assoc (entryBytes d) (visitsBytes es) (entryBytes e))
+entries-last : (es : List Entry) (e : Entry) → entriesBytes (es ++ (e ∷ [])) ≡ entriesBytes es ++ entryBytes e
+unfolding entriesBytes
+entries-last [] e = append-nil (entryBytes e)
+entries-last (d ∷ es) e = ap (λ (s : List ℕ). entryBytes d ++ s) (entries-last es e) ∙ sym (append-assoc (entryBytes d) (entriesBytes es) (entryBytes e))
 
-one-more : (t : Set) (a : Alloc) (es : List Entry) (e : Entry) → logOf t a (es ++ (e ∷ [])) ≡ fieldsOf true t a ++ visitsBytes es ++ entryBytes e ++ mark 255 0
+one-more : (t : Set) (a : Alloc) (es : List Entry) (e : Entry) → logOf t a (es ++ (e ∷ [])) ≡ fieldsOf true t a ++ entriesBytes es ++ entryBytes e ++ mark 255 0
 unfolding logOf
 one-more t a es e =
-    ap (λ (s : List ℕ). fieldsOf true t a ++ s ++ endBytes) (visits-last es e)
-    ∙ ap (λ (s : List ℕ). s ++ endBytes) (sym (append-assoc (fieldsOf true t a) (visitsBytes es) (entryBytes e)))
+    ap (λ (s : List ℕ). fieldsOf true t a ++ s ++ endBytes) (entries-last es e)
+    ∙ ap (λ (s : List ℕ). s ++ endBytes) (sym (append-assoc (fieldsOf true t a) (entriesBytes es) (entryBytes e)))
 
-its-field : (e : Entry) → EntryFits e → FieldOf e (entryBytes e)
-its-field e fit =
-    let bs = entryBytes e in
+its-field : (v : VisitEntry) → VisitFits v → FieldOf v (visitBytes v)
+its-field v fit =
+    let bs = visitBytes v in
     let itself = stands-itself bs in
-    let there = stands-visit bs 0 e itself in
-    let reads = stands-read bs 0 e fit itself in
+    let there = stands-visit bs 0 v itself in
+    let reads = stands-read bs 0 v fit itself in
     record {
       tag = there .has-tag;
       size = there .has-size;
-      station = ap (λ (x : Entry). x .station) reads;
-      start = ap (λ (x : Entry). x .start) reads;
-      limit = ap (λ (x : Entry). x .limit) reads;
-      synchronous = ap (λ (x : Entry). x .synchronous) reads;
-      asynchronous = ap (λ (x : Entry). x .asynchronous) reads;
-      long = entry-length e;
+      station = ap (λ (x : VisitEntry). x .station) reads;
+      start = ap (λ (x : VisitEntry). x .start) reads;
+      limit = ap (λ (x : VisitEntry). x .limit) reads;
+      synchronous = ap (λ (x : VisitEntry). x .synchronous) reads;
+      asynchronous = ap (λ (x : VisitEntry). x .asynchronous) reads;
+      long = visit-length v;
     }
 
-small-written : logOf (smallSet timely 1 1) (record { s = zeros }) (record { station = 0; start = 4_294_967_295; limit = 1; synchronous = 2; asynchronous = 259 } ∷ [])
+mark-s-field : (m : MarkEntry) → MarkFits m → MarkFieldOf m (markBytes m)
+mark-s-field m fit =
+    let bs = markBytes m in
+    let itself = stands-itself bs in
+    let there = stands-mark bs 0 m itself in
+    let reads = mark-read bs 0 m fit itself in
+    record {
+      tag = there .has-tag;
+      size = there .has-size;
+      station = ap (λ (x : MarkEntry). x .station) reads;
+      mark = ap (λ (x : MarkEntry). x .mark) reads;
+      long = mark-length m;
+    }
+
+kinds : (es : List Entry) → visitCount es + markCount es ≡ length es
+kinds [] = refl
+kinds (Visit v ∷ es) = omega (arith, kinds es)
+kinds (Mark m ∷ es) = omega (arith, kinds es)
+
+small-written : logOf (smallSet timely 1 1) (record { s = zeros }) (Visit (record { station = 0; start = 4_294_967_295; limit = 1; synchronous = 2; asynchronous = 259 }) ∷ [])
     ≡ 1 ∷ 0 ∷ 4 ∷ 0 ∷ 0 ∷ 0 ∷ 1
     ∷ 2 ∷ 0 ∷ 16 ∷ 0 ∷ 0 ∷ 0 ∷ 1 ∷ 0 ∷ 0 ∷ 0 ∷ 0 ∷ 0 ∷ 0 ∷ 0 ∷ 1 ∷ 0 ∷ 0 ∷ 0 ∷ 1
     ∷ 3 ∷ 0 ∷ 4 ∷ 0 ∷ 0 ∷ 0 ∷ 0
     ∷ 16 ∷ 0 ∷ 17 ∷ 0 ∷ 255 ∷ 255 ∷ 255 ∷ 255 ∷ 0 ∷ 0 ∷ 0 ∷ 1 ∷ 0 ∷ 0 ∷ 0 ∷ 2 ∷ 0 ∷ 0 ∷ 1 ∷ 3
     ∷ 255 ∷ 0 ∷ 0 ∷ []
-unfolding logOf visitsBytes entryBytes headUpTo headNumber furtherBytes bodyOf furtherSize stationWith allocationWith rows bytesOf fill
+unfolding logOf entriesBytes visitBytes headUpTo headNumber furtherBytes bodyOf furtherSize stationWith allocationWith rows bytesOf fill
 small-written = refl
+
+mark-written : entriesBytes (Mark (record { station = 3; mark = 1 }) ∷ []) ≡ 17 ∷ 0 ∷ 2 ∷ 3 ∷ 1 ∷ []
+unfolding entriesBytes markBytes
+mark-written = refl
 
 -- ---- writing
 
@@ -116,15 +147,15 @@ module _ (t : Set) (a : Alloc) (counter clock : ℕ) (out : List ℕ) where
     sheet-fits : sheetLength true t ≤ length out
     sheet-fits = omega arith
 
-    left : (vs : List VisitRecord) → Leaves t a counter clock out (keptOf (beginning t a counter clock out) vs) (recorded (beginning t a counter clock out) vs)
-    left vs =
-        let kept = keptOf (beginning t a counter clock out) vs in
-        let all = leaves-log t a counter clock out judged-0 sheet-fits vs in
-        let long : length (logOf t a (map (entryOf counter clock) (keptOf (beginning t a counter clock out) vs))) ≡ planLength t + 20 * length (keptOf (beginning t a counter clock out) vs) =
-        omega (arith, log-long t a (map (entryOf counter clock) kept), length-map kept (entryOf counter clock)) in
+    left : (xs : List Told) → Leaves t a out (map (entryFor counter clock) (keptOf (beginning t a counter clock out) xs)) (recorded (beginning t a counter clock out) xs)
+    left xs =
+        let es = map (entryFor counter clock) (keptOf (beginning t a counter clock out) xs) in
+        let all = leaves-log t a counter clock out judged-0 sheet-fits xs in
+        let long : length (logOf t a (map (entryFor counter clock) (keptOf (beginning t a counter clock out) xs))) ≡ planLength t + length (entriesBytes (map (entryFor counter clock) (keptOf (beginning t a counter clock out) xs))) =
+        omega (arith, log-long t a es) in
         record {
           answer = all .0 ∙ ap (λ (n : ℕ). record { length = n; number = 0 }) long;
-          buffer = all .1 ∙ ap (λ (n : ℕ). logOf t a (map (entryOf counter clock) kept) ++ drop n out) long;
+          buffer = all .1 ∙ ap (λ (n : ℕ). logOf t a es ++ drop n out) long;
         }
 
     fields-laid : (begun t a counter clock out ≡ record { at = planLength t - 3; clock = clock; counter = counter; number = 0 })
@@ -136,8 +167,8 @@ module _ (t : Set) (a : Alloc) (counter clock : ℕ) (out : List ℕ) where
           begins-fields t a counter clock out judged-0 sheet-fits ∙ ap (λ (n : ℕ). fieldsOf true t a ++ drop n out) place,
         )
 
-  all-of-them : (vs : List VisitRecord) → judgedPlan t a ≡ 0 → planLength t + 20 * length vs ≤ length out → keptOf (beginning t a counter clock out) vs ≡ vs
-  all-of-them vs judged-0 room = keeps-all t a counter clock out judged-0 (omega arith) vs (omega arith)
+  all-of-them : (xs : List Told) → judgedPlan t a ≡ 0 → planLength t + length (entriesBytes (map (entryFor counter clock) xs)) ≤ length out → keptOf (beginning t a counter clock out) xs ≡ xs
+  all-of-them xs judged-0 room = keeps-all t a counter clock out judged-0 (omega arith) xs (omega arith)
 
   -- the number of a beginning is that of writing the plan
   begin-number : begun t a counter clock out .number ≡ beginNumber t a (length out)
@@ -178,6 +209,12 @@ module _ (r : Recorder) (v : VisitRecord) (out : List ℕ) where
   add-fits l = ap (λ (x : Recorder). x .number) (adds-with r v out l)
 
 module _ (r : Recorder) (out : List ℕ) where
+  mark-short : length out < r .at + 8 → addedMark r out .number ≡ 14
+  mark-short l = ap (λ (x : Recorder). x .number) (marks-not r out l)
+
+  mark-goes : r .at + 8 ≤ length out → addedMark r out .number ≡ 0
+  mark-goes l = ap (λ (x : Recorder). x .number) (marks-with r out l)
+
   end-not : length out < r .at + 3 → (ended r out ≡ record { length = 0; number = 14 }) × (endedBuffer r out ≡ out)
   end-not l =
       let e = room-short (r .at + 3) (length out) l in
@@ -247,16 +284,20 @@ module _ (bs : List ℕ) where
       read-refused bs (logNumber bs) some refl ∙ ap refusedLog (sym (read-number bs))
 
 module _ (bs : List ℕ) (a : ℕ) where
-  handed-whole : a + 20 ≤ length bs → tagAt bs a ≡ 16 → sizeAt bs a ≡ 17 → nextEntry bs a ≡ record { entry = entryAt bs a; next = a + 20 }
-  handed-whole inside tag size = handed-there bs a (there-visit bs a (record { inside = inside; has-tag = tag; has-size = size }))
+  handed-whole : a + 20 ≤ length bs → tagAt bs a ≡ 16 → sizeAt bs a ≡ 17 → nextEntry bs a ≡ record { entry = Visit (visitAt bs a); next = a + 20 }
+  handed-whole inside tag size = handed-visit bs a (there-visit bs a (record { inside = inside; has-tag = tag; has-size = size }))
 
-  handed-none : ¬ ((a + 20 ≤ length bs) × ((tagAt bs a ≡ 16) × (sizeAt bs a ≡ 17)))
-      → nextEntry bs a ≡ record { entry = record { station = 0; start = 0; limit = 0; synchronous = 0; asynchronous = 0 }; next = 0 }
-  unfolding nextEntry
-  handed-none none =
-      ⊎-elim (λ (h : visitStands bs a ≡ true). let v = visit-there bs a h in absurd (none (v .inside, (v .has-tag, v .has-size))))
-      (λ (h : visitStands bs a ≡ false). rw h refl)
-      (true-or-false (visitStands bs a))
+  mark-whole : a + 5 ≤ length bs → tagAt bs a ≡ 17 → sizeAt bs a ≡ 2 → nextEntry bs a ≡ record { entry = Mark (markAt bs a); next = a + 5 }
+  mark-whole inside tag size = handed-mark bs a (there-mark bs a (record { inside = inside; has-tag = tag; has-size = size }))
+
+  neither : ¬ ((a + 20 ≤ length bs) × ((tagAt bs a ≡ 16) × (sizeAt bs a ≡ 17))) → ¬ ((a + 5 ≤ length bs) × ((tagAt bs a ≡ 17) × (sizeAt bs a ≡ 2)))
+      → nextEntry bs a ≡ record { entry = Visit (record { station = 0; start = 0; limit = 0; synchronous = 0; asynchronous = 0 }); next = 0 }
+  neither no-visit no-mark = go (standing bs a)
+    where
+      go : Standing bs a → nextEntry bs a ≡ record { entry = Visit (record { station = 0; start = 0; limit = 0; synchronous = 0; asynchronous = 0 }); next = 0 }
+      go (a-visit h) = let v = visit-there bs a h in absurd (no-visit (v .inside, (v .has-tag, v .has-size)))
+      go (a-mark h) = let m = mark-there bs a h in absurd (no-mark (m .inside, (m .has-tag, m .has-size)))
+      go (nothing v m) = handed-none bs a v m
 
 -- ---- read back, and written again
 
@@ -264,41 +305,48 @@ given-back : (t : Set) (a : Alloc) (es : List Entry) → judgedPlan t a ≡ 0 �
 given-back t a es h fit =
     let place : behindAll true t ≡ planLength t - 3 = omega arith in
     record {
-      answer = log-back t a es h ∙ ap (λ (n : ℕ). record { set = firstPlaces t; alloc = firstAllocations (t .n) a; first = n; visits = length es; number = 0 }) place;
+      answer = log-back t a es h ∙ ap (λ (n : ℕ). record { set = firstPlaces t; alloc = firstAllocations (t .n) a; first = n; records = length es; number = 0 }) place;
       entries = entries-back t a es h fit;
     }
 
--- the record that has an entry's numbers gives the entry again
-record-again : (e : Entry) → EntryFits e → entryOf 0 0 (recordFor e) ≡ e
-record-again e fit =
-    let station : e .station % 256 ≡ e .station = mod-eq-of-lt (fit .station) in
-    let start : (0 + e .start) % 2 ^ 32 ≡ e .start = omega (arith, fit .start) in
-    let limit : e .limit % 2 ^ 32 ≡ e .limit = mod-eq-of-lt (fit .limit) in
-    let synchronous : e .synchronous % 2 ^ 32 ≡ e .synchronous = mod-eq-of-lt (fit .synchronous) in
-    let asynchronous : e .asynchronous % 2 ^ 32 ≡ e .asynchronous = mod-eq-of-lt (fit .asynchronous) in
-    rw (counter-clock 0 (e .start), station, start, limit, synchronous, asynchronous) refl
+-- what is told for an entry gives the entry again
+visit-again : (v : VisitEntry) → VisitFits v → visitOf 0 0 (recordFor v) ≡ v
+visit-again v fit =
+    let station : v .station % 256 ≡ v .station = mod-eq-of-lt (fit .station) in
+    let start : (0 + v .start) % 2 ^ 32 ≡ v .start = omega (arith, fit .start) in
+    let limit : v .limit % 2 ^ 32 ≡ v .limit = mod-eq-of-lt (fit .limit) in
+    let synchronous : v .synchronous % 2 ^ 32 ≡ v .synchronous = mod-eq-of-lt (fit .synchronous) in
+    let asynchronous : v .asynchronous % 2 ^ 32 ≡ v .asynchronous = mod-eq-of-lt (fit .asynchronous) in
+    rw (counter-clock 0 (v .start), station, start, limit, synchronous, asynchronous) refl
 
-records-again : (es : List Entry) → AllFit es → map (entryOf 0 0) (map recordFor es) ≡ es
-records-again [] fit = refl
-records-again (e ∷ es) fit = rw (record-again e (fit .0), records-again es (fit .1)) refl
+entry-again : (e : Entry) → EntryFits e → entryFor 0 0 (toldFor e) ≡ e
+entry-again (Visit v) fit = ap Visit (visit-again v fit)
+entry-again (Mark m) fit = refl
+
+entries-again : (es : List Entry) → AllFit es → map (entryFor 0 0) (map toldFor es) ≡ es
+entries-again [] fit = refl
+entries-again (e ∷ es) fit = rw (entry-again e (fit .0), entries-again es (fit .1)) refl
 
 module _ (bs : List ℕ) (bytes : AllBytes bs) (h : readLog bs .number ≡ 0) where
+  log-size : length bs ≡ planLength (readLog bs .set) + length (entriesBytes (entriesIn bs))
+  log-size = ap length (log-again bs bytes h) ∙ omega (arith, log-long (readLog bs .set) (readLog bs .alloc) (entriesIn bs))
+
   same-bytes : (out : List ℕ) → length bs ≤ length out
-      → let s = recorded (beginning (readLog bs .set) (readLog bs .alloc) 0 0 out) (map recordFor (entriesIn bs)) in
+      → let s = recorded (beginning (readLog bs .set) (readLog bs .alloc) 0 0 out) (map toldFor (entriesIn bs)) in
       (endAnswer s ≡ record { length = length bs; number = 0 }) × (endBuffer s ≡ bs ++ drop (length bs) out)
   same-bytes out fit =
       let t = readLog bs .set in
       let a = readLog bs .alloc in
       let es = entriesIn bs in
-      let vs = map recordFor es in
-      let is : bs ≡ logOf (readLog bs .set) (readLog bs .alloc) (entriesIn bs) = log-again bs bytes h in
-      let long : length bs ≡ planLength (readLog bs .set) + 20 * length (entriesIn bs) = ap length is ∙ omega (arith, log-long t a es) in
-      let many : length (map recordFor (entriesIn bs)) ≡ length (entriesIn bs) = length-map es recordFor in
+      let xs = map toldFor es in
+      let long = log-size in
+      let told : map (entryFor 0 0) (map toldFor (entriesIn bs)) ≡ entriesIn bs = entries-again es (entries-fit bs bytes h) in
+      let many : length (entriesBytes (map (entryFor 0 0) (map toldFor (entriesIn bs)))) ≡ length (entriesBytes (entriesIn bs)) = ap (λ (l : List Entry). length (entriesBytes l)) told in
       let judged-0 = judged-again bs h in
-      let all = leaves-log t a 0 0 out judged-0 (omega arith) vs in
-      let kept : keptOf (beginning (readLog bs .set) (readLog bs .alloc) 0 0 out) (map recordFor (entriesIn bs)) ≡ map recordFor (entriesIn bs) = all-of-them t a 0 0 out vs judged-0 (omega arith) in
-      let same : logOf t a (map (entryOf 0 0) (keptOf (beginning t a 0 0 out) vs)) ≡ bs =
-      ap (λ (l : List VisitRecord). logOf t a (map (entryOf 0 0) l)) kept ∙ ap (logOf t a) (records-again es (entries-fit bs bytes h)) ∙ sym is in
+      let all = leaves-log t a 0 0 out judged-0 (omega arith) xs in
+      let kept : keptOf (beginning (readLog bs .set) (readLog bs .alloc) 0 0 out) (map toldFor (entriesIn bs)) ≡ map toldFor (entriesIn bs) = all-of-them t a 0 0 out xs judged-0 (omega arith) in
+      let same : logOf t a (map (entryFor 0 0) (keptOf (beginning t a 0 0 out) xs)) ≡ bs =
+      ap (λ (l : List Told). logOf t a (map (entryFor 0 0) l)) kept ∙ ap (logOf t a) told ∙ sym (log-again bs bytes h) in
       (all .0 ∙ ap (λ (l : List ℕ). record { length = length l; number = 0 }) same, all .1 ∙ ap (λ (l : List ℕ). l ++ drop (length l) out) same)
 
   given : GivenLog bs
@@ -306,13 +354,13 @@ module _ (bs : List ℕ) (bytes : AllBytes bs) (h : readLog bs .number ≡ 0) wh
       let t = readLog bs .set in
       let a = readLog bs .alloc in
       let again = same-bytes bs (omega arith) in
-      let long : length bs ≡ planLength (readLog bs .set) + 20 * length (entriesIn bs) = ap length (log-again bs bytes h) ∙ omega (arith, log-long t a (entriesIn bs)) in
+      let long = log-size in
       record {
         set = t;
         alloc = a;
         counter = 0;
         clock = 0;
-        visits = map recordFor (entriesIn bs);
+        told = map toldFor (entriesIn bs);
         out = bs;
         begins = ap (λ (x : Recorder). x .number) (begins-with t a 0 0 bs (judged-again bs h) (omega arith));
         gives = sym (rw (again .0, again .1) (take-at bs _ (length bs) refl));
@@ -326,38 +374,32 @@ given-read bs g =
     let a = g .alloc in
     let zero-then = then-none _ _ (sym (begin-number t a (g .counter) (g .clock) (g .out)) ∙ g .begins) in
     let fit : sheetLength true (g .set) ≤ length (g .out) = leb-true _ _ (passed _ 14 _ (omega arith) (zero-then .1) .0) in
-    let all = leaves-log t a (g .counter) (g .clock) (g .out) (zero-then .0) fit (g .visits) in
-    let es = map (entryOf (g .counter) (g .clock)) (keptOf (beginning t a (g .counter) (g .clock) (g .out)) (g .visits)) in
+    let all = leaves-log t a (g .counter) (g .clock) (g .out) (zero-then .0) fit (g .told) in
+    let es = map (entryFor (g .counter) (g .clock)) (keptOf (beginning t a (g .counter) (g .clock) (g .out)) (g .told)) in
     let is : bs ≡ logOf t a es = g .gives ∙ rw (all .0, all .1) (take-at (logOf t a es) _ (length (logOf t a es)) refl) in
     ap (λ (l : List ℕ). readLog l .number) is ∙ ap (λ (r : ReadLog). r .number) (log-back t a es (zero-then .0))
 
 -- ---- a log and a plan sheet
 
 module _ (bs : List ℕ) (h : readLog bs .number ≡ 0) where
-  -- the first visit may not stand in a plan sheet
-  no-plan-sheet : readLog bs .visits ≢ 0 → readPlan bs .number ≡ 2
+  -- the first record may not stand in a plan sheet
+  no-plan-sheet : readLog bs .records ≢ 0 → readPlan bs .number ≡ 2
   no-plan-sheet some =
       let w = was-whole bs h in
       let by = went bs w in
       let p = w .passed in
       let a = by .first in
-      let many : 0 < was-whole bs h .visits = positive _ (λ z. some (visits-read bs h ∙ z)) in
-      let zeroth : went bs (was-whole bs h) .first + 20 * 0 ≡ went bs (was-whole bs h) .first = omega arith in
-      let v = subst (VisitThere bs) zeroth (by .each 0 many) in
-      let wrong : allowedAt bs (went bs (was-whole bs h) .first) (was-whole bs h .passed) ≡ false = visit-not-allowed bs a p (through true bs p a (by .plan) .kind) (may-end bs w) (v .has-tag) in
-      sheets-promised .plan-fault bs 2 (omega arith) (omega arith) .1 (record { passed = p; place = a; before = by .plan; fault = not-allowed-in-plan (omega (arith, v .inside)) wrong })
-    where
-      positive : (k : ℕ) → k ≢ 0 → 0 < k
-      positive zero z = absurd (z refl)
-      positive (suc k) z = omega arith
+      let v = record-there bs a (records-first bs _ _ _ (by .each) (λ z. some (records-read bs h ∙ z))) in
+      let wrong : allowedAt bs (went bs (was-whole bs h) .first) (was-whole bs h .passed) ≡ false = record-not-allowed bs a p (through true bs p a (by .plan) .kind) (may-end bs w) (v .here) in
+      sheets-promised .plan-fault bs 2 (omega arith) (omega arith) .1 (record { passed = p; place = a; before = by .plan; fault = not-allowed-in-plan (omega (arith, v .inside, v .some)) wrong })
 
-  -- without a visit it is one
-  a-plan-sheet : readLog bs .visits ≡ 0 → readPlan bs ≡ record { set = readLog bs .set; alloc = readLog bs .alloc; number = 0 }
+  -- without a record it is one
+  a-plan-sheet : readLog bs .records ≡ 0 → readPlan bs ≡ record { set = readLog bs .set; alloc = readLog bs .alloc; number = 0 }
   unfolding judgedSheet
   a-plan-sheet none =
       let w = was-whole bs h in
       let by = went bs w in
-      let here : went bs (was-whole bs h) .first ≡ was-whole bs h .place = omega (arith, by .far, none, visits-read bs h) in
+      let here : went bs (was-whole bs h) .first ≡ was-whole bs h .place = records-none bs _ _ _ (by .each) (sym (records-read bs h) ∙ none) in
       let sheet : WholeSheet true bs =
       record {
         passed = w .passed;
@@ -372,33 +414,27 @@ module _ (bs : List ℕ) (h : readLog bs .number ≡ 0) where
 
 -- ---- from the model
 
-module _ (t : Set) (a : Alloc) (counter : ℕ) (calls : List Call) (out : List ℕ) (judged-0 : judgedPlan t a ≡ 0) where
-  run-left : planLength t + 20 * length (recordsOf t a calls) ≤ length out
-      → let s = recorded (beginning t a counter 0 out) (reverse (recordsOf t a calls)) in
-      let long = planLength t + 20 * length (recordsOf t a calls) in
-      (endAnswer s ≡ record { length = long; number = 0 }) × (endBuffer s ≡ logOf t a (entriesOf counter t a calls) ++ drop long out)
-  run-left room =
-      let vs = reverse (recordsOf t a calls) in
-      let many : length (reverse (recordsOf t a calls)) ≡ length (recordsOf t a calls) = length-reverse (recordsOf t a calls) in
-      let kept : keptOf (beginning t a counter 0 out) (reverse (recordsOf t a calls)) ≡ reverse (recordsOf t a calls) = all-of-them t a counter 0 out vs judged-0 (omega arith) in
-      let all = left t a counter 0 out judged-0 (omega arith) vs in
-      let far : planLength t + 20 * length (keptOf (beginning t a counter 0 out) (reverse (recordsOf t a calls))) ≡ planLength t + 20 * length (recordsOf t a calls) = omega (arith, ap length kept) in
-      let same : map (entryOf counter 0) (keptOf (beginning t a counter 0 out) (reverse (recordsOf t a calls))) ≡ entriesOf counter t a calls =
-      ap (map (entryOf counter 0)) kept ∙ run-entries t a counter calls in (
-        all .answer ∙ ap (λ (n : ℕ). record { length = n; number = 0 }) far,
-        all .buffer
-            ∙ ap (λ (l : List Entry). logOf t a l ++ drop (planLength t + 20 * length (keptOf (beginning t a counter 0 out) vs)) out) same
-            ∙ ap (λ (n : ℕ). logOf t a (entriesOf counter t a calls) ++ drop n out) far,
-      )
+run-left : (t : Set) (a : Alloc) (counter : ℕ) (calls : List Call) (out : List ℕ) → judgedPlan t a ≡ 0 → planLength t + length (entriesBytes (entriesOf counter t a calls)) ≤ length out
+    → Leaves t a out (entriesOf counter t a calls) (recorded (beginning t a counter 0 out) (reverse (toldIn (eventsOf t a calls))))
+run-left t a counter calls out judged-0 room =
+    let xs = reverse (toldIn (eventsOf t a calls)) in
+    let said : map (entryFor counter 0) (reverse (toldIn (eventsOf t a calls))) ≡ entriesOf counter t a calls = run-entries t a counter calls in
+    let many : length (entriesBytes (map (entryFor counter 0) (reverse (toldIn (eventsOf t a calls))))) ≡ length (entriesBytes (entriesOf counter t a calls)) = ap (λ (l : List Entry). length (entriesBytes l)) said in
+    let kept = all-of-them t a counter 0 out xs judged-0 (omega arith) in
+    subst (λ (es : List Entry). Leaves t a out es (recorded (beginning t a counter 0 out) (reverse (toldIn (eventsOf t a calls))))) (ap (map (entryFor counter 0)) kept ∙ said) (left t a counter 0 out judged-0 (omega arith) xs)
 
 pub promised : Promised
 promised =
     record {
-      no-visit = none-more;
-      a-visit = one-more;
+      no-record = none-more;
+      a-record = one-more;
       field = its-field;
+      mark-field = mark-s-field;
       long = λ t a es. omega (arith, log-long t a es);
+      entries-long = entries-length;
+      two-kinds = kinds;
       written-out = small-written;
+      mark-written-out = mark-written;
       counter-rises = counter-rises;
       counter-wraps = counter-wraps;
       counter-on = counter-on;
@@ -412,6 +448,10 @@ promised =
       add-accepted = λ r v out. fitted _ (r .at + 23) (length out) (add-short r v out) (add-fits r v out);
       add-unchanged = λ r v out l. (adds-not r v out l, adds-nothing r v out l);
       add-field = λ r v out l. (adds-with r v out l, adds-field r v out l);
+      mark-fourteen = λ r out. fourteen _ (r .at + 8) (length out) (mark-short r out) (mark-goes r out);
+      mark-accepted = λ r out. fitted _ (r .at + 8) (length out) (mark-short r out) (mark-goes r out);
+      mark-unchanged = λ r m out l. (marks-not r out l, marks-nothing r out m l);
+      mark-laid = λ r m out l. (marks-with r out l, marks-field r out m l);
       end-fourteen = λ r out.
           fourteen _ (r .at + 3) (length out) (λ l. ap (λ (x : Written). x .number) (end-not r out l .0)) (λ l. ap (λ (x : Written). x .number) (ends-with r out l));
       end-unchanged = end-not;
@@ -425,16 +465,22 @@ promised =
       judged-one = whole-one;
       blank = is-blank;
       handed = handed-whole;
-      not-handed = handed-none;
+      mark-handed = mark-whole;
+      not-handed = neither;
       back = given-back;
       laid-out = λ t a es count small shares. laid-number t a es count small shares;
-      no-end = λ t a es count. fault-exactly (fieldsOf true t a ++ visitsBytes es) 1 (omega arith) (omega arith) .1 (cut-short t a es count);
+      no-end = λ t a es count. fault-exactly (fieldsOf true t a ++ entriesBytes es) 1 (omega arith) (omega arith) .1 (cut-short t a es count);
       again = λ bs bytes h. (log-again bs bytes h, (judged-again bs h, entries-fit bs bytes h));
       recorded-again = λ bs out bytes h fit. same-bytes bs bytes h out fit;
       exactly = λ bs bytes. (given bs bytes, given-read bs);
       no-plan = no-plan-sheet;
       a-plan = a-plan-sheet;
       visit-entry = λ r ask counter clock h. (entry-says _ (visit-small r ask h) counter clock, visit-station r ask h);
+      marking-told = marking-told;
+      unmarking-told = unmarking-told;
+      marking-refused = marking-refused;
+      unmarking-refused = unmarking-refused;
+      message-untold = message-untold;
       run-recorded = run-left;
       run-back = λ t a counter calls judged-0. given-back t a (entriesOf counter t a calls) judged-0 (run-fits t a counter calls);
     }

@@ -1,28 +1,35 @@
--- The numbers of an accepted visit's record fit their fields: the station is below 128, the limit at most TTRT, and both amounts at most twice that. So an entry says what the record says.
+-- The numbers of an accepted visit's record fit their fields: the station is below 128, the limit at most TTRT, and both amounts at most twice that. So an entry says what the record says. The station of an accepted marking is below 128 too.
 use Prim.Native.Nat.{ℕ, zero, suc, _%_, _^_, _≤_, _<_}
 use mathlib.Core.Path.{_≡_, refl, sym, ap, _∙_}
 use mathlib.Core.List.{List, [], _∷_, map, reverse, reverseAux}
-use mathlib.Core.Logic.{⊎-elim}
+use mathlib.Core.Logic.{_≢_, ⊎-elim}
 use native.Mathlib.Nat.{mod-eq-of-lt}
 use native.Mathlib.Omega.{arith}
 use Rattle.units.specs.Places.{at}
+use Rattle.units.specs.declared.Station.{Station}
 use Rattle.units.specs.SmallLaws.{below-or-not}
 use Rattle.sets.specs.declared.Set.{Set}
 use Rattle.plans.specs.declared.Alloc.{Alloc}
-use Rattle.entries.specs.Entry.{EntryFits}
+use Rattle.entries.specs.Visit.{VisitFits}
+use Rattle.entries.specs.Mark.{MarkFits}
 use Rattle.rings.specs.State.{count, ttrt}
 use Rattle.rings.specs.Timers.{Fddi, limit}
 use Rattle.rings.specs.Steps.{Ask, syncSent, asyncSent, recordOf, visitNumber, visitedWith, visited}
-use Rattle.rings.specs.RingLaws.{sync-within, visit-accepted, visit-passed, visit-safe}
+use Rattle.rings.specs.Sound.{Sound}
+use Rattle.rings.specs.RingLaws.{sync-within, visit-accepted, visit-passed, visit-safe, sound-plan}
 use Rattle.rings.specs.FrameLaws.{frames-within}
-use Rattle.rings.specs.TimerLaws.{fddi-or-not, limit-fddi, limit-timely, offered-late, offered-early}
+use Rattle.rings.specs.TimerLaws.{fddi-or-not, limit-within as limit-offered, offer-fddi, offer-timely, offered-late, offered-early}
+use Rattle.rings.specs.HandingIn.{handedIn}
+use Rattle.rings.specs.Marking.{marked, unmarked}
 use Rattle.rings.specs.declared.Ring.{Ring}
+use Rattle.rings.specs.declared.Message.{Message}
 use Rattle.rings.specs.declared.VisitRecord.{VisitRecord}
 use Rattle.rings.specs.declared.Visited.{Visited}
-use Rattle.logs.specs.Writing.{counterAt, entryOf}
-use Rattle.promises.specs.Run.{Call, visit, message, Run, noted, after, run, recordsOf}
+use Rattle.logs.specs.Writing.{counterAt, visitOf}
+use Rattle.ring_rules.proofs.Promised.{promised as rings-promised}
+use Rattle.promises.specs.Run.{Call, visit, message, mark, unmark, Event, aVisit as ofVisit, aMessage, aMarking, anUnmarking, Run, noted, after, run, eventsOf}
 use Rattle.logs.specs.Layout.{AllFit}
-use Rattle.log_rules.specs.Recorded.{tells, entriesOf}
+use Rattle.log_rules.specs.Recorded.{Told, aVisit, aMark, entryFor, tells, says, toldIn, entriesOf}
 use Rattle.log_rules.proofs.CounterLaws.{counter-clock}
 
 -- ---- an accepted visit
@@ -38,10 +45,10 @@ pub record Small (v : VisitRecord) : Type 0 where
 limit-within : (r : Ring) → limit r ≤ ttrt r
 limit-within r =
     ⊎-elim (λ (f : Fddi (r .set)).
-    ⊎-elim (λ (early : at (r .late) (r .token) < 1). omega (arith, limit-fddi r f, offered-early (ttrt r) (record { count = at (r .late) (r .token); timer = at (r .trt) (r .token) }) (omega arith)))
-    (λ (late : 1 ≤ at (r .late) (r .token)). omega (arith, limit-fddi r f, offered-late (ttrt r) (record { count = at (r .late) (r .token); timer = at (r .trt) (r .token) }) late))
+    ⊎-elim (λ (early : at (r .late) (r .token) < 1). omega (arith, limit-offered r, offer-fddi r f, offered-early (ttrt r) (record { count = at (r .late) (r .token); timer = at (r .trt) (r .token) }) (omega arith)))
+    (λ (late : 1 ≤ at (r .late) (r .token)). omega (arith, limit-offered r, offer-fddi r f, offered-late (ttrt r) (record { count = at (r .late) (r .token); timer = at (r .trt) (r .token) }) late))
     (below-or-not (at (r .late) (r .token)) 1))
-    (λ (n : ¬ Fddi (r .set)). omega (arith, limit-timely r n))
+    (λ (n : ¬ Fddi (r .set)). omega (arith, limit-offered r, offer-timely r n))
     (fddi-or-not (r .set))
 
 visited-number : (k : ℕ) (r : Ring) (ask : Ask) → visitedWith k r ask .answer .number ≡ k
@@ -83,7 +90,7 @@ module _ (r : Ring) (ask : Ask) where
 
 module _ (v : VisitRecord) (small : Small v) where
   pub entry-says : (counter clock : ℕ)
-      → entryOf counter clock v
+      → visitOf counter clock v
       ≡ record { station = v .station .0; start = counterAt counter clock (v .start .0); limit = v .limit .0; synchronous = v .synchronous .0; asynchronous = v .asynchronous .0 }
   entry-says counter clock =
       let station : v .station .0 % 256 ≡ v .station .0 = mod-eq-of-lt (omega (arith, small .station)) in
@@ -93,10 +100,10 @@ module _ (v : VisitRecord) (small : Small v) where
       rw (station, limit, synchronous, asynchronous) refl
 
   -- begun at clock 0
-  entry-tells : (counter : ℕ) → entryOf counter 0 v ≡ tells counter v
+  entry-tells : (counter : ℕ) → visitOf counter 0 v ≡ tells counter v
   entry-tells counter = entry-says counter 0 ∙ rw (counter-clock counter (v .start .0)) refl
 
-  tells-fits : (counter : ℕ) → EntryFits (tells counter v)
+  tells-fits : (counter : ℕ) → VisitFits (tells counter v)
   tells-fits counter =
       record {
         station = omega (arith, small .station);
@@ -106,43 +113,109 @@ module _ (v : VisitRecord) (small : Small v) where
         asynchronous = small .asynchronous;
       }
 
+-- ---- an accepted marking, and an unmarking
+
+-- the station of a sound ring fits its field
+station-fits : (r : Ring) (p : Station) (on : ℕ) → on < 256 → Sound r × (p .0 < count r) → MarkFits (record { station = p .0; mark = on })
+station-fits r p on small inside = record { station = omega (arith, inside .1, sound-plan r (inside .0) .0 .1); mark = small }
+
+mark-inside : (r : Ring) (p : Station) → marked r p .answer .number ≡ 0 → Sound r × (p .0 < count r)
+mark-inside r p h = rings-promised .mark-none r p .0 h
+
+unmark-inside : (r : Ring) (p : Station) → unmarked r p .number ≡ 0 → Sound r × (p .0 < count r)
+unmark-inside r p h = mark-inside r p (sym (rings-promised .unmark-number r p) ∙ h)
+
+-- ---- what a call tells
+
+module _ (x : Event) (before : List Event) where
+  told-there : (k : ℕ) → k ≡ 0 → toldIn (noted k x before) ≡ toldIn (x ∷ before)
+  unfolding noted
+  told-there k e = rw e refl
+
+  told-not : (k : ℕ) → k ≢ 0 → toldIn (noted k x before) ≡ toldIn before
+  unfolding noted
+  told-not zero h = absurd (h refl)
+  told-not (suc k) h = refl
+
+module _ (s : Run) (p : Station) where
+  pub marking-told : marked (s .ring) p .answer .number ≡ 0
+      → (toldIn (after s (mark p) .events) ≡ aMark (record { station = p .0; mark = 1 }) ∷ toldIn (s .events)) × (p .0 < count (s .ring))
+  unfolding after
+  marking-told h = (told-there (aMarking p (marked (s .ring) p .answer)) (s .events) _ h, mark-inside (s .ring) p h .1)
+
+  pub marking-refused : marked (s .ring) p .answer .number ≢ 0 → toldIn (after s (mark p) .events) ≡ toldIn (s .events)
+  unfolding after
+  marking-refused h = told-not (aMarking p (marked (s .ring) p .answer)) (s .events) _ h
+
+  pub unmarking-told : unmarked (s .ring) p .number ≡ 0
+      → (toldIn (after s (unmark p) .events) ≡ aMark (record { station = p .0; mark = 0 }) ∷ toldIn (s .events)) × (p .0 < count (s .ring))
+  unfolding after
+  unmarking-told h = (told-there (anUnmarking p) (s .events) _ h, unmark-inside (s .ring) p h .1)
+
+  pub unmarking-refused : unmarked (s .ring) p .number ≢ 0 → toldIn (after s (unmark p) .events) ≡ toldIn (s .events)
+  unfolding after
+  unmarking-refused h = told-not (anUnmarking p) (s .events) _ h
+
+pub message-untold : (s : Run) (m : Message) → toldIn (after s (message m) .events) ≡ toldIn (s .events)
+unfolding after noted
+message-untold s m = go (handedIn (s .ring) m .number)
+  where
+    go : (k : ℕ) → toldIn (noted k (aMessage m) (s .events)) ≡ toldIn (s .events)
+    go zero = refl
+    go (suc k) = refl
+
 -- ---- a run
 
-abbrev AllSmall : List VisitRecord → Type 0
+abbrev SmallTold : Told → Type 0
+SmallTold (aVisit v) = Small v
+SmallTold (aMark m) = MarkFits m
+
+abbrev AllSmall : List Told → Type 0
 AllSmall [] = Unit {0}
-AllSmall (v ∷ vs) = Small v × AllSmall vs
+AllSmall (x ∷ xs) = SmallTold x × AllSmall xs
 
 -- one more that was accepted, or none
-noted-small : (k : ℕ) (v : VisitRecord) (before : List VisitRecord) → (k ≡ 0 → Small v) → AllSmall before → AllSmall (noted k v before)
+noted-small : (k : ℕ) (x : Event) (before : List Event) → (k ≡ 0 → AllSmall (toldIn (x ∷ before))) → AllSmall (toldIn before) → AllSmall (toldIn (noted k x before))
 unfolding noted
-noted-small zero v before small all = (small refl, all)
-noted-small (suc k) v before small all = all
+noted-small zero x before small all = small refl
+noted-small (suc k) x before small all = all
 
-run-small : (calls : List Call) (s : Run) → AllSmall (s .records) → AllSmall (run s calls .records)
+run-small : (calls : List Call) (s : Run) → AllSmall (toldIn (s .events)) → AllSmall (toldIn (run s calls .events))
 unfolding run after
 run-small [] s all = all
-run-small (visit ask ∷ calls) s all = run-small calls (after s (visit ask)) (noted-small _ _ (s .records) (visit-small (s .ring) ask) all)
-run-small (message m ∷ calls) s all = run-small calls (after s (message m)) all
+run-small (visit ask ∷ calls) s all =
+    let answer = visited (s .ring) ask .answer in
+    run-small calls (after s (visit ask))
+    (noted-small (answer .number) (ofVisit (at (s .ring .mark) (s .ring .token)) (answer .«record»)) (s .events) (λ e. (visit-small (s .ring) ask e, all)) all)
+run-small (message m ∷ calls) s all = run-small calls (after s (message m)) (noted-small _ (aMessage m) (s .events) (λ e. all) all)
+run-small (mark p ∷ calls) s all =
+    run-small calls (after s (mark p))
+    (noted-small _ (aMarking p (marked (s .ring) p .answer)) (s .events) (λ e. (station-fits (s .ring) p 1 (omega arith) (mark-inside (s .ring) p e), all)) all)
+run-small (unmark p ∷ calls) s all =
+    run-small calls (after s (unmark p))
+    (noted-small _ (anUnmarking p) (s .events) (λ e. (station-fits (s .ring) p 0 (omega arith) (unmark-inside (s .ring) p e), all)) all)
 
-turned : (vs before : List VisitRecord) → AllSmall vs → AllSmall before → AllSmall (reverseAux vs before)
+turned : (xs before : List Told) → AllSmall xs → AllSmall before → AllSmall (reverseAux xs before)
 turned [] before all then = then
-turned (v ∷ vs) before all then = turned vs (v ∷ before) (all .1) (all .0, then)
+turned (x ∷ xs) before all then = turned xs (x ∷ before) (all .1) (all .0, then)
 
-records-small : (t : Set) (a : Alloc) (calls : List Call) → AllSmall (reverse (recordsOf t a calls))
-records-small t a calls = turned (recordsOf t a calls) [] (run-small calls _ tt) tt
+told-small : (t : Set) (a : Alloc) (calls : List Call) → AllSmall (reverse (toldIn (eventsOf t a calls)))
+told-small t a calls = turned (toldIn (eventsOf t a calls)) [] (run-small calls _ tt) tt
 
 module _ (counter : ℕ) where
-  entries-tell : (vs : List VisitRecord) → AllSmall vs → map (entryOf counter 0) vs ≡ map (tells counter) vs
+  entries-tell : (xs : List Told) → AllSmall xs → map (entryFor counter 0) xs ≡ map (says counter) xs
   entries-tell [] all = refl
-  entries-tell (v ∷ vs) all = rw (entry-tells v (all .0) counter, entries-tell vs (all .1)) refl
+  entries-tell (aVisit v ∷ xs) all = rw (entry-tells v (all .0) counter, entries-tell xs (all .1)) refl
+  entries-tell (aMark m ∷ xs) all = rw (entries-tell xs (all .1)) refl
 
-  tell-fits : (vs : List VisitRecord) → AllSmall vs → AllFit (map (tells counter) vs)
+  tell-fits : (xs : List Told) → AllSmall xs → AllFit (map (says counter) xs)
   tell-fits [] all = tt
-  tell-fits (v ∷ vs) all = (tells-fits v (all .0) counter, tell-fits vs (all .1))
+  tell-fits (aVisit v ∷ xs) all = (tells-fits v (all .0) counter, tell-fits xs (all .1))
+  tell-fits (aMark m ∷ xs) all = (all .0, tell-fits xs (all .1))
 
 module _ (t : Set) (a : Alloc) (counter : ℕ) (calls : List Call) where
-  pub run-entries : map (entryOf counter 0) (reverse (recordsOf t a calls)) ≡ entriesOf counter t a calls
-  run-entries = entries-tell counter (reverse (recordsOf t a calls)) (records-small t a calls)
+  pub run-entries : map (entryFor counter 0) (reverse (toldIn (eventsOf t a calls))) ≡ entriesOf counter t a calls
+  run-entries = entries-tell counter (reverse (toldIn (eventsOf t a calls))) (told-small t a calls)
 
   pub run-fits : AllFit (entriesOf counter t a calls)
-  run-fits = tell-fits counter (reverse (recordsOf t a calls)) (records-small t a calls)
+  run-fits = tell-fits counter (reverse (toldIn (eventsOf t a calls))) (told-small t a calls)

@@ -15,34 +15,42 @@ use Rattle.plans.specs.declared.Alloc.{Alloc}
 use Rattle.fields.specs.Rows.{laid}
 use Rattle.fields.specs.RowLaws.{laid-length, laid-first}
 use Rattle.fields.proofs.SegmentLaws.{laid-more}
+use Rattle.entries.specs.Visit.{visitBytes}
+use Rattle.entries.specs.Mark.{markBytes}
 use Rattle.entries.specs.Entry.{entryBytes}
+use Rattle.entries.specs.declared.MarkEntry.{MarkEntry}
 use Rattle.entries.specs.declared.Entry.{Entry}
-use Rattle.entries.proofs.EntryLaws.{entry-length}
+use Rattle.entries.specs.declared.Entry.the-variants.{Visit, Mark}
+use Rattle.entries.proofs.VisitLaws.{visit-length}
+use Rattle.entries.proofs.MarkLaws.{mark-length}
 use Rattle.sheets.specs.Layout.{fieldsOf, fieldsLength, endBytes, sheetLength}
 use Rattle.sheets.specs.Reading.{judgedSheet}
 use Rattle.sheets.specs.Writing.{roomNumber, laidAfter}
 use Rattle.sheets.proofs.WritingLaws.{fields-long, number-none, answer-accepted, buffer-accepted}
 use Rattle.rings.specs.declared.VisitRecord.{VisitRecord}
-use Rattle.logs.specs.Layout.{visitsBytes, logOf, logLength}
-use Rattle.logs.specs.Writing.{counterAt, beginNumber, begun, begunBuffer, entryOf, entryBy, addNumber, added, addedBuffer, ended, endedBuffer}
+use Rattle.logs.specs.Layout.{entriesBytes, logOf, logLength}
+use Rattle.logs.specs.Writing.{counterAt, beginNumber, begun, begunBuffer, visitBy, addNumber, notAdded, added, addedBuffer, addedMark, markedBuffer, ended, endedBuffer}
 use Rattle.logs.specs.declared.Recorder.{Recorder}
-use Rattle.logs.proofs.WritingLaws.{begun-accepted, added-accepted, added-refused-is}
+use Rattle.logs.proofs.WritingLaws.{begun-accepted, added-accepted, added-refused-is, marked-accepted, marked-refused-is}
 use Rattle.promises.specs.Run.{noted}
-use Rattle.log_rules.specs.Recorded.{Recording, beginning, oneMore, recorded, keptOf, endAnswer, endBuffer}
+use Rattle.log_rules.specs.Recorded.{Told, aVisit, aMark, Recording, beginning, oneMore, recorded, keptOf, endAnswer, endBuffer, entryFor}
+use Rattle.log_rules.specs.Promised.{visitCount, markCount}
 use Rattle.log_rules.proofs.CounterLaws.{counter-on}
 
 -- ---- lengths
 
-pub visits-length : (es : List Entry) → length (visitsBytes es) ≡ 20 * length es
-unfolding visitsBytes
-visits-length [] = refl
-visits-length (e ∷ es) = omega (arith, length-append (entryBytes e) (visitsBytes es), entry-length e, visits-length es)
+-- 20 of a visit, 5 of a mark
+pub entries-length : (es : List Entry) → length (entriesBytes es) ≡ 20 * visitCount es + 5 * markCount es
+unfolding entriesBytes
+entries-length [] = refl
+entries-length (Visit v ∷ es) = omega (arith, length-append (visitBytes v) (entriesBytes es), visit-length v, entries-length es)
+entries-length (Mark m ∷ es) = omega (arith, length-append (markBytes m) (entriesBytes es), mark-length m, entries-length es)
 
 pub log-long : (t : Set) (a : Alloc) (es : List Entry) → length (logOf t a es) ≡ logLength t es
 unfolding logOf
 log-long t a es =
     omega
-    (arith, length-append (fieldsOf true t a ++ visitsBytes es) endBytes, length-append (fieldsOf true t a) (visitsBytes es), fields-long true t a, visits-length es)
+    (arith, length-append (fieldsOf true t a ++ entriesBytes es) endBytes, length-append (fieldsOf true t a) (entriesBytes es), fields-long true t a)
 
 -- ---- 14, and what is laid
 
@@ -62,13 +70,13 @@ module _ (out : List ℕ) (a : ℕ) (bytes : List ℕ) where
   laid-fourteen k e = rw e refl
 
 -- what was accepted is kept
-noted-there : (k : ℕ) (v : VisitRecord) (rest : List VisitRecord) → k ≡ 0 → noted k v rest ≡ v ∷ rest
+noted-there : (k : ℕ) (x : Told) (rest : List Told) → k ≡ 0 → noted k x rest ≡ x ∷ rest
 unfolding noted
-noted-there k v rest e = rw e refl
+noted-there k x rest e = rw e refl
 
-noted-not : (k : ℕ) (v : VisitRecord) (rest : List VisitRecord) → k ≡ 14 → noted k v rest ≡ rest
+noted-not : (k : ℕ) (x : Told) (rest : List Told) → k ≡ 14 → noted k x rest ≡ rest
 unfolding noted
-noted-not k v rest e = rw e refl
+noted-not k x rest e = rw e refl
 
 -- ---- one call, accepted or refused with 14
 
@@ -87,19 +95,86 @@ module _ (r : Recorder) (v : VisitRecord) (out : List ℕ) where
   pub adds-with : r .at + 23 ≤ length out → added r v out ≡ record { at = r .at + 20; clock = v .start .0; counter = counterAt (r .counter) (r .clock) (v .start .0); number = 0 }
   adds-with fit = added-accepted _ r v (room-none (r .at + 20 + 3) (length out) (omega arith))
 
-  pub adds-field : r .at + 23 ≤ length out → addedBuffer r v out ≡ laid out (r .at) (entryBytes (entryBy r v))
-  adds-field fit = laid-zero out (r .at) (entryBytes (entryBy r v)) _ (room-none (r .at + 20 + 3) (length out) (omega arith))
+  pub adds-field : r .at + 23 ≤ length out → addedBuffer r v out ≡ laid out (r .at) (visitBytes (visitBy r v))
+  adds-field fit = laid-zero out (r .at) (visitBytes (visitBy r v)) _ (room-none (r .at + 20 + 3) (length out) (omega arith))
 
-  add-short : length out < r .at + 23 → addNumber r (length out) ≡ 14
+  add-short : length out < r .at + 23 → addNumber r 20 (length out) ≡ 14
   add-short short = room-short (r .at + 20 + 3) (length out) (omega arith)
 
-  pub adds-not : length out < r .at + 23 → added r v out ≡ record { at = r .at; clock = r .clock; counter = r .counter; number = 14 }
+  pub adds-not : length out < r .at + 23 → added r v out ≡ notAdded r 14
   adds-not short =
       let e = add-short short in
-      added-refused-is _ r v (λ z. absurd (omega (arith, e, z))) ∙ ap (λ (k : ℕ). record { at = r .at; clock = r .clock; counter = r .counter; number = k }) e
+      added-refused-is _ r v (λ z. absurd (omega (arith, e, z))) ∙ ap (notAdded r) e
 
   pub adds-nothing : length out < r .at + 23 → addedBuffer r v out ≡ out
-  adds-nothing short = laid-fourteen out (r .at) (entryBytes (entryBy r v)) _ (add-short short)
+  adds-nothing short = laid-fourteen out (r .at) (visitBytes (visitBy r v)) _ (add-short short)
+
+module _ (r : Recorder) (out : List ℕ) where
+  pub marks-with : r .at + 8 ≤ length out → addedMark r out ≡ record { at = r .at + 5; clock = r .clock; counter = r .counter; number = 0 }
+  marks-with fit = marked-accepted _ r (room-none (r .at + 5 + 3) (length out) (omega arith))
+
+  mark-short : length out < r .at + 8 → addNumber r 5 (length out) ≡ 14
+  mark-short short = room-short (r .at + 5 + 3) (length out) (omega arith)
+
+  pub marks-not : length out < r .at + 8 → addedMark r out ≡ notAdded r 14
+  marks-not short =
+      let e = mark-short short in
+      marked-refused-is _ r (λ z. absurd (omega (arith, e, z))) ∙ ap (notAdded r) e
+
+  module _ (m : MarkEntry) where
+    pub marks-field : r .at + 8 ≤ length out → markedBuffer r m out ≡ laid out (r .at) (markBytes m)
+    marks-field fit = laid-zero out (r .at) (markBytes m) _ (room-none (r .at + 5 + 3) (length out) (omega arith))
+
+    pub marks-nothing : length out < r .at + 8 → markedBuffer r m out ≡ out
+    marks-nothing short = laid-fourteen out (r .at) (markBytes m) _ (mark-short short)
+
+-- ---- the same, whatever is told
+
+-- its field
+abbrev fieldBy : Recording → Told → List ℕ
+fieldBy s x = entryBytes (entryFor (s .recorder .counter) (s .recorder .clock) x)
+
+-- taken: its field is laid, the recorder stands behind it, and shows at every clock what it showed before
+record Takes (s : Recording) (x : Told) : Type 0 where
+  number : oneMore s x .recorder .number ≡ 0
+  place : oneMore s x .recorder .at ≡ s .recorder .at + length (fieldBy s x)
+  buffer : oneMore s x .buffer ≡ laid (s .buffer) (s .recorder .at) (fieldBy s x)
+  same : (later : ℕ) → counterAt (oneMore s x .recorder .counter) (oneMore s x .recorder .clock) later ≡ counterAt (s .recorder .counter) (s .recorder .clock) later
+
+takes : (s : Recording) (x : Told) → s .recorder .at + length (fieldBy s x) + 3 ≤ length (s .buffer) → Takes s x
+takes s (aVisit v) fit =
+    let r = s .recorder in
+    let long = visit-length (visitBy (s .recorder) v) in
+    let inside : s .recorder .at + 23 ≤ length (s .buffer) = omega (arith, long) in
+    let next = adds-with r v (s .buffer) inside in
+    record {
+      number = ap (λ (x : Recorder). x .number) next;
+      place = ap (λ (x : Recorder). x .at) next ∙ ap (λ (k : ℕ). r .at + k) (sym long);
+      buffer = adds-field r v (s .buffer) inside;
+      same = λ later. ap (λ (x : Recorder). counterAt (x .counter) (x .clock) later) next ∙ counter-on (r .counter) (r .clock) (v .start .0) later;
+    }
+takes s (aMark m) fit =
+    let r = s .recorder in
+    let long = mark-length m in
+    let inside : s .recorder .at + 8 ≤ length (s .buffer) = omega (arith, long) in
+    let next = marks-with r (s .buffer) inside in
+    record {
+      number = ap (λ (x : Recorder). x .number) next;
+      place = ap (λ (x : Recorder). x .at) next ∙ ap (λ (k : ℕ). r .at + k) (sym long);
+      buffer = marks-field r (s .buffer) m inside;
+      same = λ later. ap (λ (x : Recorder). counterAt (x .counter) (x .clock) later) next;
+    }
+
+-- refused with 14: nothing else changes
+stays : (s : Recording) (x : Told) → length (s .buffer) < s .recorder .at + length (fieldBy s x) + 3 → oneMore s x ≡ record { recorder = notAdded (s .recorder) 14; buffer = s .buffer }
+stays s (aVisit v) short =
+    let r = s .recorder in
+    let outside : length (s .buffer) < s .recorder .at + 23 = omega (arith, visit-length (visitBy (s .recorder) v)) in
+    rw (adds-not r v (s .buffer) outside, adds-nothing r v (s .buffer) outside) refl
+stays s (aMark m) short =
+    let r = s .recorder in
+    let outside : length (s .buffer) < s .recorder .at + 8 = omega (arith, mark-length m) in
+    rw (marks-not r (s .buffer) outside, marks-nothing r (s .buffer) m outside) refl
 
 module _ (r : Recorder) (out : List ℕ) where
   pub ends-with : r .at + 3 ≤ length out → ended r out ≡ record { length = r .at + 3; number = 0 }
@@ -123,49 +198,39 @@ module _ (counter clock : ℕ) (out : List ℕ) where
     buffer-long = let room = so .room in ap length (so .buffer) ∙ laid-length out 0 written (omega arith)
 
     -- the entry is that of the counter and the clock of the beginning
-    same-entry : (v : VisitRecord) → entryBy (s .recorder) v ≡ entryOf counter clock v
-    same-entry v = rw (so .same (v .start .0)) refl
+    same-entry : (x : Told) → entryFor (s .recorder .counter) (s .recorder .clock) x ≡ entryFor counter clock x
+    same-entry (aVisit v) = rw (so .same (v .start .0)) refl
+    same-entry (aMark m) = refl
 
-    -- a visit that fits
-    more-fits : (v : VisitRecord) → length written + 23 ≤ length out
-        → (oneMore s v .recorder .number ≡ 0) × SoFar (oneMore s v) (written ++ entryBytes (entryOf counter clock v))
-    more-fits v fit =
+    same-field : (x : Told) → fieldBy s x ≡ entryBytes (entryFor counter clock x)
+    same-field x = ap entryBytes (same-entry x)
+
+    -- what fits
+    more-fits : (x : Told) → length written + length (entryBytes (entryFor counter clock x)) + 3 ≤ length out
+        → (oneMore s x .recorder .number ≡ 0) × SoFar (oneMore s x) (written ++ entryBytes (entryFor counter clock x))
+    more-fits x fit =
         let r = s .recorder in
-        let e = entryOf counter clock v in
+        let field = entryBytes (entryFor counter clock x) in
         let place : s .recorder .at ≡ length written = so .place in
-        let inside : s .recorder .at + 23 ≤ length (s .buffer) = omega (arith, buffer-long) in
-        let next = adds-with r v (s .buffer) inside in
-        let long : length (written ++ entryBytes (entryOf counter clock v)) ≡ length written + 20 = omega (arith, length-append written (entryBytes e), entry-length e) in
-        let stands : addedBuffer (s .recorder) v (s .buffer) ≡ laid out 0 (written ++ entryBytes (entryOf counter clock v)) =
-        laid-more out (s .buffer) _ 0 (r .at) written (entryBytes e) (so .buffer) (omega arith)
-        (adds-field r v (s .buffer) inside ∙ ap (λ (x : Entry). laid (s .buffer) (r .at) (entryBytes x)) (same-entry v)) (omega (arith, entry-length e)) in (
-          ap (λ (x : Recorder). x .number) next,
+        let size : length (fieldBy s x) ≡ length (entryBytes (entryFor counter clock x)) = ap length (same-field x) in
+        let taken = takes s x (omega (arith, buffer-long, size)) in
+        let long : length (written ++ entryBytes (entryFor counter clock x)) ≡ length written + length (entryBytes (entryFor counter clock x)) = length-append written field in (
+          taken .number,
           record {
-            buffer = stands;
-            place = ap (λ (x : Recorder). x .at) next ∙ omega (arith, place, long);
+            buffer = laid-more out (s .buffer) _ 0 (r .at) written field (so .buffer) (omega arith) (taken .buffer ∙ ap (laid (s .buffer) (r .at)) (same-field x)) (omega arith);
+            place = taken .place ∙ omega (arith, place, size, long);
             room = omega arith;
-            same = λ later.
-                ap (λ (x : Recorder). counterAt (x .counter) (x .clock) later) next
-                ∙ counter-on (r .counter) (r .clock) (v .start .0) later
-                ∙ so .same later;
+            same = λ later. taken .same later ∙ so .same later;
           },
         )
 
-    -- one that does not
-    more-short : (v : VisitRecord) → length out < length written + 23 → (oneMore s v .recorder .number ≡ 14) × SoFar (oneMore s v) written
-    more-short v short =
-        let r = s .recorder in
+    -- what does not
+    more-short : (x : Told) → length out < length written + length (entryBytes (entryFor counter clock x)) + 3 → (oneMore s x .recorder .number ≡ 14) × SoFar (oneMore s x) written
+    more-short x short =
         let place : s .recorder .at ≡ length written = so .place in
-        let outside : length (s .buffer) < s .recorder .at + 23 = omega (arith, buffer-long) in
-        let next = adds-not r v (s .buffer) outside in (
-          ap (λ (x : Recorder). x .number) next,
-          record {
-            buffer = adds-nothing r v (s .buffer) outside ∙ so .buffer;
-            place = ap (λ (x : Recorder). x .at) next ∙ place;
-            room = so .room;
-            same = λ later. ap (λ (x : Recorder). counterAt (x .counter) (x .clock) later) next ∙ so .same later;
-          },
-        )
+        let size : length (fieldBy s x) ≡ length (entryBytes (entryFor counter clock x)) = ap length (same-field x) in
+        let next = stays s x (omega (arith, buffer-long, size)) in
+        rw next (refl, record { buffer = so .buffer; place = place; room = so .room; same = so .same })
 
     -- the end
     pub ends-all : (endAnswer s ≡ record { length = length (written ++ endBytes); number = 0 }) × (endBuffer s ≡ (written ++ endBytes) ++ drop (length (written ++ endBytes)) out)
@@ -180,36 +245,37 @@ module _ (counter clock : ℕ) (out : List ℕ) where
               ∙ laid-first out (written ++ endBytes),
         )
 
-  -- the fields of these visits
-  abbrev fieldsFor : List VisitRecord → List ℕ
-  fieldsFor vs = visitsBytes (map (entryOf counter clock) vs)
+  -- the fields of what was told
+  abbrev fieldsFor : List Told → List ℕ
+  fieldsFor xs = entriesBytes (map (entryFor counter clock) xs)
 
-  -- all visits of a list
-  pub recorded-so : (vs : List VisitRecord) (s : Recording) (written : List ℕ) → SoFar s written → SoFar (recorded s vs) (written ++ fieldsFor (keptOf s vs))
-  unfolding recorded keptOf visitsBytes
+  -- all of a list
+  pub recorded-so : (xs : List Told) (s : Recording) (written : List ℕ) → SoFar s written → SoFar (recorded s xs) (written ++ fieldsFor (keptOf s xs))
+  unfolding recorded keptOf entriesBytes
   recorded-so [] s written so = rw append-nil so
-  recorded-so (v ∷ vs) s written so =
-      ⊎-elim (λ (short : length out < length written + 23).
-      let next = more-short s written so v short in
-      rw (noted-not _ v (keptOf (oneMore s v) vs) (next .0)) (recorded-so vs (oneMore s v) written (next .1)))
-      (λ (fit : length written + 23 ≤ length out).
-      let next = more-fits s written so v fit in
-      let e = entryOf counter clock v in
-      let rest = keptOf (oneMore s v) vs in
-      rw (noted-there _ v rest (next .0))
-      (subst (SoFar (recorded (oneMore s v) vs)) (append-assoc written (entryBytes e) (fieldsFor rest)) (recorded-so vs (oneMore s v) (written ++ entryBytes e) (next .1))))
-      (below-or-not (length out) (length written + 23))
+  recorded-so (x ∷ xs) s written so =
+      ⊎-elim (λ (short : length out < length written + length (entryBytes (entryFor counter clock x)) + 3).
+      let next = more-short s written so x short in
+      rw (noted-not _ x (keptOf (oneMore s x) xs) (next .0)) (recorded-so xs (oneMore s x) written (next .1)))
+      (λ (fit : length written + length (entryBytes (entryFor counter clock x)) + 3 ≤ length out).
+      let next = more-fits s written so x fit in
+      let field = entryBytes (entryFor counter clock x) in
+      let rest = keptOf (oneMore s x) xs in
+      rw (noted-there _ x rest (next .0))
+      (subst (SoFar (recorded (oneMore s x) xs)) (append-assoc written field (fieldsFor rest)) (recorded-so xs (oneMore s x) (written ++ field) (next .1))))
+      (below-or-not (length out) (length written + length (entryBytes (entryFor counter clock x)) + 3))
 
   -- where there is room for all, all are kept
-  pub kept-all : (vs : List VisitRecord) (s : Recording) (written : List ℕ) → SoFar s written → length written + 20 * length vs + 3 ≤ length out → keptOf s vs ≡ vs
-  unfolding keptOf
+  pub kept-all : (xs : List Told) (s : Recording) (written : List ℕ) → SoFar s written → length written + length (fieldsFor xs) + 3 ≤ length out → keptOf s xs ≡ xs
+  unfolding keptOf entriesBytes
   kept-all [] s written so room = refl
-  kept-all (v ∷ vs) s written so room =
-      let fit : length written + 23 ≤ length out = omega arith in
-      let next = more-fits s written so v fit in
-      let e = entryOf counter clock v in
-      noted-there _ v (keptOf (oneMore s v) vs) (next .0)
-      ∙ ap (λ (rest : List VisitRecord). v ∷ rest) (kept-all vs (oneMore s v) _ (next .1) (omega (arith, length-append written (entryBytes e), entry-length e)))
+  kept-all (x ∷ xs) s written so room =
+      let field = entryBytes (entryFor counter clock x) in
+      let both : length (entryBytes (entryFor counter clock x) ++ fieldsFor xs) ≡ length (entryBytes (entryFor counter clock x)) + length (fieldsFor xs) = length-append field (fieldsFor xs) in
+      let fit : length written + length (entryBytes (entryFor counter clock x)) + 3 ≤ length out = omega arith in
+      let next = more-fits s written so x fit in
+      noted-there _ x (keptOf (oneMore s x) xs) (next .0)
+      ∙ ap (λ (rest : List Told). x ∷ rest) (kept-all xs (oneMore s x) _ (next .1) (omega (arith, length-append written field)))
 
 -- ---- from the beginning to the end
 
@@ -225,12 +291,12 @@ module _ (t : Set) (a : Alloc) (counter clock : ℕ) (out : List ℕ) (judged-0 
         same = λ later. ap (λ (x : Recorder). counterAt (x .counter) (x .clock) later) first;
       }
 
-  pub leaves-log : (vs : List VisitRecord)
-      → let s = recorded (beginning t a counter clock out) vs in
-      let log = logOf t a (map (entryOf counter clock) (keptOf (beginning t a counter clock out) vs)) in
+  pub leaves-log : (xs : List Told)
+      → let s = recorded (beginning t a counter clock out) xs in
+      let log = logOf t a (map (entryFor counter clock) (keptOf (beginning t a counter clock out) xs)) in
       (endAnswer s ≡ record { length = length log; number = 0 }) × (endBuffer s ≡ log ++ drop (length log) out)
   unfolding logOf
-  leaves-log vs = ends-all counter clock out _ _ (recorded-so counter clock out vs (beginning t a counter clock out) (fieldsOf true t a) begun-so)
+  leaves-log xs = ends-all counter clock out _ _ (recorded-so counter clock out xs (beginning t a counter clock out) (fieldsOf true t a) begun-so)
 
-  pub keeps-all : (vs : List VisitRecord) → sheetLength true t + 20 * length vs ≤ length out → keptOf (beginning t a counter clock out) vs ≡ vs
-  keeps-all vs room = kept-all counter clock out vs (beginning t a counter clock out) (fieldsOf true t a) begun-so (omega (arith, fields-long true t a))
+  pub keeps-all : (xs : List Told) → sheetLength true t + length (entriesBytes (map (entryFor counter clock) xs)) ≤ length out → keptOf (beginning t a counter clock out) xs ≡ xs
+  keeps-all xs room = kept-all counter clock out xs (beginning t a counter clock out) (fieldsOf true t a) begun-so (omega (arith, fields-long true t a))

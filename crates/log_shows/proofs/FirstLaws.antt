@@ -1,11 +1,12 @@
--- What is printed of the first bytes is printed of all: they give the same plan (`sheets/proofs/FirstLaws.antt`), and a visit or the end behind its fields lies among them, with more bytes behind.
+-- What is printed of the first bytes is printed of all: they give the same plan (`sheets/proofs/FirstLaws.antt`), and a record or the end behind its fields lies among them, with more bytes behind.
 use Prim.Native.Nat.{ℕ, _+_, _≤_}
 use mathlib.Core.Path.{_≡_, refl, sym, ap, _∙_}
-use mathlib.Core.Bool.{Bool, true, false, _&&_}
+use mathlib.Core.Bool.{Bool, true, false, not, _&&_}
 use mathlib.Core.List.{List, _++_}
 use mathlib.Core.Logic.{⊎-elim}
 use native.Mathlib.Omega.{arith}
-use borrow.Author.Tests.{le-leb, lt-leb}
+use borrow.Author.Tests.{le-leb, lt-leb, not-false}
+use lib.Dec.{eqb}
 use lib.ListN.{length, length-append}
 use Rattle.units.specs.JudgingLaws.{true-or-false}
 use Rattle.fields.specs.Fields.{left}
@@ -13,7 +14,9 @@ use Rattle.scan.specs.Scanned.{scanned}
 use Rattle.sheets.specs.Layout.{planRead}
 use Rattle.sheets.specs.Reading.{planPassed, planStart}
 use Rattle.sheets.proofs.FirstLaws.{plan-stops, at-same, size-same, scan-same, set-same, alloc-same, read-same as sheet-same, start-same, start-at}
-use Rattle.entries.specs.Entry.{visitStands}
+use Rattle.entries.specs.Visit.{visitStands}
+use Rattle.entries.specs.Mark.{markStands}
+use Rattle.logs.specs.Records.{recordSize}
 use Rattle.logs.specs.Walked.{stopNumber, walkFrom, walked, logWalked}
 use Rattle.logs.specs.Reading.{readLog}
 use Rattle.logs.proofs.ReadingLaws.{start-says}
@@ -21,9 +24,10 @@ use Rattle.pieces.specs.Pieces.{firstSize}
 use Rattle.outputs.specs.ShowText.{showPrinted, shownNumber}
 use Rattle.log_shows.specs.LogShown.{isLog, plainText, shownNumberOf, headText, firstNumber}
 
--- no visit stands behind the fields of a plan, where all have passed and it is no log
-pub no-visit : (bs : List ℕ) → planStart bs .passed ≡ true → isLog bs ≡ false → visitStands bs (scanned true bs .at) ≡ false
-no-visit bs all plain = ap (visitStands bs) (sym (start-at bs)) ∙ ap (λ (b : Bool). b && visitStands bs (planStart bs .at)) (sym all) ∙ plain
+-- no record stands behind the fields of a plan, where all have passed and it is no log
+pub no-record : (bs : List ℕ) → planStart bs .passed ≡ true → isLog bs ≡ false → eqb (recordSize bs (scanned true bs .at)) 0 ≡ true
+no-record bs all plain =
+    not-false _ (ap (λ (a : ℕ). not (eqb (recordSize bs a) 0)) (sym (start-at bs)) ∙ ap (λ (b : Bool). b && not (eqb (recordSize bs (planStart bs .at)) 0)) (sym all) ∙ plain)
 
 module _ (head rest : List ℕ) (long : firstSize ≤ length head) where
   -- they are enough for a plan
@@ -33,12 +37,14 @@ module _ (head rest : List ℕ) (long : firstSize ≤ length head) where
   -- ---- behind the plan's fields
 
   module _ (a : ℕ) (short : a ≤ 3_353) where
-    visit-same : visitStands (head ++ rest) a ≡ visitStands head a
-    unfolding visitStands
-    visit-same =
+    record-same : recordSize (head ++ rest) a ≡ recordSize head a
+    unfolding recordSize visitStands markStands
+    record-same =
         rw (
           le-leb (a + 20) (length (head ++ rest)) (omega (arith, length-append head rest)),
           le-leb (a + 20) (length head) (omega arith),
+          le-leb (a + 5) (length (head ++ rest)) (omega (arith, length-append head rest)),
+          le-leb (a + 5) (length head) (omega arith),
           at-same head rest a (omega arith),
           size-same head rest a (omega arith),
         ) refl
@@ -56,7 +62,7 @@ module _ (head rest : List ℕ) (long : firstSize ≤ length head) where
         ) refl
 
   pub log-same : isLog (head ++ rest) ≡ isLog head
-  log-same = rw (start-same head rest plan-long, visit-same (planStart head .at) (omega (arith, start-at head, plan-stops head))) refl
+  log-same = rw (start-same head rest plan-long, record-same (planStart head .at) (omega (arith, start-at head, plan-stops head))) refl
 
   -- ---- no log: the same is read
 
@@ -69,8 +75,8 @@ module _ (head rest : List ℕ) (long : firstSize ≤ length head) where
       rw (
         scan-same head rest true plan-long,
         passed,
-        visit-same a short,
-        no-visit head all plain,
+        record-same a short,
+        no-record head all plain,
         stop-same a short,
         set-same head rest true plan-long,
         alloc-same head rest true plan-long,

@@ -5,7 +5,7 @@ use mathlib.Core.Bool.{true, false}
 use mathlib.Core.List.{List, [], _++_, append-nil}
 use mathlib.Core.Logic.{_⊎_, inl, inr, ⊎-elim, _≢_}
 use native.Mathlib.Omega.{arith}
-use borrow.Author.Tests.{eq-eqb, ne-eqb}
+use borrow.Author.Tests.{eq-eqb, ne-eqb, eqb-false, not-true}
 use lib.ListN.{length, drop, take-append-drop}
 use lib.Seq.{drop-append-le}
 use Rattle.units.specs.JudgingLaws.{true-or-false, and-true}
@@ -24,26 +24,27 @@ use Rattle.sheets.specs.declared.PlanStart.{PlanStart}
 use Rattle.sheets.proofs.FirstLaws.{start-same, stays, take-or-all, start-at, start-inside}
 use Rattle.sheet_rules.proofs.Promised.{promised as sheet-rules}
 use Rattle.entries.specs.declared.Entry.{Entry}
-use Rattle.entries.proofs.EntryLaws.{visit-there}
+use Rattle.logs.specs.Records.{recordSize}
 use Rattle.logs.specs.Walked.{walked, logWalked}
 use Rattle.logs.specs.FirstFault.{in-plan, WholeLog}
 use Rattle.logs.specs.Reading.{logNumber, readLog, handedFrom, entriesIn}
 use Rattle.logs.specs.declared.Walked.{Walked}
 use Rattle.logs.specs.declared.ReadLog.{ReadLog}
+use Rattle.logs.proofs.RecordLaws.{record-tag, record-there}
 use Rattle.logs.proofs.WalkLaws.{not-all-fault, log-end-there}
 use Rattle.logs.proofs.ReadingLaws.{read-number, read-accepted, number-judged, start-says, log-whole}
 use Rattle.pieces.specs.Pieces.{firstSize, readOver, handedOver}
-use Rattle.pieces.specs.declared.Visits.{Visits}
+use Rattle.pieces.specs.declared.Gathered.{Gathered}
 use Rattle.pieces.proofs.FieldLaws.{read-append, handed-append}
 use Rattle.pieces.proofs.WholeLaws.{whole-read}
 use Rattle.text.specs.Text.{refusedLine, textOr, Tells}
 use Rattle.text.proofs.RefusalLaws.{countU, Plain, plain-append, tells-or, tells-behind}
 use Rattle.text.specs.TextLaws.{text-accepted, text-refused}
 use Rattle.outputs.specs.ShowText.{sheetText, planLinesOf, showPrinted}
-use Rattle.outputs.specs.LogText.{visitLines, logText}
-use Rattle.outputs.proofs.PlainLaws.{plain-plan, plain-visits, show-tells}
-use Rattle.log_shows.specs.LogShown.{isLog, planText, plainText, shownNumberOf, headText, firstNumber, showFrom, linesFor, showAfter, shownOver, lastNumber, endText, visitsPart, shownOf}
-use Rattle.log_shows.specs.LogShown.{shownWith, numberWith, firstPart, visitsRead}
+use Rattle.outputs.specs.LogText.{entryLines, logText}
+use Rattle.outputs.proofs.PlainLaws.{plain-plan, plain-entries, show-tells}
+use Rattle.log_shows.specs.LogShown.{isLog, planText, plainText, shownNumberOf, headText, firstNumber, showFrom, linesFor, showAfter, shownOver, lastNumber, endText, recordsPart, shownOf}
+use Rattle.log_shows.specs.LogShown.{shownWith, numberWith, firstPart, recordsRead}
 use Rattle.log_shows.specs.Promised.{Promised}
 use Rattle.log_shows.specs.declared.Showing.{Showing}
 use Rattle.log_shows.proofs.ShowLaws.{lines-append, lines-accepted, plan-lines, plain-ever, plain-read, number-ever, number-read, number-plain, head-plain, head-log}
@@ -52,12 +53,12 @@ use Rattle.log_shows.proofs.FirstLaws.{log-same, number-same, text-same
 -- ---- pieces
 
 behind : (k : Showing) (first rest : List ℕ) → showAfter k (first ++ rest) ≡ showAfter (showAfter k first) rest
-behind k first rest = ap (λ (v : Visits). record { visits = v; number = k .number }) (read-append (k .visits) first rest)
+behind k first rest = ap (λ (v : Gathered). record { gathered = v; number = k .number }) (read-append (k .gathered) first rest)
 
 shown : (k : Showing) (first rest : List ℕ) → shownOver k (first ++ rest) ≡ shownOver k first ++ shownOver (showAfter k first) rest
-shown k first rest = ap (linesFor (k .number)) (handed-append (k .visits) first rest) ∙ lines-append (k .number) (handedOver (k .visits) first) (handedOver (readOver (k .visits) first) rest)
+shown k first rest = ap (linesFor (k .number)) (handed-append (k .gathered) first rest) ∙ lines-append (k .number) (handedOver (k .gathered) first) (handedOver (readOver (k .gathered) first) rest)
 
--- ---- a log with a visit
+-- ---- a log with a record
 
 module _ (bs : List ℕ) (log : isLog bs ≡ true) where
   all-passed : planPassed (scanned true bs .passed) ≡ true
@@ -67,32 +68,32 @@ module _ (bs : List ℕ) (log : isLog bs ≡ true) where
   unfolding planStart
   start-number = rw all-passed refl
 
-  -- the walk over the log is the walk over its visits
+  -- the walk over the log is the walk over its records
   walk-same : logWalked bs .number ≡ walked bs (planStart bs .at) .number
   unfolding logWalked
   walk-same = rw (all-passed, start-at bs) refl
 
-  visits-same : logWalked bs .visits ≡ walked bs (planStart bs .at) .visits
+  records-same : logWalked bs .records ≡ walked bs (planStart bs .at) .records
   unfolding logWalked
-  visits-same = rw (all-passed, start-at bs) refl
+  records-same = rw (all-passed, start-at bs) refl
 
-  last : lastNumber (showAfter (showFrom bs) (visitsPart bs)) ≡ logNumber bs
+  last : lastNumber (showAfter (showFrom bs) (recordsPart bs)) ≡ logNumber bs
   last =
       ap (λ (n : ℕ). thenNumber n (planStart bs .number)) (whole-read bs (planStart bs .at) (start-inside bs) .ends ∙ sym walk-same)
       ∙ ap (thenNumber (logWalked bs .number)) start-number
 
-  lines : shownOver (showFrom bs) (visitsPart bs) ≡ linesFor (planStart bs .number) (handedFrom (walked bs (planStart bs .at) .visits) bs (planStart bs .at))
+  lines : shownOver (showFrom bs) (recordsPart bs) ≡ linesFor (planStart bs .number) (handedFrom (walked bs (planStart bs .at) .records) bs (planStart bs .at))
   lines = ap (linesFor (planStart bs .number)) (whole-read bs (planStart bs .at) (start-inside bs) .hands)
 
   log-said : shownOf bs ≡ planText (planStart bs .number) (planStart bs .set) (planStart bs .alloc)
-      ++ linesFor (planStart bs .number) (handedFrom (walked bs (planStart bs .at) .visits) bs (planStart bs .at)) ++ textOr (logNumber bs) []
+      ++ linesFor (planStart bs .number) (handedFrom (walked bs (planStart bs .at) .records) bs (planStart bs .at)) ++ textOr (logNumber bs) []
   unfolding shownOf
   log-said =
       rw log
-      (ap (λ (x : List ℕ). x ++ shownOver (showFrom bs) (visitsPart bs) ++ endText (showAfter (showFrom bs) (visitsPart bs))) (sym (head-log bs (planStart bs) log refl))
-      ∙ ap (λ (x : List ℕ). planText (planStart bs .number) (planStart bs .set) (planStart bs .alloc) ++ x ++ endText (showAfter (showFrom bs) (visitsPart bs))) lines
+      (ap (λ (x : List ℕ). x ++ shownOver (showFrom bs) (recordsPart bs) ++ endText (showAfter (showFrom bs) (recordsPart bs))) (sym (head-log bs (planStart bs) log refl))
+      ∙ ap (λ (x : List ℕ). planText (planStart bs .number) (planStart bs .set) (planStart bs .alloc) ++ x ++ endText (showAfter (showFrom bs) (recordsPart bs))) lines
       ∙ ap (λ (n : ℕ). planText (planStart bs .number) (planStart bs .set) (planStart bs .alloc)
-      ++ linesFor (planStart bs .number) (handedFrom (walked bs (planStart bs .at) .visits) bs (planStart bs .at)) ++ textOr n []) last)
+      ++ linesFor (planStart bs .number) (handedFrom (walked bs (planStart bs .at) .records) bs (planStart bs .at)) ++ textOr n []) last)
 
   start-set : planStart bs .set ≡ setIn true bs
   unfolding planStart
@@ -116,16 +117,16 @@ module _ (bs : List ℕ) (log : isLog bs ≡ true) where
       let t = planStart bs .set in
       let a = planStart bs .alloc in
       let w = walked bs (planStart bs .at) in
-      let es = handedFrom (w .visits) bs (planStart bs .at) in
+      let es = handedFrom (w .records) bs (planStart bs .at) in
       let whole = log-whole bs (planStart bs) refl (and-true (planStart bs .passed) _ log .0) w refl (sym walk-same ∙ both .0) accepted in
       log-said
       ∙ ap (λ (x : List ℕ). x ++ linesFor (planStart bs .number) es ++ textOr (logNumber bs) []) (text-lines accepted)
       ∙ ap (λ (x : List ℕ). sheetText true t a ++ x ++ textOr (logNumber bs) []) (lines-accepted (planStart bs .number) es accepted)
-      ∙ ap (λ (x : List ℕ). sheetText true t a ++ visitLines es ++ x) (text-accepted (logNumber bs) [] none)
-      ∙ append-nil (sheetText true t a ++ visitLines es)
-      ∙ ap (λ (r : ReadLog). sheetText true (r .set) (r .alloc) ++ visitLines (handedFrom (r .visits) bs (r .first))) whole
+      ∙ ap (λ (x : List ℕ). sheetText true t a ++ entryLines es ++ x) (text-accepted (logNumber bs) [] none)
+      ∙ append-nil (sheetText true t a ++ entryLines es)
+      ∙ ap (λ (r : ReadLog). sheetText true (r .set) (r .alloc) ++ entryLines (handedFrom (r .records) bs (r .first))) whole
 
--- ---- no whole visit
+-- ---- no whole record
 
 plain-said : (bs : List ℕ) → isLog bs ≡ false → shownOf bs ≡ plainText bs
 unfolding shownOf
@@ -136,7 +137,7 @@ ever bs e =
     let none : isLog bs ≡ false = rw e refl in
     plain-said bs none ∙ sym (plain-ever bs e)
 
--- behind the fields of a plan: the answer of a log that has no visit
+-- behind the fields of a plan: the answer of a log that has no record
 plain-log : (bs : List ℕ) → planStart bs .passed ≡ true → isLog bs ≡ false → shownOf bs ≡ textOr (readLog bs .number) (planLinesOf (readLog bs .set) (readLog bs .alloc))
 plain-log bs all none = plain-said bs none ∙ sym (plain-read bs (readLog bs) all refl)
 
@@ -156,12 +157,12 @@ module _ (bs : List ℕ) (accepted : readPlan bs .number ≡ 0) where
   sheet : WholeSheet true bs
   sheet = shape-whole true bs (both .0)
 
-  -- a log without a visit
+  -- a log without a record
   log : WholeLog bs
   log =
       record {
         passed = sheet .passed;
-        visits = 0;
+        records = 0;
         place = sheet .place;
         before = in-plan (sheet .before);
         end-whole = sheet .end-whole;
@@ -173,7 +174,7 @@ module _ (bs : List ℕ) (accepted : readPlan bs .number ≡ 0) where
   unfolding judgedSheet
   judged = both .1
 
-  as-log : readLog bs ≡ record { set = setIn true bs; alloc = allocIn true bs; first = scanned true bs .at; visits = logWalked bs .visits; number = 0 }
+  as-log : readLog bs ≡ record { set = setIn true bs; alloc = allocIn true bs; first = scanned true bs .at; records = logWalked bs .records; number = 0 }
   as-log = read-accepted bs (number-judged bs (ap (λ (w : Walked). w .number) (log-end-there bs log)) ∙ judged)
 
   as-plan : readPlan bs ≡ record { set = setIn true bs; alloc = allocIn true bs; number = 0 }
@@ -186,13 +187,14 @@ module _ (bs : List ℕ) (accepted : readPlan bs .number ≡ 0) where
       (λ (e : planPassed (scanned true bs .passed) ≡ false). absurd (not-all-fault bs e (both .0)))
       (true-or-false (planPassed (scanned true bs .passed)))
 
-  -- the end stands where a visit would
-  no-visit : isLog bs ≡ false
-  no-visit =
+  -- the end stands where a record would
+  no-record : isLog bs ≡ false
+  no-record =
       ⊎-elim (λ (e : isLog bs ≡ true).
       let here : planStart bs .at ≡ sheet .place = start-at bs ∙ ap (λ (r : Scanned). r .at) (end-there true bs sheet) in
-      let visit : tagAt bs (sheet .place) ≡ 16 = ap (tagAt bs) (sym here) ∙ visit-there bs (planStart bs .at) (and-true (planStart bs .passed) _ e .1) .has-tag in
-      absurd (omega (arith, visit, sheet .end-tag)))
+      let size = eqb-false (recordSize bs (planStart bs .at)) 0 (not-true _ (and-true (planStart bs .passed) _ e .1)) in
+      let low = record-tag bs (planStart bs .at) (record-there bs (planStart bs .at) size .here) .1 in
+      absurd (omega (arith, low, ap (tagAt bs) here, sheet .end-tag)))
       (λ (e : isLog bs ≡ false). e)
       (true-or-false (isLog bs))
 
@@ -205,14 +207,14 @@ module _ (bs : List ℕ) (accepted : readPlan bs .number ≡ 0) where
   plan-ever : shownOf bs ≡ showPrinted bs
   unfolding textOr
   plan-ever =
-      plain-log bs fields-passed no-visit
+      plain-log bs fields-passed no-record
       ∙ ap (λ (r : ReadLog). textOr (r .number) (planLinesOf (r .set) (r .alloc))) as-log
       ∙ plan-lines _ _ judged
       ∙ sym sheet-printed
 
 -- ---- the number, and what the text tells
 
-number-whole : (bs : List ℕ) → numberWith bs (visitsPart bs) ≡ shownNumberOf bs
+number-whole : (bs : List ℕ) → numberWith bs (recordsPart bs) ≡ shownNumberOf bs
 number-whole bs =
     ⊎-elim (λ (e : isLog bs ≡ true). rw e (last bs e ∙ sym (read-number bs) ∙ number-read bs (readLog bs) (and-true (planStart bs .passed) _ e .0) refl))
     (λ (e : isLog bs ≡ false). rw e (sym (number-plain bs e)))
@@ -220,7 +222,7 @@ number-whole bs =
 
 plain-lines : (k : ℕ) (es : List Entry) → Plain (linesFor k es)
 unfolding linesFor countU
-plain-lines zero es = plain-visits es
+plain-lines zero es = plain-entries es
 plain-lines (suc k) es = refl
 
 plain-start : (k : ℕ) (t : Set) (a : Alloc) → Plain (planText k t a)
@@ -228,12 +230,12 @@ unfolding countU
 plain-start zero t a = plain-plan t a
 plain-start (suc k) t a = rw (ne-eqb (suc k) 0 (omega arith)) refl
 
--- a log with a visit
+-- a log with a record
 log-tells : (bs : List ℕ) → isLog bs ≡ true → Tells (shownOf bs) (shownNumberOf bs)
 log-tells bs log =
     let k = planStart bs .number in
     let text = planText k (planStart bs .set) (planStart bs .alloc) in
-    let lines = linesFor k (handedFrom (walked bs (planStart bs .at) .visits) bs (planStart bs .at)) in
+    let lines = linesFor k (handedFrom (walked bs (planStart bs .at) .records) bs (planStart bs .at)) in
     let number : logNumber bs ≡ shownNumberOf bs = sym (read-number bs) ∙ number-read bs (readLog bs) (and-true (planStart bs .passed) _ log .0) refl in
     rw (log-said bs log, ← number) (tells-behind (text ++ lines) (logNumber bs) (plain-append text lines (plain-start k _ _) (plain-lines k _)))
 
@@ -275,21 +277,21 @@ module _ (bs : List ℕ) where
   text-first : headText first ≡ headText bs
   text-first = of-first headText (text-same first rest)
 
-  visits-first : visitsRead bs ≡ visitsPart bs
-  visits-first =
+  records-first : recordsRead bs ≡ recordsPart bs
+  records-first =
       sym (drop-append-le (planStart first .at) first rest (start-inside first))
       ∙ ap (λ (s : PlanStart). drop (s .at) (first ++ rest)) start
       ∙ ap (drop (planStart bs .at)) first-rest
 
-  shown-in-pieces : shownWith (firstPart bs) (visitsRead bs) ≡ shownOf bs
+  shown-in-pieces : shownWith (firstPart bs) (recordsRead bs) ≡ shownOf bs
   unfolding shownOf
-  shown-in-pieces = rw (log-first, text-first, visits-first, start) refl
+  shown-in-pieces = rw (log-first, text-first, records-first, start) refl
 
   number-first : firstNumber first ≡ firstNumber bs
   number-first = of-first firstNumber (number-same first rest)
 
-  number-in-pieces : numberWith (firstPart bs) (visitsRead bs) ≡ shownNumberOf bs
-  number-in-pieces = rw (log-first, number-first, visits-first, start) (number-whole bs)
+  number-in-pieces : numberWith (firstPart bs) (recordsRead bs) ≡ shownNumberOf bs
+  number-in-pieces = rw (log-first, number-first, records-first, start) (number-whole bs)
 
 pub promised : Promised
 promised =

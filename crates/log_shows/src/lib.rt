@@ -1,15 +1,17 @@
-// What `show` prints of a log: the plan's text, then a line for each visit as it is read. Requests and plans are answered as ever.
+// What `show` prints of a log: the plan's text, then a line for each record as it is read. Requests and plans are answered as ever.
 ghost use mathlib.Core.Path.{_≡_};
 ghost use Rattle.sheets.specs.Reading.{planStart};
 ghost use Prim.Native.Nat.{_+_, _≤_, min};
 ghost use lib.ListN.{length};
 ghost use Rattle.text.specs.Text.{PutShort, Printed, Says, pageSize};
-ghost use Rattle.outputs.specs.LogText.{visitLine};
-ghost use Rattle.log_shows.specs.LogShown.{planText, plainText, shownNumberOf, linesFor, endText, lastNumber, VisitsPiece, ShownPiece, ShownOn, BegunOn};
+ghost use Rattle.outputs.specs.LogText.{visitLine, markLine, entryLine};
+ghost use Rattle.log_shows.specs.LogShown.{planText, plainText, shownNumberOf, linesFor, endText, lastNumber, RecordsPiece, ShownPiece, ShownOn, BegunOn};
 ghost use Rattle.pieces.specs.Pieces.{entriesOf};
 use entries::Entry;
+use entries::MarkEntry;
 use entries::NextEntry;
-use pieces::Visits;
+use entries::VisitEntry;
+use pieces::Gathered;
 use plans::Alloc;
 use sets::Set;
 use text::PAGE_SIZE;
@@ -19,10 +21,10 @@ use units::numbers;
 // How many bytes are read at once.
 const PIECE_SIZE: usize = 512;
 
-// A log that is being shown: what is kept of its visits, and the refusal of its plan.
+// A log that is being shown: what is kept of its records, and the refusal of its plan.
 #[repr(C)]
 pub struct Showing {
-    pub visits: Visits,
+    pub gathered: Gathered,
     pub number: u8,
 }
 
@@ -33,7 +35,7 @@ pub struct Shown {
     pub length: usize,
 }
 
-// The first bytes were shown: what is kept for the visits, whether there are some, where they begin, how many bytes of the page are the answer, and the number of the refusal that it says.
+// The first bytes were shown: what is kept for the records, whether there are some, where they begin, how many bytes of the page are the answer, and the number of the refusal that it says.
 #[repr(C)]
 pub struct Begun {
     pub showing: Showing,
@@ -46,21 +48,43 @@ pub struct Begun {
 // ---- the lines
 
 // The line of a visit.
-fn put_visit_line(page: &mut [u8], at: usize, e: Entry) -> usize
+fn put_visit_line(page: &mut [u8], at: usize, v: VisitEntry) -> usize
     requires { ⌜ at + 126 ≤ length (now page) ⌝ }
-    ensures { λ r. ⌜ PutShort 126 (now (page .entry)) at (visitLine e) (now (page .exit)) r ⌝ }
+    ensures { λ r. ⌜ PutShort 126 (now (page .entry)) at (visitLine v) (now (page .exit)) r ⌝ }
 {
     let named = text::put_short(page, at, b"visit");
-    let station = text::put_field(page, named, units::wide(e.station));
-    let start = text::put_field(page, station, units::wide(e.start));
-    let limit = text::put_field(page, start, units::wide(e.limit));
-    let synchronous = text::put_field(page, limit, units::wide(e.synchronous));
-    let asynchronous = text::put_field(page, synchronous, units::wide(e.asynchronous));
+    let station = text::put_field(page, named, units::wide(v.station));
+    let start = text::put_field(page, station, units::wide(v.start));
+    let limit = text::put_field(page, start, units::wide(v.limit));
+    let synchronous = text::put_field(page, limit, units::wide(v.synchronous));
+    let asynchronous = text::put_field(page, synchronous, units::wide(v.asynchronous));
     text::put_end(page, asynchronous)
 }
 
-// The line of the visit that was handed out, if there is one and its plan was accepted.
-fn put_visit(page: &mut [u8], at: usize, number: u8, got: NextEntry) -> usize
+// The line of a mark.
+fn put_mark_line(page: &mut [u8], at: usize, m: MarkEntry) -> usize
+    requires { ⌜ at + 126 ≤ length (now page) ⌝ }
+    ensures { λ r. ⌜ PutShort 126 (now (page .entry)) at (markLine m) (now (page .exit)) r ⌝ }
+{
+    let named = text::put_short(page, at, b"mark");
+    let station = text::put_field(page, named, units::wide(m.station));
+    let mark = text::put_field(page, station, units::wide(m.mark));
+    text::put_end(page, mark)
+}
+
+// The line of an entry.
+fn put_entry_line(page: &mut [u8], at: usize, e: Entry) -> usize
+    requires { ⌜ at + 126 ≤ length (now page) ⌝ }
+    ensures { λ r. ⌜ PutShort 126 (now (page .entry)) at (entryLine e) (now (page .exit)) r ⌝ }
+{
+    match e {
+        Entry::Visit(v) => put_visit_line(page, at, v),
+        Entry::Mark(m) => put_mark_line(page, at, m),
+    }
+}
+
+// The line of the entry that was handed out, if there is one and its plan was accepted.
+fn put_entry(page: &mut [u8], at: usize, number: u8, got: NextEntry) -> usize
     requires { ⌜ at + 126 ≤ length (now page) ⌝ }
     ensures { λ r. ⌜ PutShort 126 (now (page .entry)) at (linesFor number (entriesOf got)) (now (page .exit)) r ⌝ }
 {
@@ -71,10 +95,10 @@ fn put_visit(page: &mut [u8], at: usize, number: u8, got: NextEntry) -> usize
         return at;
     }
     let e = got.entry;
-    put_visit_line(page, at, e)
+    put_entry_line(page, at, e)
 }
 
-// ---- the visits
+// ---- the records
 
 // How many of the bytes are read at once.
 fn piece_length(bytes: &[u8]) -> usize
@@ -89,28 +113,28 @@ fn piece_length(bytes: &[u8]) -> usize
 
 // The first of the bytes.
 fn show_piece(showing: Showing, bytes: &[u8], end: usize, page: &mut [u8]) -> Shown
-    requires { ⌜ VisitsPiece (now bytes) end (now page) ⌝ }
+    requires { ⌜ RecordsPiece (now bytes) end (now page) ⌝ }
     ensures { λ r. ⌜ ShownPiece showing (now (bytes .entry)) end (now (page .entry)) (now (page .exit)) r ⌝ }
 {
     let number = showing.number;
-    let mut visits = showing.visits;
+    let mut gathered = showing.gathered;
     let mut next: usize = 0;
     let mut i: usize = 0;
     while i < end {
         let byte = bytes[i];
-        visits = pieces::step(visits, byte);
-        let got = pieces::visit_in(visits);
-        next = put_visit(page, next, number, got);
+        gathered = pieces::step(gathered, byte);
+        let got = pieces::entry_in(gathered);
+        next = put_entry(page, next, number, got);
         i += 1;
     }
-    let stands = Showing { visits, number };
+    let stands = Showing { gathered, number };
     Shown {
         showing: stands,
         length: next,
     }
 }
 
-// The visits go on over at most 512 bytes: their lines are put at the start of the page. A page that is too small leaves all as it was.
+// The records go on over at most 512 bytes: their lines are put at the start of the page. A page that is too small leaves all as it was.
 pub fn show_on(showing: Showing, bytes: &[u8], page: &mut [u8]) -> Shown
     ensures { λ r. ⌜ ShownOn showing (now (bytes .entry)) (now (page .entry)) (now (page .exit)) r ⌝ }
 {
@@ -125,8 +149,8 @@ pub fn show_on(showing: Showing, bytes: &[u8], page: &mut [u8]) -> Shown
 fn number_of(showing: Showing) -> u8
     ensures { λ r. ⌜ r ≡ lastNumber showing ⌝ }
 {
-    let visits = showing.visits;
-    let number = pieces::number_of(visits);
+    let gathered = showing.gathered;
+    let number = pieces::number_of(gathered);
     if number != numbers::ACCEPTED {
         return number;
     }
@@ -153,7 +177,7 @@ pub fn show_end(showing: Showing, page: &mut [u8]) -> Said
 
 // ---- the first bytes
 
-// The answer to bytes without a whole visit: behind a plan's fields those of a log that has none, else a request or plan as ever.
+// The answer to bytes without a whole record: behind a plan's fields those of a log that has none, else a request or plan as ever.
 fn show_plain(passed: bool, head: &[u8], page: &mut [u8]) -> Said
     requires { ⌜ (pageSize ≤ length (now page)) × (passed ≡ planStart (now head) .passed) ⌝ }
     ensures { λ r. ⌜ Says (plainText (now (head .entry))) (shownNumberOf (now (head .entry))) (now (page .entry)) (now (page .exit)) r ⌝ }
@@ -191,7 +215,7 @@ fn show_plan(number: u8, set: Set, alloc: Alloc, page: &mut [u8]) -> usize
 }
 
 // Shows the first bytes: of a log the plan's text, of anything else the whole answer.
-// They hold a plan's fields and the first visit behind them, if the input has these. A page that is too small gets nothing.
+// They hold a plan's fields and the first record behind them, if the input has these. A page that is too small gets nothing.
 pub fn show_start(head: &[u8], page: &mut [u8]) -> Begun
     ensures { λ r. ⌜ BegunOn (now (head .entry)) (now (page .entry)) (now (page .exit)) r ⌝ }
 {
@@ -199,7 +223,7 @@ pub fn show_start(head: &[u8], page: &mut [u8]) -> Begun
     let first = logs::log_entry(head, start.at);
     let log = start.passed & (first.next != 0);
     let showing = Showing {
-        visits: pieces::begin(),
+        gathered: pieces::begin(),
         number: start.number,
     };
     if page.len() < PAGE_SIZE {

@@ -1,4 +1,4 @@
--- A log with a visit is printed as its text by what `log_shows` promises, one without as its plan; `compose` makes of that text the log that was read, and that is the bytes themselves.
+-- A log with a record is printed as its text by what `log_shows` promises, one without as its plan; `compose` makes of that text the log that was read, and that is the bytes themselves.
 use Prim.Native.Nat.{ℕ}
 use mathlib.Core.Path.{_≡_, refl, sym, ap, subst, _∙_}
 use mathlib.Core.Bool.{true, false}
@@ -17,11 +17,11 @@ use Rattle.log_rules.proofs.AgainLaws.{stops, may-end, was-read, was-whole, log
 use Rattle.text.specs.TextLaws.{text-accepted}
 use Rattle.drafts.specs.Sent.{Makes}
 use Rattle.outputs.specs.ShowText.{sheetText, planLinesOf}
-use Rattle.outputs.specs.LogText.{visitLines, logText}
+use Rattle.outputs.specs.LogText.{entryLines, logText}
 use Rattle.outputs.proofs.Promised as outputs
 use Rattle.log_shows.specs.LogShown.{isLog, plainText, shownOf}
 use Rattle.log_shows.proofs.ShowLaws.{plan-lines, head-plain}
-use Rattle.log_shows.proofs.FirstLaws.{no-visit}
+use Rattle.log_shows.proofs.FirstLaws.{no-record}
 use Rattle.log_shows.proofs.Promised as shows
 use Rattle.log_texts.specs.Promised.{Promised}
 
@@ -33,27 +33,27 @@ module _ (bs : List ℕ) (h : readLog bs .number ≡ 0) where
   passed : planStart bs .passed ≡ true
   passed = start-says bs ∙ all-passed
 
-  -- no visit stands behind them
+  -- no record stands behind them
   module _ (plain : isLog bs ≡ false) where
-    no-visits : logWalked bs .visits ≡ 0
+    no-records : logWalked bs .records ≡ 0
     unfolding logWalked walked walkFrom
-    no-visits = rw (all-passed, no-visit bs passed plain) refl
+    no-records = rw (all-passed, no-record bs passed plain) refl
 
     no-entries : entriesIn bs ≡ []
     unfolding handedFrom
-    no-entries = ap (λ (n : ℕ). handedFrom n bs (readLog bs .first)) (ap (λ (r : ReadLog). r .visits) (was-read bs h) ∙ no-visits)
+    no-entries = ap (λ (n : ℕ). handedFrom n bs (readLog bs .first)) (ap (λ (r : ReadLog). r .records) (was-read bs h) ∙ no-records)
 
     plain-lines : plainText bs ≡ planLinesOf (readLog bs .set) (readLog bs .alloc)
     unfolding plainText
     plain-lines = rw passed (text-accepted (readLog bs .number) (planLinesOf (readLog bs .set) (readLog bs .alloc)) h)
 
     as-plan : shownOf bs ≡ logText (readLog bs .set) (readLog bs .alloc) (entriesIn bs)
-    unfolding shownOf logText visitLines
+    unfolding shownOf logText entryLines
     as-plan =
         rw plain
         (sym (head-plain bs plain) ∙ plain-lines ∙ plan-lines _ _ (judged-again bs h)
         ∙ sym (append-nil (sheetText true (readLog bs .set) (readLog bs .alloc)))
-        ∙ ap (λ (es : List _). sheetText true (readLog bs .set) (readLog bs .alloc) ++ visitLines es) (sym no-entries))
+        ∙ ap (λ (es : List _). sheetText true (readLog bs .set) (readLog bs .alloc) ++ entryLines es) (sym no-entries))
 
   text-shown : shownOf bs ≡ logText (readLog bs .set) (readLog bs .alloc) (entriesIn bs)
   text-shown =

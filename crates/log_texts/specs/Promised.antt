@@ -9,7 +9,7 @@ use Rattle.outputs.specs.LogText.{logText}
 use Rattle.log_shows.specs.LogShown.{shownOf}
 
 pub record Promised : Type 0 where
-  -- an accepted log, with visits or without, is printed as its text: the lines of its plan and a line for each of its entries
+  -- an accepted log, with records or without, is printed as its text: the lines of its plan and a line for each of its entries
   pub log-text : (bs : List ℕ) → readLog bs .number ≡ 0 → shownOf bs ≡ logText (readLog bs .set) (readLog bs .alloc) (entriesIn bs)
   -- and `compose` makes of this text the bytes that were shown. `AllBytes` holds of any slice that is lent
   pub show-compose : (bs : List ℕ) → AllBytes bs → readLog bs .number ≡ 0 → Makes (shownOf bs) bs

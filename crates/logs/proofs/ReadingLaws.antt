@@ -20,19 +20,19 @@ use Rattle.logs.proofs.WalkLaws.{walked-on, walked-not, not-all-fault}
 
 -- ---- answers
 
-log-refused : (k : ℕ) (t : Set) (a : Alloc) (first visits : ℕ) → k ≢ 0 → logAnswer k t a first visits ≡ refusedLog k
+log-refused : (k : ℕ) (t : Set) (a : Alloc) (first records : ℕ) → k ≢ 0 → logAnswer k t a first records ≡ refusedLog k
 unfolding logAnswer
-log-refused zero t a first visits h = absurd (h refl)
-log-refused (suc k) t a first visits h = refl
+log-refused zero t a first records h = absurd (h refl)
+log-refused (suc k) t a first records h = refl
 
-log-accepted : (k : ℕ) (t : Set) (a : Alloc) (first visits : ℕ) → k ≡ 0 → logAnswer k t a first visits ≡ record { set = t; alloc = a; first = first; visits = visits; number = 0 }
+log-accepted : (k : ℕ) (t : Set) (a : Alloc) (first records : ℕ) → k ≡ 0 → logAnswer k t a first records ≡ record { set = t; alloc = a; first = first; records = records; number = 0 }
 unfolding logAnswer
-log-accepted k t a first visits h = rw h refl
+log-accepted k t a first records h = rw h refl
 
-answer-number : (k : ℕ) (t : Set) (a : Alloc) (first visits : ℕ) → logAnswer k t a first visits .number ≡ k
+answer-number : (k : ℕ) (t : Set) (a : Alloc) (first records : ℕ) → logAnswer k t a first records .number ≡ k
 unfolding logAnswer
-answer-number zero t a first visits = refl
-answer-number (suc k) t a first visits = refl
+answer-number zero t a first records = refl
+answer-number (suc k) t a first records = refl
 
 module _ (bs : List ℕ) where
   pub read-number : readLog bs .number ≡ logNumber bs
@@ -45,7 +45,7 @@ module _ (bs : List ℕ) where
   read-refused k h e = rw e (log-refused k _ _ _ _ h)
 
   -- accepted
-  pub read-accepted : logNumber bs ≡ 0 → readLog bs ≡ record { set = setIn true bs; alloc = allocIn true bs; first = scanned true bs .at; visits = logWalked bs .visits; number = 0 }
+  pub read-accepted : logNumber bs ≡ 0 → readLog bs ≡ record { set = setIn true bs; alloc = allocIn true bs; first = scanned true bs .at; records = logWalked bs .records; number = 0 }
   unfolding readLog
   read-accepted h = log-accepted _ _ _ _ _ h
 
@@ -83,7 +83,7 @@ module _ (bs : List ℕ) where
       let some : s .number ≢ 0 = λ z. not-all-fault bs not-yet (sym number ∙ z) in
       read-refused bs (s .number) some (number-walk bs (λ z. some (sym walk ∙ z)) ∙ walk)
 
-  -- all have: what was read of the plan, and the walk over the visits
+  -- all have: what was read of the plan, and the walk over the records
   module _ (s : PlanStart) (e : s ≡ planStart bs) (h : s .passed ≡ true) (w : Walked) (d : w ≡ walked bs (s .at)) where
     passed-all : planPassed (scanned true bs .passed) ≡ true
     passed-all = sym start-says ∙ ap (λ (s : PlanStart). s .passed) (sym e) ∙ h
@@ -109,9 +109,9 @@ module _ (bs : List ℕ) where
     log-judged z some = read-refused bs (s .number) some (number-judged bs (walk-number ∙ z) ∙ sym judgement)
 
     -- nothing is wrong
-    pub log-whole : w .number ≡ 0 → s .number ≡ 0 → record { set = s .set; alloc = s .alloc; first = s .at; visits = w .visits; number = 0 } ≡ readLog bs
+    pub log-whole : w .number ≡ 0 → s .number ≡ 0 → record { set = s .set; alloc = s .alloc; first = s .at; records = w .records; number = 0 } ≡ readLog bs
     log-whole z none =
-        let visits : logWalked bs .visits ≡ w .visits = ap (λ (r : Walked). r .visits) went-on in
-        ap (λ (s : PlanStart). record { set = s .set; alloc = s .alloc; first = s .at; visits = w .visits; number = 0 }) started
-        ∙ ap (λ (n : ℕ). record { set = setIn true bs; alloc = allocIn true bs; first = scanned true bs .at; visits = n; number = 0 }) (sym visits)
+        let records : logWalked bs .records ≡ w .records = ap (λ (r : Walked). r .records) went-on in
+        ap (λ (s : PlanStart). record { set = s .set; alloc = s .alloc; first = s .at; records = w .records; number = 0 }) started
+        ∙ ap (λ (n : ℕ). record { set = setIn true bs; alloc = allocIn true bs; first = scanned true bs .at; records = n; number = 0 }) (sym records)
         ∙ sym (read-accepted bs (number-judged bs (walk-number ∙ z) ∙ sym judgement ∙ none))

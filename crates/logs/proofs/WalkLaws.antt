@@ -6,7 +6,7 @@ use mathlib.Core.List.{List}
 use mathlib.Core.Logic.{_⊎_, inl, inr, ⊎-elim, _≢_}
 use native.Mathlib.Omega.{arith}
 use lib.ListN.{length}
-use borrow.Author.Tests.{eq-eqb, eqb-true, le-leb, lt-leb}
+use borrow.Author.Tests.{eq-eqb, eqb-true, ne-eqb, le-leb, lt-leb}
 use Rattle.units.specs.JudgingLaws.{true-or-false, held, failed, and-true, true-and}
 use Rattle.units.specs.SmallLaws.{below-or-not}
 use Rattle.fields.specs.Fields.{endTag, endSize, allocationsFor, isAllowed, left, tagAt, sizeAt, behind, allowedAt, FieldWhole}
@@ -15,42 +15,40 @@ use Rattle.fields.specs.declared.Passed.{Passed}
 use Rattle.scan.specs.Scanned.{scanned}
 use Rattle.scan.specs.FirstFault.{WellFormed, Fault, no-start as no-start-in-plan, not-allowed as not-allowed-in-plan, cut-body as cut-body-in-plan, follows as follows-in-plan}
 use Rattle.scan.specs.declared.Scanned.{Scanned}
-use Rattle.scan.proofs.ScanLaws.{fault-there, end-there, stopped, AtEnd}
+use Rattle.scan.proofs.ScanLaws.{zero-or-not, fault-there, end-there, stopped, AtEnd}
 use Rattle.scan.proofs.PassedLaws.{through, end-short}
-use Rattle.entries.specs.Entry.{isVisit, visitStands}
-use Rattle.entries.proofs.EntryLaws.{visit-there, there-visit}
 use Rattle.sheets.specs.Reading.{planPassed}
+use Rattle.logs.specs.Records.{isRecord, recordSize}
 use Rattle.logs.specs.Walked.{logAllowedAt, isEnd, stopNumber, walkFrom, walked, logWalked}
-use Rattle.logs.specs.FirstFault.{LogFormed, in-plan, a-visit, LogFault, no-start, not-allowed, cut-body, follows, FirstLogFault, WholeLog}
+use Rattle.logs.specs.FirstFault.{LogFormed, in-plan, a-record, LogFault, no-start, not-allowed, cut-body, follows, FirstLogFault, WholeLog}
 use Rattle.logs.specs.declared.Walked.{Walked}
+use Rattle.logs.proofs.RecordLaws.{or-true, record-tag, record-there, whole-record, record-cut, no-record}
 
 -- ---- a turn of the walk
 
 module _ (bs : List ℕ) (n a : ℕ) where
-  pub walk-stops : (k : ℕ) → 0 < k → visitStands bs a ≡ false → walkFrom k bs n a ≡ record { number = stopNumber bs a; visits = n; at = a }
+  pub walk-stops : (k : ℕ) → 0 < k → recordSize bs a ≡ 0 → walkFrom k bs n a ≡ record { number = stopNumber bs a; records = n; at = a }
   unfolding walkFrom
   walk-stops zero l h = absurd (omega arith)
-  walk-stops (suc k) l h = rw h refl
+  walk-stops (suc k) l h = rw (eq-eqb (recordSize bs a) 0 h) refl
 
-  walk-turn : (k : ℕ) → visitStands bs a ≡ true → walkFrom (suc k) bs n a ≡ walkFrom k bs (n + 1) (a + 20)
+  pub walk-turn : (k : ℕ) → recordSize bs a ≢ 0 → walkFrom (suc k) bs n a ≡ walkFrom k bs (n + 1) (a + recordSize bs a)
   unfolding walkFrom
-  walk-turn k h = rw h refl
+  walk-turn k h = rw (ne-eqb (recordSize bs a) 0 h) refl
 
-  -- what is left of a walk over a visit is the walk from behind it
-  pub walk-more : (k : ℕ) (all : Walked) → left bs a < k → visitStands bs a ≡ true → walkFrom k bs n a ≡ all
-      → (j : ℕ) × ((left bs (a + 20) < j) × (walkFrom j bs (n + 1) (a + 20) ≡ all))
+  -- what is left of a walk over a record is the walk from behind it
+  pub walk-more : (k : ℕ) (all : Walked) → left bs a < k → recordSize bs a ≢ 0 → walkFrom k bs n a ≡ all
+      → (j : ℕ) × ((left bs (a + recordSize bs a) < j) × (walkFrom j bs (n + 1) (a + recordSize bs a) ≡ all))
   walk-more zero all l h e = absurd (omega arith)
-  walk-more (suc k) all l h e = (k, (omega (arith, visit-there bs a h .inside), sym (walk-turn k h) ∙ e))
+  walk-more (suc k) all l h e =
+      let there = record-there bs a h in
+      (k, (omega (arith, there .inside, there .some), sym (walk-turn k h) ∙ e))
 
 -- ---- one field
 
 or-false : (x y : Bool) → (x || y) ≡ false → (x ≡ false) × (y ≡ false)
 or-false true y h = absurd (true≢false h)
 or-false false y h = (refl, h)
-
-or-true : (x y : Bool) → (x || y) ≡ true → (x ≡ true) ⊎ (y ≡ true)
-or-true true y h = inl refl
-or-true false y h = inr h
 
 not-both : (x y : Bool) → x ≡ true → (x && y) ≡ false → y ≡ false
 not-both x y e h = rw e at h
@@ -61,59 +59,45 @@ fails true h = absurd (h refl)
 fails false h = refl
 
 module _ (bs : List ℕ) (a : ℕ) where
-  -- the tag and the length of a visit, and of the end
-  pub visit-says : isVisit bs a ≡ true → (tagAt bs a ≡ 16) × (sizeAt bs a ≡ 17)
-  visit-says h = let w = and-true _ _ h in (eqb-true _ _ (w .0), eqb-true _ _ (w .1))
-
+  -- the tag and the length of the end
   end-says : isEnd bs a ≡ true → (tagAt bs a ≡ 255) × (sizeAt bs a ≡ 0)
   end-says h = let w = and-true _ _ h in (eqb-true _ _ (w .0), eqb-true _ _ (w .1))
 
-  -- the end is no visit
-  end-no-visit : isEnd bs a ≡ true → isVisit bs a ≡ false
-  end-no-visit h = fails _ (λ v. absurd (omega (arith, end-says h .0, visit-says v .0)))
+  -- the end is no record
+  end-no-record : isEnd bs a ≡ true → isRecord bs a ≡ false
+  end-no-record h = fails _ (λ v. absurd (omega (arith, end-says h .0, record-tag bs a v .1)))
 
-  -- a visit that is whole stands there; one that is not does not
-  visit-whole : isVisit bs a ≡ true → behind bs a ≤ length bs → visitStands bs a ≡ true
-  visit-whole v inside =
-      let w = visit-says v in
-      there-visit bs a (record { inside = omega (arith, w .1); has-tag = w .0; has-size = w .1 })
+  -- no record stands where too few bytes are left, or another field begins
+  record-short : left bs a < 3 → recordSize bs a ≡ 0
+  record-short short = no-record bs a (λ r. absurd (omega (arith, r .inside, r .some)))
 
-  visit-cut : length bs < a + 20 → visitStands bs a ≡ false
-  visit-cut short = fails _ (λ h. absurd (omega (arith, visit-there bs a h .inside)))
+  record-half : length bs < behind bs a → recordSize bs a ≡ 0
+  record-half cut = no-record bs a (λ r. absurd (omega (arith, r .inside, r .next)))
 
-  visit-other : isVisit bs a ≡ false → visitStands bs a ≡ false
-  visit-other other =
-      fails _ (λ h.
-      let v = visit-there bs a h in
-      true≢false (sym (true-and _ _ (eq-eqb _ _ (v .has-tag)) (eq-eqb _ _ (v .has-size))) ∙ other))
+  record-other : isRecord bs a ≡ false → recordSize bs a ≡ 0
+  record-other other = no-record bs a (λ r. true≢false (sym (r .here) ∙ other))
 
-  not-whole : isVisit bs a ≡ true → visitStands bs a ≡ false → length bs < a + 20
-  not-whole v h =
-      ⊎-elim (λ (b : length bs < a + 20). b)
-      (λ (b : a + 20 ≤ length bs). absurd (true≢false (sym (visit-whole v (omega (arith, visit-says v .1))) ∙ h)))
-      (below-or-not (length bs) (a + 20))
-
-  -- ---- the number at a place where no whole visit stands
+  -- ---- the number at a place where no whole record stands
 
   pub stop-short : left bs a < 3 → stopNumber bs a ≡ 1
   unfolding stopNumber
   stop-short h = failed _ _ _ (lt-leb 3 (left bs a) h)
 
-  pub stop-cut : 3 ≤ left bs a → isVisit bs a ≡ true → stopNumber bs a ≡ 1
+  pub stop-cut : 3 ≤ left bs a → isRecord bs a ≡ true → stopNumber bs a ≡ 1
   unfolding stopNumber
   stop-cut h v = held _ _ _ (le-leb 3 (left bs a) h) ∙ rw v refl
 
-  pub stop-wrong : 3 ≤ left bs a → isVisit bs a ≡ false → isEnd bs a ≡ false → stopNumber bs a ≡ 2
+  pub stop-wrong : 3 ≤ left bs a → isRecord bs a ≡ false → isEnd bs a ≡ false → stopNumber bs a ≡ 2
   unfolding stopNumber
   stop-wrong h v e = held _ _ _ (le-leb 3 (left bs a) h) ∙ rw v (failed _ _ _ e)
 
   pub stop-runs : 3 ≤ left bs a → isEnd bs a ≡ true → a + 3 < length bs → stopNumber bs a ≡ 3
   unfolding stopNumber
-  stop-runs h e l = held _ _ _ (le-leb 3 (left bs a) h) ∙ rw (end-no-visit e) (held _ _ _ e ∙ failed _ _ _ (lt-leb _ _ l))
+  stop-runs h e l = held _ _ _ (le-leb 3 (left bs a) h) ∙ rw (end-no-record e) (held _ _ _ e ∙ failed _ _ _ (lt-leb _ _ l))
 
   pub stop-none : 3 ≤ left bs a → isEnd bs a ≡ true → length bs ≤ a + 3 → stopNumber bs a ≡ 0
   unfolding stopNumber
-  stop-none h e l = held _ _ _ (le-leb 3 (left bs a) h) ∙ rw (end-no-visit e) (held _ _ _ e ∙ held _ _ _ (le-leb _ _ l))
+  stop-none h e l = held _ _ _ (le-leb 3 (left bs a) h) ∙ rw (end-no-record e) (held _ _ _ e ∙ held _ _ _ (le-leb _ _ l))
 
 -- where a field with the end's tag may stand, all fields of the sheet have passed
 pub end-may : (p : Passed) (tag size : ℕ) → isAllowed p tag size ≡ true → tag ≡ endTag → planPassed p ≡ true
@@ -121,7 +105,7 @@ end-may p tag size may e =
     let z : size ≡ endSize = end-short p tag size may e in
     rw (e, z) at may
 
--- ---- what may stand behind all fields of a plan: a visit or the end
+-- ---- what may stand behind all fields of a plan: a record or the end
 
 module _ (bs : List ℕ) (a : ℕ) (p : Passed) (kind : p .plan ≡ true) (all : planPassed p ≡ true) where
   end-allowed : isEnd bs a ≡ true → allowedAt bs a p ≡ true
@@ -142,51 +126,50 @@ module _ (bs : List ℕ) (a : ℕ) (p : Passed) (kind : p .plan ≡ true) (all :
       go (an-end e z begun some done) (a-further f h above none) = absurd (omega (arith, some, none))
       go (an-end e z begun some done) (an-end t s h some′ done′) = true-and _ _ (eq-eqb _ _ t) (eq-eqb _ _ s)
 
-  -- no visit
-  pub visit-not-allowed : tagAt bs a ≡ 16 → allowedAt bs a p ≡ false
-  visit-not-allowed t = fails _ (λ may. absurd (omega (arith, end-says bs a (allowed-end may) .0)))
+  -- no record
+  pub record-not-allowed : isRecord bs a ≡ true → allowedAt bs a p ≡ false
+  record-not-allowed v = fails _ (λ may. absurd (omega (arith, end-says bs a (allowed-end may) .0, record-tag bs a v .1)))
 
-  -- a fault is where the walk over the visits stops, with its number
-  fault-stops : (k : ℕ) → LogFault bs a p k → (visitStands bs a ≡ false) × (stopNumber bs a ≡ k)
-  fault-stops _ (no-start short) = (visit-cut bs a (omega arith), stop-short bs a short)
+  -- a fault is where the walk over the records stops, with its number
+  fault-stops : (k : ℕ) → LogFault bs a p k → (recordSize bs a ≡ 0) × (stopNumber bs a ≡ k)
+  fault-stops _ (no-start short) = (record-short bs a short, stop-short bs a short)
   fault-stops _ (not-allowed three wrong) =
       let both = or-false _ _ wrong in
-      let other : isVisit bs a ≡ false = not-both _ _ all (both .0) in
-      (visit-other bs a other, stop-wrong bs a three other (fails _ (λ e. true≢false (sym (end-allowed e) ∙ both .1))))
+      let other : isRecord bs a ≡ false = not-both _ _ all (both .0) in
+      (record-other bs a other, stop-wrong bs a three other (fails _ (λ e. true≢false (sym (end-allowed e) ∙ both .1))))
   fault-stops _ (cut-body three may cut) =
       ⊎-elim (λ v.
-      let is : isVisit bs a ≡ true = and-true (planPassed p) (isVisit bs a) v .1 in
-      (visit-cut bs a (omega (arith, visit-says bs a is .1)), stop-cut bs a three is))
+      let is : isRecord bs a ≡ true = and-true (planPassed p) (isRecord bs a) v .1 in
+      (record-half bs a (omega arith), stop-cut bs a three is))
       (λ e. absurd (omega (arith, end-says bs a (allowed-end e) .1)))
-      (or-true (planPassed p && isVisit bs a) (allowedAt bs a p) may)
+      (or-true (planPassed p && isRecord bs a) (allowedAt bs a p) may)
   fault-stops _ (follows w e runs) =
       let is = allowed-end (w .allowed) in
       let inside = w .inside in
       let short = end-says bs a is .1 in
-      (visit-other bs a (end-no-visit bs a is), stop-runs bs a (omega arith) is (omega arith))
+      (record-other bs a (end-no-record bs a is), stop-runs bs a (omega arith) is (omega arith))
 
   -- the end with nothing behind it stops it with 0
-  end-stops : FieldWhole bs a p → length bs ≡ behind bs a → (visitStands bs a ≡ false) × (stopNumber bs a ≡ 0)
+  end-stops : FieldWhole bs a p → length bs ≡ behind bs a → (recordSize bs a ≡ 0) × (stopNumber bs a ≡ 0)
   end-stops w last =
       let is = allowed-end (w .allowed) in
       let short = end-says bs a is .1 in
-      (visit-other bs a (end-no-visit bs a is), stop-none bs a (omega arith) is (omega arith))
+      (record-other bs a (end-no-record bs a is), stop-none bs a (omega arith) is (omega arith))
 
   -- why the walk stops: a fault, or the end with nothing behind it
-  stop-said : (k : ℕ) → visitStands bs a ≡ false → stopNumber bs a ≡ k → ((k ≢ 0) × LogFault bs a p k) ⊎ ((k ≡ 0) × AtEnd bs a p)
+  stop-said : (k : ℕ) → recordSize bs a ≡ 0 → stopNumber bs a ≡ k → ((k ≢ 0) × LogFault bs a p k) ⊎ ((k ≡ 0) × AtEnd bs a p)
   stop-said k none e =
       ⊎-elim (λ (short : left bs a < 3). fault 1 (stop-short bs a short) (omega arith) (no-start short))
       (λ (three : 3 ≤ left bs a).
-      ⊎-elim (λ (v : isVisit bs a ≡ true).
-      let cut = not-whole bs a v none in
-      fault 1 (stop-cut bs a three v) (omega arith) (cut-body three (rw (all, v) refl) (omega (arith, visit-says bs a v .1))))
-      (λ (other : isVisit bs a ≡ false).
+      ⊎-elim (λ (v : isRecord bs a ≡ true).
+      fault 1 (stop-cut bs a three v) (omega arith) (cut-body three (rw (all, v) refl) (omega (arith, record-cut bs a none v))))
+      (λ (other : isRecord bs a ≡ false).
       ⊎-elim (at-end three)
       (λ (wrong : isEnd bs a ≡ false).
       let may-not : allowedAt bs a p ≡ false = fails _ (λ may. true≢false (sym (allowed-end may) ∙ wrong)) in
       fault 2 (stop-wrong bs a three other wrong) (omega arith) (not-allowed three (rw (other, may-not, all) refl)))
       (true-or-false (isEnd bs a)))
-      (true-or-false (isVisit bs a)))
+      (true-or-false (isRecord bs a)))
       (below-or-not (left bs a) 3)
     where
       fault : (j : ℕ) → stopNumber bs a ≡ j → j ≢ 0 → LogFault bs a p j → ((k ≢ 0) × LogFault bs a p k) ⊎ ((k ≡ 0) × AtEnd bs a p)
@@ -231,45 +214,43 @@ module _ (bs : List ℕ) (p : Passed) where
             let e = fault-there true bs k (record { passed = p; place = a; before = before; fault = f }) in
             (ap (λ (r : Scanned). r .passed) e, ap (λ (r : Scanned). r .at) e)
 
-    -- behind visits too
+    -- behind records too
     pub log-stops : (n a : ℕ) → LogFormed bs p n a → scanned true bs .passed ≡ p
     log-stops _ _ (in-plan before) = plan-stops _ before .0
-    log-stops _ _ (a-visit {n} {a} before passed-all v inside) = log-stops n a before
+    log-stops _ _ (a-record {n} {a} before passed-all v inside) = log-stops n a before
 
-    -- and the walk over the visits comes by
+    -- and the walk over the records comes by
     pub comes-by : (n a : ℕ) → LogFormed bs p n a → (k : ℕ) × ((left bs a < k) × (walkFrom k bs n a ≡ walked bs (scanned true bs .at)))
     unfolding walked
     comes-by _ _ (in-plan {a} before) = (suc (length bs), (omega arith, ap (walkFrom (suc (length bs)) bs 0) (sym (plan-stops a before .1))))
-    comes-by _ _ (a-visit {n} {a} before passed-all v inside) =
+    comes-by _ _ (a-record {n} {a} before passed-all v inside) =
         let rest = comes-by n a before in
-        let e : behind bs a ≡ a + 20 = omega (arith, visit-says bs a v .1) in
-        rw e (walk-more bs n a (rest .0) _ (rest .1 .0) (visit-whole bs a v inside) (rest .1 .1))
+        let some = whole-record bs a v inside in
+        rw (record-there bs a some .next) (walk-more bs n a (rest .0) _ (rest .1 .0) some (rest .1 .1))
 
     -- what is known where it has stopped
     pub record WalkEnds (r : Walked) : Type 0 where
-      pub before : LogFormed bs p (r .visits) (r .at)
-      pub no-visit : visitStands bs (r .at) ≡ false
+      pub before : LogFormed bs p (r .records) (r .at)
+      pub no-more : recordSize bs (r .at) ≡ 0
       pub number : r .number ≡ stopNumber bs (r .at)
 
     pub walk-ends : (k n a : ℕ) → left bs a < k → LogFormed bs p n a → WalkEnds (walkFrom k bs n a)
     walk-ends zero n a l before = absurd (omega arith)
     walk-ends (suc k) n a l before =
-        ⊎-elim (λ (h : visitStands bs a ≡ true).
-        let v = visit-there bs a h in
-        let inside = v .inside in
-        let size = v .has-size in
-        let e : behind bs a ≡ a + 20 = omega arith in
-        let next = a-visit before all (true-and _ _ (eq-eqb _ _ (v .has-tag)) (eq-eqb _ _ size)) (omega arith) in
-        subst WalkEnds (sym (walk-turn bs n a k h)) (walk-ends k (n + 1) (a + 20) (omega arith) (subst (LogFormed bs p (n + 1)) e next)))
-        (λ (h : visitStands bs a ≡ false).
-        subst WalkEnds (sym (walk-stops bs n a (suc k) (omega arith) h)) (record { before = before; no-visit = h; number = refl }))
-        (true-or-false (visitStands bs a))
+        ⊎-elim (λ (z : recordSize bs a ≡ 0).
+        subst WalkEnds (sym (walk-stops bs n a (suc k) (omega arith) z)) (record { before = before; no-more = z; number = refl }))
+        (λ (h : recordSize bs a ≢ 0).
+        let there = record-there bs a h in
+        let next = a-record before all (there .here) (omega (arith, there .next, there .inside)) in
+        subst WalkEnds (sym (walk-turn bs n a k h))
+        (walk-ends k (n + 1) (a + recordSize bs a) (omega (arith, there .inside, there .some)) (subst (LogFormed bs p (n + 1)) (there .next) next)))
+        (zero-or-not (recordSize bs a))
 
   -- where some have not, a log is as a plan sheet
   module _ (some : planPassed p ≡ false) where
-    no-visits : (n a : ℕ) → LogFormed bs p n a → (n ≡ 0) × WellFormed true bs p a
-    no-visits _ _ (in-plan before) = (refl, before)
-    no-visits _ _ (a-visit before passed-all v inside) = absurd (true≢false (sym passed-all ∙ some))
+    no-records : (n a : ℕ) → LogFormed bs p n a → (n ≡ 0) × WellFormed true bs p a
+    no-records _ _ (in-plan before) = (refl, before)
+    no-records _ _ (a-record before passed-all v inside) = absurd (true≢false (sym passed-all ∙ some))
 
     as-in-plan : (a : ℕ) → logAllowedAt bs a p ≡ allowedAt bs a p
     as-in-plan a = rw some refl
@@ -293,7 +274,7 @@ module _ (bs : List ℕ) where
   unfolding logWalked
   walked-on h = rw h refl
 
-  pub walked-not : planPassed (scanned true bs .passed) ≡ false → logWalked bs ≡ record { number = scanned true bs .number; visits = 0; at = scanned true bs .at }
+  pub walked-not : planPassed (scanned true bs .passed) ≡ false → logWalked bs ≡ record { number = scanned true bs .number; records = 0; at = scanned true bs .at }
   unfolding logWalked
   walked-not h = rw h refl
 
@@ -305,39 +286,39 @@ module _ (bs : List ℕ) where
       at-end w = end-may (scanned true bs .passed) _ _ (w .whole .allowed) (w .is-end)
 
   -- the walk ends at every place where it stops
-  ends-there : (p : Passed) (n a k : ℕ) → planPassed p ≡ true → LogFormed bs p n a → (visitStands bs a ≡ false) × (stopNumber bs a ≡ k)
-      → logWalked bs ≡ record { number = k; visits = n; at = a }
+  ends-there : (p : Passed) (n a k : ℕ) → planPassed p ≡ true → LogFormed bs p n a → (recordSize bs a ≡ 0) × (stopNumber bs a ≡ k)
+      → logWalked bs ≡ record { number = k; records = n; at = a }
   ends-there p n a k all before stop =
       let by = comes-by bs p all n a before in
       let passed : planPassed (scanned true bs .passed) ≡ true = ap planPassed (log-stops bs p all n a before) ∙ all in
       let some : 0 < by .0 = omega (arith, by .1 .0) in
-      walked-on passed ∙ sym (by .1 .1) ∙ walk-stops bs n a (by .0) some (stop .0) ∙ ap (λ (j : ℕ). record { number = j; visits = n; at = a }) (stop .1)
+      walked-on passed ∙ sym (by .1 .1) ∙ walk-stops bs n a (by .0) some (stop .0) ∙ ap (λ (j : ℕ). record { number = j; records = n; at = a }) (stop .1)
 
   formed-kind : (p : Passed) (n a : ℕ) → LogFormed bs p n a → p .plan ≡ true
   formed-kind p _ _ (in-plan {a} before) = through true bs p a before .kind
-  formed-kind p _ _ (a-visit {n} {a} before passed-all v inside) = formed-kind p n a before
+  formed-kind p _ _ (a-record {n} {a} before passed-all v inside) = formed-kind p n a before
 
-  pub log-fault-there : (k : ℕ) (f : FirstLogFault bs k) → logWalked bs ≡ record { number = k; visits = f .visits; at = f .place }
+  pub log-fault-there : (k : ℕ) (f : FirstLogFault bs k) → logWalked bs ≡ record { number = k; records = f .records; at = f .place }
   log-fault-there k f =
       let p = f .passed in
       ⊎-elim (λ (all : planPassed (f .passed) ≡ true).
-      ends-there p (f .visits) (f .place) k all (f .before) (fault-stops bs (f .place) p (formed-kind p _ _ (f .before)) all k (f .fault)))
+      ends-there p (f .records) (f .place) k all (f .before) (fault-stops bs (f .place) p (formed-kind p _ _ (f .before)) all k (f .fault)))
       (λ (some : planPassed (f .passed) ≡ false).
-      let plain = no-visits bs p some _ _ (f .before) in
+      let plain = no-records bs p some _ _ (f .before) in
       let e = fault-there true bs k (record { passed = p; place = f .place; before = plain .1; fault = plan-fault bs p some (f .place) k (f .fault) }) in
       let here : planPassed (scanned true bs .passed) ≡ false = ap (λ (r : Scanned). planPassed (r .passed)) e ∙ some in
-      walked-not here ∙ ap (λ (r : Scanned). record { number = r .number; visits = 0; at = r .at }) e ∙ ap (λ (n : ℕ). record { number = k; visits = n; at = f .place }) (sym (plain .0)))
+      walked-not here ∙ ap (λ (r : Scanned). record { number = r .number; records = 0; at = r .at }) e ∙ ap (λ (n : ℕ). record { number = k; records = n; at = f .place }) (sym (plain .0)))
       (true-or-false (planPassed (f .passed)))
 
-  pub log-end-there : (w : WholeLog bs) → logWalked bs ≡ record { number = 0; visits = w .visits; at = w .place }
+  pub log-end-there : (w : WholeLog bs) → logWalked bs ≡ record { number = 0; records = w .records; at = w .place }
   log-end-there w =
       let p = w .passed in
       let all : planPassed (w .passed) ≡ true = end-may p _ _ (w .end-whole .allowed) (w .end-tag) in
-      ends-there p (w .visits) (w .place) 0 all (w .before) (end-stops bs (w .place) p (formed-kind p _ _ (w .before)) all (w .end-whole) (w .nothing-follows))
+      ends-there p (w .records) (w .place) 0 all (w .before) (end-stops bs (w .place) p (formed-kind p _ _ (w .before)) all (w .end-whole) (w .nothing-follows))
 
   -- what is known where it has stopped
   pub record LogStopped (r : Walked) : Type 0 where
-    pub before : LogFormed bs (scanned true bs .passed) (r .visits) (r .at)
+    pub before : LogFormed bs (scanned true bs .passed) (r .records) (r .at)
     pub why : ((r .number ≢ 0) × LogFault bs (r .at) (scanned true bs .passed) (r .number)) ⊎ ((r .number ≡ 0) × AtEnd bs (r .at) (scanned true bs .passed))
 
   stopped-on : planPassed (scanned true bs .passed) ≡ true → LogStopped (walked bs (scanned true bs .at))
@@ -345,7 +326,7 @@ module _ (bs : List ℕ) where
   stopped-on all =
       let p = scanned true bs .passed in
       let e = walk-ends bs p all (suc (length bs)) 0 (scanned true bs .at) (omega arith) (in-plan (stopped true bs .before)) in
-      record { before = e .before; why = stop-said bs _ p (formed-kind p _ _ (e .before)) all _ (e .no-visit) (sym (e .number)) }
+      record { before = e .before; why = stop-said bs _ p (formed-kind p _ _ (e .before)) all _ (e .no-more) (sym (e .number)) }
 
   pub log-stopped : LogStopped (logWalked bs)
   log-stopped =
@@ -361,7 +342,7 @@ module _ (bs : List ℕ) where
   log-shape-fault k some e =
       record {
         passed = scanned true bs .passed;
-        visits = logWalked bs .visits;
+        records = logWalked bs .records;
         place = logWalked bs .at;
         before = log-stopped .before;
         fault = ⊎-elim (λ f. subst (LogFault bs (logWalked bs .at) (scanned true bs .passed)) e (f .1)) (λ z. absurd (some (sym e ∙ z .0))) (log-stopped .why);
@@ -374,7 +355,7 @@ module _ (bs : List ℕ) where
       whole z =
           record {
             passed = scanned true bs .passed;
-            visits = logWalked bs .visits;
+            records = logWalked bs .records;
             place = logWalked bs .at;
             before = log-stopped .before;
             end-whole = z .whole;

@@ -10,14 +10,17 @@ use borrow.Author.Tests.{leb-true}
 use Rattle.units.specs.JudgingLaws.{passed}
 use Rattle.sets.specs.declared.Set.{Set}
 use Rattle.plans.specs.declared.Alloc.{Alloc}
-use Rattle.entries.specs.Entry.{entryBytes}
-use Rattle.entries.proofs.EntryLaws.{entry-length}
+use Rattle.entries.specs.Visit.{visitBytes}
+use Rattle.entries.specs.Mark.{markBytes}
+use Rattle.entries.specs.declared.MarkEntry.{MarkEntry}
+use Rattle.entries.proofs.VisitLaws.{visit-length}
+use Rattle.entries.proofs.MarkLaws.{mark-length}
 use Rattle.sheets.specs.Layout.{fieldsLength, endBytes}
 use Rattle.sheets.specs.Writing.{WroteFields, roomNumber, laidAfter, PutAt}
 use Rattle.sheets.specs.declared.Written.{Written}
 use Rattle.sheets.proofs.WritingLaws.{answer-refused, answer-accepted, answer-number}
 use Rattle.rings.specs.declared.VisitRecord.{VisitRecord}
-use Rattle.logs.specs.Writing.{low, rise, counterAt, begunWith, beginNumber, Began, entryBy, addNumber, addedWith, Added, endNumber, EndedLog}
+use Rattle.logs.specs.Writing.{low, rise, counterAt, begunWith, beginNumber, Began, visitBy, addNumber, notAdded, addedWith, Added, markedWith, AddedMark, endNumber, EndedLog}
 use Rattle.logs.specs.declared.Recorder.{Recorder}
 
 -- ---- the counter
@@ -66,7 +69,7 @@ module _ (t : Set) (a : Alloc) (counter clock : ℕ) (before after : List ℕ) (
 
 -- ---- adding
 
-pub added-refused-is : (k : ℕ) (r : Recorder) (v : VisitRecord) → k ≢ 0 → addedWith k r v ≡ record { at = r .at; clock = r .clock; counter = r .counter; number = k }
+pub added-refused-is : (k : ℕ) (r : Recorder) (v : VisitRecord) → k ≢ 0 → addedWith k r v ≡ notAdded r k
 unfolding addedWith
 added-refused-is zero r v h = absurd (h refl)
 added-refused-is (suc k) r v h = refl
@@ -76,21 +79,51 @@ pub added-accepted : (k : ℕ) (r : Recorder) (v : VisitRecord) → k ≡ 0
 unfolding addedWith
 added-accepted k r v h = rw h refl
 
-module _ (r : Recorder) (v : VisitRecord) (before after : List ℕ) (number : ℕ) (put : PutAt (r .at) (entryBytes (entryBy r v)) 3 before after number) where
-  add-same : roomNumber (r .at + length (entryBytes (entryBy r v)) + 3) (length before) ≡ addNumber r (length before)
-  add-same = rw (entry-length (entryBy r v)) refl
+pub marked-refused-is : (k : ℕ) (r : Recorder) → k ≢ 0 → markedWith k r ≡ notAdded r k
+unfolding markedWith
+marked-refused-is zero r h = absurd (h refl)
+marked-refused-is (suc k) r h = refl
 
-  pub add-number : number ≡ addNumber r (length before)
+pub marked-accepted : (k : ℕ) (r : Recorder) → k ≡ 0 → markedWith k r ≡ record { at = r .at + 5; clock = r .clock; counter = r .counter; number = 0 }
+unfolding markedWith
+marked-accepted k r h = rw h refl
+
+-- a field of so many bytes that was put: its number, and the buffer
+module _ (r : Recorder) (field : List ℕ) (size : ℕ) (long : length field ≡ size) (before after : List ℕ) (number : ℕ) (put : PutAt (r .at) field 3 before after number) where
+  add-same : roomNumber (r .at + length field + 3) (length before) ≡ addNumber r size (length before)
+  add-same = rw long refl
+
+  pub add-number : number ≡ addNumber r size (length before)
   add-number = put .answer ∙ add-same
 
-  add-buffer : after ≡ laidAfter (addNumber r (length before)) before (r .at) (entryBytes (entryBy r v))
-  add-buffer = put .buffer ∙ ap (λ (k : ℕ). laidAfter k before (r .at) (entryBytes (entryBy r v))) add-same
+  add-buffer : after ≡ laidAfter (addNumber r size (length before)) before (r .at) field
+  add-buffer = put .buffer ∙ ap (λ (k : ℕ). laidAfter k before (r .at) field) add-same
 
-  pub added-refused : number ≢ 0 → Added r v before after (record { at = r .at; clock = r .clock; counter = r .counter; number = number })
-  added-refused h = record { recorder = rw add-number (sym (added-refused-is _ r v (λ z. h (add-number ∙ z)))); buffer = add-buffer }
+module _ (r : Recorder) (v : VisitRecord) (before after : List ℕ) (number : ℕ) (put : PutAt (r .at) (visitBytes (visitBy r v)) 3 before after number) where
+  pub visit-number : number ≡ addNumber r 20 (length before)
+  visit-number = add-number r (visitBytes (visitBy r v)) 20 (visit-length (visitBy r v)) before after number put
+
+  visit-buffer : after ≡ laidAfter (addNumber r 20 (length before)) before (r .at) (visitBytes (visitBy r v))
+  visit-buffer = add-buffer r (visitBytes (visitBy r v)) 20 (visit-length (visitBy r v)) before after number put
+
+  pub added-refused : number ≢ 0 → Added r v before after (notAdded r number)
+  added-refused h = record { recorder = rw visit-number (sym (added-refused-is _ r v (λ z. h (visit-number ∙ z)))); buffer = visit-buffer }
 
   pub added-all : number ≡ 0 → Added r v before after (record { at = r .at + 20; clock = v .start .0; counter = counterAt (r .counter) (r .clock) (v .start .0); number = 0 })
-  added-all h = record { recorder = sym (added-accepted _ r v (sym add-number ∙ h)); buffer = add-buffer }
+  added-all h = record { recorder = sym (added-accepted _ r v (sym visit-number ∙ h)); buffer = visit-buffer }
+
+module _ (r : Recorder) (m : MarkEntry) (before after : List ℕ) (number : ℕ) (put : PutAt (r .at) (markBytes m) 3 before after number) where
+  pub mark-number : number ≡ addNumber r 5 (length before)
+  mark-number = add-number r (markBytes m) 5 (mark-length m) before after number put
+
+  mark-buffer : after ≡ laidAfter (addNumber r 5 (length before)) before (r .at) (markBytes m)
+  mark-buffer = add-buffer r (markBytes m) 5 (mark-length m) before after number put
+
+  pub marked-refused : number ≢ 0 → AddedMark r m before after (notAdded r number)
+  marked-refused h = record { recorder = rw mark-number (sym (marked-refused-is _ r (λ z. h (mark-number ∙ z)))); buffer = mark-buffer }
+
+  pub marked-all : number ≡ 0 → AddedMark r m before after (record { at = r .at + 5; clock = r .clock; counter = r .counter; number = 0 })
+  marked-all h = record { recorder = sym (marked-accepted _ r (sym mark-number ∙ h)); buffer = mark-buffer }
 
 -- ---- ending
 

@@ -1,4 +1,4 @@
--- What reading a log answers, for any bytes whatever; and how its visits are handed out.
+-- What reading a log answers, for any bytes whatever; and how its records are handed out.
 use Prim.Native.Nat.{ℕ, zero, suc}
 use mathlib.Core.Bool.{true}
 use mathlib.Core.List.{List, [], _∷_}
@@ -19,15 +19,15 @@ logNumber bs = thenNumber (logWalked bs .number) (judgedPlan (setIn true bs) (al
 
 -- a refused answer is blank
 abbrev pub refusedLog : ℕ → ReadLog
-refusedLog k = record { set = blankSet; alloc = blankAlloc; first = 0; visits = 0; number = k }
+refusedLog k = record { set = blankSet; alloc = blankAlloc; first = 0; records = 0; number = k }
 
 unfoldable pub logAnswer : ℕ → Set → Alloc → ℕ → ℕ → ReadLog
-logAnswer zero t a first visits = record { set = t; alloc = a; first = first; visits = visits; number = 0 }
-logAnswer (suc k) t a first visits = refusedLog (suc k)
+logAnswer zero t a first records = record { set = t; alloc = a; first = first; records = records; number = 0 }
+logAnswer (suc k) t a first records = refusedLog (suc k)
 
--- the plan that its fields hold, the place of the first field behind them, and how many visits stand there
+-- the plan that its fields hold, the place of the first field behind them, and how many records stand there
 unfoldable pub readLog : List ℕ → ReadLog
-readLog bs = logAnswer (logNumber bs) (setIn true bs) (allocIn true bs) (scanned true bs .at) (logWalked bs .visits)
+readLog bs = logAnswer (logNumber bs) (setIn true bs) (allocIn true bs) (scanned true bs .at) (logWalked bs .records)
 
 -- n entries handed out one after another, the first at the place a, each next one at the place behind the one before
 unfoldable pub handedFrom : ℕ → List ℕ → ℕ → List Entry
@@ -36,4 +36,4 @@ handedFrom (suc n) bs a = nextEntry bs a .entry ∷ handedFrom n bs (nextEntry b
 
 -- the entries of a log: as many as were read, from the place that was read
 abbrev pub entriesIn : List ℕ → List Entry
-entriesIn bs = handedFrom (readLog bs .visits) bs (readLog bs .first)
+entriesIn bs = handedFrom (readLog bs .records) bs (readLog bs .first)

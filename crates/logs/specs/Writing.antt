@@ -1,4 +1,4 @@
--- A log is written as a recorder does: it is begun with the plan's fields, each visit is added, and it is ended. What each of these answers, and what the lent buffer then holds.
+-- A log is written as a recorder does: it is begun with the plan's fields, each visit and each mark is added, and it is ended. What each of these answers, and what the lent buffer then holds.
 use Prim.Native.Nat.{ℕ, zero, suc, _+_, _-_, _%_, _^_}
 use mathlib.Core.Path.{_≡_}
 use mathlib.Core.Bool.{true}
@@ -6,8 +6,10 @@ use mathlib.Core.List.{List}
 use lib.ListN.{length}
 use Rattle.sets.specs.declared.Set.{Set}
 use Rattle.plans.specs.declared.Alloc.{Alloc}
-use Rattle.entries.specs.Entry.{visitLength, entryBytes}
-use Rattle.entries.specs.declared.Entry.{Entry}
+use Rattle.entries.specs.Visit.{visitLength, visitBytes}
+use Rattle.entries.specs.Mark.{markLength, markBytes}
+use Rattle.entries.specs.declared.VisitEntry.{VisitEntry}
+use Rattle.entries.specs.declared.MarkEntry.{MarkEntry}
 use Rattle.sheets.specs.Layout.{fieldsOf, fieldsLength, endBytes}
 use Rattle.sheets.specs.Writing.{writeNumber, writeAnswer, bufferAfter, roomNumber, laidAfter}
 use Rattle.sheets.specs.declared.Written.{Written}
@@ -52,9 +54,9 @@ pub record Began (t : Set) (a : Alloc) (counter clock : ℕ) (before after : Lis
 
 -- ---- adding a visit
 
--- the entry of a visit's record, for a counter that is this one at that clock: the station, the counter when the visit started, its limit and both amounts
-abbrev pub entryOf : ℕ → ℕ → VisitRecord → Entry
-entryOf counter clock v =
+-- the visit that a log has for a visit's record, by a counter that is this one at that clock: the station, the counter when the visit started, its limit and both amounts
+abbrev pub visitOf : ℕ → ℕ → VisitRecord → VisitEntry
+visitOf counter clock v =
     record {
       station = v .station .0 % 256;
       start = counterAt counter clock (v .start .0);
@@ -64,28 +66,49 @@ entryOf counter clock v =
     }
 
 -- the same for a recorder
-abbrev pub entryBy : Recorder → VisitRecord → Entry
-entryBy r v = entryOf (r .counter) (r .clock) v
+abbrev pub visitBy : Recorder → VisitRecord → VisitEntry
+visitBy r v = visitOf (r .counter) (r .clock) v
 
--- 14 where the field and the end would not fit
-abbrev pub addNumber : Recorder → ℕ → ℕ
-addNumber r room = roomNumber (r .at + visitLength + 3) room
+-- 14 where a field of so many bytes and the end would not fit
+abbrev pub addNumber : Recorder → ℕ → ℕ → ℕ
+addNumber r size room = roomNumber (r .at + size + 3) room
 
 -- refused: the recorder as it was, with the number
+abbrev pub notAdded : Recorder → ℕ → Recorder
+notAdded r number = record { at = r .at; clock = r .clock; counter = r .counter; number = number }
+
 unfoldable pub addedWith : ℕ → Recorder → VisitRecord → Recorder
 addedWith zero r v = record { at = r .at + visitLength; clock = v .start .0; counter = counterAt (r .counter) (r .clock) (v .start .0); number = 0 }
-addedWith (suc k) r v = record { at = r .at; clock = r .clock; counter = r .counter; number = suc k }
+addedWith (suc k) r v = notAdded r (suc k)
 
 abbrev pub added : Recorder → VisitRecord → List ℕ → Recorder
-added r v out = addedWith (addNumber r (length out)) r v
+added r v out = addedWith (addNumber r visitLength (length out)) r v
 
 abbrev pub addedBuffer : Recorder → VisitRecord → List ℕ → List ℕ
-addedBuffer r v out = laidAfter (addNumber r (length out)) out (r .at) (entryBytes (entryBy r v))
+addedBuffer r v out = laidAfter (addNumber r visitLength (length out)) out (r .at) (visitBytes (visitBy r v))
 
 -- adding: the buffer before and after, and the recorder
 pub record Added (r : Recorder) (v : VisitRecord) (before after : List ℕ) (next : Recorder) : Type 0 where
   pub recorder : next ≡ added r v before
   pub buffer : after ≡ addedBuffer r v before
+
+-- ---- adding a mark
+
+-- the counter stays: a mark has no start
+unfoldable pub markedWith : ℕ → Recorder → Recorder
+markedWith zero r = record { at = r .at + markLength; clock = r .clock; counter = r .counter; number = 0 }
+markedWith (suc k) r = notAdded r (suc k)
+
+abbrev pub addedMark : Recorder → List ℕ → Recorder
+addedMark r out = markedWith (addNumber r markLength (length out)) r
+
+abbrev pub markedBuffer : Recorder → MarkEntry → List ℕ → List ℕ
+markedBuffer r m out = laidAfter (addNumber r markLength (length out)) out (r .at) (markBytes m)
+
+-- adding: the buffer before and after, and the recorder
+pub record AddedMark (r : Recorder) (m : MarkEntry) (before after : List ℕ) (next : Recorder) : Type 0 where
+  pub recorder : next ≡ addedMark r before
+  pub buffer : after ≡ markedBuffer r m before
 
 -- ---- ending
 

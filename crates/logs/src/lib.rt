@@ -1,11 +1,13 @@
-// Visit logs: a plan's fields without the end, then a field for each visit, then the end. Read from lent bytes, and written into them visit by visit.
-mod reading;
+// Visit logs: a plan's fields without the end, then a field for each record, a visit or a mark, then the end. Read from lent bytes, and written into them record by record.
+pub mod reading;
 mod writing;
 
 ghost use mathlib.Core.Path.{_≡_};
 ghost use Rattle.entries.specs.Entry.{nextEntry};
 ghost use Rattle.logs.specs.Reading.{readLog};
-ghost use Rattle.logs.specs.Writing.{Began, Added, EndedLog};
+ghost use Rattle.logs.specs.Writing.{Began, Added, AddedMark, EndedLog};
+use entries::Entry;
+use entries::MarkEntry;
 use entries::NextEntry;
 use plans::Alloc;
 use rings::VisitRecord;
@@ -13,20 +15,20 @@ use sets::Set;
 use sheets::Written;
 use units::numbers;
 
-// How far a walk over the visits came: the number, 0 or 1, 2, 3; how many visits passed; and the place where it stopped.
+// How far a walk over the records came: the number, 0 or 1, 2, 3; how many records passed; and the place where it stopped.
 pub struct Walked {
     pub number: u8,
-    pub visits: usize,
+    pub records: usize,
     pub at: usize,
 }
 
-// What reading a log answers: the number, 0 with the plan, the place of the first field behind its allocations and how many visits stand from there on; or a refusal with all blank.
+// What reading a log answers: the number, 0 with the plan, the place of the first field behind its allocations and how many records stand from there on; or a refusal with all blank.
 #[repr(C)]
 pub struct ReadLog {
     pub set: Set,
     pub alloc: Alloc,
     pub first: usize,
-    pub visits: usize,
+    pub records: usize,
     pub number: u8,
 }
 
@@ -47,7 +49,7 @@ pub fn read_log(log: &[u8]) -> ReadLog
     if !start.passed {
         return reading::refused(start.number);
     }
-    let walked = reading::walk_visits(log, start.at);
+    let walked = reading::walk_records(log, start.at);
     if walked.number != numbers::ACCEPTED {
         return reading::refused(walked.number);
     }
@@ -60,24 +62,30 @@ pub fn read_log(log: &[u8]) -> ReadLog
         set,
         alloc,
         first: start.at,
-        visits: walked.visits,
+        records: walked.records,
         number: numbers::ACCEPTED,
     }
 }
 
-// Hands out the visit whose field stands at the place, and the place behind it.
+// Hands out the entry whose field stands at the place, and the place behind it.
 pub fn log_entry(log: &[u8], at: usize) -> NextEntry
     ensures { λ r. ⌜ r ≡ nextEntry (now (log .entry)) at ⌝ }
 {
-    if !reading::visit_stands(log, at) {
+    if reading::visit_stands(log, at) {
         return NextEntry {
-            entry: entries::blank_entry(),
-            next: 0,
+            entry: Entry::Visit(sheets::records::visit_at(log, at)),
+            next: at + entries::VISIT_LENGTH,
+        };
+    }
+    if reading::mark_stands(log, at) {
+        return NextEntry {
+            entry: Entry::Mark(sheets::records::mark_at(log, at)),
+            next: at + entries::MARK_LENGTH,
         };
     }
     NextEntry {
-        entry: sheets::visits::entry_at(log, at),
-        next: at + entries::VISIT_LENGTH,
+        entry: Entry::Visit(entries::blank_visit()),
+        next: 0,
     }
 }
 
@@ -101,8 +109,8 @@ pub fn begin_log(t: Set, a: Alloc, counter: u32, clock: u64, out: &mut [u8]) -> 
 pub fn add_visit(recorder: Recorder, visit: VisitRecord, out: &mut [u8]) -> Recorder
     ensures { λ r. ⌜ Added recorder visit (now (out .entry)) (now (out .exit)) r ⌝ }
 {
-    let entry = writing::entry_of(recorder, visit);
-    let number = sheets::visits::put_visit(out, recorder.at, entry);
+    let entry = writing::visit_of(recorder, visit);
+    let number = sheets::records::put_visit(out, recorder.at, entry);
     if number != numbers::ACCEPTED {
         return writing::stopped(recorder.at, recorder.clock, recorder.counter, number);
     }
@@ -114,11 +122,27 @@ pub fn add_visit(recorder: Recorder, visit: VisitRecord, out: &mut [u8]) -> Reco
     }
 }
 
+// Adds a mark to a log, if its field and the end fit; else 14, and nothing changes but the recorder's number.
+pub fn add_mark(recorder: Recorder, mark: MarkEntry, out: &mut [u8]) -> Recorder
+    ensures { λ r. ⌜ AddedMark recorder mark (now (out .entry)) (now (out .exit)) r ⌝ }
+{
+    let number = sheets::records::put_mark(out, recorder.at, mark);
+    if number != numbers::ACCEPTED {
+        return writing::stopped(recorder.at, recorder.clock, recorder.counter, number);
+    }
+    Recorder {
+        at: recorder.at + entries::MARK_LENGTH,
+        clock: recorder.clock,
+        counter: recorder.counter,
+        number: 0,
+    }
+}
+
 // Ends a log: its length, or 14 where the end does not fit.
 pub fn end_log(recorder: Recorder, out: &mut [u8]) -> Written
     ensures { λ r. ⌜ EndedLog recorder (now (out .entry)) (now (out .exit)) r ⌝ }
 {
-    let number = sheets::visits::put_end(out, recorder.at);
+    let number = sheets::records::put_end(out, recorder.at);
     if number != numbers::ACCEPTED {
         return Written { length: 0, number };
     }

@@ -1,17 +1,19 @@
-// Reading: the visits behind a plan's fields, one after another.
+// Reading: the records behind a plan's fields, one after another.
 ghost use mathlib.Core.Path.{_≡_};
 ghost use mathlib.Core.Bool.{_&&_};
 ghost use Prim.Native.Nat.{_+_, _≤_};
 ghost use lib.Dec.{eqb};
 ghost use lib.ListN.{length};
 ghost use Rattle.fields.specs.Fields.{tagAt, sizeAt};
-ghost use Rattle.entries.specs.Entry.{visitStands};
+ghost use Rattle.entries.specs.Visit.{visitStands};
+ghost use Rattle.entries.specs.Mark.{markStands};
+ghost use Rattle.logs.specs.Records.{recordSize};
 ghost use Rattle.logs.specs.Walked.{stopNumber, walked};
 ghost use Rattle.logs.specs.Reading.{refusedLog};
 use crate::ReadLog;
 use crate::Walked;
 use fields::bytes::wide;
-use sheets::visits::left;
+use sheets::records::left;
 use units::numbers;
 
 // A field with this tag and this length begins at the place.
@@ -33,7 +35,30 @@ pub(crate) fn visit_stands(bs: &[u8], at: usize) -> bool
     begins(bs, at, entries::VISIT_TAG, entries::VISIT_SIZE)
 }
 
-// Why the walk over the visits stops at a place where no whole visit stands.
+// A whole field of a mark stands at the place.
+pub(crate) fn mark_stands(bs: &[u8], at: usize) -> bool
+    ensures { λ r. ⌜ r ≡ markStands (now (bs .entry)) at ⌝ }
+{
+    if left(bs.len(), at) < entries::MARK_LENGTH {
+        return false;
+    }
+    begins(bs, at, entries::MARK_TAG, entries::MARK_SIZE)
+}
+
+// How many bytes the field of the whole record has that stands at the place; 0 where none stands there.
+pub fn record_size(bs: &[u8], at: usize) -> usize
+    ensures { λ r. ⌜ r ≡ recordSize (now (bs .entry)) at ⌝ }
+{
+    if visit_stands(bs, at) {
+        return entries::VISIT_LENGTH;
+    }
+    if mark_stands(bs, at) {
+        return entries::MARK_LENGTH;
+    }
+    0
+}
+
+// Why the walk over the records stops at a place where no whole one stands.
 fn stop_number(bs: &[u8], at: usize) -> u8
     ensures { λ r. ⌜ r ≡ stopNumber (now (bs .entry)) at ⌝ }
 {
@@ -41,6 +66,9 @@ fn stop_number(bs: &[u8], at: usize) -> u8
         return numbers::CUT_SHORT;
     }
     if begins(bs, at, entries::VISIT_TAG, entries::VISIT_SIZE) {
+        return numbers::CUT_SHORT;
+    }
+    if begins(bs, at, entries::MARK_TAG, entries::MARK_SIZE) {
         return numbers::CUT_SHORT;
     }
     if !begins(bs, at, fields::END_TAG, 0) {
@@ -52,19 +80,21 @@ fn stop_number(bs: &[u8], at: usize) -> u8
     numbers::ACCEPTED
 }
 
-// Walks over the visits from a place on, as long as whole ones stand there.
-pub(crate) fn walk_visits(bs: &[u8], first: usize) -> Walked
+// Walks over the records from a place on, as long as whole ones stand there.
+pub(crate) fn walk_records(bs: &[u8], first: usize) -> Walked
     ensures { λ r. ⌜ r ≡ walked (now (bs .entry)) first ⌝ }
 {
     let mut at = first;
-    let mut visits: usize = 0;
-    while visit_stands(bs, at) {
-        at += entries::VISIT_LENGTH;
-        visits += 1;
+    let mut records: usize = 0;
+    let mut size = record_size(bs, at);
+    while size != 0 {
+        at += size;
+        records += 1;
+        size = record_size(bs, at);
     }
     Walked {
         number: stop_number(bs, at),
-        visits,
+        records,
         at,
     }
 }
@@ -79,7 +109,7 @@ pub(crate) fn refused(number: u8) -> ReadLog
         set,
         alloc,
         first: 0,
-        visits: 0,
+        records: 0,
         number,
     }
 }

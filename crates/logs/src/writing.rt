@@ -1,8 +1,8 @@
 // Writing: what a visit's record gives for a log.
 ghost use mathlib.Core.Path.{_≡_};
-ghost use Rattle.logs.specs.Writing.{low, counterAt, entryBy};
+ghost use Rattle.logs.specs.Writing.{low, counterAt, visitBy};
 use crate::Recorder;
-use entries::Entry;
+use entries::VisitEntry;
 use fields::bytes::wide;
 use rings::VisitRecord;
 
@@ -22,13 +22,13 @@ fn counter_at(recorder: Recorder, clock: u64) -> u32
     std::num::wrapping_add_u32(recorder.counter, rise)
 }
 
-// The entry of a visit's record.
-pub(crate) fn entry_of(recorder: Recorder, visit: VisitRecord) -> Entry
-    ensures { λ r. ⌜ r ≡ entryBy recorder visit ⌝ }
+// The visit that a log has for a visit's record.
+pub(crate) fn visit_of(recorder: Recorder, visit: VisitRecord) -> VisitEntry
+    ensures { λ r. ⌜ r ≡ visitBy recorder visit ⌝ }
 {
     let short = visit.station.0 % 256;
     let station = short as u32;
-    Entry {
+    VisitEntry {
         station,
         start: counter_at(recorder, visit.start.0),
         limit: low_bits(visit.limit.0),

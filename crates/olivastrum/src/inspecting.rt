@@ -26,7 +26,7 @@ fn turn(inspecting: Inspecting) -> Looked {
     }
     let length = filled.length;
     let behind = piece_inspections::inspect_on(inspecting, &bytes[..length]);
-    let sound = behind.visits.number == 0;
+    let sound = behind.gathered.number == 0;
     Looked {
         inspecting: behind,
         more: sound & (length == 4_096),

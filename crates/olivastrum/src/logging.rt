@@ -11,7 +11,7 @@ struct Heard {
     failed: bool,
 }
 
-// Writes the fields of the visits in the lines that end in these bytes.
+// Writes the fields of the visits and marks in the lines that end in these bytes.
 fn hear(recording: Recording, text: &[u8]) -> Heard {
     let mut page = io::large_buffer();
     let recorded = recordings::record_on(recording, text, &mut page);
@@ -68,7 +68,7 @@ fn hear_all(recording: Recording) -> Heard {
 // The end of the log; then the first line that cannot be read is named.
 fn finish(unread: u64) -> u8 {
     let mut end: [u8; 3] = [0; 3];
-    sheets::visits::put_end(&mut end, 0);
+    sheets::records::put_end(&mut end, 0);
     if !ending::say(&end) {
         return status::FAILED;
     }

@@ -12,7 +12,7 @@ struct Seen {
     failed: bool,
 }
 
-// Writes the lines of the visits that end in these bytes.
+// Writes the lines of the records that end in these bytes.
 fn see(showing: Showing, bytes: &[u8], more: bool) -> Seen {
     let mut page = io::large_buffer();
     let shown = log_shows::show_on(showing, bytes, &mut page);
@@ -62,7 +62,7 @@ fn see_all(showing: Showing) -> Seen {
     }
 }
 
-// The visits among the first bytes, 512 of them at a time.
+// The records among the first bytes, 512 of these at a time.
 fn see_head(showing: Showing, head: &[u8], from: usize) -> Seen {
     let mut stands = showing;
     let mut at = from;
@@ -108,7 +108,7 @@ fn show_log(showing: Showing, head: &[u8], from: usize, more: bool) -> u8 {
     finish(last)
 }
 
-// The longest plan has 3,353 bytes without its end, and a visit 20: both lie in the first 3,400, if the input has them.
+// The longest plan has 3,353 bytes without its end, and a record at most 20: both lie in the first 3,400, if the input has them.
 pub(crate) fn show() -> u8 {
     let mut head: [u8; pieces::FIRST_SIZE] = [0; pieces::FIRST_SIZE];
     let filled = reading::fill(STDIN_FILENO, &mut head);

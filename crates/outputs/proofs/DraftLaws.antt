@@ -44,12 +44,13 @@ station-word : steppedOver freshScan stationWord ≡ wordScan stationWord
 unfolding steppedOver stepped characterRead letterRead
 station-word = refl
 
--- the word of a further line of the header can be read
-record Readable (word : List ℕ) : Type 0 where
-  stepped-over : steppedOver freshScan word ≡ wordScan word
-  some : codeOf word ≢ 0
-  inside : hasNoEnd word ≡ true
+-- a word can be read
+pub record Readable (word : List ℕ) : Type 0 where
+  pub stepped-over : steppedOver freshScan word ≡ wordScan word
+  pub some : codeOf word ≢ 0
+  pub inside : hasNoEnd word ≡ true
 
+-- that of a further line of the header can
 further-word : (tag : ℕ) → Readable (wordOf tag)
 unfolding wordOf steppedOver stepped characterRead letterRead hasNoEnd
 further-word tag =

@@ -1,7 +1,7 @@
--- The text of a log makes its bytes: at the first visit the draft holds the plan, whose fields go out; each visit's line lets out its field; and the end comes last.
-use Prim.Native.Nat.{ℕ, zero, suc, _^_}
+-- The text of a log makes its bytes: at the first record the draft holds the plan, whose fields go out; each record's line lets out its field; and the end comes last.
+use Prim.Native.Nat.{ℕ, zero, suc, _^_, _≤_}
 use mathlib.Core.Path.{_≡_, refl, sym, ap, _∙_}
-use mathlib.Core.Bool.{true}
+use mathlib.Core.Bool.{true, false}
 use mathlib.Core.List.{List, [], _∷_, _++_, append-assoc, append-nil}
 use native.Mathlib.Omega.{arith}
 use borrow.Author.Tests.{eqb-true, lt-ltb, le-ltb, ne-eqb, le-leb}
@@ -12,8 +12,13 @@ use Rattle.units.specs.JudgingLaws.{and-true}
 use Rattle.sets.specs.declared.Set.{Set}
 use Rattle.plans.specs.Planned.{judgedPlan}
 use Rattle.plans.specs.declared.Alloc.{Alloc}
+use Rattle.entries.specs.Visit.{VisitFits}
+use Rattle.entries.specs.Mark.{MarkFits}
 use Rattle.entries.specs.Entry.{entryBytes, EntryFits}
+use Rattle.entries.specs.declared.VisitEntry.{VisitEntry}
+use Rattle.entries.specs.declared.MarkEntry.{MarkEntry}
 use Rattle.entries.specs.declared.Entry.{Entry}
+use Rattle.entries.specs.declared.Entry.the-variants.{Visit, Mark}
 use Rattle.sheets.specs.Layout.{endBytes, fieldsOf, sheetOf, planSheet}
 use Rattle.sheets.specs.Reading.{judgedSheet}
 use Rattle.sheets.specs.ReadLaws.{Kept, judged-kept, then-keeps}
@@ -22,83 +27,164 @@ use Rattle.sheets.proofs.WritingLaws.{answer-refused, buffer-refused}
 use Rattle.sheet_rules.specs.Promised.{firstPlaces, firstAllocations}
 use Rattle.sheet_rules.proofs.BackLaws.{first-same, first-allocations, judged-first}
 use Rattle.sheet_rules.proofs.Promised.{fields-same}
-use Rattle.logs.specs.Layout.{visitsBytes, logOf, AllFit}
+use Rattle.logs.specs.Layout.{entriesBytes, logOf, AllFit}
 use Rattle.text.specs.Text.{newline}
-use Rattle.lines.specs.Scan.{freshScan, letterRead, characterRead, stepped}
+use Rattle.lines.specs.Scan.{letterRead, characterRead, stepped}
 use Rattle.lines.specs.ScanLaws.{steppedOver, withNumbers, wordScan, typed, AllSmall, small-none, typed-read, line-typed, hasNoEnd, no-end-typed}
 use Rattle.lines.specs.declared.Scan.{Scan}
-use Rattle.drafts.specs.Compose.{visitWord, isVisitLine, withVisit, onNextLine, composeStart, composeAfter, isWhole, composedAnswer, composedBuffer, draftOf}
+use Rattle.drafts.specs.Compose.{visitWord, markWord, isVisitLine, isMarkLine, isRecordLine, withRecord, onNextLine, composeStart, composeAfter, isWhole, composedAnswer, composedBuffer, draftOf}
 use Rattle.drafts.specs.ComposeLaws.{compose-append, newline-more, atRest}
-use Rattle.drafts.specs.Sent.{entryIn, goesOut, planSent, sentBy, sentOver, sentOf, endAnswer, endBuffer, Makes}
+use Rattle.drafts.specs.Sent.{visitIn, markIn, entryIn, goesOut, planSent, sentBy, sentOver, sentOf, endAnswer, endBuffer, Makes}
 use Rattle.drafts.specs.declared.Draft.{Draft}
 use Rattle.drafts.specs.declared.Composing.{Composing}
-use Rattle.drafts.proofs.SentLaws.{visit-drafted, first-out, plan-first, plan-none, sent-visit, sent-append, sent-line, sent-newline, end-of-log}
+use Rattle.drafts.proofs.SentLaws.{record-drafted, entry-visit, entry-mark, first-out, plan-first, plan-none, sent-record, sent-append, sent-line, sent-newline, end-of-log}
 use Rattle.outputs.specs.ShowText.{sheetText}
-use Rattle.outputs.specs.LogText.{visitLine, visitLines, logText}
-use Rattle.outputs.proofs.DraftLaws.{typed-composed, head-some, shareOf, draftBehind}
+use Rattle.outputs.specs.LogText.{visitLine, markLine, entryLine, entryLines, logText}
+use Rattle.outputs.proofs.DraftLaws.{Readable, typed-composed, head-some, shareOf, draftBehind}
 use Rattle.outputs.proofs.ShownLaws.{kept-drafted, kept-silent, kind-some, kept-composes, plan-again}
 
--- ---- one visit's line
+-- ---- an entry's line
 
-visit-word : steppedOver freshScan visitWord ≡ wordScan visitWord
-unfolding steppedOver stepped characterRead letterRead
-visit-word = refl
+-- its word, and the numbers behind it
+abbrev entryWord : Entry → List ℕ
+entryWord (Visit v) = visitWord
+entryWord (Mark m) = markWord
 
-abbrev visitNumbers : Entry → List ℕ
-visitNumbers e = e .station ∷ e .start ∷ e .limit ∷ e .synchronous ∷ e .asynchronous ∷ []
+abbrev entryNumbers : Entry → List ℕ
+entryNumbers (Visit v) = v .station ∷ v .start ∷ v .limit ∷ v .synchronous ∷ v .asynchronous ∷ []
+entryNumbers (Mark m) = m .station ∷ m .mark ∷ []
 
 -- what the scan of the line holds
-visitScan : Entry → Scan
-visitScan e = withNumbers (wordScan visitWord) (visitNumbers e)
+entryScan : Entry → Scan
+entryScan e = withNumbers (wordScan (entryWord e)) (entryNumbers e)
 
-module _ (e : Entry) where
-  visit-typed : visitLine e ≡ typed visitWord (visitNumbers e) ++ (newline ∷ [])
+visit-word : Readable visitWord
+unfolding steppedOver stepped characterRead letterRead hasNoEnd
+visit-word = record { stepped-over = refl; some = omega arith; inside = refl }
+
+mark-word : Readable markWord
+unfolding steppedOver stepped characterRead letterRead hasNoEnd
+mark-word = record { stepped-over = refl; some = omega arith; inside = refl }
+
+-- the line can be read, as that of a record which names the entry
+record LineOf (e : Entry) : Type 0 where
+  word : Readable (entryWord e)
+  as-typed : entryLine e ≡ typed (entryWord e) (entryNumbers e) ++ (newline ∷ [])
+  few : length (entryNumbers e) ≤ 5
+  small : AllSmall (entryNumbers e)
+  is-record : isRecordLine (entryScan e) ≡ true
+  names : entryIn (entryScan e) ≡ e
+
+module _ (v : VisitEntry) where
+  visit-typed : visitLine v ≡ typed visitWord (entryNumbers (Visit v)) ++ (newline ∷ [])
   unfolding visitLine
-  visit-typed = line-typed visitWord (visitNumbers e)
+  visit-typed = line-typed visitWord (entryNumbers (Visit v))
 
-  visit-entry : entryIn (visitScan e) ≡ e
-  unfolding withNumbers visitScan
-  visit-entry = refl
+  visit-named : visitIn (entryScan (Visit v)) ≡ v
+  unfolding withNumbers entryScan
+  visit-named = refl
 
-  module _ (fit : EntryFits e) where
-    is-visit : isVisitLine (visitScan e) ≡ true
-    unfolding withNumbers visitScan
+  module _ (fit : VisitFits v) where
+    is-visit : isVisitLine (entryScan (Visit v)) ≡ true
+    unfolding withNumbers entryScan
     is-visit =
         rw (
-          lt-ltb (e .station) (2 ^ 32) (omega (arith, fit .station)),
-          lt-ltb (e .start) (2 ^ 32) (fit .start),
-          lt-ltb (e .limit) (2 ^ 32) (fit .limit),
-          lt-ltb (e .synchronous) (2 ^ 32) (fit .synchronous),
-          lt-ltb (e .asynchronous) (2 ^ 32) (fit .asynchronous),
-          lt-ltb (e .station) 256 (fit .station),
+          lt-ltb (v .station) (2 ^ 32) (omega (arith, fit .station)),
+          lt-ltb (v .start) (2 ^ 32) (fit .start),
+          lt-ltb (v .limit) (2 ^ 32) (fit .limit),
+          lt-ltb (v .synchronous) (2 ^ 32) (fit .synchronous),
+          lt-ltb (v .asynchronous) (2 ^ 32) (fit .asynchronous),
+          lt-ltb (v .station) 256 (fit .station),
         )
         refl
 
-    all-small : AllSmall (visitNumbers e)
-    all-small zero = omega (arith, fit .station)
-    all-small (suc zero) = omega (arith, fit .start)
-    all-small (suc (suc zero)) = omega (arith, fit .limit)
-    all-small (suc (suc (suc zero))) = omega (arith, fit .synchronous)
-    all-small (suc (suc (suc (suc zero)))) = omega (arith, fit .asynchronous)
-    all-small (suc (suc (suc (suc (suc i))))) = small-none i
+    visit-small : AllSmall (entryNumbers (Visit v))
+    visit-small zero = omega (arith, fit .station)
+    visit-small (suc zero) = omega (arith, fit .start)
+    visit-small (suc (suc zero)) = omega (arith, fit .limit)
+    visit-small (suc (suc (suc zero))) = omega (arith, fit .synchronous)
+    visit-small (suc (suc (suc (suc zero)))) = omega (arith, fit .asynchronous)
+    visit-small (suc (suc (suc (suc (suc i))))) = small-none i
 
-    visit-composed : (d : Draft) → composeAfter (atRest d) (visitLine e) ≡ atRest (onNextLine (withVisit d))
-    unfolding hasNoEnd visitScan
-    visit-composed d =
-        ap (composeAfter (atRest d)) visit-typed
-        ∙ typed-composed d visitWord (visitNumbers e) visit-word (omega arith) refl (omega arith) all-small
-        ∙ ap (λ (x : Draft). atRest (onNextLine x)) (visit-drafted (visitScan e) is-visit d)
+    visit-line : LineOf (Visit v)
+    visit-line =
+        record {
+          word = visit-word;
+          as-typed = visit-typed;
+          few = omega arith;
+          small = visit-small;
+          is-record = rw is-visit refl;
+          names = entry-visit (entryScan (Visit v)) is-visit ∙ ap Visit visit-named;
+        }
 
-    visit-sent : (d : Draft) → goesOut (withVisit d) ≡ true → sentOver (atRest d) (visitLine e) ≡ planSent d ++ entryBytes e
-    unfolding hasNoEnd visitScan
-    visit-sent d out =
-        ap (sentOver (atRest d)) visit-typed
-        ∙ sent-line (atRest d) (typed visitWord (visitNumbers e)) (no-end-typed visitWord (visitNumbers e) refl)
-        ∙ ap (sentBy d) (typed-read visitWord (visitNumbers e) visit-word (omega arith) (omega arith) all-small)
-        ∙ sent-visit d (visitScan e) is-visit out
-        ∙ ap (λ (x : Entry). planSent d ++ entryBytes x) visit-entry
+module _ (m : MarkEntry) where
+  mark-typed : markLine m ≡ typed markWord (entryNumbers (Mark m)) ++ (newline ∷ [])
+  unfolding markLine
+  mark-typed = line-typed markWord (entryNumbers (Mark m))
 
--- ---- the visits behind the first
+  no-visit : isVisitLine (entryScan (Mark m)) ≡ false
+  unfolding withNumbers entryScan
+  no-visit = refl
+
+  mark-named : markIn (entryScan (Mark m)) ≡ m
+  unfolding withNumbers entryScan
+  mark-named = refl
+
+  module _ (fit : MarkFits m) where
+    is-mark : isMarkLine (entryScan (Mark m)) ≡ true
+    unfolding withNumbers entryScan
+    is-mark =
+        rw (
+          lt-ltb (m .station) (2 ^ 32) (omega (arith, fit .station)),
+          lt-ltb (m .mark) (2 ^ 32) (omega (arith, fit .mark)),
+          lt-ltb (m .station) 256 (fit .station),
+          lt-ltb (m .mark) 256 (fit .mark),
+        )
+        refl
+
+    mark-small : AllSmall (entryNumbers (Mark m))
+    mark-small zero = omega (arith, fit .station)
+    mark-small (suc zero) = omega (arith, fit .mark)
+    mark-small (suc (suc i)) = small-none i
+
+    mark-line : LineOf (Mark m)
+    mark-line =
+        record {
+          word = mark-word;
+          as-typed = mark-typed;
+          few = omega arith;
+          small = mark-small;
+          is-record = rw (no-visit, is-mark) refl;
+          names = entry-mark (entryScan (Mark m)) no-visit ∙ ap Mark mark-named;
+        }
+
+line-of : (e : Entry) → EntryFits e → LineOf e
+line-of (Visit v) fit = visit-line v fit
+line-of (Mark m) fit = mark-line m fit
+
+-- what it makes of a draft, and what it lets out
+module _ (e : Entry) (fit : EntryFits e) where
+  entry-composed : (d : Draft) → composeAfter (atRest d) (entryLine e) ≡ atRest (onNextLine (withRecord d))
+  unfolding entryScan
+  entry-composed d =
+      let said = line-of e fit in
+      let word = said .word in
+      ap (composeAfter (atRest d)) (said .as-typed)
+      ∙ typed-composed d (entryWord e) (entryNumbers e) (word .stepped-over) (word .some) (word .inside) (said .few) (said .small)
+      ∙ ap (λ (x : Draft). atRest (onNextLine x)) (record-drafted (entryScan e) (said .is-record) d)
+
+  entry-sent : (d : Draft) → goesOut (withRecord d) ≡ true → sentOver (atRest d) (entryLine e) ≡ planSent d ++ entryBytes e
+  unfolding entryScan
+  entry-sent d out =
+      let said = line-of e fit in
+      let word = said .word in
+      ap (sentOver (atRest d)) (said .as-typed)
+      ∙ sent-line (atRest d) (typed (entryWord e) (entryNumbers e)) (no-end-typed (entryWord e) (entryNumbers e) (word .inside))
+      ∙ ap (sentBy d) (typed-read (entryWord e) (entryNumbers e) (word .stepped-over) (word .some) (said .few) (said .small))
+      ∙ sent-record d (entryScan e) (said .is-record) out
+      ∙ ap (λ (x : Entry). planSent d ++ entryBytes x) (said .names)
+
+-- ---- the records behind the first
 
 -- each line is counted, and nothing else changes
 unfoldable linesOn : Draft → List Entry → Draft
@@ -113,24 +199,24 @@ lines-out d (e ∷ es) = lines-out (onNextLine d) es
 out-kind : (d : Draft) → goesOut d ≡ true → d .kind ≡ 3
 out-kind d out = eqb-true (d .kind) 3 (and-true (isWhole d) _ out .1)
 
-later-visit : (d : Draft) → d .kind ≡ 3 → withVisit d ≡ d
-unfolding withVisit
-later-visit d k = rw (ne-eqb (d .kind) 2 (omega arith), le-ltb (d .kind) 3 (omega arith)) refl
+later-record : (d : Draft) → d .kind ≡ 3 → withRecord d ≡ d
+unfolding withRecord
+later-record d k = rw (ne-eqb (d .kind) 2 (omega arith), le-ltb (d .kind) 3 (omega arith)) refl
 
-visits-behind : (d : Draft) (es : List Entry) → goesOut d ≡ true → AllFit es
-    → (composeAfter (atRest d) (visitLines es) ≡ atRest (linesOn d es)) × (sentOver (atRest d) (visitLines es) ≡ visitsBytes es)
-unfolding visitLines linesOn visitsBytes composeAfter sentOver
-visits-behind d [] out fit = (refl, refl)
-visits-behind d (e ∷ es) out (first, rest) =
+entries-behind : (d : Draft) (es : List Entry) → goesOut d ≡ true → AllFit es
+    → (composeAfter (atRest d) (entryLines es) ≡ atRest (linesOn d es)) × (sentOver (atRest d) (entryLines es) ≡ entriesBytes es)
+unfolding entryLines linesOn entriesBytes composeAfter sentOver
+entries-behind d [] out fit = (refl, refl)
+entries-behind d (e ∷ es) out (first, rest) =
     let k = out-kind d out in
-    let same = later-visit d k in
-    let behind = visit-composed e first d ∙ ap (λ (x : Draft). atRest (onNextLine x)) same in
-    let again = visits-behind (onNextLine d) es out rest in
-    let sent = visit-sent e first d (ap goesOut same ∙ out) ∙ ap (λ (x : List ℕ). x ++ entryBytes e) (plan-none d (omega arith)) in (
-      compose-append (atRest d) (visitLine e) (visitLines es) ∙ ap (λ (c : Composing). composeAfter c (visitLines es)) behind ∙ again .0,
-      sent-append (atRest d) (visitLine e) (visitLines es)
-          ∙ ap (λ (x : List ℕ). x ++ sentOver (composeAfter (atRest d) (visitLine e)) (visitLines es)) sent
-          ∙ ap (λ (c : Composing). entryBytes e ++ sentOver c (visitLines es)) behind
+    let same = later-record d k in
+    let behind = entry-composed e first d ∙ ap (λ (x : Draft). atRest (onNextLine x)) same in
+    let again = entries-behind (onNextLine d) es out rest in
+    let sent = entry-sent e first d (ap goesOut same ∙ out) ∙ ap (λ (x : List ℕ). x ++ entryBytes e) (plan-none d (omega arith)) in (
+      compose-append (atRest d) (entryLine e) (entryLines es) ∙ ap (λ (c : Composing). composeAfter c (entryLines es)) behind ∙ again .0,
+      sent-append (atRest d) (entryLine e) (entryLines es)
+          ∙ ap (λ (x : List ℕ). x ++ sentOver (composeAfter (atRest d) (entryLine e)) (entryLines es)) sent
+          ∙ ap (λ (c : Composing). entryBytes e ++ sentOver c (entryLines es)) behind
           ∙ ap (λ (x : List ℕ). entryBytes e ++ x) (again .1),
     )
 
@@ -168,79 +254,79 @@ module _ (t : Set) (a : Alloc) (judged : judgedSheet true t a ≡ 0) where
       plan-first (draftBehind true t a (t .n)) of-plan
       ∙ sym (fields-same true t (firstPlaces t) a (firstAllocations (t .n) a) (first-same t few) (first-allocations (t .n) a few))
 
-  out : goesOut (withVisit planDraft) ≡ true
+  out : goesOut (withRecord planDraft) ≡ true
   out = first-out planDraft whole of-plan accepts
 
   module _ (e : Entry) (es : List Entry) (first : EntryFits e) (rest : AllFit es) where
-    -- behind the first visit, and behind all
-    visited : Draft
-    visited = onNextLine (withVisit planDraft)
+    -- behind the first record, and behind all
+    logged : Draft
+    logged = onNextLine (withRecord planDraft)
 
-    later : (composeAfter (atRest visited) (visitLines es) ≡ atRest (linesOn visited es)) × (sentOver (atRest visited) (visitLines es) ≡ visitsBytes es)
-    unfolding visited
-    later = visits-behind (onNextLine (withVisit planDraft)) es out rest
+    later : (composeAfter (atRest logged) (entryLines es) ≡ atRest (linesOn logged es)) × (sentOver (atRest logged) (entryLines es) ≡ entriesBytes es)
+    unfolding logged
+    later = entries-behind (onNextLine (withRecord planDraft)) es out rest
 
-    log-drafted : composeAfter composeStart (logText t a (e ∷ es)) ≡ atRest (linesOn visited es)
-    unfolding logText visitLines visited
+    log-drafted : composeAfter composeStart (logText t a (e ∷ es)) ≡ atRest (linesOn logged es)
+    unfolding logText entryLines logged
     log-drafted =
-        compose-append composeStart (sheetText true t a) (visitLine e ++ visitLines es)
-        ∙ ap (λ (c : Composing). composeAfter c (visitLine e ++ visitLines es)) drafted
-        ∙ compose-append (atRest planDraft) (visitLine e) (visitLines es)
-        ∙ ap (λ (c : Composing). composeAfter c (visitLines es)) (visit-composed e first planDraft)
+        compose-append composeStart (sheetText true t a) (entryLine e ++ entryLines es)
+        ∙ ap (λ (c : Composing). composeAfter c (entryLine e ++ entryLines es)) drafted
+        ∙ compose-append (atRest planDraft) (entryLine e) (entryLines es)
+        ∙ ap (λ (c : Composing). composeAfter c (entryLines es)) (entry-composed e first planDraft)
         ∙ later .0
 
-    log-sent : sentOver composeStart (logText t a (e ∷ es)) ≡ fieldsOf true t a ++ visitsBytes (e ∷ es)
-    unfolding logText visitLines visitsBytes visited
+    log-sent : sentOver composeStart (logText t a (e ∷ es)) ≡ fieldsOf true t a ++ entriesBytes (e ∷ es)
+    unfolding logText entryLines entriesBytes logged
     log-sent =
-        sent-append composeStart (sheetText true t a) (visitLine e ++ visitLines es)
-        ∙ ap (λ (x : List ℕ). x ++ sentOver (composeAfter composeStart (sheetText true t a)) (visitLine e ++ visitLines es)) (kept-silent true t a kept)
-        ∙ ap (λ (c : Composing). sentOver c (visitLine e ++ visitLines es)) drafted
-        ∙ sent-append (atRest planDraft) (visitLine e) (visitLines es)
-        ∙ ap (λ (x : List ℕ). x ++ sentOver (composeAfter (atRest planDraft) (visitLine e)) (visitLines es)) (visit-sent e first planDraft out)
-        ∙ ap (λ (x : List ℕ). (x ++ entryBytes e) ++ sentOver (composeAfter (atRest planDraft) (visitLine e)) (visitLines es)) its-fields
-        ∙ ap (λ (c : Composing). (fieldsOf true t a ++ entryBytes e) ++ sentOver c (visitLines es)) (visit-composed e first planDraft)
+        sent-append composeStart (sheetText true t a) (entryLine e ++ entryLines es)
+        ∙ ap (λ (x : List ℕ). x ++ sentOver (composeAfter composeStart (sheetText true t a)) (entryLine e ++ entryLines es)) (kept-silent true t a kept)
+        ∙ ap (λ (c : Composing). sentOver c (entryLine e ++ entryLines es)) drafted
+        ∙ sent-append (atRest planDraft) (entryLine e) (entryLines es)
+        ∙ ap (λ (x : List ℕ). x ++ sentOver (composeAfter (atRest planDraft) (entryLine e)) (entryLines es)) (entry-sent e first planDraft out)
+        ∙ ap (λ (x : List ℕ). (x ++ entryBytes e) ++ sentOver (composeAfter (atRest planDraft) (entryLine e)) (entryLines es)) its-fields
+        ∙ ap (λ (c : Composing). (fieldsOf true t a ++ entryBytes e) ++ sentOver c (entryLines es)) (entry-composed e first planDraft)
         ∙ ap (λ (x : List ℕ). (fieldsOf true t a ++ entryBytes e) ++ x) (later .1)
-        ∙ append-assoc (fieldsOf true t a) (entryBytes e) (visitsBytes es)
+        ∙ append-assoc (fieldsOf true t a) (entryBytes e) (entriesBytes es)
 
     -- one newline more changes nothing but the number of the line
-    log-ended : draftOf (logText t a (e ∷ es)) ≡ onNextLine (linesOn visited es)
+    log-ended : draftOf (logText t a (e ∷ es)) ≡ onNextLine (linesOn logged es)
     log-ended =
         ap (λ (c : Composing). c .draft)
         (compose-append composeStart (logText t a (e ∷ es)) (newline ∷ [])
         ∙ ap (λ (c : Composing). composeAfter c (newline ∷ [])) log-drafted
-        ∙ newline-more (linesOn visited es))
+        ∙ newline-more (linesOn logged es))
 
-    all-sent : sentOf (logText t a (e ∷ es)) ≡ fieldsOf true t a ++ visitsBytes (e ∷ es)
+    all-sent : sentOf (logText t a (e ∷ es)) ≡ fieldsOf true t a ++ entriesBytes (e ∷ es)
     all-sent =
         sent-append composeStart (logText t a (e ∷ es)) (newline ∷ [])
         ∙ ap (λ (c : Composing). sentOver composeStart (logText t a (e ∷ es)) ++ sentOver c (newline ∷ [])) log-drafted
-        ∙ ap (λ (x : List ℕ). sentOver composeStart (logText t a (e ∷ es)) ++ x) (sent-newline (linesOn visited es))
+        ∙ ap (λ (x : List ℕ). sentOver composeStart (logText t a (e ∷ es)) ++ x) (sent-newline (linesOn logged es))
         ∙ append-nil (sentOver composeStart (logText t a (e ∷ es)))
         ∙ log-sent
 
-    still-out : goesOut (linesOn visited es) ≡ true
-    unfolding visited
-    still-out = lines-out (onNextLine (withVisit planDraft)) es ∙ out
+    still-out : goesOut (linesOn logged es) ≡ true
+    unfolding logged
+    still-out = lines-out (onNextLine (withRecord planDraft)) es ∙ out
 
     some-composed : Makes (logText t a (e ∷ es)) (logOf t a (e ∷ es))
     unfolding logOf
     some-composed =
-        let read = and-true (eqb (linesOn visited es .unread) 0) _ (and-true (isWhole (linesOn visited es)) _ still-out .0) .0 in
+        let read = and-true (eqb (linesOn logged es .unread) 0) _ (and-true (isWhole (linesOn logged es)) _ still-out .0) .0 in
         record {
-          first = fieldsOf true t a ++ visitsBytes (e ∷ es);
+          first = fieldsOf true t a ++ entriesBytes (e ∷ es);
           last = endBytes;
           composes = record {
-            readable = ap (λ (d : Draft). d .unread) log-ended ∙ eqb-true (linesOn visited es .unread) 0 read;
+            readable = ap (λ (d : Draft). d .unread) log-ended ∙ eqb-true (linesOn logged es .unread) 0 read;
             sent = all-sent;
-            answer = λ buffer room. ap (λ (d : Draft). endAnswer d buffer) log-ended ∙ end-of-log (onNextLine (linesOn visited es)) buffer still-out room .0;
-            buffer = λ buffer room. ap (λ (d : Draft). endBuffer d buffer) log-ended ∙ end-of-log (onNextLine (linesOn visited es)) buffer still-out room .1;
+            answer = λ buffer room. ap (λ (d : Draft). endAnswer d buffer) log-ended ∙ end-of-log (onNextLine (linesOn logged es)) buffer still-out room .0;
+            buffer = λ buffer room. ap (λ (d : Draft). endBuffer d buffer) log-ended ∙ end-of-log (onNextLine (linesOn logged es)) buffer still-out room .1;
           };
           all = refl;
         }
 
-  -- a log without a visit is the plan sheet
+  -- a log without a record is the plan sheet
   none-composed : Makes (logText t a []) (logOf t a [])
-  unfolding logText visitLines logOf visitsBytes sheetOf
+  unfolding logText entryLines logOf entriesBytes sheetOf
   none-composed =
       record {
         first = [];

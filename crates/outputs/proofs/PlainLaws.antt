@@ -1,4 +1,4 @@
--- The text of a sheet and the lines of visits have no letter u, so they end with no refusal (`text/proofs/RefusalLaws.antt`).
+-- The text of a sheet and the lines of records have no letter u, so they end with no refusal (`text/proofs/RefusalLaws.antt`).
 use Prim.Native.Nat.{ℕ, zero, suc, _+_}
 use mathlib.Core.Path.{refl}
 use mathlib.Core.Bool.{Bool, true, false, cond}
@@ -9,6 +9,7 @@ use Rattle.sets.specs.declared.Head.{Head}
 use Rattle.sets.specs.declared.Set.{Set}
 use Rattle.plans.specs.declared.Alloc.{Alloc}
 use Rattle.entries.specs.declared.Entry.{Entry}
+use Rattle.entries.specs.declared.Entry.the-variants.{Visit, Mark}
 use Rattle.fields.specs.Rows.{rows}
 use Rattle.fields.specs.Fields.{modeTag, frameTag}
 use Rattle.fields.specs.Header.{furtherCount, absent}
@@ -16,9 +17,9 @@ use Rattle.sets.specs.Header.{headNumber}
 use Rattle.sheets.specs.Reading.{readRequest, readPlan}
 use Rattle.text.specs.Text.{decimalOf, lineOn, line, textOr, Tells}
 use Rattle.text.proofs.RefusalLaws.{countU, Plain, plain-append, plain-end, plain-field, plain-line, plain-rows, tells-or}
-use Rattle.drafts.specs.Compose.{ttrtWord, modeWord, frameWord, gridWord, wordOf, stationWord, visitWord}
+use Rattle.drafts.specs.Compose.{ttrtWord, modeWord, frameWord, gridWord, wordOf, stationWord, visitWord, markWord}
 use Rattle.outputs.specs.ShowText.{furtherLine, headLines, shareWords, stationLine, sheetText, planLinesOf, showPrinted, shownNumber}
-use Rattle.outputs.specs.LogText.{visitLine, visitLines}
+use Rattle.outputs.specs.LogText.{visitLine, markLine, entryLine, entryLines}
 
 -- ---- the words
 
@@ -41,6 +42,10 @@ plain-station = refl
 plain-visit : Plain visitWord
 unfolding countU
 plain-visit = refl
+
+plain-mark : Plain markWord
+unfolding countU
+plain-mark = refl
 
 plain-nothing : Plain []
 unfolding countU
@@ -78,16 +83,17 @@ pub plain-plan : (t : Set) (a : Alloc) → Plain (planLinesOf t a)
 unfolding planLinesOf
 plain-plan t a = plain-some (leb (t .n) 128) (sheetText true t a) [] (plain-sheet true t a) plain-nothing
 
--- ---- the lines of visits
+-- ---- the lines of records
 
-plain-of-visit : (e : Entry) → Plain (visitLine e)
-unfolding visitLine
-plain-of-visit e = plain-line visitWord _ plain-visit (plain-field _ _ (plain-field _ _ (plain-field _ _ (plain-field _ _ (plain-field _ _ plain-end)))))
+plain-entry : (e : Entry) → Plain (entryLine e)
+unfolding visitLine markLine
+plain-entry (Visit v) = plain-line visitWord _ plain-visit (plain-field _ _ (plain-field _ _ (plain-field _ _ (plain-field _ _ (plain-field _ _ plain-end)))))
+plain-entry (Mark m) = plain-line markWord _ plain-mark (plain-field _ _ (plain-field _ _ plain-end))
 
-pub plain-visits : (es : List Entry) → Plain (visitLines es)
-unfolding visitLines
-plain-visits [] = plain-nothing
-plain-visits (e ∷ es) = plain-append (visitLine e) (visitLines es) (plain-of-visit e) (plain-visits es)
+pub plain-entries : (es : List Entry) → Plain (entryLines es)
+unfolding entryLines
+plain-entries [] = plain-nothing
+plain-entries (e ∷ es) = plain-append (entryLine e) (entryLines es) (plain-entry e) (plain-entries es)
 
 -- ---- what `show` prints of a sheet
 

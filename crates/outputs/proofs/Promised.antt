@@ -22,9 +22,11 @@ use Rattle.scan.specs.Scanned.{withField, stopsAt, stopNumber, scanFrom, scanne
 use Rattle.sheets.specs.Reading.{readRequest, thenNumber, judgedSheet, readAnswer, readSheet}
 use Rattle.sheets.specs.declared.ReadRequest.{ReadRequest}
 use Rattle.text.specs.Text.{decimalWithin, lineOn, line}
+use Rattle.entries.specs.declared.Entry.the-variants.{Mark}
 use Rattle.drafts.specs.Compose.{wordOf}
-use Rattle.drafts.proofs.SentLaws.{broken-text, refused-plan-text, broken-end, no-visit-text, early-visit, late-line}
-use Rattle.outputs.specs.Promised.{Promised, olderSheet, olderText, framedSheet, framedText, griddedSheet, griddedText}
+use Rattle.drafts.proofs.SentLaws.{record-drafted, broken-text, refused-plan-text, broken-end, no-record-text, early-record, late-line, wide-station, wide-mark}
+use Rattle.outputs.specs.Promised.{Promised, markedText, olderSheet, olderText, framedSheet, framedText, griddedSheet, griddedText}
+use Rattle.outputs.specs.LogText.{markLine, entryLine}
 use Rattle.outputs.specs.ShowText.{furtherLine, headLines, shareWords, stationLine, sheetText, showPrinted}
 use Rattle.outputs.proofs.ShowLaws.{shown-request}
 use Rattle.outputs.proofs.ShownLaws.{shown-composed}
@@ -67,6 +69,10 @@ gridded-lines : sheetText false (olderSet 40 5) blankAlloc ≡ griddedText
 unfolding olderSet sheetText headLines headNumber furtherLine wordOf stationLine shareWords rows line lineOn decimalWithin fill
 gridded-lines = refl
 
+mark-line : entryLine (Mark (record { station = 3; mark = 1 })) ≡ markedText
+unfolding markLine line lineOn decimalWithin
+mark-line = refl
+
 shown-set : (sheet : List ℕ) (t : Set) → readRequest sheet ≡ record { set = t; number = 0 } → showPrinted sheet ≡ sheetText false t blankAlloc
 shown-set sheet t e =
     let none : readRequest sheet .number ≡ 0 = ap (λ (r : ReadRequest). r .number) e in
@@ -78,6 +84,7 @@ promised =
     record {
       show-compose = shown-composed;
       log-compose = log-composed;
+      marked = mark-line;
       older = shown-set olderSheet (olderSet 1 1) older-read ∙ older-lines;
       framed = shown-set framedSheet (olderSet 40 1) framed-read ∙ framed-lines;
       gridded = shown-set griddedSheet (olderSet 40 5) gridded-read ∙ gridded-lines;
@@ -87,9 +94,12 @@ promised =
           other-four d tag out whole count (subst (λ (n : ℕ). ¬ ((1 ≤ n) × (n ≤ mostOf tag))) (sym e) (header-out (mostOf tag) number outside));
       header-twice = second-broken;
       header-late = late-broken;
-      no-visit = no-visit-text;
-      early-visit = early-visit;
+      no-record = no-record-text;
+      record-line = λ d s h. record-drafted s h d;
+      early-record = early-record;
       late-line = late-line;
+      wide-station = wide-station;
+      wide-mark = wide-mark;
       broken-silent = broken-text;
       broken-refused = broken-end;
       refused-silent = refused-plan-text;

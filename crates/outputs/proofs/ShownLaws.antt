@@ -91,13 +91,13 @@ module _ (plan : Bool) (t : Set) (a : Alloc) (k : Kept plan t a) where
       ∙ newline-more (draftBehind plan t a (t .n)))
 
   -- while it is read nothing goes out
-  no-visits : draftBehind plan t a (t .n) .kind ≤ 2
+  no-records : draftBehind plan t a (t .n) .kind ≤ 2
   unfolding draftBehind
-  no-visits = kind-few plan (t .n)
+  no-records = kind-few plan (t .n)
 
   pub kept-silent : sentOver composeStart (sheetText plan t a) ≡ []
   kept-silent =
-      text-silent composeStart (sheetText plan t a) (omega (arith, no-visits, ap (λ (c : Composing). c .draft .kind) kept-drafted)) .1
+      text-silent composeStart (sheetText plan t a) (omega (arith, no-records, ap (λ (c : Composing). c .draft .kind) kept-drafted)) .1
 
   shown-silent : (text : List ℕ) → text ≡ sheetText plan t a → sentOf text ≡ []
   shown-silent text e =

@@ -4,12 +4,14 @@ use mathlib.Core.Path.{_≡_}
 use mathlib.Core.Bool.{Bool, true, false}
 use mathlib.Core.List.{List, [], _∷_, _++_}
 use mathlib.Core.Logic.{_≢_}
+use Rattle.units.specs.Places.{at}
 use Rattle.sets.specs.Header.{headNumber}
 use Rattle.sets.specs.Rules.{CountAllowed}
 use Rattle.sets.specs.declared.Set.{Set}
 use Rattle.plans.specs.Planned.{judgedPlan}
 use Rattle.plans.specs.declared.Alloc.{Alloc}
 use Rattle.entries.specs.declared.Entry.{Entry}
+use Rattle.entries.specs.declared.Entry.the-variants.{Mark}
 use Rattle.logs.specs.Layout.{logOf, AllFit}
 use Rattle.fields.specs.Bytes.{AllBytes}
 use Rattle.fields.specs.Header.{headerNumber}
@@ -17,14 +19,14 @@ use Rattle.sheets.specs.Layout.{mostOf}
 use Rattle.sheets.specs.Reading.{readSheet}
 use Rattle.sheets.specs.Writing.{refusedWriting}
 use Rattle.text.specs.Text.{newline, Tells}
-use Rattle.lines.specs.Scan.{isEmptyLine}
+use Rattle.lines.specs.Scan.{codeOf, isEmptyLine}
 use Rattle.lines.specs.declared.Scan.{Scan}
-use Rattle.drafts.specs.Compose.{isVisitLine, withFurther, withVisit, lineDrafted, composeStart, composeAfter, isWhole, composedAnswer, composedBuffer, draftOf}
-use Rattle.drafts.specs.Sent.{sentOver, endAnswer, endBuffer, sentOf, Composes, Makes, noVisit, Broken}
+use Rattle.drafts.specs.Compose.{markWord, isRecordLine, withFurther, withRecord, lineDrafted, composeStart, composeAfter, isWhole, composedAnswer, composedBuffer, draftOf}
+use Rattle.drafts.specs.Sent.{sentOver, endAnswer, endBuffer, sentOf, Composes, Makes, noRecord, Broken}
 use Rattle.drafts.specs.declared.Draft.{Draft}
 use Rattle.drafts.specs.declared.Composing.{Composing}
 use Rattle.outputs.specs.ShowText.{showPrinted, shownNumber}
-use Rattle.outputs.specs.LogText.{logText}
+use Rattle.outputs.specs.LogText.{entryLine, logText}
 
 -- an older set's request sheet: TTRT 100, mode 2, one station of w 2, C 20, D 200, P 200; and the text of it
 abbrev pub olderSheet : List ℕ
@@ -59,11 +61,17 @@ griddedText =
     103 ∷ 114 ∷ 105 ∷ 100 ∷ 32 ∷ 53 ∷ 10 ∷
     115 ∷ 116 ∷ 97 ∷ 116 ∷ 105 ∷ 111 ∷ 110 ∷ 32 ∷ 50 ∷ 32 ∷ 50 ∷ 48 ∷ 32 ∷ 50 ∷ 48 ∷ 48 ∷ 32 ∷ 50 ∷ 48 ∷ 48 ∷ 10 ∷ []
 
+-- "mark 3 1"
+abbrev pub markedText : List ℕ
+markedText = 109 ∷ 97 ∷ 114 ∷ 107 ∷ 32 ∷ 51 ∷ 32 ∷ 49 ∷ 10 ∷ []
+
 pub record Promised : Type 0 where
   -- `show`, then `compose`, is the identity on accepted sheets: of the text that is shown of a request or a plan, its very bytes are made again, all of them at its end
   pub show-compose : (plan : Bool) (sheet : List ℕ) → AllBytes sheet → readSheet plan sheet .number ≡ 0 → Composes (showPrinted sheet) [] sheet
-  -- and of the text of a log, the lines of an accepted plan and then those of its visits, the bytes of that log
+  -- and of the text of a log, the lines of an accepted plan and then those of its records, the bytes of that log
   pub log-compose : (t : Set) (a : Alloc) (es : List Entry) → judgedPlan t a ≡ 0 → AllFit es → Makes (logText t a es) (logOf t a es)
+  -- a mark's line is `mark STATION MARK`, to the byte
+  pub marked : entryLine (Mark (record { station = 3; mark = 1 })) ≡ markedText
   -- `show` prints `mode 2` behind `ttrt` for an older set, to the byte
   pub older : showPrinted olderSheet ≡ olderText
   -- and `frame 40` behind that
@@ -80,18 +88,23 @@ pub record Promised : Type 0 where
   -- a second one, one behind a line with a higher tag, and one behind a station stand out of place, and then no sheet is made
   pub header-twice : (d : Draft) (tag number : ℕ) → tag ≤ d .head → isWhole (withFurther d tag number) ≡ false
   pub header-late : (d : Draft) (tag number : ℕ) → d .set .n ≢ 0 → isWhole (withFurther d tag number) ≡ false
-  -- a text without a visit lets out nothing while it is read, and its last bytes are its sheet, or why there is none
-  pub no-visit : (text out : List ℕ) → noVisit composeStart (text ++ (newline ∷ [])) ≡ true
+  -- a text without a record lets out nothing while it is read, and its last bytes are its sheet, or why there is none
+  pub no-record : (text out : List ℕ) → noRecord composeStart (text ++ (newline ∷ [])) ≡ true
       → (sentOf text ≡ []) × (endAnswer (draftOf text) out ≡ composedAnswer (draftOf text) out) × (endBuffer (draftOf text) out ≡ composedBuffer (draftOf text) out)
-  -- a visit before a plan's stations stands out of place
-  pub early-visit : (d : Draft) → d .kind < 2 → Broken (withVisit d)
-  -- behind a visit every line but an empty one and another visit cannot be read or stands out of place
-  pub late-line : (d : Draft) (s : Scan) → 3 ≤ d .kind → 1 ≤ d .head → d .set .n ≢ 0 → d .line ≢ 0 → isEmptyLine s ≡ false → isVisitLine s ≡ false → Broken (lineDrafted d s)
-  -- behind such a line nothing goes out
+  -- a record's line is taken for one whatever its kind, so a mark stands wherever a visit may
+  pub record-line : (d : Draft) (s : Scan) → isRecordLine s ≡ true → lineDrafted d s ≡ withRecord d
+  -- a record before a plan's stations stands out of place
+  pub early-record : (d : Draft) → d .kind < 2 → Broken (withRecord d)
+  -- behind a record every line but an empty one and another record cannot be read or stands out of place
+  pub late-line : (d : Draft) (s : Scan) → 3 ≤ d .kind → 1 ≤ d .head → d .set .n ≢ 0 → d .line ≢ 0 → isEmptyLine s ≡ false → isRecordLine s ≡ false → Broken (lineDrafted d s)
+  -- a line whose station is above 255 is no record's, and no more is one of a mark whose mark is
+  pub wide-station : (s : Scan) → 256 ≤ at (s .values) 0 → isRecordLine s ≡ false
+  pub wide-mark : (s : Scan) → s .word ≡ codeOf markWord → 256 ≤ at (s .values) 1 → isRecordLine s ≡ false
+  -- behind a line that cannot be read or stands out of place nothing goes out
   pub broken-silent : (c : Composing) (bs : List ℕ) → Broken (c .draft) → (sentOver c bs ≡ []) × Broken (composeAfter c bs .draft)
   -- and no end is written: the answer is 2
   pub broken-refused : (d : Draft) (out : List ℕ) → Broken d → (endAnswer d out ≡ refusedWriting 2) × (endBuffer d out ≡ out)
-  -- behind the first visit of a plan that is refused nothing goes out
+  -- behind the first record of a plan that is refused nothing goes out
   pub refused-silent : (c : Composing) (bs : List ℕ) → c .draft .kind ≡ 4 → (sentOver c bs ≡ []) × (composeAfter c bs .draft .kind ≡ 4)
   -- and where no line stands out of place, the answer at the end is the plan's number, and no byte is written
   pub refused-end : (d : Draft) (out : List ℕ) → d .kind ≡ 4 → isWhole d ≡ true → judgedPlan (d .set) (d .alloc) ≢ 0

@@ -1,6 +1,6 @@
 -- Everything that `specs/Promised.antt` lists, proved.
 use Rattle.piece_inspections.specs.Promised.{Promised}
-use Rattle.piece_inspections.proofs.WholeLaws.{over-append, start-stays, first-then, number-whole, fault-stays, plan-read, inspection-read, rule-read, record-read, visits-read, broken-read}
+use Rattle.piece_inspections.proofs.WholeLaws.{over-append, start-stays, first-then, number-whole, fault-stays, plan-read, inspection-read, rule-read, record-read, records-read, broken-read}
 
 pub promised : Promised
 promised =
@@ -14,6 +14,6 @@ promised =
       same-inspection = inspection-read;
       same-rule = rule-read;
       same-record = record-read;
-      same-visits = visits-read;
+      same-records = records-read;
       same-broken = broken-read;
     }

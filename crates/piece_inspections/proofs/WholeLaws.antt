@@ -23,7 +23,7 @@ use Rattle.logs.specs.declared.Walked.{Walked}
 use Rattle.logs.proofs.WalkLaws.{not-all-fault}
 use Rattle.logs.proofs.ReadingLaws.{start-says, log-not-all, log-fault, log-judged, log-whole}
 use Rattle.pieces.specs.Pieces.{nothingRead, faulty, numberOf, readOver, handedOver}
-use Rattle.pieces.specs.declared.Visits.{Visits}
+use Rattle.pieces.specs.declared.Gathered.{Gathered}
 use Rattle.pieces.proofs.FieldLaws.{read-append, handed-append, read-stopped}
 use Rattle.pieces.proofs.WholeLaws.{whole-read}
 use Rattle.inspection.specs.Opening.{begun}
@@ -32,7 +32,7 @@ use Rattle.inspection.specs.Findings.{brokenRecord, foundIn, findingIn}
 use Rattle.inspection.specs.declared.Inspection.{Inspection}
 use Rattle.inspection.specs.declared.Finding.{Finding}
 use Rattle.inspection.proofs.FindingLaws.{one-named, handed-length, finding-read}
-use Rattle.piece_inspections.specs.Inspecting.{noneLooked, lookedAll, visitsFrom, inspectFrom, inspectOver, inspectStart, inspectNumber}
+use Rattle.piece_inspections.specs.Inspecting.{noneLooked, lookedAll, gatheredFrom, inspectFrom, inspectOver, inspectStart, inspectNumber}
 use Rattle.piece_inspections.specs.Promised.{Enough, Breaks, Refused}
 use Rattle.piece_inspections.specs.declared.Looked.{Looked}
 use Rattle.piece_inspections.specs.declared.Inspecting.{Inspecting}
@@ -41,7 +41,7 @@ use Rattle.piece_inspections.proofs.LookLaws.{look-append, all-inspects
 -- ---- pieces
 
 -- what is kept, under other names
-pub kept-as : (s : PlanStart) {v w : Visits} {l m : Looked} → v ≡ w → l ≡ m → _≡_ {A = Inspecting} (record { start = s; visits = v; looked = l }) (record { start = s; visits = w; looked = m })
+pub kept-as : (s : PlanStart) {v w : Gathered} {l m : Looked} → v ≡ w → l ≡ m → _≡_ {A = Inspecting} (record { start = s; gathered = v; looked = l }) (record { start = s; gathered = w; looked = m })
 kept-as s p q = rw (p, q) refl
 
 pub over-append : (k : Inspecting) (first rest : List ℕ) → inspectOver k (first ++ rest) ≡ inspectOver (inspectOver k first) rest
@@ -49,9 +49,9 @@ over-append k first rest =
     let t = k .start .set in
     let a = k .start .alloc in
     let l = k .looked in
-    let read = read-append (k .visits) first rest in
-    let handed : lookedAll t a l (handedOver (k .visits) (first ++ rest)) ≡ lookedAll t a (lookedAll t a l (handedOver (k .visits) first)) (handedOver (readOver (k .visits) first) rest) =
-    ap (lookedAll t a l) (handed-append (k .visits) first rest) ∙ look-append t a l (handedOver (k .visits) first) (handedOver (readOver (k .visits) first) rest) in
+    let read = read-append (k .gathered) first rest in
+    let handed : lookedAll t a l (handedOver (k .gathered) (first ++ rest)) ≡ lookedAll t a (lookedAll t a l (handedOver (k .gathered) first)) (handedOver (readOver (k .gathered) first) rest) =
+    ap (lookedAll t a l) (handed-append (k .gathered) first rest) ∙ look-append t a l (handedOver (k .gathered) first) (handedOver (readOver (k .gathered) first) rest) in
     kept-as (k .start) read handed
 
 -- first bytes that are enough give the plan
@@ -65,19 +65,19 @@ first-then head rest enough =
     ∙ ap (inspectOver (inspectFrom s)) (sym (drop-append-le (s .at) head rest (start-inside head)))
     ∙ ap (λ (x : PlanStart). inspectOver (inspectFrom x) (drop (x .at) (head ++ rest))) (sym (start-stays head rest enough))
 
--- ---- before the first byte of the visits
+-- ---- before the first byte of the records
 
 module _ (passed : Bool) (number : ℕ) where
-  pub from-passed : passed ≡ true → visitsFrom passed number ≡ nothingRead
-  unfolding visitsFrom
+  pub from-passed : passed ≡ true → gatheredFrom passed number ≡ nothingRead
+  unfolding gatheredFrom
   from-passed h = rw h refl
 
-  pub from-not : passed ≡ false → visitsFrom passed number ≡ faulty nothingRead number
-  unfolding visitsFrom
+  pub from-not : passed ≡ false → gatheredFrom passed number ≡ faulty nothingRead number
+  unfolding gatheredFrom
   from-not h = rw h refl
 
-  pub from-fault : (v : Visits) → v ≡ nothingRead → passed ≡ false → faulty v number ≡ visitsFrom passed number
-  from-fault v e h = ap (λ (w : Visits). faulty w number) e ∙ sym (from-not h)
+  pub from-fault : (v : Gathered) → v ≡ nothingRead → passed ≡ false → faulty v number ≡ gatheredFrom passed number
+  from-fault v e h = ap (λ (w : Gathered). faulty w number) e ∙ sym (from-not h)
 
 -- ---- a plan whose fields have not all passed
 
@@ -96,8 +96,8 @@ module _ (bs : List ℕ) where
   number-not h =
       let k = planStart bs .number in
       let some : planStart bs .number ≢ 0 = not-passed-fault h in
-      let number : numberOf (inspectStart bs .visits) ≡ planStart bs .number =
-      ap (λ (v : Visits). numberOf (readOver v (drop (planStart bs .at) bs))) (from-not (planStart bs .passed) k h) ∙ stopped-number k (drop (planStart bs .at) bs) some in
+      let number : numberOf (inspectStart bs .gathered) ≡ planStart bs .number =
+      ap (λ (v : Gathered). numberOf (readOver v (drop (planStart bs .at) bs))) (from-not (planStart bs .passed) k h) ∙ stopped-number k (drop (planStart bs .at) bs) some in
       ap (λ (n : ℕ). thenNumber n k) number ∙ then-keeps k k some ∙ sym (ap (λ (r : ReadLog). r .number) (log-not-all bs (planStart bs) refl h))
 
 -- ---- all fields of the plan have passed
@@ -106,11 +106,11 @@ module _ (bs : List ℕ) (h : planStart bs .passed ≡ true) where
   abbrev w : Walked
   w = walked bs (planStart bs .at)
 
-  from : visitsFrom (planStart bs .passed) (planStart bs .number) ≡ nothingRead
+  from : gatheredFrom (planStart bs .passed) (planStart bs .number) ≡ nothingRead
   from = from-passed (planStart bs .passed) (planStart bs .number) h
 
-  number-walked : numberOf (inspectStart bs .visits) ≡ w .number
-  number-walked = ap (λ (v : Visits). numberOf (readOver v (drop (planStart bs .at) bs))) from ∙ whole-read bs (planStart bs .at) (start-inside bs) .ends
+  number-walked : numberOf (inspectStart bs .gathered) ≡ w .number
+  number-walked = ap (λ (v : Gathered). numberOf (readOver v (drop (planStart bs .at) bs))) from ∙ whole-read bs (planStart bs .at) (start-inside bs) .ends
 
   number-passed : inspectNumber (inspectStart bs) ≡ readLog bs .number
   number-passed =
@@ -125,8 +125,8 @@ module _ (bs : List ℕ) (h : planStart bs .passed ≡ true) where
       (zero-or-not (w .number))
 
   -- the records are those between the plan and the end
-  handed-all : handedOver (visitsFrom (planStart bs .passed) (planStart bs .number)) (drop (planStart bs .at) bs) ≡ handedFrom (w .visits) bs (planStart bs .at)
-  handed-all = ap (λ (v : Visits). handedOver v (drop (planStart bs .at) bs)) from ∙ whole-read bs (planStart bs .at) (start-inside bs) .hands
+  handed-all : handedOver (gatheredFrom (planStart bs .passed) (planStart bs .number)) (drop (planStart bs .at) bs) ≡ handedFrom (w .records) bs (planStart bs .at)
+  handed-all = ap (λ (v : Gathered). handedOver v (drop (planStart bs .at) bs)) from ∙ whole-read bs (planStart bs .at) (start-inside bs) .hands
 
 -- ---- either way
 
@@ -138,10 +138,10 @@ number-whole bs = ⊎-elim (number-passed bs) (number-not bs) (true-or-false (pl
 then-fault : (k j : ℕ) → k ≢ 0 → thenNumber k j ≢ 0
 then-fault k j some = λ z. some (sym (then-keeps k j some) ∙ z)
 
-pub fault-stays : (k : Inspecting) (bs : List ℕ) → k .visits .number ≢ 0 → Refused k bs
+pub fault-stays : (k : Inspecting) (bs : List ℕ) → k .gathered .number ≢ 0 → Refused k bs
 fault-stays k bs n = (
-  omega (arith, ap (λ (v : Visits). thenNumber (numberOf v) (k .start .number)) (read-stopped (k .visits) bs n)),
-  then-fault (numberOf (k .visits)) (k .start .number) (then-fault (k .visits .number) _ n),
+  omega (arith, ap (λ (v : Gathered). thenNumber (numberOf v) (k .start .number)) (read-stopped (k .gathered) bs n)),
+  then-fault (numberOf (k .gathered)) (k .start .number) (then-fault (k .gathered .number) _ n),
 )
 
 -- ---- a log that is read
@@ -160,7 +160,7 @@ module _ (bs : List ℕ) (z : readLog bs .number ≡ 0) where
   both : (walked bs (planStart bs .at) .number ≡ 0) × (planStart bs .number ≡ 0)
   both = then-none (walked bs (planStart bs .at) .number) (planStart bs .number) (sym (ap (λ (n : ℕ). thenNumber n (planStart bs .number)) (number-walked bs passed)) ∙ number-whole bs ∙ z)
 
-  was-read : record { set = planStart bs .set; alloc = planStart bs .alloc; first = planStart bs .at; visits = walked bs (planStart bs .at) .visits; number = 0 } ≡ readLog bs
+  was-read : record { set = planStart bs .set; alloc = planStart bs .alloc; first = planStart bs .at; records = walked bs (planStart bs .at) .records; number = 0 } ≡ readLog bs
   was-read = log-whole bs (planStart bs) refl passed (walked bs (planStart bs .at)) refl (both .0) (both .1)
 
   pub plan-read : (inspectStart bs .start .set ≡ readLog bs .set) × (inspectStart bs .start .alloc ≡ readLog bs .alloc)
@@ -171,7 +171,7 @@ module _ (bs : List ℕ) (z : readLog bs .number ≡ 0) where
       let t = planStart bs .set in
       let a = planStart bs .alloc in
       ap (lookedAll t a (noneLooked t a)) (handed-all bs passed)
-      ∙ ap (λ (r : ReadLog). lookedAll (r .set) (r .alloc) (noneLooked (r .set) (r .alloc)) (handedFrom (r .visits) bs (r .first))) was-read
+      ∙ ap (λ (r : ReadLog). lookedAll (r .set) (r .alloc) (noneLooked (r .set) (r .alloc)) (handedFrom (r .records) bs (r .first))) was-read
 
   pub inspection-read : inspectStart bs .looked .inspection ≡ inspectionOf (readLog bs .set) (readLog bs .alloc) (entriesIn bs)
   inspection-read =
@@ -190,21 +190,21 @@ module _ (bs : List ℕ) (z : readLog bs .number ≡ 0) where
 
   -- ---- counted
 
-  module _ (few : findingIn bs .visits < 2 ^ 64) where
-    visits-are : findingIn bs .visits ≡ length (entriesIn bs)
-    visits-are = ap (λ (f : Finding). f .visits) found ∙ sym (handed-length (readLog bs .visits) bs (readLog bs .first))
+  module _ (few : findingIn bs .records < 2 ^ 64) where
+    records-are : findingIn bs .records ≡ length (entriesIn bs)
+    records-are = ap (λ (f : Finding). f .records) found ∙ sym (handed-length (readLog bs .records) bs (readLog bs .first))
 
-    pub visits-read : findingIn bs .rule ≡ 0 → inspectStart bs .looked .inspection .visits ≡ findingIn bs .visits
+    pub records-read : findingIn bs .rule ≡ 0 → inspectStart bs .looked .inspection .records ≡ findingIn bs .records
     unfolding begun
-    visits-read none =
+    records-read none =
         let t = readLog bs .set in
         let a = readLog bs .alloc in
         let kept : inspectionOf t a (entriesIn bs) .rule ≡ 0 = sym (ap (λ (f : Finding). f .rule) found) ∙ none in
-        let count : inspectionOf t a (entriesIn bs) .visits ≡ findingIn bs .visits =
-        omega (arith, all-counted t a (begun t a) (entriesIn bs) kept (omega (arith, visits-are)), visits-are) in
-        ap (λ (s : Inspection). s .visits) inspection-read ∙ count
+        let count : inspectionOf t a (entriesIn bs) .records ≡ findingIn bs .records =
+        omega (arith, all-counted t a (begun t a) (entriesIn bs) kept (omega (arith, records-are)), records-are) in
+        ap (λ (s : Inspection). s .records) inspection-read ∙ count
 
-    pub broken-read : findingIn bs .rule ≢ 0 → Breaks (readLog bs .set) (readLog bs .alloc) (entriesIn bs) (findingIn bs .«record») (inspectStart bs .looked .last)
+    pub broken-read : findingIn bs .rule ≢ 0 → Breaks (readLog bs .set) (readLog bs .alloc) (entriesIn bs) (findingIn bs .«record») (inspectStart bs .looked .before) (inspectStart bs .looked .last)
     unfolding begun
     broken-read some =
         let t = readLog bs .set in
@@ -215,13 +215,14 @@ module _ (bs : List ℕ) (z : readLog bs .number ≡ 0) where
         let b = broken-from t a (noneLooked t a) es refl broken in
         let last : looks bs t a .last ≡ inspectStart bs .looked .last = sym (ap (λ (l : Looked). l .last) looked-read) in
         let long : length es ≡ length (b .before) + length (looks bs t a .last ∷ b .behind) = ap length (b .place) ∙ length-append (b .before) (looks bs t a .last ∷ b .behind) in
-        let counted : inspectionOf t a es .visits ≡ length (b .before) =
-        omega (arith, b .counted, all-counted t a (begun t a) (b .before) (b .kept) (omega (arith, visits-are))) in
+        let counted : inspectionOf t a es .records ≡ length (b .before) =
+        omega (arith, b .counted, all-counted t a (begun t a) (b .before) (b .kept) (omega (arith, records-are))) in
         record {
           before = b .before;
           behind = b .behind;
           place = b .place ∙ ap (λ (x : Entry). b .before ++ x ∷ b .behind) last;
-          counted = ap (λ (f : Finding). f .«record») found ∙ one-named state broken (omega (arith, visits-are)) ∙ omega arith;
+          counted = ap (λ (f : Finding). f .«record») found ∙ one-named state broken (omega (arith, records-are)) ∙ omega arith;
+          follows = ap (λ (l : Looked). l .before) looked-read ∙ b .follows;
           kept = b .kept;
           broken = λ y. b .broken (ap (λ (x : Entry). inspectionOf t a (b .before ++ (x ∷ [])) .rule) last ∙ y);
         }

@@ -11,7 +11,7 @@ use Rattle.sheets.specs.declared.PlanStart.{PlanStart}
 use Rattle.entries.specs.Entry.{blankEntry}
 use Rattle.entries.specs.declared.Entry.{Entry}
 use Rattle.pieces.specs.Pieces.{nothingRead, faulty, numberOf, readOver, handedOver}
-use Rattle.pieces.specs.declared.Visits.{Visits}
+use Rattle.pieces.specs.declared.Gathered.{Gathered}
 use Rattle.inspection.specs.Opening.{begun}
 use Rattle.inspection.specs.Records.{inspected}
 use Rattle.piece_inspections.specs.declared.Looked.{Looked}
@@ -21,11 +21,11 @@ use Rattle.piece_inspections.specs.declared.Inspecting.{Inspecting}
 
 -- none was looked at yet
 abbrev pub noneLooked : Set → Alloc → Looked
-noneLooked t a = record { inspection = begun t a; last = blankEntry }
+noneLooked t a = record { inspection = begun t a; before = blankEntry; last = blankEntry }
 
 -- one record more; behind a broken rule nothing is looked at
 unfoldable pub lookedAt : Set → Alloc → Looked → Entry → Looked
-lookedAt t a l e = cond (eqb (l .inspection .rule) 0) (record { inspection = inspected (l .inspection) t a e; last = e }) l
+lookedAt t a l e = cond (eqb (l .inspection .rule) 0) (record { inspection = inspected (l .inspection) t a e; before = l .last; last = e }) l
 
 -- one after another
 unfoldable pub lookedAll : Set → Alloc → Looked → List Entry → Looked
@@ -34,27 +34,27 @@ lookedAll t a l (e ∷ es) = lookedAll t a (lookedAt t a l e) es
 
 -- ---- the bytes
 
--- before the first byte of the visits: a plan whose fields have not all passed is a fault, and no visit is read
-unfoldable pub visitsFrom : Bool → ℕ → Visits
-visitsFrom passed number = cond passed nothingRead (faulty nothingRead number)
+-- before the first byte of the records: a plan whose fields have not all passed is a fault, and no record is read
+unfoldable pub gatheredFrom : Bool → ℕ → Gathered
+gatheredFrom passed number = cond passed nothingRead (faulty nothingRead number)
 
--- the plan was read, and no byte of the visits
+-- the plan was read, and no byte of the records
 abbrev pub inspectFrom : PlanStart → Inspecting
-inspectFrom s = record { start = s; visits = visitsFrom (s .passed) (s .number); looked = noneLooked (s .set) (s .alloc) }
+inspectFrom s = record { start = s; gathered = gatheredFrom (s .passed) (s .number); looked = noneLooked (s .set) (s .alloc) }
 
--- what is kept behind more bytes of the visits
+-- what is kept behind more bytes of the records
 abbrev pub inspectOver : Inspecting → List ℕ → Inspecting
 inspectOver k bs =
     record {
       start = k .start;
-      visits = readOver (k .visits) bs;
-      looked = lookedAll (k .start .set) (k .start .alloc) (k .looked) (handedOver (k .visits) bs);
+      gathered = readOver (k .gathered) bs;
+      looked = lookedAll (k .start .set) (k .start .alloc) (k .looked) (handedOver (k .gathered) bs);
     }
 
--- the first bytes: the plan, and the visits among them
+-- the first bytes: the plan, and the records among them
 abbrev pub inspectStart : List ℕ → Inspecting
 inspectStart bs = inspectOver (inspectFrom (planStart bs)) (drop (planStart bs .at) bs)
 
 -- the number when all was read: 1, 2, 3 of the whole log, then its plan's
 abbrev pub inspectNumber : Inspecting → ℕ
-inspectNumber k = thenNumber (numberOf (k .visits)) (k .start .number)
+inspectNumber k = thenNumber (numberOf (k .gathered)) (k .start .number)

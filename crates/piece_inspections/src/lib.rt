@@ -1,25 +1,28 @@
 // A log of any length inspected as it is read, in pieces of any length: the finding is kept until all was read.
 ghost use mathlib.Core.Path.{_≡_};
 ghost use lib.ListN.{drop};
-ghost use Rattle.piece_inspections.specs.Inspecting.{noneLooked, lookedAt, visitsFrom, inspectFrom, inspectOver, inspectStart, inspectNumber};
+ghost use Rattle.entries.specs.Entry.{nextEntry};
+ghost use Rattle.piece_inspections.specs.Inspecting.{noneLooked, lookedAt, gatheredFrom, inspectFrom, inspectOver, inspectStart, inspectNumber};
 use entries::Entry;
 use inspection::Inspection;
-use pieces::Visits;
+use inspection::records;
+use pieces::Gathered;
 use plans::Alloc;
 use sets::Set;
 use sheets::PlanStart;
 use units::numbers;
 
-// What was found in the records so far: the inspection, and the record that was looked at last. Behind a broken rule that is the record that breaks it.
+// What was found in the records so far: the inspection, the record that was looked at last, and the one before it. Behind a broken rule the last is the record that breaks it.
 pub struct Looked {
     pub inspection: Inspection,
+    pub before: Entry,
     pub last: Entry,
 }
 
-// A log that is being inspected: its plan, what is kept of the bytes of its visits, and what was found in them.
+// A log that is being inspected: its plan, what is kept of the bytes of its records, and what was found in them.
 pub struct Inspecting {
     pub start: PlanStart,
-    pub visits: Visits,
+    pub gathered: Gathered,
     pub looked: Looked,
 }
 
@@ -32,37 +35,43 @@ fn look_first(set: Set, alloc: Alloc) -> Looked
     let inspection = inspection::begin(set, alloc);
     Looked {
         inspection,
-        last: entries::blank_entry(),
+        before: Entry::Visit(entries::blank_visit()),
+        last: Entry::Visit(entries::blank_visit()),
     }
 }
 
-// One record more. Behind a broken rule nothing is looked at.
-fn look(looked: Looked, set: Set, alloc: Alloc, entry: Entry) -> Looked
-    ensures { λ r. ⌜ r ≡ lookedAt set alloc looked entry ⌝ }
+// One record more, whose field was read. Behind a broken rule nothing is looked at.
+fn look(gathered: Gathered, looked: Looked, set: Set, alloc: Alloc) -> Looked
+    ensures { λ r. ⌜ r ≡ lookedAt set alloc looked (nextEntry (gathered .bytes) 0 .entry) ⌝ }
 {
-    let before = looked.inspection;
-    if before.rule != 0 {
+    let state = looked.inspection;
+    if state.rule != 0 {
         return looked;
     }
-    let inspection = inspection::inspect_entry(before, set, alloc, entry);
+    let field = gathered.bytes;
+    let inspection = records::inspect_records(state, set, alloc, &field, 0, 1);
+    let handed = logs::log_entry(&field, 0);
+    let before = looked.last;
+    let last = handed.entry;
     Looked {
         inspection,
-        last: entry,
+        before,
+        last,
     }
 }
 
 // ---- the bytes
 
-// Before the first byte of the visits: a plan whose fields have not all passed is a fault.
-fn visits_from(passed: bool, number: u8) -> Visits
-    ensures { λ r. ⌜ r ≡ visitsFrom passed number ⌝ }
+// Before the first byte of the records: a plan whose fields have not all passed is a fault.
+fn gathered_from(passed: bool, number: u8) -> Gathered
+    ensures { λ r. ⌜ r ≡ gatheredFrom passed number ⌝ }
 {
     let none = pieces::begin();
     if passed {
         return none;
     }
     let bytes = none.bytes;
-    Visits {
+    Gathered {
         bytes,
         count: none.count,
         ended: none.ended,
@@ -70,17 +79,17 @@ fn visits_from(passed: bool, number: u8) -> Visits
     }
 }
 
-// The plan was read, and no byte of the visits.
+// The plan was read, and no byte of the records.
 fn begin(start: PlanStart) -> Inspecting
     ensures { λ r. ⌜ r ≡ inspectFrom start ⌝ }
 {
     let set = start.set;
     let alloc = start.alloc;
-    let visits = visits_from(start.passed, start.number);
+    let gathered = gathered_from(start.passed, start.number);
     let looked = look_first(set, alloc);
     Inspecting {
         start,
-        visits,
+        gathered,
         looked,
     }
 }
@@ -92,26 +101,25 @@ fn inspect_from(inspecting: Inspecting, bytes: &[u8], from: usize) -> Inspecting
     let start = inspecting.start;
     let set = start.set;
     let alloc = start.alloc;
-    let mut visits = inspecting.visits;
+    let mut gathered = inspecting.gathered;
     let mut looked = inspecting.looked;
     let mut i = from;
     while i < bytes.len() {
-        visits = pieces::step(visits, bytes[i]);
-        let got = pieces::visit_in(visits);
+        gathered = pieces::step(gathered, bytes[i]);
+        let got = pieces::entry_in(gathered);
         if got.next != 0 {
-            let entry = got.entry;
-            looked = look(looked, set, alloc, entry);
+            looked = look(gathered, looked, set, alloc);
         }
         i += 1;
     }
     Inspecting {
         start,
-        visits,
+        gathered,
         looked,
     }
 }
 
-// Inspects the first bytes of a log: its plan, and the visits among them.
+// Inspects the first bytes of a log: its plan, and the records among them.
 pub fn inspect_start(head: &[u8]) -> Inspecting
     ensures { λ r. ⌜ r ≡ inspectStart (now (head .entry)) ⌝ }
 {
@@ -131,8 +139,8 @@ pub fn inspect_on(inspecting: Inspecting, bytes: &[u8]) -> Inspecting
 pub fn number_of(inspecting: Inspecting) -> u8
     ensures { λ r. ⌜ r ≡ inspectNumber inspecting ⌝ }
 {
-    let visits = inspecting.visits;
-    let number = pieces::number_of(visits);
+    let gathered = inspecting.gathered;
+    let number = pieces::number_of(gathered);
     if number != numbers::ACCEPTED {
         return number;
     }

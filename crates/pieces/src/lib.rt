@@ -1,23 +1,24 @@
-// The visits of a log, read byte after byte: what stands behind a plan's fields may come in pieces of any length.
+// The records of a log, read byte after byte: what stands behind a plan's fields may come in pieces of any length.
 ghost use mathlib.Core.Path.{_≡_};
 ghost use mathlib.Core.Bool.{_&&_};
 ghost use Prim.Native.Nat.{_<_};
 ghost use lib.Dec.{eqb};
 ghost use Rattle.fields.specs.Fields.{tagAt, sizeAt};
-ghost use Rattle.pieces.specs.Pieces.{nothingRead, atField, withByte, faulty, told, stepped, numberOf, visitIn};
+ghost use Rattle.pieces.specs.Pieces.{nothingRead, isWhole, atField, withByte, faulty, told, stepped, numberOf, entryIn};
+use entries::Entry;
 use entries::NextEntry;
 use fields::bytes;
 use units::numbers;
 
-// How many bytes of a log a program reads first: the fields of the longest plan have 3,353, and a visit behind them 20.
+// How many bytes of a log a program reads first: the fields of the longest plan have 3,353, and a record behind them at most 20.
 pub const FIRST_SIZE: usize = 3_400;
 
-// What is kept of a log's visits between two bytes.
+// What is kept of a log's records between two bytes.
 #[repr(C)]
-pub struct Visits {
-    // The bytes of the field that is being read.
+pub struct Gathered {
+    // The bytes of the field that is being read, with zeros behind them: a visit's are 20, a mark's 5.
     pub bytes: [u8; 20],
-    // How many they are; 20: a visit is whole, and the next byte begins another field.
+    // How many they are. Where they are as many as the record has that they hold, it is whole, and the next byte begins another field.
     pub count: usize,
     // The end field has passed.
     pub ended: bool,
@@ -26,10 +27,10 @@ pub struct Visits {
 }
 
 // No byte was read yet.
-pub fn begin() -> Visits
+pub fn begin() -> Gathered
     ensures { λ r. ⌜ r ≡ nothingRead ⌝ }
 {
-    Visits {
+    Gathered {
         bytes: [0; 20],
         count: 0,
         ended: false,
@@ -37,25 +38,35 @@ pub fn begin() -> Visits
     }
 }
 
-// Behind a whole visit the next byte begins another field.
-fn at_field(v: Visits) -> Visits
+// The bytes are all that the record has that they hold.
+fn is_whole(v: Gathered) -> bool
+    ensures { λ r. ⌜ r ≡ isWhole v ⌝ }
+{
+    let field = v.bytes;
+    let size = logs::reading::record_size(&field, 0);
+    v.count == size
+}
+
+// Behind a whole record the next byte begins another field. No field has more than 20 bytes.
+fn at_field(v: Gathered) -> Gathered
     ensures { λ r. ⌜ r ≡ atField v ⌝ }
 {
-    if entries::VISIT_LENGTH <= v.count {
+    let begins = is_whole(v) | (entries::VISIT_LENGTH <= v.count);
+    if begins {
         return begin();
     }
     v
 }
 
 // One byte more of the field.
-fn with_byte(v: Visits, byte: u8) -> Visits
+fn with_byte(v: Gathered, byte: u8) -> Gathered
     requires { ⌜ v .count < 20 ⌝ }
     ensures { λ r. ⌜ r ≡ withByte v byte ⌝ }
 {
     let count = v.count;
     let mut bytes = v.bytes;
     bytes[count] = byte;
-    Visits {
+    Gathered {
         bytes,
         count: count + 1,
         ended: v.ended,
@@ -64,11 +75,11 @@ fn with_byte(v: Visits, byte: u8) -> Visits
 }
 
 // A fault was found.
-fn with_fault(v: Visits, number: u8) -> Visits
+fn with_fault(v: Gathered, number: u8) -> Gathered
     ensures { λ r. ⌜ r ≡ faulty v number ⌝ }
 {
     let bytes = v.bytes;
-    Visits {
+    Gathered {
         bytes,
         count: v.count,
         ended: v.ended,
@@ -85,18 +96,20 @@ fn begins_with(field: [u8; 20], tag: u8, size: u32) -> bool
 }
 
 // Three bytes tell which field it is.
-fn tell(v: Visits) -> Visits
+fn tell(v: Gathered) -> Gathered
     ensures { λ r. ⌜ r ≡ told v ⌝ }
 {
     if v.count != 3 {
         return v;
     }
     let field = v.bytes;
-    if begins_with(field, entries::VISIT_TAG, entries::VISIT_SIZE) {
+    let visit = begins_with(field, entries::VISIT_TAG, entries::VISIT_SIZE);
+    let mark = begins_with(field, entries::MARK_TAG, entries::MARK_SIZE);
+    if visit | mark {
         return v;
     }
     if begins_with(field, fields::END_TAG, 0) {
-        return Visits {
+        return Gathered {
             bytes: field,
             count: v.count,
             ended: true,
@@ -107,7 +120,7 @@ fn tell(v: Visits) -> Visits
 }
 
 // One byte more.
-pub fn step(v: Visits, byte: u8) -> Visits
+pub fn step(v: Gathered, byte: u8) -> Gathered
     ensures { λ r. ⌜ r ≡ stepped v byte ⌝ }
 {
     if v.number != numbers::ACCEPTED {
@@ -121,7 +134,7 @@ pub fn step(v: Visits, byte: u8) -> Visits
 }
 
 // The number if the log ends here.
-pub fn number_of(v: Visits) -> u8
+pub fn number_of(v: Gathered) -> u8
     ensures { λ r. ⌜ r ≡ numberOf v ⌝ }
 {
     if v.number != numbers::ACCEPTED {
@@ -133,19 +146,16 @@ pub fn number_of(v: Visits) -> u8
     numbers::CUT_SHORT
 }
 
-// The visit whose last byte was just read, and how many bytes its field has; the blank entry and 0 where there is none.
-pub fn visit_in(v: Visits) -> NextEntry
-    ensures { λ r. ⌜ r ≡ visitIn v ⌝ }
+// The record whose last byte was just read, and how many bytes its field has; the blank entry and 0 where there is none.
+pub fn entry_in(v: Gathered) -> NextEntry
+    ensures { λ r. ⌜ r ≡ entryIn v ⌝ }
 {
-    if v.count != entries::VISIT_LENGTH {
-        return NextEntry {
-            entry: entries::blank_entry(),
-            next: 0,
-        };
+    if is_whole(v) {
+        let field = v.bytes;
+        return logs::log_entry(&field, 0);
     }
-    let field = v.bytes;
     NextEntry {
-        entry: sheets::visits::entry_at(&field, 0),
-        next: entries::VISIT_LENGTH,
+        entry: Entry::Visit(entries::blank_visit()),
+        next: 0,
     }
 }

@@ -17,7 +17,7 @@ use Rattle.rings.specs.RingLaws.{sound-sentences}
 use Rattle.rings.specs.declared.Message.{Message}
 use Rattle.rings.specs.declared.VisitRecord.{VisitRecord}
 use Rattle.ring_rules.proofs.Promised.{promised as rules}
-use Rattle.promises.specs.Run.{Call, Run, runOf, ringOf}
+use Rattle.promises.specs.Run.{Call, Run, runOf, ringOf, records, messages}
 use Rattle.promises.specs.History.{syncStartOf, latestOf, latestFor}
 use Rattle.promises.specs.Facts.{timing}
 use Rattle.promises.specs.Valid.{FramesNamed, Common}
@@ -52,32 +52,32 @@ module _ (t : Set) (a : Alloc) (s : Run) (K : Kept t a s) where
 
   -- ---- the last start and the last message of a station
 
-  pub last-is : (i : ℕ) → i < t .n → (u : VisitRecord) → latestOf i (s .records) ≡ some u → (i < s .ring .visits) × (at (s .ring .last) i ≡ syncStartOf t u)
+  pub last-is : (i : ℕ) → i < t .n → (u : VisitRecord) → latestOf i (records s) ≡ some u → (i < s .ring .visits) × (at (s .ring .last) i ≡ syncStartOf t u)
   last-is i l u e =
-      ⊎-elim (λ (x : Unvisited (timing (s .ring)) (s .records) i). let z : _≡_ {A = ℕ} 0 1 = cc (e, x .latest) in absurd (omega arith))
-      (λ (x : (w : VisitRecord) × Since t (timing (s .ring)) (s .records) i w).
+      ⊎-elim (λ (x : Unvisited (timing (s .ring)) (records s) i). let z : _≡_ {A = ℕ} 0 1 = cc (e, x .latest) in absurd (omega arith))
+      (λ (x : (w : VisitRecord) × Since t (timing (s .ring)) (records s) i w).
       let same : x .0 ≡ u = cc (e, x .1 .latest) in
       (x .1 .counted, x .1 .last ∙ ap (syncStartOf t) same))
       (K .course .arrived i l)
 
-  last-is-not : (i : ℕ) → i < t .n → latestOf i (s .records) ≡ none → s .ring .visits ≤ i
+  last-is-not : (i : ℕ) → i < t .n → latestOf i (records s) ≡ none → s .ring .visits ≤ i
   last-is-not i l e =
-      ⊎-elim (λ (x : Unvisited (timing (s .ring)) (s .records) i). x .early)
-      (λ (x : (w : VisitRecord) × Since t (timing (s .ring)) (s .records) i w). let z : _≡_ {A = ℕ} 0 1 = cc (e, x .1 .latest) in absurd (omega arith))
+      ⊎-elim (λ (x : Unvisited (timing (s .ring)) (records s) i). x .early)
+      (λ (x : (w : VisitRecord) × Since t (timing (s .ring)) (records s) i w). let z : _≡_ {A = ℕ} 0 1 = cc (e, x .1 .latest) in absurd (omega arith))
       (K .course .arrived i l)
 
-  message-is : (i : ℕ) (m : Message) → latestFor i (s .messages) ≡ some m → (at (s .ring .had) i ≢ 0) × (at (s .ring .arrival) i ≡ m .arrival .0)
+  message-is : (i : ℕ) (m : Message) → latestFor i (messages s) ≡ some m → (at (s .ring .had) i ≢ 0) × (at (s .ring .arrival) i ≡ m .arrival .0)
   message-is i m e =
-      ⊎-elim (λ (x : Never (s .ring) (s .messages) i). let z : _≡_ {A = ℕ} 0 1 = cc (e, x .latest) in absurd (omega arith))
-      (λ (x : (o : Message) × Latest (s .ring) (s .messages) i o).
+      ⊎-elim (λ (x : Never (s .ring) (messages s) i). let z : _≡_ {A = ℕ} 0 1 = cc (e, x .latest) in absurd (omega arith))
+      (λ (x : (o : Message) × Latest (s .ring) (messages s) i o).
       let same : x .0 ≡ m = cc (e, x .1 .latest) in
       (x .1 .had, x .1 .arrival ∙ ap (λ (o : Message). o .arrival .0) same))
       (K .told i)
 
-  message-is-not : (i : ℕ) → latestFor i (s .messages) ≡ none → at (s .ring .had) i ≡ 0
+  message-is-not : (i : ℕ) → latestFor i (messages s) ≡ none → at (s .ring .had) i ≡ 0
   message-is-not i e =
-      ⊎-elim (λ (x : Never (s .ring) (s .messages) i). x .had)
-      (λ (x : (o : Message) × Latest (s .ring) (s .messages) i o). let z : _≡_ {A = ℕ} 0 1 = cc (e, x .1 .latest) in absurd (omega arith))
+      ⊎-elim (λ (x : Never (s .ring) (messages s) i). x .had)
+      (λ (x : (o : Message) × Latest (s .ring) (messages s) i o). let z : _≡_ {A = ℕ} 0 1 = cc (e, x .1 .latest) in absurd (omega arith))
       (K .told i)
 
 -- ---- all of it
@@ -94,11 +94,17 @@ module _ (t : Set) (a : Alloc) (P : Plan t a) (K : Run → Type 0) (S : Steady t
       record {
         in-turn = λ calls. kept calls .turns;
         share-kept = λ calls. kept calls .shares;
+        marks = λ calls. kept calls .marks;
+        marks-told = λ calls. kept calls .marks-told;
+        walked-through = λ calls. kept calls .walked;
+        clear = λ calls. kept calls .clear;
         followed = λ calls m h later.
             followed-from t a P K S m (λ r. Unit {0}) (λ v. Unit {0}) (to-the-end m) (runOf t a calls) (every calls) (sym (message-number (ringOf t a calls) m) ∙ h) later;
         sound = λ calls. sound-sentences (ringOf t a calls) (kept calls .sound);
         no-visit-8 = λ calls. never-8 t a (runOf t a calls) (kept calls);
         no-message-8 = λ calls. message-never-8 t a (runOf t a calls) (kept calls);
+        no-mark-8 = λ calls p e. rules .mark-eight (ringOf t a calls) p .0 e (sound-sentences (ringOf t a calls) (kept calls .sound));
+        no-unmark-8 = λ calls p e. rules .mark-eight (ringOf t a calls) p .0 (sym (rules .unmark-number (ringOf t a calls) p) ∙ e) (sound-sentences (ringOf t a calls) (kept calls .sound));
         goes = λ calls. goes-exactly t a (runOf t a calls) (kept calls);
         counted = λ calls. kept calls .course .counted;
         bounded = λ calls. omega (arith, kept calls .course .counted, kept calls .course .bounded);

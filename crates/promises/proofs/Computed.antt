@@ -11,10 +11,11 @@ use Rattle.timers.specs.Timers.{later, startedAt, visited, offered}
 use Rattle.rings.specs.Opening.{openedRing, openedWith}
 use Rattle.rings.specs.Sound.{isSound}
 use Rattle.rings.specs.State.{following}
-use Rattle.rings.specs.Timers.{lead, limit, tokenCame, timePassed, timersAfter, timelyAfter, silentTimers, silentTimely, silentFddi, timersSound, timelySound, fddiSound}
+use Rattle.rings.specs.Timers.{lead, timersOffer, limit, tokenCame, timePassed, timersAfter, timelyAfter, silentTimers, silentTimely, silentFddi, timersSound, timelySound, fddiSound}
 use Rattle.rings.specs.Frames.{framesFrom}
-use Rattle.rings.specs.Steps.{syncSent, moved, recordOf, visitedWith}
+use Rattle.rings.specs.Steps.{mostSent, syncSent, moved, recordOf, visitedWith}
 use Rattle.rings.specs.HandingIn.{arrivalAllowed, holding, takenWith}
+use Rattle.rings.specs.Marking.{switchedThrough, markedRing, withdrawal, markedWith, switchedIn, unmarkedWith}
 use Rattle.promises.specs.Run.{noted, after, run}
 
 -- a plan and its judgement
@@ -29,7 +30,7 @@ opening = tt
 
 -- a visit
 unfoldable pub visiting : Unit {0}
-unfolding raise later visited offered framesFrom lead limit tokenCame timePassed timersAfter timelyAfter syncSent following moved recordOf visitedWith
+unfolding raise later visited offered framesFrom lead timersOffer limit tokenCame timePassed timersAfter timelyAfter mostSent syncSent following moved recordOf visitedWith
 visiting = tt
 
 -- a handing in
@@ -37,7 +38,12 @@ unfoldable pub handing-in : Unit {0}
 unfolding arrivalAllowed holding takenWith
 handing-in = tt
 
+-- a mark set and taken off
+unfoldable pub marking : Unit {0}
+unfolding switchedThrough markedRing withdrawal markedWith switchedIn unmarkedWith
+marking = tt
+
 -- the calls of a run on the ring that a plan opens
 unfoldable pub running : Unit {0}
-unfolding planning opening visiting handing-in noted after run
+unfolding planning opening visiting handing-in marking noted after run
 running = tt

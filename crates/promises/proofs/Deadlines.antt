@@ -35,6 +35,10 @@ module _ {ttrt s clock trt sent rest deadline : ℕ} (share : s ≤ ttrt) (held 
       go zero h = absurd (omega arith)
       go (suc k) h = (k, record { shares = omega arith; ends = omega arith })
 
+-- while a message is in time, the last synchronous part ended by its deadline
+pub ended-in-time : {ttrt s clock trt sent rest deadline : ℕ} → s ≤ ttrt → InTime ttrt s clock trt sent rest deadline → clock + sent ≤ deadline + trt
+ended-in-time share e = omega (arith, e .1 .ends, mul-le-mul-left (e .0) share)
+
 -- a station whose last synchronous part ended by the arrival is in time, whatever is at most X of it remains
 pub fresh-in-time : {ttrt s clock trt sent rest : ℕ} (arrival d : ℕ) → rest ≤ leastTime ttrt d s → clock + sent ≤ arrival + trt → InTime ttrt s clock trt sent rest (arrival + d)
 fresh-in-time {ttrt} {s} {clock} {trt} {sent} {rest} arrival d fits ended = go (wholeRotations ttrt d) (alpha ttrt d) fits (rotations-within ttrt d) (omega arith)

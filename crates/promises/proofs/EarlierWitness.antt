@@ -7,9 +7,9 @@ use lib.ListN.{length}
 use Rattle.units.specs.Places.{at}
 use Rattle.plans.specs.Rules.{spareTime}
 use Rattle.rings.specs.declared.VisitRecord.{VisitRecord}
-use Rattle.promises.specs.Run.{recordsOf}
+use Rattle.promises.specs.Run.{runOf, recordsOf}
 use Rattle.promises.specs.History.{asyncOf, Each, Somewhere}
-use Rattle.promises.specs.Bulk.{Offered, Served}
+use Rattle.promises.specs.Bulk.{NotMarkedAt, Offered, Served}
 use Rattle.promises.specs.Witness.{shares}
 use Rattle.promises.specs.EarlierWitness.{first, nine, EarlierHappens}
 use Rattle.promises.proofs.Computed.{running}
@@ -31,9 +31,11 @@ unfolding running
 unserved served =
     let nine-visits : length (recordsOf first shares nine) ≡ 9 = refl in
     let spare : spareTime first (at (shares .s)) ≡ 83 = refl in
+    let off : NotMarkedAt 1 (runOf first shares []) nine =
+    (λ _. refl, (λ _. refl, (λ _. refl, (λ _. refl, (λ _. refl, (λ _. refl, (λ _. refl, (λ _. refl, (λ _. refl, tt))))))))) in
     nowhere (recordsOf first shares nine)
     (other _ refl, (shut _ refl, (other _ refl, (shut _ refl, (other _ refl, (shut _ refl, (other _ refl, (shut _ refl, (other _ refl, tt)))))))))
-    (served [] nine 1 (omega arith) (omega (arith, nine-visits)) (
+    (served [] nine 1 (omega arith) (omega (arith, nine-visits)) off (
       λ _ _. omega (arith, spare),
       (
         λ _ _. omega (arith, spare),

@@ -27,6 +27,7 @@
 --     FrameWitness the runs in which a frame runs on past the limit
 --     EarlierWitness the runs of the 2002 edition
 --     GridWitness  the run on a grid above 1
+--     MarkWitness  the runs in which a station is switched through
 --     Promised     the promises
 pub mod Sums
 pub mod Lists
@@ -56,4 +57,5 @@ pub mod BulkWitness
 pub mod FrameWitness
 pub mod EarlierWitness
 pub mod GridWitness
+pub mod MarkWitness
 pub mod Promised

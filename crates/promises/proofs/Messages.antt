@@ -16,11 +16,11 @@ use Rattle.rings.specs.declared.Ring.{Ring}
 use Rattle.rings.specs.declared.Message.{Message}
 use Rattle.rings.specs.declared.VisitRecord.{VisitRecord}
 use Rattle.promises.specs.History.{syncStartOf}
-use Rattle.promises.specs.Facts.{Timing, timing, VisitCourse, VisitTimers, VisitMessages, Sending, Silent, Completing, Accepting, rises}
+use Rattle.promises.specs.Facts.{Timing, timing, VisitCourse, VisitTimers, VisitMessages, Sending, Silent, Completing, Accepting, Switching, rises}
 use Rattle.promises.proofs.Sums.{sum-between}
 use Rattle.promises.proofs.Course.{Plan, Unvisited, Since, same-or-not}
 use Rattle.promises.proofs.Stores.{Stored}
-use Rattle.promises.proofs.Deadlines.{InTime, in-time, served-in-time, fresh-in-time, later-in-time}
+use Rattle.promises.proofs.Deadlines.{InTime, in-time, ended-in-time, served-in-time, fresh-in-time, later-in-time}
 use Rattle.promises.proofs.Timing.{Timed, token-timer, never-late, room}
 
 -- the deadline of the message that station i holds, or held last
@@ -230,3 +230,42 @@ module _ (t : Set) (a : Alloc) (r q : Ring) (m : Message) (h : List VisitRecord)
       ⊎-elim (λ (b : i ≡ m .station .0). rw b (taken-here (M (m .station .0) (A .known))))
       (λ (b : i ≢ m .station .0). taken-there i b (M i l))
       (same-or-not i (m .station .0))
+
+-- ---- a mark set or taken off: what a station holds stays in time, or it holds nothing any more
+
+module _ (t : Set) (a : Alloc) (r q : Ring) (h : List VisitRecord) (P : Plan t a) (T : Timed t a (timing r) h) (W : Switching r q) where
+  sent-stays : q .sent ≡ r .sent
+  sent-stays = ap (λ (x : Timing). x .sent) (W .timing-same)
+
+  trt-stays : q .trt ≡ r .trt
+  trt-stays = ap (λ (x : Timing). x .trt) (W .timing-same)
+
+  clock-stays : q .clock ≡ r .clock
+  clock-stays = ap (λ (x : Timing). x .clock) (W .timing-same)
+
+  stays-in-time : (i : ℕ) → at (q .rest) i ≡ at (r .rest) i → Messaged t a r i → Messaged t a q i
+  stays-in-time i e M =
+      ⊎-elim (λ (x : Idle t r i). inl (record { none = e ∙ x .none; ended = rw (sent-stays, trt-stays, clock-stays, W .had, W .arrival) (x .ended) }))
+      (λ (w : Waiting t a r i).
+      inr
+      (record {
+        held = rw e (w .held);
+        had = rw (W .had) (w .had);
+        intime = rw (sent-stays, trt-stays, clock-stays, e, W .arrival) (w .intime);
+      }))
+      M
+
+  taken-back : (i : ℕ) → i < t .n → at (q .rest) i ≡ 0 → Messaged t a r i → Messaged t a q i
+  taken-back i l e M =
+      ⊎-elim (λ (x : Idle t r i). inl (record { none = e; ended = rw (sent-stays, trt-stays, clock-stays, W .had, W .arrival) (x .ended) }))
+      (λ (w : Waiting t a r i).
+      inl
+      (record {
+        none = e;
+        ended = inr (rw (W .had) (w .had), rw (sent-stays, trt-stays, clock-stays, W .arrival) (ended-in-time (share-small t a r h P T i l) (w .intime)));
+      }))
+      M
+
+  pub messaged-switched : ((i : ℕ) → i < t .n → Messaged t a r i) → (i : ℕ) → i < t .n → Messaged t a q i
+  messaged-switched M i l =
+      ⊎-elim (λ (e : at (q .rest) i ≡ at (r .rest) i). stays-in-time i e (M i l)) (λ (e : at (q .rest) i ≡ 0). taken-back i l e (M i l)) (W .rest i)

@@ -12,7 +12,7 @@ use Rattle.plans.specs.Rules.{leastTime, timeAt}
 use Rattle.plans.specs.Planned.{judgedPlan}
 use Rattle.plans.specs.PlanLaws.{given-none}
 use Rattle.plans.specs.declared.Alloc.{Alloc}
-use Rattle.rings.specs.State.{timersOf, Shaped}
+use Rattle.rings.specs.State.{Unmarked, timersOf, Shaped}
 use Rattle.timers.proofs.Promised.{promised as timers-promised}
 use Rattle.rings.specs.Timers.{Fddi, hasRun}
 use Rattle.rings.specs.TimerLaws.{fddi-false}
@@ -117,6 +117,14 @@ module _ (t : Set) (a : Alloc) (P : Plan t a) where
   pub opened-told : (i : ℕ) → Told (openedRing t a) [] i
   unfolding openedRing latest
   opened-told i = inl (record { latest = refl; had = zero-at i })
+
+  pub opened-mark : (i : ℕ) → Unmarked (openedRing t a) i
+  unfolding openedRing
+  opened-mark i = zero-at i
+
+  pub opened-clear : (i : ℕ) → 0 < at (openedRing t a .rest) i → Unmarked (openedRing t a) i
+  unfolding openedRing
+  opened-clear i h = zero-at i
 
   pub opened-messaged : (i : ℕ) → i < t .n → Messaged t a (openedRing t a) i
   unfolding openedRing

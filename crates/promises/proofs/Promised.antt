@@ -5,7 +5,7 @@ use mathlib.Core.Bool.{true}
 use mathlib.Core.List.{List, []}
 use mathlib.Core.Logic.{_≢_, _↔_, ⊎-elim}
 use native.Mathlib.Omega.{arith}
-use borrow.Author.Tests.{ltb-true, lt-ltb, eqb-true, eq-eqb}
+use borrow.Author.Tests.{ltb-true, lt-ltb}
 use Rattle.units.specs.Numbers.{mostClock}
 use Rattle.units.specs.Places.{at}
 use Rattle.units.specs.Judging.{orElse}
@@ -22,23 +22,24 @@ use Rattle.rings.specs.Opening.{openedRing, opening}
 use Rattle.rings.specs.Timers.{Fddi}
 use Rattle.rings.specs.TimerLaws.{fddi-or-not}
 use Rattle.rings.specs.Steps.{Ask, visitNumber, visited}
-use Rattle.rings.specs.HandingIn.{stationKnown, lengthAllowed, nothingHeld, arrivalAllowed, messageNumber, handedIn}
-use Rattle.rings.specs.RingLaws.{opened-number, opened-accepted, decides-arrival}
+use Rattle.rings.specs.State.{Unmarked}
+use Rattle.rings.specs.HandingIn.{stationKnown, Free, lengthAllowed, stationFree, arrivalAllowed, messageNumber, handedIn}
+use Rattle.rings.specs.RingLaws.{opened-number, opened-accepted, decides-free, decides-arrival}
 use Rattle.rings.specs.declared.Opened.{Opened}
 use Rattle.rings.specs.declared.Message.{Message}
 use Rattle.rings.specs.declared.VisitRecord.{VisitRecord}
-use Rattle.promises.specs.Run.{Call, Run, run, runOf, ringOf, recordsOf}
+use Rattle.promises.specs.Run.{Call, Run, run, runOf, ringOf, records, messages, eventsOf, recordsOf}
 use Rattle.promises.specs.History.{Each}
 use Rattle.promises.specs.Facts.{timing, Leaving}
 use Rattle.promises.specs.Valid.{AheadOf, Regular, FinishesInTime, dueBy, NeverLate, ExactLimits, DeadlinesKept, TimelyKept, Valid}
 use Rattle.promises.specs.Promised.{Promised}
-use Rattle.promises.proofs.Lists.{each-of}
+use Rattle.promises.proofs.Lists.{each-visit-of, each-record-of}
 use Rattle.promises.proofs.Windows.{lookBack, look-back-all, look-back-less}
 use Rattle.promises.proofs.Course.{Plan, Unvisited, Since, same-or-not}
 use Rattle.promises.proofs.Stores.{Latest, Never}
 use Rattle.promises.proofs.Timing.{latest-within}
 use Rattle.promises.proofs.Messages.{Waiting, deadlineAt, clock-ahead, held-in-time, completed-in-time}
-use Rattle.promises.proofs.Steps.{visit-facts, message-facts as handing-facts}
+use Rattle.promises.proofs.Steps.{visit-facts, message-facts as handing-facts, mark-facts, unmark-facts}
 use Rattle.promises.proofs.Opening.{plan-of}
 use Rattle.promises.proofs.Runs.{made, movedRun, Completes, visit-goes, visit-stops, course-facts, message-parts, message-facts, message-number}
 use Rattle.promises.proofs.Timely.{TimelyVisit, Timely, timer-facts, margin-made, window-kept, tick-limit, steady, timely}
@@ -52,6 +53,7 @@ use Rattle.promises.proofs.BulkWitness.{bulk-waits}
 use Rattle.promises.proofs.FrameWitness.{frames-happen}
 use Rattle.promises.proofs.EarlierWitness.{earlier-happens}
 use Rattle.promises.proofs.GridWitness.{grid-happens}
+use Rattle.promises.proofs.MarkWitness.{marks-happen}
 
 module _ (t : Set) (a : Alloc) (P : Plan t a) (s : Run) (K : Timely t a s) where
   -- ---- visits
@@ -63,7 +65,7 @@ module _ (t : Set) (a : Alloc) (P : Plan t a) (s : Run) (K : Timely t a s) where
       let F = timer-facts t a P s K ask go in
       let G = message-parts t a P s (K .common) ask go in
       let M = K .messaged (s .ring .token) (K .common .course .token) in
-      completed-in-time t a (s .ring) (movedRun s ask .ring) (made s ask) (s .records) P (K .timed) C F G M c
+      completed-in-time t a (s .ring) (movedRun s ask .ring) (made s ask) (records s) P (K .timed) C F G M c
 
   made-in-time : (ask : Ask) → visitNumber (s .ring) ask ≡ 0 → made s ask .completed ≡ 1 → FinishesInTime t (s .ring) (made s ask)
   made-in-time ask go flag =
@@ -79,7 +81,7 @@ module _ (t : Set) (a : Alloc) (P : Plan t a) (s : Run) (K : Timely t a s) where
         start = C .start;
         finish = c .finish;
         in-time = finished ask go c;
-        margin = margin-made t a r q v (s .records) P (K .timed) C F G M c;
+        margin = margin-made t a r q v (records s) P (K .timed) C F G M c;
       })
       (λ (c : Leaving r q v). absurd (omega (arith, c .flag)))
       (G .completing)
@@ -93,26 +95,26 @@ module _ (t : Set) (a : Alloc) (P : Plan t a) (s : Run) (K : Timely t a s) where
   -- ---- messages
 
   still-ahead : (i : ℕ) → i < t .n → 0 < at (s .ring .rest) i → AheadOf (s .ring) (at (s .ring .arrival) i + at (t .d) i)
-  still-ahead i l held = omega (arith, clock-ahead t a (s .ring) (s .records) P (K .timed) i l (K .messaged i l) held)
+  still-ahead i l held = omega (arith, clock-ahead t a (s .ring) (records s) P (K .timed) i l (K .messaged i l) held)
 
   -- the ring's own account of the station's last visit and last message is the run's
   later-than : (m : Message) → Regular t s m → m .station .0 < t .n → m .station .0 < s .ring .visits → at (s .ring .last) (m .station .0) < m .arrival .0
   later-than m R l c =
-      ⊎-elim (λ (x : Unvisited (timing (s .ring)) (s .records) (m .station .0)). absurd (omega (arith, x .early)))
-      (λ (x : (w : VisitRecord) × Since t (timing (s .ring)) (s .records) (m .station .0) w). omega (arith, x .1 .last, R .later (x .0) (x .1 .latest)))
+      ⊎-elim (λ (x : Unvisited (timing (s .ring)) (records s) (m .station .0)). absurd (omega (arith, x .early)))
+      (λ (x : (w : VisitRecord) × Since t (timing (s .ring)) (records s) (m .station .0) w). omega (arith, x .1 .last, R .later (x .0) (x .1 .latest)))
       (K .common .course .arrived (m .station .0) l)
 
   gap-of : (m : Message) → Regular t s m → at (s .ring .had) (m .station .0) ≢ 0 → at (s .ring .arrival) (m .station .0) + at (t .p) (m .station .0) ≤ m .arrival .0
   gap-of m R had =
-      ⊎-elim (λ (x : Never (s .ring) (s .messages) (m .station .0)). absurd (had (x .had)))
-      (λ (x : (o : Message) × Latest (s .ring) (s .messages) (m .station .0) o). omega (arith, x .1 .arrival, R .gap (x .0) (x .1 .latest)))
+      ⊎-elim (λ (x : Never (s .ring) (messages s) (m .station .0)). absurd (had (x .had)))
+      (λ (x : (o : Message) × Latest (s .ring) (messages s) (m .station .0) o). omega (arith, x .1 .arrival, R .gap (x .0) (x .1 .latest)))
       (K .common .told (m .station .0))
 
   -- a message that keeps P and has arrived finds its station free: the deadline of the one before would lie behind the clock
   free : (m : Message) → m .station .0 < t .n → Regular t s m → at (s .ring .rest) (m .station .0) ≡ 0
   free m l R =
       ⊎-elim (λ (b : 0 < at (s .ring .rest) (m .station .0)).
-      let w : Waiting t a (s .ring) (m .station .0) = held-in-time t a (s .ring) (s .records) P (K .timed) (m .station .0) l (K .messaged (m .station .0) l) b in
+      let w : Waiting t a (s .ring) (m .station .0) = held-in-time t a (s .ring) (records s) P (K .timed) (m .station .0) l (K .messaged (m .station .0) l) b in
       absurd (omega (arith, R .arrived, gap-of m R (w .had), P .gaps (m .station .0) l, still-ahead (m .station .0) l b)))
       (λ (b : at (s .ring .rest) (m .station .0) ≤ 0). omega arith)
       (below-or-not 0 (at (s .ring .rest) (m .station .0)))
@@ -124,17 +126,17 @@ module _ (t : Set) (a : Alloc) (P : Plan t a) (s : Run) (K : Timely t a s) where
   short : (m : Message) → Regular t s m → lengthAllowed (s .ring) m ≡ true
   short m R = rw (K .common .course .set) (decides-between 1 (at (t .c) (m .station .0)) (m .length .0) .1 (R .length))
 
-  never-11 : (m : Message) → Regular t s m → handedIn (s .ring) m .number ≢ 11
-  never-11 m R e =
+  never-11 : (m : Message) → Unmarked (s .ring) (m .station .0) → Regular t s m → handedIn (s .ring) m .number ≢ 11
+  never-11 m off R e =
       let n : messageNumber (s .ring) m ≡ 11 = sym (answer-of t a s (K .common) m) ∙ e in
       let x = given-later _ _ 9 _ 11 (known m) (omega arith) .0 n in
-      let y : orElse (nothingHeld (s .ring) m) 11 (orElse (arrivalAllowed (s .ring) m) 12 0) ≡ 11 = sym (held _ 10 _ (short m R)) ∙ x .1 in
-      given (nothingHeld (s .ring) m) (at (s .ring .rest) (m .station .0) ≡ 0) 11 _ (eqb-true _ _, eq-eqb _ _) (not-given _ 12 0 11 (omega arith) (omega arith)) .0 y
-      (free m (x .0) R)
+      let y : orElse (stationFree (s .ring) m) 11 (orElse (arrivalAllowed (s .ring) m) 12 0) ≡ 11 = sym (held _ 10 _ (short m R)) ∙ x .1 in
+      given (stationFree (s .ring) m) (Free (s .ring) m) 11 _ (decides-free (s .ring) m) (not-given _ 12 0 11 (omega arith) (omega arith)) .0 y
+      (free m (x .0) R, off)
 
-  message-is-taken : (m : Message) → m .station .0 < t .n → m .arrival .0 ≤ mostClock → Regular t s m → handedIn (s .ring) m .number ≡ 0
-  message-is-taken m l range R =
-      let none : nothingHeld (s .ring) m ≡ true = eq-eqb _ _ (free m l R) in
+  message-is-taken : (m : Message) → m .station .0 < t .n → m .arrival .0 ≤ mostClock → Unmarked (s .ring) (m .station .0) → Regular t s m → handedIn (s .ring) m .number ≡ 0
+  message-is-taken m l range off R =
+      let none : stationFree (s .ring) m ≡ true = decides-free (s .ring) m .1 (free m l R, off) in
       let gap : at (s .ring .had) (m .station .0) ≢ 0 → at (s .ring .arrival) (m .station .0) + at (s .ring .set .p) (m .station .0) ≤ m .arrival .0 = rw (K .common .course .set) (gap-of m R) in
       let allowed : arrivalAllowed (s .ring) m ≡ true = decides-arrival (s .ring) m .1 (record { range = range; later = later-than m R l; gap = gap }) in
       answer-of t a s (K .common) m ∙ held _ 9 _ (known m .1 l) ∙ held _ 10 _ (short m R) ∙ held _ 11 _ none ∙ held _ 12 0 allowed
@@ -154,23 +156,23 @@ module _ (t : Set) (a : Alloc) (plan : Plan t a) (mode : ¬ Fddi t) where
   every : (calls : List Call) → Timely t a (runOf t a calls)
   every calls = timely t a plan mode calls
 
-  each : {B : VisitRecord → List VisitRecord → Type 0} → ((v : VisitRecord) (before : List VisitRecord) → TimelyVisit t a (lookBack t) v before → B v before)
+  each : {B : VisitRecord → List VisitRecord → Type 0} → ((on : ℕ) (v : VisitRecord) (before : List VisitRecord) → TimelyVisit t a (lookBack t) on v before → B v before)
       → (calls : List Call) → Each B (recordsOf t a calls)
-  each f calls = each-of f (recordsOf t a calls) (every calls .each)
+  each f calls = each-record-of f (eventsOf t a calls) (every calls .each)
 
   never-late-kept : NeverLate t a (t .head .ttrt)
   never-late-kept =
       record {
-        apart = λ calls. each (λ v before k. k .apart) calls;
+        apart = λ calls. each (λ on v before k. k .apart) calls;
         since = λ calls i l u e. omega (arith, latest-within t a (timing (ringOf t a calls)) (recordsOf t a calls) (every calls .timed) (every calls .common .turns) i l u e);
       }
 
   limits-kept : ExactLimits t a (lookBack t)
   limits-kept =
       record {
-        limits = λ calls. each (λ v before k. k .limit) calls;
+        limits = λ calls. each-visit-of (λ on v before k. k .limit) (eventsOf t a calls) (every calls .each);
         spare = omega (arith, plan .token, plans-promised .spare-timely t (at (a .s)) mode);
-        ticks = λ one calls. each (λ v before k. tick-limit t a (lookBack t) one v before k) calls;
+        ticks = λ one calls. each-visit-of (λ on v before k. tick-limit t a (lookBack t) one on v before k) (eventsOf t a calls) (every calls .each);
       }
 
   deadlines-kept : DeadlinesKept t a
@@ -182,7 +184,7 @@ module _ (t : Set) (a : Alloc) (plan : Plan t a) (mode : ¬ Fddi t) where
             followed-from t a plan (Timely t a) (steady t a plan) m (λ r. AheadOf r (dueBy t m)) (λ v. v .finish .0 ≤ dueBy t m) (in-time t a plan m known) (runOf t a calls) (every calls) taken later;
         ahead = λ calls. still-ahead t a plan (runOf t a calls) (every calls);
         finishes = λ calls. finishes-in-time t a plan (runOf t a calls) (every calls);
-        none-late = λ calls. each (λ v before k. k .none-late) calls;
+        none-late = λ calls. each (λ on v before k. k .none-late) calls;
         no-11 = λ calls. never-11 t a plan (runOf t a calls) (every calls);
         taken = λ calls. message-is-taken t a plan (runOf t a calls) (every calls);
       }
@@ -191,9 +193,9 @@ module _ (t : Set) (a : Alloc) (plan : Plan t a) (mode : ¬ Fddi t) where
   timely-kept =
       record {
         never-late = never-late-kept;
-        timers = λ calls. each (λ v before k. k .timer) calls;
+        timers = λ calls. each (λ on v before k. k .timer) calls;
         limits = limits-kept;
-        windows = λ calls. each (λ v before k. window-kept t a plan v before k) calls;
+        windows = λ calls. each (λ on v before k. window-kept t a plan on v before k) calls;
         deadlines = deadlines-kept;
       }
 
@@ -252,4 +254,7 @@ promised =
       grid-happens = grid-happens;
       visit-facts = visit-facts;
       message-facts = handing-facts;
+      mark-facts = mark-facts;
+      unmark-facts = unmark-facts;
+      marks-happen = marks-happen;
     }

@@ -1,26 +1,42 @@
 -- How long rotations take. The station of the first visit of a list is visited again and again, each time at most TTRT after the time before, and any other visit starts at most TTRT after its latest; so the visits of k rotations start within k·TTRT of the first start.
-use Prim.Native.Nat.{ℕ, suc, _+_, _*_, _≤_, _<_}
+use Prim.Native.Nat.{ℕ, suc, _+_, _-_, _*_, _≤_, _<_}
 use mathlib.Core.Path.{_≡_, refl, _∙_}
 use mathlib.Core.List.{List, [], _∷_, _++_}
-use mathlib.Core.Logic.{inl, ⊎-elim}
+use mathlib.Core.Logic.{_⊎_, inl, inr, ⊎-elim}
 use mathlib.Core.Option.{some}
 use native.Mathlib.Nat.{zero-mul, mul-le-mul-right, lt-of-mul-lt-mul-right}
 use native.Mathlib.Omega.{arith}
 use borrow.Author.Tests.{eq-eqb, ne-eqb}
 use lib.ListN.{length}
+use Rattle.units.specs.Places.{at}
 use Rattle.units.specs.SmallLaws.{below-or-not, one-more}
 use Rattle.sets.specs.declared.Set.{Set}
+use Rattle.plans.specs.Rules.{spareTime}
 use Rattle.plans.specs.declared.Alloc.{Alloc}
 use Rattle.rings.specs.declared.VisitRecord.{VisitRecord}
-use Rattle.promises.specs.History.{visitOf, latestOf, Each}
+use Rattle.promises.specs.History.{asyncOf, visitOf, latestOf, Each}
 use Rattle.promises.specs.Valid.{InTurn}
 use Rattle.promises.proofs.Course.{latest-here, latest-there}
 use Rattle.promises.proofs.Timely.{TimelyVisit}
 use Rattle.promises.proofs.Turns.{Ago, one-more-ago, own-now, rotation-now, not-own}
 
--- what is known of each visit of a run whose limits look back on N visits
+-- what is known of a visit, marked or not, of a run whose limits look back on N visits: it starts at most TTRT after every station's latest visit, and its limit is exact or nothing is sent
+pub record Punctual (t : Set) (a : Alloc) (v : VisitRecord) (before : List VisitRecord) : Type 0 where
+  pub since : (i : ℕ) → i < t .n → (u : VisitRecord) → latestOf i before ≡ some u → v .start .0 ≤ u .start .0 + t .head .ttrt
+  pub exact : (v .limit .0 ≡ spareTime t (at (a .s)) - asyncOf (t .n) before) ⊎ (v .asynchronous .0 ≡ 0)
+  pub shut : v .limit .0 ≡ 0 → v .asynchronous .0 ≡ 0
+
+pub punctual : (t : Set) (a : Alloc) (mark : ℕ) (v : VisitRecord) (before : List VisitRecord) → TimelyVisit t a (t .n) mark v before → Punctual t a v before
+punctual t a mark v before k =
+    record {
+      since = k .since;
+      exact = ⊎-elim (λ (on : 0 < mark). inr (k .quiet on)) (λ (off : mark ≤ 0). inl (k .limit .exact (omega arith))) (below-or-not 0 mark);
+      shut = k .limit .shut;
+    }
+
+-- and that its station has its turn
 abbrev pub InOrder : Set → Alloc → VisitRecord → List VisitRecord → Type 0
-InOrder t a v before = InTurn t v before × TimelyVisit t a (t .n) v before
+InOrder t a v before = InTurn t v before × Punctual t a v before
 
 module _ (t : Set) (a : Alloc) (first : VisitRecord) (old : List VisitRecord) where
   abbrev here : ℕ

@@ -1,35 +1,42 @@
 -- What the promises need of the rings' own steps: `ring_rules` promises what an accepted visit (`Done`) and an accepted handing in (`Held`) do.
 -- Here that is put as the facts that add up. What FDDI's timers do, station by station, is a law of `rings`. Nothing else of `promises` looks into a step.
 use Prim.Native.Nat.{ℕ, _+_, _*_, _-_, _≤_, _<_}
-use mathlib.Core.Path.{_≡_, refl, sym, subst, subst₂, _∙_}
+use mathlib.Core.Path.{_≡_, refl, sym, ap, subst, subst₂, _∙_}
 use mathlib.Core.Bool.{true}
-use mathlib.Core.Logic.{_⊎_, inl, inr, ⊎-elim}
+use mathlib.Core.List.{List}
+use mathlib.Core.Logic.{_⊎_, inl, inr, _≢_, ⊎-elim}
 use native.Mathlib.Nat.{mul-comm}
 use native.Mathlib.Omega.{arith}
 use Rattle.units.specs.Numbers.{mostClock}
 use Rattle.units.specs.Small.{roundedUp}
 use Rattle.units.specs.Places.{at}
 use Rattle.units.specs.SmallLaws.{below-or-not, shares-enough}
+use Rattle.units.specs.declared.Station.{Station}
 use Rattle.sets.specs.declared.Set.{Set}
 use Rattle.plans.specs.declared.Alloc.{Alloc}
 use Rattle.timers.proofs.Promised.{promised as timers-promised}
-use Rattle.rings.specs.State.{count, ttrt, overrun, following, Shaped, timersOf}
+use Rattle.rings.specs.State.{count, ttrt, overrun, following, Marked, Unmarked, Shaped, timersOf}
+use Rattle.rings.specs.TimerLaws.{limit-within, marked-or-not}
 use Rattle.rings.specs.Timers.{Fddi, hasRun}
 use Rattle.rings.specs.Sound.{Sound, isSound}
 use Rattle.rings.specs.Frames.{framesSent}
 use Rattle.rings.specs.Steps.{Ask, syncStart, syncSent, asyncSent, moved, recordOf, visitNumber, visited}
 use Rattle.rings.specs.HandingIn.{holding, handInNumber, handedIn}
+use Rattle.rings.specs.Marking.{switchedThrough, switchedIn, marked, unmarked}
+use Rattle.rings.specs.MarkLaws.{mark-passed, mark-inside}
 use Rattle.rings.specs.RingLaws.{sound-tests, sync-within, visit-passed, taken-passed, visit-accepted, taken-number, taken-accepted}
 use Rattle.rings.specs.declared.Ring.{Ring}
 use Rattle.rings.specs.declared.Message.{Message}
 use Rattle.rings.specs.declared.VisitRecord.{VisitRecord}
-use Rattle.rings.proofs.StationLaws.{limit-ran, ran-here, ran-there, moved-below}
+use Rattle.rings.proofs.StationLaws.{offer-ran, ran-here, ran-there, moved-below}
 use Rattle.ring_rules.specs.Promised.{Done, Held}
 use Rattle.ring_rules.proofs.NumberLaws.{visited-number}
 use Rattle.ring_rules.proofs.MovedLaws.{done}
 use Rattle.ring_rules.proofs.HeldLaws.{held, held-sound}
-use Rattle.promises.specs.Facts.{timing, VisitCourse, VisitTimers, VisitOffer, VisitLaps, VisitMessages, VisitFacts, Sending, Silent, Completing, Leaving, Accepting}
-use Rattle.promises.proofs.Course.{ToNext, ToFirst, following-is}
+use Rattle.ring_rules.proofs.MarkedLaws.{through, back-in, number-marked, number-unmarked, mark-either, unmark-either, mark-stays, mark-switches, mark-withdraws, unmark-switches}
+use Rattle.promises.specs.Valid.{WalkedThrough}
+use Rattle.promises.specs.Facts.{timing, VisitCourse, VisitTimers, VisitOffer, VisitLaps, VisitMessages, VisitFacts, Sending, Silent, Completing, Leaving, Accepting, Switching, Remarking, TakingBack, MarkFacts, UnmarkFacts}
+use Rattle.promises.proofs.Course.{ToNext, ToFirst, following-is, same-or-not}
 
 -- ---- a visit, of the ring's own plan
 
@@ -84,9 +91,12 @@ module _ (r : Ring) (L : Shaped r) (ask : Ask) (go : visitNumber r ask ≡ 0) wh
   room : ¬ Fddi (r .set) → r .unused + at (r .trt) (r .token) ≤ ttrt r → made .asynchronous .0 + r .unused + at (r .trt) (r .token) ≤ ttrt r
   room n fits =
       let A = does .amounts in
-      ⊎-elim (λ (some : 0 < made .limit .0). omega (arith, A .limit n, A .within))
+      ⊎-elim (λ (on : Marked r (r .token)). omega (arith, A .marked-async on))
+      (λ (off : Unmarked r (r .token)).
+      ⊎-elim (λ (some : 0 < made .limit .0). omega (arith, A .limit off n, A .within))
       (λ (none : made .limit .0 ≤ 0). omega (arith, A .shut (omega arith)))
-      (below-or-not 0 (made .limit .0))
+      (below-or-not 0 (made .limit .0)))
+      (marked-or-not r (r .token))
 
   own-timers : ¬ Fddi (r .set) → VisitTimers (r .set) (timing r) (timing next) made
   unfolding recordOf
@@ -100,8 +110,10 @@ module _ (r : Ring) (L : Shaped r) (ask : Ask) (go : visitNumber r ask ≡ 0) wh
         trt-there = M .trt-there;
       }
 
-  own-offer : ¬ Fddi (r .set) → VisitOffer (r .set) (timing r) made
-  own-offer n = record { limit = does .amounts .limit n; within = does .amounts .within; shut = does .amounts .shut }
+  own-offer : ¬ Fddi (r .set) → VisitOffer (r .set) (timing r) (at (r .mark) (r .token)) made
+  own-offer n =
+      let A = does .amounts in
+      record { limit = λ off. A .limit off n; within = A .within; shut = A .shut; marked = A .marked-limit }
 
   -- FDDI: the ticks that pass raise every number, the token takes TTRT off its station's, and what that leaves of TTRT is offered
   own-laps : Fddi (r .set) → VisitLaps (r .set) (r .alloc) (timing r) (timing next) made
@@ -109,15 +121,16 @@ module _ (r : Ring) (L : Shaped r) (ask : Ask) (go : visitNumber r ask ≡ 0) wh
   own-laps e =
       let A = does .amounts in
       let had = hasRun (r .set) (timersOf r) (r .token) in
-      let offered = limit-ran r L s e in
-      let within : async ≤ ttrt r - had + overrun r = omega (arith, offered, A .within) in
+      let offered = offer-ran r L s e in
+      let most = limit-within r in
+      let within : async ≤ ttrt r - had + overrun r = omega (arith, offered, most, A .within) in
       record {
         moves =
             record {
               sync = sync;
               async = async;
               within = sync-within r async .0;
-              early = timers-promised .early (ttrt r) (overrun r) had async within (λ none. A .shut (offered ∙ none));
+              early = timers-promised .early (ttrt r) (overrun r) had async within (λ none. A .shut (omega (arith, most, offered, none)));
               length = refl;
               here = ran-here r L s e sync async;
               there = ran-there r L s e sync async;
@@ -125,17 +138,31 @@ module _ (r : Ring) (L : Shaped r) (ask : Ask) (go : visitNumber r ask ≡ 0) wh
         below = moved-below r L s e sync async;
       }
 
+  -- a marked station is walked through
+  pub visit-through : (before : List VisitRecord) → WalkedThrough (at (r .mark) (r .token)) made before
+  visit-through before =
+      let A = does .amounts in
+      record {
+        limit = A .marked-limit;
+        synchronous = A .marked-sync;
+        asynchronous = A .marked-async;
+      }
+
   -- when the synchronous part starts
   abbrev begins : ℕ
   begins = syncStart r (asyncSent r ask)
 
-  sending : Sending (r .alloc) r begins made ⊎ Silent r begins made
+  -- no message is held under a mark
+  abbrev Clear : Type 0
+  Clear = 0 < at (r .rest) (r .token) → Unmarked r (r .token)
+
+  sending : Clear → Sending (r .alloc) r begins made ⊎ Silent r begins made
   unfolding recordOf
-  sending =
+  sending clear =
       let A = does .amounts in
       ⊎-elim (λ (held : 0 < at (r .rest) (r .token)).
       ⊎-elim (λ (late : begins < at (r .arrival) (r .token)). inr (record { nothing = A .early late; reason = inr late }))
-      (λ (here : at (r .arrival) (r .token) ≤ begins). inl (record { held = held; arrived = here; amount = A .served held here }))
+      (λ (here : at (r .arrival) (r .token) ≤ begins). inl (record { held = held; arrived = here; amount = A .served (clear held) held here }))
       (below-or-not begins (at (r .arrival) (r .token))))
       (λ (none : at (r .rest) (r .token) ≤ 0). inr (record { nothing = A .none (omega arith); reason = inl (omega arith) }))
       (below-or-not 0 (at (r .rest) (r .token)))
@@ -154,16 +181,17 @@ module _ (r : Ring) (L : Shaped r) (ask : Ask) (go : visitNumber r ask ≡ 0) wh
       inr (record { flag = does .left (inl empty) .flag; left = inl empty }))
       (below-or-not 0 (at (r .rest) (r .token)))
 
-  own-messages : VisitMessages (r .set) (r .alloc) r next made
+  own-messages : Clear → VisitMessages (r .set) (r .alloc) r next made
   unfolding recordOf
-  own-messages =
+  own-messages clear =
       let M = does .moved in
       record {
         rest-here = M .rest;
         rest-there = M .rests;
         arrival = M .arrival;
         had = M .had;
-        sending = sending;
+        mark = M .mark;
+        sending = sending clear;
         completing = completing;
       }
 
@@ -189,11 +217,11 @@ module _ (r : Ring) (L : Shaped r) (ask : Ask) (go : visitNumber r ask ≡ 0) wh
     pub visit-course : VisitCourse t a (timing r) (timing next) made
     visit-course = subst₂ (λ (x : Set) (y : Alloc). VisitCourse x y (timing r) (timing next) made) set alloc own-course
 
-    pub visit-messages : VisitMessages t a r next made
-    visit-messages = subst₂ (λ (x : Set) (y : Alloc). VisitMessages x y r next made) set alloc own-messages
+    pub visit-messages : Clear → VisitMessages t a r next made
+    visit-messages clear = subst₂ (λ (x : Set) (y : Alloc). VisitMessages x y r next made) set alloc (own-messages clear)
 
-    pub visit-offer : ¬ Fddi t → VisitOffer t (timing r) made
-    visit-offer n = subst (λ (x : Set). VisitOffer x (timing r) made) set (own-offer (rw set n))
+    pub visit-offer : ¬ Fddi t → VisitOffer t (timing r) (at (r .mark) (r .token)) made
+    visit-offer n = subst (λ (x : Set). VisitOffer x (timing r) (at (r .mark) (r .token)) made) set (own-offer (rw set n))
 
     pub visit-timers : ¬ Fddi t → VisitTimers t (timing r) (timing next) made
     visit-timers n = subst (λ (x : Set). VisitTimers x (timing r) (timing next) made) set (own-timers (rw set n))
@@ -208,6 +236,7 @@ visit-facts r ask L e =
     (record {
       course = own-course r L ask go;
       messages = own-messages r L ask go;
+      through = visit-through r L ask go;
       timers = own-timers r L ask go;
       offer = own-offer r L ask go;
       laps = own-laps r L ask go;
@@ -232,7 +261,8 @@ module _ (r : Ring) (L : Shaped r) (m : Message) (e : handInNumber r m ≡ 0) wh
       record {
         known = A .known;
         length = A .length;
-        free = A .free;
+        free = A .free .0;
+        unmarked = A .free .1;
         range = A .arrival .range;
         later = A .arrival .later;
         gap = A .arrival .gap;
@@ -243,6 +273,7 @@ module _ (r : Ring) (L : Shaped r) (m : Message) (e : handInNumber r m ≡ 0) wh
         arrival-there = stores .arrivals;
         had-here = omega (arith, stores .had);
         had-there = stores .hads;
+        mark-same = stores .mark;
       }
 
   -- of the plan with which the ring was opened
@@ -253,3 +284,100 @@ pub message-facts : (r : Ring) (m : Message) → Shaped r → handedIn r m .numb
 message-facts r m L e =
     let go : handInNumber r m ≡ 0 = sym (taken-number (handInNumber r m) r m) ∙ e in
     rw (taken-accepted (handInNumber r m) r m go) (own-accepts r L m go)
+
+-- ---- a station switched through, and in again
+
+module _ (r : Ring) (L : Shaped r) where
+  -- nothing changes
+  stays : Switching r r
+  stays = record { timing-same = refl; arrival = refl; had = refl; rest = λ i. inl refl; clear = λ c. c; shaped = L }
+
+  module _ (p : ℕ) (inside : p < 128) where
+    through-switches : Switching r (switchedThrough r p)
+    unfolding switchedThrough
+    through-switches =
+        let T = through r p L inside in
+        record {
+          timing-same = refl;
+          arrival = refl;
+          had = refl;
+          rest = λ i. ⊎-elim (λ (b : i ≡ p). inr (rw b (T .rest))) (λ (b : i ≢ p). inl (T .rests i b)) (same-or-not i p);
+          clear = λ c i h.
+              ⊎-elim (λ (b : i ≡ p). let none = T .rest in absurd (omega (arith, none, rw b at h)))
+              (λ (b : i ≢ p). T .marks i b ∙ c i (rw (T .rests i b) at h))
+              (same-or-not i p);
+          shaped = T .shaped;
+        }
+
+    in-switches : Switching r (switchedIn r p)
+    unfolding switchedIn
+    in-switches =
+        let T = back-in r p L inside in
+        record {
+          timing-same = refl;
+          arrival = refl;
+          had = refl;
+          rest = λ i. inl refl;
+          clear = λ c i h. ⊎-elim (λ (b : i ≡ p). rw b (T .mark)) (λ (b : i ≢ p). T .marks i b ∙ c i h) (same-or-not i p);
+          shaped = T .shaped;
+        }
+
+  module _ (p : Station) where
+    pub mark-switching : Switching r (marked r p .ring)
+    mark-switching =
+        ⊎-elim (λ (e : marked r p .ring ≡ r). rw e stays)
+        (λ (e : (marked r p .answer .number ≡ 0) × (Unmarked r (p .0) × (marked r p .ring ≡ switchedThrough r (p .0)))).
+        rw (e .1 .1) (through-switches (p .0) (mark-inside r p (sym (number-marked r p) ∙ e .0))))
+        (mark-either r p)
+
+    pub unmark-switching : Switching r (unmarked r p .ring)
+    unmark-switching =
+        ⊎-elim (λ (e : unmarked r p .ring ≡ r). rw e stays)
+        (λ (e : (unmarked r p .number ≡ 0) × (unmarked r p .ring ≡ switchedIn r (p .0))).
+        rw (e .1) (in-switches (p .0) (mark-inside r p (sym (number-unmarked r p) ∙ e .0))))
+        (unmark-either r p)
+
+    pub unmark-rest : unmarked r p .ring .rest ≡ r .rest
+    unfolding switchedIn
+    unmark-rest =
+        ⊎-elim (λ (e : unmarked r p .ring ≡ r). ap (λ (x : Ring). x .rest) e)
+        (λ (e : (unmarked r p .number ≡ 0) × (unmarked r p .ring ≡ switchedIn r (p .0))). ap (λ (x : Ring). x .rest) (e .1))
+        (unmark-either r p)
+
+    -- what remains of other messages stays
+    mark-there : (i : ℕ) → i ≢ p .0 → at (marked r p .ring .rest) i ≡ at (r .rest) i
+    mark-there i b =
+        ⊎-elim (λ (e : marked r p .ring ≡ r). rw e)
+        (λ (e : (marked r p .answer .number ≡ 0) × (Unmarked r (p .0) × (marked r p .ring ≡ switchedThrough r (p .0)))).
+        mark-switches r p L (e .0) (e .1 .0) .rests i b)
+        (mark-either r p)
+
+    pub mark-takes : marked r p .answer .number ≡ 0 → TakingBack r (marked r p .ring) (p .0) (marked r p .answer)
+    mark-takes e =
+        record {
+          flag = λ u h. mark-withdraws r p e u h .flag;
+          rest = λ u h. mark-withdraws r p e u h .rest;
+          arrival = λ u h. mark-withdraws r p e u h .arrival;
+          there = mark-there;
+        }
+
+    pub mark-remarks : marked r p .answer .number ≡ 0 → Remarking r (marked r p .ring) (p .0) 1
+    mark-remarks e =
+        let known = mark-passed r p (sym (number-marked r p) ∙ e) .1 in
+        ⊎-elim (λ (on : Marked r (p .0)).
+        rw (mark-stays r p on .0) (record { known = known; here = λ small. omega arith; there = λ i b. refl }))
+        (λ (off : Unmarked r (p .0)).
+        let T = mark-switches r p L e off in
+        record { known = known; here = λ small. T .mark; there = T .marks })
+        (marked-or-not r (p .0))
+
+    pub unmark-remarks : unmarked r p .number ≡ 0 → Remarking r (unmarked r p .ring) (p .0) 0
+    unmark-remarks e =
+        let T = unmark-switches r p L e in
+        record { known = mark-passed r p (sym (number-unmarked r p) ∙ e) .1; here = λ small. T .mark; there = T .marks }
+
+pub mark-facts : (r : Ring) (p : Station) → Shaped r → marked r p .answer .number ≡ 0 → MarkFacts r (marked r p .ring) (p .0) (marked r p .answer)
+mark-facts r p L e = record { switching = mark-switching r L p; marks = mark-remarks r L p e; taking = mark-takes r L p e }
+
+pub unmark-facts : (r : Ring) (p : Station) → Shaped r → unmarked r p .number ≡ 0 → UnmarkFacts r (unmarked r p .ring) (p .0)
+unmark-facts r p L e = record { switching = unmark-switching r L p; marks = unmark-remarks r L p e; rest = unmark-rest r L p }

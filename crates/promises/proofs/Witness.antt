@@ -5,7 +5,7 @@ use native.Mathlib.Omega.{arith}
 use lib.IntN.{pos}
 use Rattle.rings.specs.declared.Message.{Message}
 use Rattle.rings.specs.declared.VisitRecord.{VisitRecord}
-use Rattle.promises.specs.Run.{runOf, ringOf}
+use Rattle.promises.specs.Run.{runOf, ringOf, recordsOf, messagesOf}
 use Rattle.promises.specs.History.{latest, latestOf, latestFor}
 use Rattle.promises.specs.Valid.{Regular}
 use Rattle.promises.specs.Witness.{pair, shares, thirty, waited, row, Happens}
@@ -19,18 +19,18 @@ only o x y e f = cc (e, f)
 regular : Regular pair (runOf pair shares waited) (thirty 250)
 unfolding running latest
 regular =
-    let message : latestFor 0 (runOf pair shares waited .messages) ≡ some (thirty 0) = refl in
-    let visit : latestOf 0 (runOf pair shares waited .records) ≡ some (row 0 202 2 83 0 83 0 (pos 0) 0) = refl in
+    let message : latestFor 0 (messagesOf pair shares waited) ≡ some (thirty 0) = refl in
+    let visit : latestOf 0 (recordsOf pair shares waited) ≡ some (row 0 202 2 83 0 83 0 (pos 0) 0) = refl in
     let clock : ringOf pair shares waited .clock ≡ 286 = refl in
     record {
       length = (omega arith, omega arith);
       gap = λ o e.
-          let same : thirty 0 ≡ o = only (latestFor 0 (runOf pair shares waited .messages)) (thirty 0) o message e in
+          let same : thirty 0 ≡ o = only (latestFor 0 (messagesOf pair shares waited)) (thirty 0) o message e in
           let arrival : o .arrival .0 ≡ 0 = ap (λ (m : Message). m .arrival .0) (sym same) in
           omega arith;
       arrived = omega arith;
       later = λ u e.
-          let same : row 0 202 2 83 0 83 0 (pos 0) 0 ≡ u = only (latestOf 0 (runOf pair shares waited .records)) (row 0 202 2 83 0 83 0 (pos 0) 0) u visit e in
+          let same : row 0 202 2 83 0 83 0 (pos 0) 0 ≡ u = only (latestOf 0 (recordsOf pair shares waited)) (row 0 202 2 83 0 83 0 (pos 0) 0) u visit e in
           let start : u .start .0 ≡ 202 = ap (λ (v : VisitRecord). v .start .0) (sym same) in
           omega arith;
     }

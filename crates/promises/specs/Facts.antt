@@ -1,6 +1,7 @@
--- What an accepted visit and an accepted handing in do, as facts that add up: `ring_rules` promises it of the rings' steps (`Done`, `Held`), and `proofs/Steps.antt` reads these records off that. The other promises are proved of these records alone: another step function that gives them keeps the same promises. Every kind of ring gives `VisitCourse` and `VisitMessages`; the timers' half is `VisitTimers` and `VisitOffer` of a timely-token ring, `VisitLaps` of an FDDI ring.
+-- What an accepted visit, an accepted handing in and a mark set or taken off do, as facts that add up: `ring_rules` promises it of the rings' steps (`Done`, `Held`), and `proofs/Steps.antt` reads these records off that. The other promises are proved of these records alone: another step function that gives them keeps the same promises. Every kind of ring gives `VisitCourse` and `VisitMessages`; the timers' half is `VisitTimers` and `VisitOffer` of a timely-token ring, `VisitLaps` of an FDDI ring.
 use Prim.Native.Nat.{ℕ, _+_, _-_, _≤_, _<_, min}
 use mathlib.Core.Path.{_≡_}
+use mathlib.Core.List.{List}
 use mathlib.Core.Logic.{_⊎_, _≢_}
 use lib.IntN.{subℕ}
 use Rattle.units.specs.Numbers.{mostClock}
@@ -8,14 +9,16 @@ use Rattle.units.specs.Places.{at}
 use Rattle.sets.specs.declared.Set.{Set}
 use Rattle.plans.specs.declared.Alloc.{Alloc}
 use Rattle.timers.specs.Kept.{Plan, Visit}
-use Rattle.rings.specs.State.{following, timersOf, withMessages, noMessages}
+use Rattle.rings.specs.State.{following, Unmarked, Shaped, timersOf, withMessages, noMessages}
 use Rattle.rings.specs.Timers.{Fddi, lead, hasRun}
 use Rattle.rings.specs.declared.Ring.{Ring}
 use Rattle.rings.specs.declared.Message.{Message}
+use Rattle.rings.specs.declared.MarkAnswer.{MarkAnswer}
 use Rattle.rings.specs.declared.VisitRecord.{VisitRecord}
 use Rattle.promises.specs.History.{overrunOf, syncStartOf}
+use Rattle.promises.specs.Valid.{WalkedThrough}
 
--- ---- the timing of a ring: all that it has beside its messages, which is the ring without them
+-- ---- the timing of a ring: all that it has beside its messages and marks, which is the ring without them
 abbrev pub Timing : Type 0
 Timing = Ring
 
@@ -59,12 +62,14 @@ pub record VisitTimers (t : Set) (r q : Timing) (v : VisitRecord) : Type 0 where
   pub trt-there : (i : ℕ) → i < t .n → i ≢ r .token → at (q .trt) i ≡ at (r .trt) i + rises t v
 
 -- ---- the offer: the limit of a visit, and what was sent of it. The timing needs no more of it than `room` above
-pub record VisitOffer (t : Set) (r : Timing) (v : VisitRecord) : Type 0 where
-  -- the larger of TTRT − (F − 1) − u − TRT and 0
-  pub limit : v .limit .0 ≡ t .head .ttrt - overrunOf t - r .unused - at (r .trt) (r .token)
+pub record VisitOffer (t : Set) (r : Timing) (mark : ℕ) (v : VisitRecord) : Type 0 where
+  -- where the station is not marked, the larger of TTRT − (F − 1) − u − TRT and 0
+  pub limit : mark ≡ 0 → v .limit .0 ≡ t .head .ttrt - overrunOf t - r .unused - at (r .trt) (r .token)
   -- the last frame runs on past it by at most F − 1; where nothing is offered, nothing is sent
   pub within : v .asynchronous .0 ≤ v .limit .0 + overrunOf t
   pub shut : v .limit .0 ≡ 0 → v .asynchronous .0 ≡ 0
+  -- where it is marked, 0
+  pub marked : 0 < mark → v .limit .0 ≡ 0
 
 -- ---- the timers of an FDDI visit: each station has one number, `hasRun`: how long its timer has run, with TTRT for each time that it is late
 
@@ -111,15 +116,20 @@ pub record VisitMessages (t : Set) (a : Alloc) (r q : Ring) (v : VisitRecord) : 
   -- arrivals stay
   pub arrival : q .arrival ≡ r .arrival
   pub had : q .had ≡ r .had
+  -- so do marks
+  pub mark : q .mark ≡ r .mark
   pub sending : Sending a r (syncStartOf t v) v ⊎ Silent r (syncStartOf t v) v
   pub completing : Completing t r q (syncStartOf t v) v ⊎ Leaving r q v
 
 -- ---- what every accepted visit gives, by the mode: of ring r it makes ring q, and the record v
 pub record VisitFacts (r q : Ring) (v : VisitRecord) : Type 0 where
   pub course : VisitCourse (r .set) (r .alloc) (timing r) (timing q) v
-  pub messages : VisitMessages (r .set) (r .alloc) r q v
+  -- the messages, where none is held under a mark, as in every ring that is reached
+  pub messages : (0 < at (r .rest) (r .token) → Unmarked r (r .token)) → VisitMessages (r .set) (r .alloc) r q v
+  -- a station that is marked is offered 0 and sends nothing
+  pub through : (before : List VisitRecord) → WalkedThrough (at (r .mark) (r .token)) v before
   pub timers : ¬ Fddi (r .set) → VisitTimers (r .set) (timing r) (timing q) v
-  pub offer : ¬ Fddi (r .set) → VisitOffer (r .set) (timing r) v
+  pub offer : ¬ Fddi (r .set) → VisitOffer (r .set) (timing r) (at (r .mark) (r .token)) v
   pub laps : Fddi (r .set) → VisitLaps (r .set) (r .alloc) (timing r) (timing q) v
 
 -- ---- the accepted handing in of m makes ring q of ring r
@@ -128,6 +138,7 @@ pub record Accepting (t : Set) (r q : Ring) (m : Message) : Type 0 where
   pub known : m .station .0 < t .n
   pub length : (1 ≤ m .length .0) × (m .length .0 ≤ at (t .c) (m .station .0))
   pub free : at (r .rest) (m .station .0) ≡ 0
+  pub unmarked : Unmarked r (m .station .0)
   pub range : m .arrival .0 ≤ mostClock
   pub later : m .station .0 < r .visits → at (r .last) (m .station .0) < m .arrival .0
   pub gap : at (r .had) (m .station .0) ≢ 0 → at (r .arrival) (m .station .0) + at (t .p) (m .station .0) ≤ m .arrival .0
@@ -139,3 +150,43 @@ pub record Accepting (t : Set) (r q : Ring) (m : Message) : Type 0 where
   pub arrival-there : (i : ℕ) → i ≢ m .station .0 → at (q .arrival) i ≡ at (r .arrival) i
   pub had-here : at (q .had) (m .station .0) ≢ 0
   pub had-there : (i : ℕ) → i ≢ m .station .0 → at (q .had) i ≡ at (r .had) i
+  pub mark-same : q .mark ≡ r .mark
+
+-- ---- an accepted marking, or a mark that is taken off, makes ring q of ring r
+pub record Switching (r q : Ring) : Type 0 where
+  -- nothing to the timing, and nothing to what is kept of the last message
+  pub timing-same : timing q ≡ timing r
+  pub arrival : q .arrival ≡ r .arrival
+  pub had : q .had ≡ r .had
+  -- what remains of a message stays, or all of it is taken back
+  pub rest : (i : ℕ) → (at (q .rest) i ≡ at (r .rest) i) ⊎ (at (q .rest) i ≡ 0)
+  -- and no message is held under a mark, if none was
+  pub clear : ((i : ℕ) → 0 < at (r .rest) i → Unmarked r i) → (i : ℕ) → 0 < at (q .rest) i → Unmarked q i
+  pub shaped : Shaped q
+
+-- what it makes of the marks: at station p the mark is as `now` says, elsewhere as it was
+pub record Remarking (r q : Ring) (p now : ℕ) : Type 0 where
+  pub known : p < r .set .n
+  -- a marking leaves a mark that is there
+  pub here : at (r .mark) p ≤ 1 → at (q .mark) p ≡ now
+  pub there : (i : ℕ) → i ≢ p → at (q .mark) i ≡ at (r .mark) i
+
+-- what a marking of station p takes back: where it is not marked yet and holds a message, that message
+pub record TakingBack (r q : Ring) (p : ℕ) (a : MarkAnswer) : Type 0 where
+  pub flag : Unmarked r p → 0 < at (r .rest) p → a .withdrawn ≡ 1
+  pub rest : Unmarked r p → 0 < at (r .rest) p → a .rest .0 ≡ at (r .rest) p
+  pub arrival : Unmarked r p → 0 < at (r .rest) p → a .arrival .0 ≡ at (r .arrival) p
+  pub there : (i : ℕ) → i ≢ p → at (q .rest) i ≡ at (r .rest) i
+
+-- ---- what every accepted marking of station p, with answer a, gives
+pub record MarkFacts (r q : Ring) (p : ℕ) (a : MarkAnswer) : Type 0 where
+  pub switching : Switching r q
+  pub marks : Remarking r q p 1
+  pub taking : TakingBack r q p a
+
+-- and every accepted taking off of its mark
+pub record UnmarkFacts (r q : Ring) (p : ℕ) : Type 0 where
+  pub switching : Switching r q
+  pub marks : Remarking r q p 0
+  -- no message is taken back
+  pub rest : q .rest ≡ r .rest

@@ -30,7 +30,7 @@ belated clock =
     withTimers
     (record { trt = two 50 50; late = two 1 0; unused = 15 })
     (withMessages
-    (record { rest = two 15 0; arrival = zeros; had = two 1 0 })
+    (record { rest = two 15 0; arrival = zeros; had = two 1 0; mark = zeros })
     (withCourse (record { sent = zeros; last = zeros; token = 0; clock = clock; visits = 6 }) (withPlan older shares blankRing)))
 
 pub record FddiHappens : Type 0 where

@@ -1,8 +1,9 @@
--- What is read off a run: its records and its accepted messages, the latest first.
+-- What is read off a run: its events, its records and its accepted messages, the latest first.
 use Prim.Native.Nat.{ℕ, zero, suc, _+_, _-_}
+use mathlib.Core.Path.{_≡_}
 use mathlib.Core.Bool.{Bool, cond}
 use mathlib.Core.List.{List, [], _∷_}
-use mathlib.Core.Logic.{_⊎_}
+use mathlib.Core.Logic.{_⊎_, _≢_}
 use mathlib.Core.Option.{Option, none, some}
 use lib.Dec.{eqb}
 use Rattle.sets.specs.declared.Set.{Set}
@@ -10,6 +11,7 @@ use Rattle.rings.specs.State.{following}
 use Rattle.rings.specs.Timers.{lead}
 use Rattle.rings.specs.declared.Message.{Message}
 use Rattle.rings.specs.declared.VisitRecord.{VisitRecord}
+use Rattle.promises.specs.Run.{Event, aVisit, aMessage, aMarking, anUnmarking, recordsIn}
 
 -- the asynchronous time of the latest n visits; visits that were not yet, those of the silent first rotation among them, count as nothing
 unfoldable pub asyncOf : ℕ → List VisitRecord → ℕ
@@ -65,3 +67,35 @@ Each P (v ∷ before) = P v before × Each P before
 abbrev pub Somewhere : (VisitRecord → List VisitRecord → Type 0) → List VisitRecord → Type 0
 Somewhere P [] = ⊥
 Somewhere P (v ∷ before) = P v before ⊎ Somewhere P before
+
+-- every visit among the events, taken with its station's mark and the visits before it, is so
+abbrev pub EachVisit : (ℕ → VisitRecord → List VisitRecord → Type 0) → List Event → Type 0
+EachVisit P [] = Unit {0}
+EachVisit P (aVisit mark v ∷ before) = P mark v (recordsIn before) × EachVisit P before
+EachVisit P (aMessage m ∷ before) = EachVisit P before
+EachVisit P (aMarking p a ∷ before) = EachVisit P before
+EachVisit P (anUnmarking p ∷ before) = EachVisit P before
+
+-- none of the events is a marking of station i
+abbrev pub NeverMarked : ℕ → List Event → Type 0
+NeverMarked i [] = Unit {0}
+NeverMarked i (aVisit mark v ∷ before) = NeverMarked i before
+NeverMarked i (aMessage m ∷ before) = NeverMarked i before
+NeverMarked i (aMarking p a ∷ before) = (p .0 ≢ i) × NeverMarked i before
+NeverMarked i (anUnmarking p ∷ before) = NeverMarked i before
+
+-- station i's mark as the events have it: 1 if its latest switching was a marking, else 0
+abbrev pub markIn : ℕ → List Event → ℕ
+markIn i [] = 0
+markIn i (aVisit mark v ∷ before) = markIn i before
+markIn i (aMessage m ∷ before) = markIn i before
+markIn i (aMarking p a ∷ before) = cond (eqb (p .0) i) 1 (markIn i before)
+markIn i (anUnmarking p ∷ before) = cond (eqb (p .0) i) 0 (markIn i before)
+
+-- every visit is told with the mark that its station has by the events before
+abbrev pub MarksTold : List Event → Type 0
+MarksTold [] = Unit {0}
+MarksTold (aVisit mark v ∷ before) = (mark ≡ markIn (v .station .0) before) × MarksTold before
+MarksTold (aMessage m ∷ before) = MarksTold before
+MarksTold (aMarking p a ∷ before) = MarksTold before
+MarksTold (anUnmarking p ∷ before) = MarksTold before

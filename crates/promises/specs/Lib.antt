@@ -11,6 +11,7 @@
 --     BulkWitness a run in which bulk data waits long
 --     FrameWitness runs in which a frame runs on past the limit
 --     GridWitness a run on a grid above 1
+--     MarkWitness runs in which a station is switched through
 pub mod Run
 pub mod History
 pub mod Facts
@@ -23,3 +24,4 @@ pub mod BulkWitness
 pub mod FrameWitness
 pub mod EarlierWitness
 pub mod GridWitness
+pub mod MarkWitness

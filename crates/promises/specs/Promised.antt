@@ -5,6 +5,7 @@ use mathlib.Core.Path.{_≡_}
 use mathlib.Core.List.{List, []}
 use mathlib.Core.Logic.{_↔_}
 use Rattle.units.specs.Places.{at}
+use Rattle.units.specs.declared.Station.{Station}
 use Rattle.sets.specs.declared.Set.{Set}
 use Rattle.plans.specs.Rules.{spareTime}
 use Rattle.plans.specs.Planned.{judgedPlan, planned}
@@ -14,10 +15,11 @@ use Rattle.rings.specs.State.{Shaped}
 use Rattle.rings.specs.Opening.{opening}
 use Rattle.rings.specs.Steps.{Ask, visited}
 use Rattle.rings.specs.HandingIn.{handedIn}
+use Rattle.rings.specs.Marking.{marked, unmarked}
 use Rattle.rings.specs.declared.Ring.{Ring}
 use Rattle.rings.specs.declared.Message.{Message}
 use Rattle.promises.specs.Run.{runOf}
-use Rattle.promises.specs.Facts.{VisitFacts, Accepting}
+use Rattle.promises.specs.Facts.{VisitFacts, Accepting, MarkFacts, UnmarkFacts}
 use Rattle.promises.specs.Valid.{Timely, Valid}
 use Rattle.promises.specs.Bulk.{BulkServed}
 use Rattle.promises.specs.Witness.{Happens}
@@ -26,6 +28,7 @@ use Rattle.promises.specs.BulkWitness.{BulkWaits}
 use Rattle.promises.specs.FrameWitness.{FramesHappen}
 use Rattle.promises.specs.EarlierWitness.{EarlierHappens}
 use Rattle.promises.specs.GridWitness.{GridHappens}
+use Rattle.promises.specs.MarkWitness.{MarksHappen}
 
 pub record Promised : Type 0 where
   -- whatever set and allocation meet the rules, they are valid
@@ -58,6 +61,10 @@ pub record Promised : Type 0 where
   pub earlier-happens : EarlierHappens
   -- and there is a run on a grid above 1
   pub grid-happens : GridHappens
-  -- what an accepted visit and an accepted handing in do, as facts that add up: all that is promised of runs follows from these
+  -- what an accepted visit, handing in, marking and taking off of a mark do, as facts that add up: all that is promised of runs follows from these
   pub visit-facts : (r : Ring) (ask : Ask) → Shaped r → visited r ask .answer .number ≡ 0 → VisitFacts r (visited r ask .ring) (visited r ask .answer .«record»)
   pub message-facts : (r : Ring) (m : Message) → Shaped r → handedIn r m .number ≡ 0 → Accepting (r .set) r (handedIn r m .ring) m
+  pub mark-facts : (r : Ring) (p : Station) → Shaped r → marked r p .answer .number ≡ 0 → MarkFacts r (marked r p .ring) (p .0) (marked r p .answer)
+  pub unmark-facts : (r : Ring) (p : Station) → Shaped r → unmarked r p .number ≡ 0 → UnmarkFacts r (unmarked r p .ring) (p .0)
+  -- and there are runs of each mode in which a station is switched through, and in again
+  pub marks-happen : MarksHappen

@@ -1,25 +1,37 @@
 -- A run: a list of calls on a ring that a plan opens, one after another, each answered as the code answers it.
 use Prim.Native.Nat.{ℕ, zero, suc}
 use mathlib.Core.List.{List, [], _∷_}
+use Rattle.units.specs.Places.{at}
+use Rattle.units.specs.declared.Station.{Station}
 use Rattle.sets.specs.declared.Set.{Set}
 use Rattle.plans.specs.declared.Alloc.{Alloc}
 use Rattle.rings.specs.Opening.{openedRing}
 use Rattle.rings.specs.Steps.{Ask, visited}
 use Rattle.rings.specs.HandingIn.{handedIn}
+use Rattle.rings.specs.Marking.{marked, unmarked}
 use Rattle.rings.specs.declared.Ring.{Ring}
 use Rattle.rings.specs.declared.Message.{Message}
+use Rattle.rings.specs.declared.MarkAnswer.{MarkAnswer}
 use Rattle.rings.specs.declared.VisitRecord.{VisitRecord}
 
--- a call: a visit with what is asked for, or the handing in of a message
+-- a call: a visit with what is asked for, the handing in of a message, a station switched through, or one switched in again
 pub data Call : Type 0 where
   visit : Ask → Call
   message : Message → Call
+  mark : Station → Call
+  unmark : Station → Call
 
--- how far a run has come: the ring, the records of the accepted visits and the accepted messages, the latest first
+-- what an accepted call tells: a visit's record with the mark of its station, the message, the marking's answer, or the station that is in again
+pub data Event : Type 0 where
+  aVisit : ℕ → VisitRecord → Event
+  aMessage : Message → Event
+  aMarking : Station → MarkAnswer → Event
+  anUnmarking : Station → Event
+
+-- how far a run has come: the ring, and what happened, the latest first
 pub record Run : Type 0 where
   pub ring : Ring
-  pub records : List VisitRecord
-  pub messages : List Message
+  pub events : List Event
 
 -- what an accepted call tells is kept, what a refused one tells is not
 unfoldable pub noted : {A : Type 0} → ℕ → A → List A → List A
@@ -31,14 +43,22 @@ unfoldable pub after : Run → Call → Run
 after s (visit ask) =
     record {
       ring = visited (s .ring) ask .ring;
-      records = noted (visited (s .ring) ask .answer .number) (visited (s .ring) ask .answer .«record») (s .records);
-      messages = s .messages;
+      events = noted (visited (s .ring) ask .answer .number) (aVisit (at (s .ring .mark) (s .ring .token)) (visited (s .ring) ask .answer .«record»)) (s .events);
     }
 after s (message m) =
     record {
       ring = handedIn (s .ring) m .ring;
-      records = s .records;
-      messages = noted (handedIn (s .ring) m .number) m (s .messages);
+      events = noted (handedIn (s .ring) m .number) (aMessage m) (s .events);
+    }
+after s (mark p) =
+    record {
+      ring = marked (s .ring) p .ring;
+      events = noted (marked (s .ring) p .answer .number) (aMarking p (marked (s .ring) p .answer)) (s .events);
+    }
+after s (unmark p) =
+    record {
+      ring = unmarked (s .ring) p .ring;
+      events = noted (unmarked (s .ring) p .number) (anUnmarking p) (s .events);
     }
 
 -- the calls of a list, the first one first
@@ -46,9 +66,9 @@ unfoldable pub run : Run → List Call → Run
 run s [] = s
 run s (c ∷ cs) = run (after s c) cs
 
--- a set and an allocation opened: no visit has been yet, and no message
+-- a set and an allocation opened: nothing has happened yet
 abbrev pub opened : Set → Alloc → Run
-opened t a = record { ring = openedRing t a; records = []; messages = [] }
+opened t a = record { ring = openedRing t a; events = [] }
 
 -- these calls on the opened ring
 abbrev pub runOf : Set → Alloc → List Call → Run
@@ -58,10 +78,38 @@ runOf t a calls = run (opened t a) calls
 abbrev pub ringOf : Set → Alloc → List Call → Ring
 ringOf t a calls = runOf t a calls .ring
 
--- the records of the accepted visits among them, the latest first
-abbrev pub recordsOf : Set → Alloc → List Call → List VisitRecord
-recordsOf t a calls = runOf t a calls .records
+-- ---- what is read off the events
 
--- the accepted messages among them, the latest first
+-- the records of the visits, the latest first
+abbrev pub recordsIn : List Event → List VisitRecord
+recordsIn [] = []
+recordsIn (aVisit on v ∷ before) = v ∷ recordsIn before
+recordsIn (aMessage m ∷ before) = recordsIn before
+recordsIn (aMarking p a ∷ before) = recordsIn before
+recordsIn (anUnmarking p ∷ before) = recordsIn before
+
+-- the accepted messages, the latest first
+abbrev pub messagesIn : List Event → List Message
+messagesIn [] = []
+messagesIn (aVisit on v ∷ before) = messagesIn before
+messagesIn (aMessage m ∷ before) = m ∷ messagesIn before
+messagesIn (aMarking p a ∷ before) = messagesIn before
+messagesIn (anUnmarking p ∷ before) = messagesIn before
+
+abbrev pub records : Run → List VisitRecord
+records s = recordsIn (s .events)
+
+abbrev pub messages : Run → List Message
+messages s = messagesIn (s .events)
+
+-- what happened among these calls, the latest first
+abbrev pub eventsOf : Set → Alloc → List Call → List Event
+eventsOf t a calls = runOf t a calls .events
+
+-- the records of the accepted visits among them
+abbrev pub recordsOf : Set → Alloc → List Call → List VisitRecord
+recordsOf t a calls = records (runOf t a calls)
+
+-- the accepted messages among them
 abbrev pub messagesOf : Set → Alloc → List Call → List Message
-messagesOf t a calls = runOf t a calls .messages
+messagesOf t a calls = messages (runOf t a calls)

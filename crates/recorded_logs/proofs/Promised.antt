@@ -1,33 +1,32 @@
 -- The promises hold because the text's calls are a run, its log is what goes out, and a run's log is read back.
 use Prim.Native.Nat.{ℕ, _-_}
 use mathlib.Core.Path.{_≡_, refl, sym, ap, _∙_}
-use mathlib.Core.List.{List, map, reverse}
+use mathlib.Core.List.{List, [], _∷_, map, reverse}
 use native.Mathlib.Omega.{arith}
-use borrow.Author.Tests.{eq-eqb, ne-eqb}
-use lib.ListN.{length, length-map}
 use Rattle.plans.specs.Planned.{judgedPlan}
 use Rattle.sheets.specs.Reading.{readPlan}
 use Rattle.sheets.specs.ReadLaws.{then-rest}
 use Rattle.rings.specs.Opening.{opening}
-use Rattle.rings.specs.declared.VisitRecord.{VisitRecord}
+use Rattle.entries.specs.declared.Entry.the-variants.{Mark}
 use Rattle.logs.specs.Layout.{logOf}
-use Rattle.logs.specs.Writing.{entryOf}
 use Rattle.logs.specs.Reading.{readLog, entriesIn}
-use Rattle.promises.specs.Run.{opened, run, recordsOf}
+use Rattle.promises.specs.Run.{opened, run, recordsOf, eventsOf}
 use Rattle.promises.proofs.Promised as runs
-use Rattle.log_rules.specs.Recorded.{tells, entriesOf}
+use Rattle.log_rules.specs.Recorded.{entryFor, toldIn, entriesOf}
 use Rattle.log_rules.specs.Promised.{GivesBack}
 use Rattle.log_rules.proofs.RunLaws.{run-entries}
 use Rattle.log_rules.proofs.Promised as logs
+use Rattle.calls.specs.Calls.{stationIn}
 use Rattle.calls.specs.Runs.{openedRun, withEnd}
 use Rattle.calls.proofs.Promised as calls
 use Rattle.calls.proofs.ByteLaws.{moved-append, out-append}
 use Rattle.recordings.specs.LogText.{recordFrom, recordOn, loggedAt}
+use Rattle.recordings.proofs.RecordLaws.{left-one, left-none}
 use Rattle.recorded_logs.specs.Calls.{callsOf}
 use Rattle.recorded_logs.specs.Promised.{setFrom, allocFrom, runFor, written, visitsFor, entriesFor, ReadsBack, Promised}
-use Rattle.recorded_logs.proofs.LoggedLaws.{run-same, whole-log, recorded-visit, not-recorded}
+use Rattle.recorded_logs.proofs.LoggedLaws.{run-same, whole-log, recorded-visit, recorded-mark, recorded-unmark, not-recorded}
 use Rattle.recorded_logs.proofs.UnreadLaws.{none-named, first-named}
-use Rattle.recorded_logs.proofs.CallLaws.{Runs, text-runs, twice}
+use Rattle.recorded_logs.proofs.CallLaws.{toldOver, text-entries, mark-inside, unmark-inside, station-small, Runs, text-runs, twice}
 use Rattle.recorded_logs.proofs.PlanLaws.{first-set, first-alloc}
 
 module _ (sheet : List ℕ) (h : readPlan sheet .number ≡ 0) where
@@ -48,32 +47,28 @@ module _ (sheet : List ℕ) (h : readPlan sheet .number ≡ 0) where
     its-records : recordsOf (setFrom sheet) (allocFrom sheet) (callsOf text) ≡ reverse (visitsFor sheet text)
     its-records = its-run .1
 
-    in-order : visitsFor sheet text ≡ reverse (recordsOf (setFrom sheet) (allocFrom sheet) (callsOf text))
-    in-order = sym (ap reverse its-records ∙ twice (visitsFor sheet text))
+    in-order : toldOver (runFor sheet) (withEnd text) ≡ reverse (toldIn (eventsOf (setFrom sheet) (allocFrom sheet) (callsOf text)))
+    in-order = sym (ap reverse (its-run .2) ∙ twice (toldOver (runFor sheet) (withEnd text)))
 
     its-entries : entriesFor sheet text ≡ entriesOf 0 (setFrom sheet) (allocFrom sheet) (callsOf text)
-    its-entries = ap (map (tells 0)) in-order
+    its-entries = text-entries (withEnd text) (runFor sheet) ∙ ap (map (entryFor 0 0)) in-order ∙ run-entries (setFrom sheet) (allocFrom sheet) 0 (callsOf text)
 
     its-log : written sheet text ≡ logOf (setFrom sheet) (allocFrom sheet) (entriesFor sheet text)
-    its-log =
-        let t = setFrom sheet in
-        let a = allocFrom sheet in
-        whole-log t a (runFor sheet) (withEnd text)
-        ∙ ap (λ (vs : List VisitRecord). logOf t a (map (entryOf 0 0) vs)) in-order
-        ∙ ap (logOf t a) (run-entries t a 0 (callsOf text))
-        ∙ ap (logOf t a) (sym its-entries)
+    its-log = whole-log (setFrom sheet) (allocFrom sheet) (runFor sheet) (withEnd text)
 
     back : GivesBack (setFrom sheet) (allocFrom sheet) (entriesFor sheet text) (logOf (setFrom sheet) (allocFrom sheet) (entriesFor sheet text))
     back = rw its-entries (logs.promised .run-back (setFrom sheet) (allocFrom sheet) 0 (callsOf text) judged-0)
 
     reads : ReadsBack sheet text (written sheet text)
     reads =
-        let t = setFrom sheet in
-        let many : length (entriesFor sheet text) ≡ length (visitsFor sheet text) = length-map (visitsFor sheet text) (tells 0) in
         record {
-          answer = ap readLog its-log ∙ back .answer ∙ rw (first-set sheet h, first-alloc sheet h, many) refl;
+          answer = ap readLog its-log ∙ back .answer ∙ rw (first-set sheet h, first-alloc sheet h) refl;
           entries = ap entriesIn its-log ∙ back .entries;
         }
+
+-- the mark of a station whose number fits
+one-mark : {station number : ℕ} (on : ℕ) → number ≡ station → Mark (record { station = number; mark = on }) ∷ [] ≡ Mark (record { station = station; mark = on }) ∷ []
+one-mark on e = ap (λ (n : ℕ). Mark (record { station = n; mark = on }) ∷ []) e
 
 pub promised : Promised
 promised =
@@ -81,8 +76,16 @@ promised =
       pieces-behind = moved-append recordOn;
       pieces-logged = out-append recordOn loggedAt;
       same-run = run-same;
-      visit-recorded = λ ring s e i z. recorded-visit ring s e i ∙ rw (eq-eqb _ 0 z) refl;
-      refused-not = λ ring s e i z. recorded-visit ring s e i ∙ rw (ne-eqb _ 0 z) refl;
+      visit-recorded = λ ring s counter clock e i z. recorded-visit ring s counter clock e i ∙ left-one _ _ z;
+      refused-not = λ ring s counter clock e i z. recorded-visit ring s counter clock e i ∙ left-none _ _ z;
+      mark-recorded = λ ring s counter clock i z.
+          let inside = mark-inside ring (stationIn s) z in
+          (recorded-mark ring s counter clock i ∙ left-one _ _ z ∙ one-mark 1 (station-small ring (stationIn s) inside), inside .1);
+      marking-refused-not = λ ring s counter clock i z. recorded-mark ring s counter clock i ∙ left-none _ _ z;
+      unmark-recorded = λ ring s counter clock i z.
+          let inside = unmark-inside ring (stationIn s) z in
+          (recorded-unmark ring s counter clock i ∙ left-one _ _ z ∙ one-mark 0 (station-small ring (stationIn s) inside), inside .1);
+      unmarking-refused-not = λ ring s counter clock i z. recorded-unmark ring s counter clock i ∙ left-none _ _ z;
       other-not = not-recorded;
       unread-none = λ sheet text. none-named (recordFrom (runFor sheet)) (withEnd text) refl (omega arith);
       unread-first = λ sheet text first rest e quiet there.

@@ -1,24 +1,29 @@
--- The calls that a text makes, as the model's runs have them, and the records of the visits that the ring accepts.
+-- The calls that a text makes, as the model's runs have them, and what is recorded of those that the ring accepts.
 use Prim.Native.Nat.{ℕ}
 use mathlib.Core.Bool.{cond}
 use mathlib.Core.List.{List, [], _∷_}
 use lib.Dec.{eqb}
 use Rattle.rings.specs.declared.VisitRecord.{VisitRecord}
-use Rattle.promises.specs.Run.{Call, visit, message}
+use Rattle.entries.specs.declared.Entry.{Entry}
+use Rattle.promises.specs.Run.{Call, visit, message, mark, unmark}
 use Rattle.text.specs.Text.{newline}
 use Rattle.lines.specs.Scan.{freshScan, stepped, isEmptyLine}
 use Rattle.lines.specs.declared.Scan.{Scan}
 use Rattle.calls.specs.Bytes.{outOver}
-use Rattle.calls.specs.Calls.{isVisit, askIn, isMessage, messageIn}
-use Rattle.calls.specs.Runs.{runOn, withEnd}
+use Rattle.calls.specs.Calls.{isVisit, askIn, isMessage, messageIn, isMark, isUnmark, stationIn}
+use Rattle.calls.specs.Runs.{runOn, answerAt, withEnd}
 use Rattle.calls.specs.declared.Run.{Run}
-use Rattle.recordings.specs.LogText.{recordsAt}
+use Rattle.recordings.specs.LogText.{visitsAt, entriesBy}
 
 -- ---- the calls: by the text alone, whatever the ring answers
 
--- of one line: a visit, a message, or none
+-- of one line: a visit, a message, a station switched through or in again, or none
 unfoldable pub callsIn : Scan → List Call
-callsIn s = cond (isEmptyLine s) [] (cond (isVisit s) (visit (askIn s) ∷ []) (cond (isMessage s) (message (messageIn s) ∷ []) []))
+callsIn s =
+    cond (isEmptyLine s) []
+    (cond (isVisit s) (visit (askIn s) ∷ [])
+    (cond (isMessage s) (message (messageIn s) ∷ [])
+    (cond (isMark s) (mark (stationIn s) ∷ []) (cond (isUnmark s) (unmark (stationIn s) ∷ []) []))))
 
 -- what is read of a line behind one byte more, and the calls of a line that ends there
 unfoldable pub scanOn : Scan → ℕ → Scan
@@ -35,8 +40,15 @@ callsOver s bs = outOver scanOn callsAt s bs
 abbrev pub callsOf : List ℕ → List Call
 callsOf text = callsOver freshScan (withEnd text)
 
--- ---- the records
+-- ---- what is recorded, of the bytes that follow where the run stands, in their order
 
--- of the bytes that follow where the run stands, in their order
-abbrev pub recordsOver : Run → List ℕ → List VisitRecord
-recordsOver u bs = outOver runOn recordsAt u bs
+-- the records of the visits
+abbrev pub visitsOver : Run → List ℕ → List VisitRecord
+visitsOver u bs = outOver runOn visitsAt u bs
+
+-- the entries of the visits, markings and unmarkings, by a counter that is 0 at clock 0
+abbrev pub entriesAt : Run → ℕ → List Entry
+entriesAt u b = entriesBy 0 0 (answerAt u b)
+
+abbrev pub entriesOver : Run → List ℕ → List Entry
+entriesOver u bs = outOver runOn entriesAt u bs

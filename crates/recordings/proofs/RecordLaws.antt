@@ -2,10 +2,10 @@
 use Prim.Native.Nat.{ℕ, zero, suc, _+_, _≤_, _<_, min}
 use mathlib.Core.Path.{_≡_, refl, sym, ap, _∙_}
 use mathlib.Core.Bool.{true}
-use mathlib.Core.List.{List, [], append-nil}
+use mathlib.Core.List.{List, [], _∷_, append-nil}
 use mathlib.Core.Logic.{_≢_}
 use native.Mathlib.Omega.{arith}
-use borrow.Author.Tests.{le-leb, eq-eqb, ne-eqb}
+use borrow.Author.Tests.{le-leb}
 use lib.Dec.{leb}
 use lib.ListN.{length}
 use lib.Seq.{length-take-le}
@@ -18,11 +18,16 @@ use Rattle.sheets.specs.WriteLaws.{written-fits}
 use Rattle.sheets.specs.declared.ReadPlan.{ReadPlan}
 use Rattle.sheets.specs.declared.Written.{Written}
 use Rattle.sheets.proofs.WritingLaws.{answer-refused, answer-number, buffer-refused}
-use Rattle.entries.specs.Entry.{entryBytes}
-use Rattle.entries.proofs.EntryLaws.{entry-length}
+use Rattle.entries.specs.Visit.{visitBytes}
+use Rattle.entries.specs.Mark.{markBytes}
+use Rattle.entries.specs.declared.MarkEntry.{MarkEntry}
+use Rattle.entries.specs.declared.Entry.{Entry}
+use Rattle.entries.specs.declared.Entry.the-variants.{Visit, Mark}
+use Rattle.entries.proofs.VisitLaws.{visit-length}
+use Rattle.entries.proofs.MarkLaws.{mark-length}
 use Rattle.rings.specs.declared.VisitAnswer.{VisitAnswer}
-use Rattle.logs.specs.Layout.{visitsBytes}
-use Rattle.logs.specs.Writing.{counterAt, entryBy, addedWith, Added}
+use Rattle.logs.specs.Layout.{entriesBytes}
+use Rattle.logs.specs.Writing.{counterAt, visitBy, addedWith, Added, markedWith, AddedMark}
 use Rattle.logs.specs.declared.Recorder.{Recorder}
 use Rattle.text.specs.Text.{pageSize}
 use Rattle.text.specs.TextLaws.{put-none, printed, not-printed}
@@ -31,7 +36,7 @@ use Rattle.calls.specs.Runs.{byteOn, openedRun, pieceSize}
 use Rattle.calls.proofs.RunLaws.{did, piece-none, piece-whole}
 use Rattle.calls.specs.declared.LineStep.{LineStep}
 use Rattle.calls.specs.declared.OpenedRun.{OpenedRun}
-use Rattle.recordings.specs.LogText.{recordFrom, acceptedIn, recordsIn, clockAfter, counterAfter, fieldsBy, firstUnread, recordOn, loggedAt, recordAfter, loggedOver}
+use Rattle.recordings.specs.LogText.{recordFrom, ifAccepted, visitsIn, clockAfter, counterAfter, entriesBy, firstUnread, recordOn, loggedAt, recordAfter, loggedOver}
 use Rattle.recordings.specs.LogText.{Records, RecordedPiece, RecordedOn, openNumber, OpenedOn}
 use Rattle.recordings.specs.declared.Recording.{Recording}
 use Rattle.recordings.specs.declared.Recorded.{Recorded}
@@ -42,39 +47,67 @@ use Rattle.recordings.specs.declared.Recorded.{Recorded}
 pub record-byte : (k : Recording) (b : ℕ) (s : LineStep) → s ≡ byteOn (k .run) b
     → (record {
       run = s .run;
-      clock = clockAfter (k .clock) (recordsIn (s .answer));
-      counter = counterAfter (k .counter) (k .clock) (recordsIn (s .answer));
+      clock = clockAfter (k .clock) (visitsIn (s .answer));
+      counter = counterAfter (k .counter) (k .clock) (visitsIn (s .answer));
       unread = firstUnread (k .unread) (k .run .line) (s .unread);
     }
     ≡ recordOn k b)
-    × (fieldsBy (k .counter) (k .clock) (recordsIn (s .answer)) ≡ loggedAt k b)
+    × (entriesBytes (entriesBy (k .counter) (k .clock) (s .answer)) ≡ loggedAt k b)
 unfolding recordOn loggedAt
 record-byte k b s e =
     let it = did (k .run) b e in
     rw (← it .0, ← it .1, ← it .2) (refl, refl)
 
--- ---- one visit into the page
+-- ---- one record into the page
 
-pub records-none : (r : Recorder) (page : List ℕ) → Records r [] page page r
-unfolding visitsBytes clockAfter counterAfter
+-- what an accepted call leaves, and a refused one
+pub left-one : {A : Type 0} (k : ℕ) (x : A) → k ≡ 0 → ifAccepted k x ≡ x ∷ []
+unfolding ifAccepted
+left-one k x e = rw e refl
+
+pub left-none : {A : Type 0} (k : ℕ) (x : A) → k ≢ 0 → ifAccepted k x ≡ []
+unfolding ifAccepted
+left-none zero x e = absurd (e refl)
+left-none (suc k) x e = refl
+
+pub records-none : (r : Recorder) (page : List ℕ) → Records r [] [] page page r
+unfolding entriesBytes clockAfter counterAfter
 records-none r page = record { put = record { put = put-none page (r .at); short = omega arith }; clock = refl; counter = refl }
 
-pub visit-skipped : (r : Recorder) (a : VisitAnswer) (page : List ℕ) → a .number ≢ 0 → Records r (acceptedIn a) page page r
-unfolding acceptedIn
-visit-skipped r a page e = rw (ne-eqb (a .number) 0 e) (records-none r page)
+pub visit-skipped : (r : Recorder) (a : VisitAnswer) (e : Entry) (page : List ℕ) → a .number ≢ 0
+    → Records r (ifAccepted (a .number) (a .«record»)) (ifAccepted (a .number) e) page page r
+visit-skipped r a e page k = rw (left-none (a .number) (a .«record») k, left-none (a .number) e k) (records-none r page)
 
 pub visit-added : (r next : Recorder) (a : VisitAnswer) (before after : List ℕ) → a .number ≡ 0 → r .at + 23 ≤ length before → Added r (a .«record») before after next
-    → Records r (acceptedIn a) before after next
-unfolding acceptedIn visitsBytes clockAfter counterAfter laidAfter orElse addedWith
+    → Records r (ifAccepted (a .number) (a .«record»)) (ifAccepted (a .number) (Visit (visitBy r (a .«record»)))) before after next
+unfolding entriesBytes clockAfter counterAfter laidAfter orElse addedWith
 visit-added r next a before after e room h =
     let v = a .«record» in
-    let long = entry-length (entryBy r (a .«record»)) in
+    let long = visit-length (visitBy r (a .«record»)) in
     let fits : leb (r .at + 20 + 3) (length before) ≡ true = le-leb (r .at + 20 + 3) (length before) (omega arith) in
     let made : next ≡ record { at = r .at + 20; clock = v .start .0; counter = counterAt (r .counter) (r .clock) (v .start .0); number = 0 } = rw fits at (h .recorder) in
-    let there : after ≡ laid before (r .at) (entryBytes (entryBy r v)) = rw fits at (h .buffer) in
-    rw (eq-eqb (a .number) 0 e, made)
+    let there : after ≡ laid before (r .at) (visitBytes (visitBy r v)) = rw fits at (h .buffer) in
+    rw (left-one (a .number) v e, left-one (a .number) (Visit (visitBy r v)) e, made)
     (record {
-      put = rw (append-nil (entryBytes (entryBy r v))) (record { put = record { page = there; next = omega arith }; short = omega arith });
+      put = rw (append-nil (visitBytes (visitBy r v))) (record { put = record { page = there; next = omega arith }; short = omega arith });
+      clock = refl;
+      counter = refl;
+    })
+
+pub mark-skipped : (r : Recorder) (k : ℕ) (m : MarkEntry) (page : List ℕ) → k ≢ 0 → Records r [] (ifAccepted k (Mark m)) page page r
+mark-skipped r k m page e = rw (left-none k (Mark m) e) (records-none r page)
+
+pub mark-added : (r next : Recorder) (k : ℕ) (m : MarkEntry) (before after : List ℕ) → k ≡ 0 → r .at + 23 ≤ length before → AddedMark r m before after next
+    → Records r [] (ifAccepted k (Mark m)) before after next
+unfolding entriesBytes clockAfter counterAfter laidAfter orElse markedWith
+mark-added r next k m before after e room h =
+    let long = mark-length m in
+    let fits : leb (r .at + 5 + 3) (length before) ≡ true = le-leb (r .at + 5 + 3) (length before) (omega arith) in
+    let made : next ≡ record { at = r .at + 5; clock = r .clock; counter = r .counter; number = 0 } = rw fits at (h .recorder) in
+    let there : after ≡ laid before (r .at) (markBytes m) = rw fits at (h .buffer) in
+    rw (left-one k (Mark m) e, made)
+    (record {
+      put = rw (append-nil (markBytes m)) (record { put = record { page = there; next = omega arith }; short = omega arith });
       clock = refl;
       counter = refl;
     })

@@ -1,16 +1,21 @@
-// What `log` writes: the calls are read line by line, and each visit that the ring accepted goes out as a field of the log.
+// What `log` writes: the calls are read line by line, and each visit, marking and unmarking that the ring accepted goes out as a field of the log.
 ghost use mathlib.Core.Path.{_≡_};
+ghost use mathlib.Core.List.{[]};
 ghost use Prim.Native.Nat.{_+_, _≤_};
 ghost use lib.ListN.{length};
 ghost use Rattle.sheets.specs.Reading.{readPlan};
+ghost use Rattle.entries.specs.declared.Entry.the-variants.{Visit, Mark};
+ghost use Rattle.logs.specs.Writing.{visitBy};
 ghost use Rattle.calls.specs.Runs.{Piece};
-ghost use Rattle.recordings.specs.LogText.{recordFrom, acceptedIn, recordsIn, firstUnread, Records, RecordedPiece, RecordedOn, OpenedOn};
+ghost use Rattle.recordings.specs.LogText.{recordFrom, ifAccepted, visitsIn, markOf, entriesBy, firstUnread, Records, RecordedPiece, RecordedOn, OpenedOn};
 use calls::Answer;
 use calls::Run;
+use entries::MarkEntry;
 use logs::Recorder;
 use rings::VisitAnswer;
 use sheets::ReadPlan;
 use text::PAGE_SIZE;
+use units::Station;
 use units::numbers;
 
 // A run that is recorded: where it stands; the recorder's counter, as it was at this clock of the ring; and the first line that cannot be read, 0 where each can.
@@ -22,7 +27,7 @@ pub struct Recording {
     pub unread: u64,
 }
 
-// The recording goes on: where it stands, and how many bytes of the page are fields of visits.
+// The recording goes on: where it stands, and how many bytes of the page are fields of records.
 #[repr(C)]
 pub struct Recorded {
     pub recording: Recording,
@@ -91,7 +96,7 @@ fn first_unread(known: u64, line: u64, unread: bool) -> u64
 // The field of a visit, if it was accepted, put into the page; the recorder behind it.
 fn record_visit(recorder: Recorder, visit: VisitAnswer, page: &mut [u8]) -> Recorder
     requires { ⌜ recorder .at + 23 ≤ length (now page) ⌝ }
-    ensures { λ r. ⌜ Records recorder (acceptedIn visit) (now (page .entry)) (now (page .exit)) r ⌝ }
+    ensures { λ r. ⌜ Records recorder (ifAccepted (visit .number) (visit .«record»)) (ifAccepted (visit .number) (Visit (visitBy recorder (visit .«record»)))) (now (page .entry)) (now (page .exit)) r ⌝ }
 {
     if visit.number != numbers::ACCEPTED {
         return recorder;
@@ -100,15 +105,50 @@ fn record_visit(recorder: Recorder, visit: VisitAnswer, page: &mut [u8]) -> Reco
     logs::add_visit(recorder, seen, page)
 }
 
+// The mark of a station. That of an accepted call is below N, and so below 128: its number fits a byte.
+fn mark_of(station: Station, on: u32) -> MarkEntry
+    ensures { λ r. ⌜ r ≡ markOf station on ⌝ }
+{
+    let short = station.0 % 256;
+    let number = short as u32;
+    MarkEntry {
+        station: number,
+        mark: on,
+    }
+}
+
+// The field of a mark, if its call was accepted, put into the page; the recorder behind it.
+fn record_mark(recorder: Recorder, number: u8, mark: MarkEntry, page: &mut [u8]) -> Recorder
+    requires { ⌜ recorder .at + 23 ≤ length (now page) ⌝ }
+    ensures { λ r. ⌜ Records recorder [] (ifAccepted number (Mark mark)) (now (page .entry)) (now (page .exit)) r ⌝ }
+{
+    if number == numbers::ACCEPTED {
+        return logs::add_mark(recorder, mark, page);
+    }
+    recorder
+}
+
 // What is recorded of an answer, put into the page; the recorder behind it.
 fn record_answer(recorder: Recorder, answer: Answer, page: &mut [u8]) -> Recorder
     requires { ⌜ recorder .at + 23 ≤ length (now page) ⌝ }
-    ensures { λ r. ⌜ Records recorder (recordsIn answer) (now (page .entry)) (now (page .exit)) r ⌝ }
+    ensures { λ r. ⌜ Records recorder (visitsIn answer) (entriesBy (recorder .counter) (recorder .clock) answer) (now (page .entry)) (now (page .exit)) r ⌝ }
 {
     match answer {
         Answer::Nothing => recorder,
         Answer::Visit(visit) => record_visit(recorder, visit, page),
         Answer::HandIn(_) => recorder,
+        Answer::Mark(station, marking) => record_mark(
+            recorder,
+            marking.number,
+            mark_of(station, 1),
+            page,
+        ),
+        Answer::Unmark(station, refusal) => record_mark(
+            recorder,
+            refusal,
+            mark_of(station, 0),
+            page,
+        ),
         Answer::Unread => recorder,
     }
 }
@@ -155,7 +195,7 @@ fn record_piece(recording: Recording, text: &[u8], end: usize, page: &mut [u8]) 
     }
 }
 
-// The recording goes on over at most 256 bytes of the text: the fields of its visits are put at the start of the page. A page that is too small leaves all as it was.
+// The recording goes on over at most 256 bytes of the text: the fields of its records are put at the start of the page. A page that is too small leaves all as it was.
 pub fn record_on(recording: Recording, text: &[u8], page: &mut [u8]) -> Recorded
     ensures { λ r. ⌜ RecordedOn recording (now (text .entry)) (now (page .entry)) (now (page .exit)) r ⌝ }
 {

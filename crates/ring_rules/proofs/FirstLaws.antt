@@ -11,6 +11,7 @@ use Rattle.rings.specs.RingLaws.{message-9}
 use Rattle.units.specs.Places.{at, sumBelow, sumFrom, allBelow}
 use Rattle.units.specs.PlaceLaws.{sum-same, all-same}
 use Rattle.units.specs.SmallLaws.{below-or-not}
+use Rattle.units.specs.declared.Station.{Station}
 use Rattle.sets.specs.Rules.{SameSet}
 use Rattle.sets.specs.declared.Head.{Head}
 use Rattle.sets.specs.declared.Set.{Set}
@@ -19,13 +20,14 @@ use Rattle.plans.proofs.SameLaws.{judged-plan-same}
 use Rattle.plans.specs.declared.Alloc.{Alloc}
 use Rattle.rings.specs.State.{count, ttrt, unusedAt, timersOf}
 use Rattle.timers.specs.Timers.{Timer, ticks, startedAt, offered, visited as tokenAt}
-use Rattle.rings.specs.Timers.{Fddi, lead, limit, timerOf, trtSoundAt, timerSoundAt, lateSoundAt, timelySound, fddiSound, timersSound}
+use Rattle.rings.specs.Timers.{Fddi, lead, timersOffer, limit, timerOf, trtSoundAt, timerSoundAt, lateSoundAt, timelySound, fddiSound, timersSound}
 use Rattle.rings.specs.TimerLaws.{fddi-or-not}
 use Rattle.rings.specs.Sound.{sentSoundAt, restSoundAt, arrivalSoundAt, isSound}
-use Rattle.rings.specs.Steps.{Ask, syncStart, syncSent, asyncSent, recordOf, visitNumber}
+use Rattle.rings.specs.Steps.{Ask, syncStart, mostSent, syncSent, asyncSent, recordOf, visitNumber}
 use Rattle.rings.specs.HandingIn.{arrivalAllowed, messageNumber, handInNumber}
+use Rattle.rings.specs.Marking.{markNumber, withdrawal}
 use Rattle.rings.proofs.StationLaws.{equal-or-not}
-use Rattle.ring_rules.specs.Promised.{SameFirst, SameRing, passes, Moved, Held, Fresh}
+use Rattle.ring_rules.specs.Promised.{SameFirst, SameRing, SameTiming, passes, Moved, Held, SwitchedThrough, SwitchedIn, Fresh}
 use Rattle.rings.specs.declared.Ring.{Ring}
 use Rattle.rings.specs.declared.Message.{Message}
 use Rattle.rings.specs.declared.VisitRecord.{VisitRecord}
@@ -82,12 +84,12 @@ module _ (a b : Ring) (e : SameRing a b) where
     start-same async = rw (e .clock, lead-same async)
 
     limit-same : limit a ≡ limit b
-    unfolding limit offered
-    limit-same = rw (mode-same, ap (λ (h : Head). h .frame) (e .set .header), here (a .trt) (b .trt) (e .trt), here (a .late) (b .late) (e .late), ttrt-same, e .unused)
+    unfolding limit timersOffer offered
+    limit-same = rw (here (a .mark) (b .mark) (e .mark), mode-same, ap (λ (h : Head). h .frame) (e .set .header), here (a .trt) (b .trt) (e .trt), here (a .late) (b .late) (e .late), ttrt-same, e .unused)
 
     pub sync-same : (async : ℕ) → syncSent a async ≡ syncSent b async
-    unfolding syncSent
-    sync-same async = rw (here (a .rest) (b .rest) (e .rest), here (a .arrival) (b .arrival) (e .arrival), here (a .alloc .s) (b .alloc .s) (e .alloc), start-same async)
+    unfolding syncSent mostSent
+    sync-same async = rw (here (a .mark) (b .mark) (e .mark), here (a .rest) (b .rest) (e .rest), here (a .arrival) (b .arrival) (e .arrival), here (a .alloc .s) (b .alloc .s) (e .alloc), start-same async)
 
     pub async-same : asyncSent a ask ≡ asyncSent b ask
     async-same = rw limit-same
@@ -167,6 +169,7 @@ module _ (a b : Ring) (e : SameRing a b) where
           rest = rw n (spliced (count a) (a .token) (a .rest) (b .rest) (na .rest) (nb .rest) (e .rest) (omega (arith, ma .rest)) (ma .rests) (rw p (mb .rests)));
           arrival = rw (n, ma .arrival, mb .arrival) (e .arrival);
           had = rw (n, ma .had, mb .had) (e .had);
+          mark = rw (n, ma .mark, mb .mark) (e .mark);
           last = rw n (spliced (count a) (a .token) (a .last) (b .last) (na .last) (nb .last) (e .last) last-here (ma .lasts) (rw p (mb .lasts)));
           clock = ma .clock ∙ rw (passes-same na nb v ma mb, e .clock) (sym (mb .clock));
           visits = ma .visits ∙ rw (e .visits) (sym (mb .visits));
@@ -176,6 +179,30 @@ module _ (a b : Ring) (e : SameRing a b) where
           unused = unused-same na nb v ma mb;
         }
 
+  -- ---- calls that are no visits
+
+  -- what such a call leaves alone is the same, and so are the rings if the rest is
+  timing-same : (na nb : Ring) → SameTiming a na → SameTiming b nb → SameFirst (count na) (na .rest) (nb .rest) → SameFirst (count na) (na .arrival) (nb .arrival)
+      → SameFirst (count na) (na .had) (nb .had) → SameFirst (count na) (na .mark) (nb .mark) → SameRing na nb
+  timing-same na nb ta tb rest arrival had mark =
+      let n : count na ≡ count a = ap (λ (t : Set). t .n) (ta .set) in
+      record {
+        set = rw (ta .set, tb .set) (e .set);
+        alloc = rw (ta .alloc, tb .alloc, n) (e .alloc);
+        trt = rw (n, ta .trt, tb .trt) (e .trt);
+        late = rw (n, ta .late, tb .late) (e .late);
+        sent = rw (n, ta .sent, tb .sent) (e .sent);
+        rest = rest;
+        arrival = arrival;
+        had = had;
+        mark = mark;
+        last = rw (n, ta .last, tb .last) (e .last);
+        clock = ta .clock ∙ e .clock ∙ sym (tb .clock);
+        visits = ta .visits ∙ e .visits ∙ sym (tb .visits);
+        token = ta .token ∙ e .token ∙ sym (tb .token);
+        unused = ta .unused ∙ e .unused ∙ sym (tb .unused);
+      }
+
   -- ---- a handing in
 
   module _ (m : Message) where
@@ -184,7 +211,7 @@ module _ (a b : Ring) (e : SameRing a b) where
     unfolding arrivalAllowed
     known-same l =
         let i = m .station .0 in
-        rw (e .set .longest i l, e .rest i l, e .last i l, e .had i l, e .arrival i l, e .set .gap i l, e .visits, e .set .count)
+        rw (e .set .longest i l, e .rest i l, e .mark i l, e .last i l, e .had i l, e .arrival i l, e .set .gap i l, e .visits, e .set .count)
 
     -- any other: 9 for both
     unknown-same : count a ≤ m .station .0 → messageNumber a m ≡ messageNumber b m
@@ -197,25 +224,42 @@ module _ (a b : Ring) (e : SameRing a b) where
         let rest : messageNumber a m ≡ messageNumber b m = ⊎-elim (λ l. known-same l) (λ l. unknown-same l) (below-or-not (m .station .0) (count a)) in
         ap (λ (x : ℕ). orElse (isSound a) 8 x) rest ∙ ap (λ (t : Bool). orElse t 8 (messageNumber b m)) sound-same
 
-    pub held-same : (na nb : Ring) → m .station .0 < count a → Held a m na → Held b m nb → SameRing na nb
-    held-same na nb l ha hb =
-        let n : count na ≡ count a = ap (λ (t : Set). t .n) (ha .set) in
+    pub held-same : (na nb : Ring) → Held a m na → Held b m nb → SameRing na nb
+    held-same na nb ha hb =
+        let n : count na ≡ count a = ap (λ (t : Set). t .n) (ha .timing .set) in
         let i = m .station .0 in
-        record {
-          set = rw (ha .set, hb .set) (e .set);
-          alloc = rw (ha .alloc, hb .alloc, n) (e .alloc);
-          trt = rw (n, ha .trt, hb .trt) (e .trt);
-          late = rw (n, ha .late, hb .late) (e .late);
-          sent = rw (n, ha .sent, hb .sent) (e .sent);
-          rest = rw n (spliced (count a) i (a .rest) (b .rest) (na .rest) (nb .rest) (e .rest) (ha .rest ∙ sym (hb .rest)) (ha .rests) (hb .rests));
-          arrival = rw n (spliced (count a) i (a .arrival) (b .arrival) (na .arrival) (nb .arrival) (e .arrival) (ha .arrival ∙ sym (hb .arrival)) (ha .arrivals) (hb .arrivals));
-          had = rw n (spliced (count a) i (a .had) (b .had) (na .had) (nb .had) (e .had) (ha .had ∙ sym (hb .had)) (ha .hads) (hb .hads));
-          last = rw (n, ha .last, hb .last) (e .last);
-          clock = ha .clock ∙ e .clock ∙ sym (hb .clock);
-          visits = ha .visits ∙ e .visits ∙ sym (hb .visits);
-          token = ha .token ∙ e .token ∙ sym (hb .token);
-          unused = ha .unused ∙ e .unused ∙ sym (hb .unused);
-        }
+        timing-same na nb (ha .timing) (hb .timing)
+        (rw n (spliced (count a) i (a .rest) (b .rest) (na .rest) (nb .rest) (e .rest) (ha .rest ∙ sym (hb .rest)) (ha .rests) (hb .rests)))
+        (rw n (spliced (count a) i (a .arrival) (b .arrival) (na .arrival) (nb .arrival) (e .arrival) (ha .arrival ∙ sym (hb .arrival)) (ha .arrivals) (hb .arrivals)))
+        (rw n (spliced (count a) i (a .had) (b .had) (na .had) (nb .had) (e .had) (ha .had ∙ sym (hb .had)) (ha .hads) (hb .hads)))
+        (rw (n, ha .mark, hb .mark) (e .mark))
+
+  -- ---- a station switched through, and in again
+
+  pub through-same : (i : ℕ) (na nb : Ring) → SwitchedThrough a i na → SwitchedThrough b i nb → SameRing na nb
+  through-same i na nb ha hb =
+      let n : count na ≡ count a = ap (λ (t : Set). t .n) (ha .timing .set) in
+      timing-same na nb (ha .timing) (hb .timing)
+      (rw n (spliced (count a) i (a .rest) (b .rest) (na .rest) (nb .rest) (e .rest) (ha .rest ∙ sym (hb .rest)) (ha .rests) (hb .rests)))
+      (rw (n, ha .arrival, hb .arrival) (e .arrival))
+      (rw (n, ha .had, hb .had) (e .had))
+      (rw n (spliced (count a) i (a .mark) (b .mark) (na .mark) (nb .mark) (e .mark) (ha .mark ∙ sym (hb .mark)) (ha .marks) (hb .marks)))
+
+  pub in-same : (i : ℕ) (na nb : Ring) → SwitchedIn a i na → SwitchedIn b i nb → SameRing na nb
+  in-same i na nb ha hb =
+      let n : count na ≡ count a = ap (λ (t : Set). t .n) (ha .timing .set) in
+      timing-same na nb (ha .timing) (hb .timing)
+      (rw (n, ha .rest, hb .rest) (e .rest))
+      (rw (n, ha .arrival, hb .arrival) (e .arrival))
+      (rw (n, ha .had, hb .had) (e .had))
+      (rw n (spliced (count a) i (a .mark) (b .mark) (na .mark) (nb .mark) (e .mark) (ha .mark ∙ sym (hb .mark)) (ha .marks) (hb .marks)))
+
+  pub mark-number-same : (s : Station) → markNumber a s ≡ markNumber b s
+  mark-number-same s = rw (sound-same, e .set .count)
+
+  pub withdrawal-same : (i : ℕ) → i < count a → withdrawal a i ≡ withdrawal b i
+  unfolding withdrawal
+  withdrawal-same i l = rw (e .mark i l, e .rest i l, e .arrival i l)
 
 -- ---- opening
 
@@ -246,6 +290,7 @@ fresh-same t u a b r q same alloc fr fq =
       rest = λ i l. fr .rests i ∙ sym (fq .rests i);
       arrival = λ i l. fr .arrivals i ∙ sym (fq .arrivals i);
       had = λ i l. fr .had i ∙ sym (fq .had i);
+      mark = λ i l. fr .marks i ∙ sym (fq .marks i);
       last = λ i l. fr .lasts i ∙ sym (fq .lasts i);
       clock = fr .clock ∙ sym (fq .clock);
       visits = fr .visits ∙ sym (fq .visits);

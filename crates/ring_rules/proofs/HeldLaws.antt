@@ -10,6 +10,7 @@ use Rattle.rings.specs.State.{Shaped}
 use Rattle.rings.specs.Sound.{Sound}
 use Rattle.rings.specs.HandingIn.{Takes, holding}
 use Rattle.ring_rules.specs.Promised.{Held}
+use Rattle.ring_rules.proofs.MessageLaws.{messages-timing, messages-sound}
 use Rattle.rings.specs.RingLaws.{sound-plan}
 use Rattle.rings.proofs.ShapeLaws.{holding-shaped}
 use Rattle.rings.specs.declared.Ring.{Ring}
@@ -30,33 +31,14 @@ module _ (r : Ring) (m : Message) (L : Shaped r) (s : Sound r) (t : Takes r m) w
         rests = λ j n. getD-set-other (r .rest) i j (m .length .0) 0 (omega arith);
         arrivals = λ j n. getD-set-other (r .arrival) i j (m .arrival .0) 0 (omega arith);
         hads = λ j n. getD-set-other (r .had) i j 1 0 (omega arith);
-        set = refl;
-        alloc = refl;
-        trt = refl;
-        late = refl;
-        sent = refl;
-        last = refl;
-        clock = refl;
-        visits = refl;
-        token = refl;
-        unused = refl;
+        mark = refl;
+        timing = messages-timing r _;
         shaped = holding-shaped r L m;
       }
 
   pub held-sound : Sound (holding r m)
   unfolding holding
   held-sound =
-      record {
-        plan = s .plan;
-        token = s .token;
-        timers =
-            record {
-              timely = λ n. record { trts = s .timers .timely n .trts; unused = s .timers .timely n .unused };
-              fddi = λ e. record { timers = s .timers .fddi e .timers; lates = s .timers .fddi e .lates };
-            };
-        sents = s .sents;
-        rests = λ j l. set-each (r .rest) (m .station .0) j (m .length .0) (λ (x : ℕ). x ≤ at (r .set .c) j) (s .rests j l) (λ e. rw e (t .length .1));
-        arrivals = λ j l. set-each (r .arrival) (m .station .0) j (m .arrival .0) (λ (x : ℕ). x ≤ 1_000_000_000_000) (s .arrivals j l) (λ e. t .arrival .range);
-        clock = s .clock;
-        visits = s .visits;
-      }
+      messages-sound r _ s
+      (λ j l. set-each (r .rest) (m .station .0) j (m .length .0) (λ (x : ℕ). x ≤ at (r .set .c) j) (s .rests j l) (λ e. rw e (t .length .1)))
+      (λ j l. set-each (r .arrival) (m .station .0) j (m .arrival .0) (λ (x : ℕ). x ≤ 1_000_000_000_000) (s .arrivals j l) (λ e. t .arrival .range))

@@ -21,10 +21,10 @@ use Rattle.rings.specs.Sound.{Sound}
 use Rattle.rings.specs.Steps.{Ask, LengthNamed, syncStart, serves, syncSent, asyncSent, nextToken, moved, completes, recordOf}
 use Rattle.ring_rules.specs.Promised.{Amounts, TimelyMoved, FddiMoved, Moved, Completed, NoneCompleted, Done}
 use Rattle.rings.specs.FrameLaws.{frames-sent, frames-within, frames-none, ticks-sent}
-use Rattle.rings.specs.TimerLaws.{lead-within, fddi-or-not, limit-fddi, limit-timely, after-fddi, after-timely, came-late, came-early, offered-late, offered-early}
+use Rattle.rings.specs.TimerLaws.{lead-within, fddi-or-not, limit-marked, limit-unmarked, offer-fddi, offer-timely, after-fddi, after-timely, came-late, came-early, offered-late, offered-early}
 use Rattle.rings.proofs.ShapeLaws.{moved-shaped}
 use Rattle.rings.proofs.StationLaws.{timer-here, timer-there, moved-long}
-use Rattle.rings.specs.RingLaws.{sound-plan, served, not-served, sync-within}
+use Rattle.rings.specs.RingLaws.{sound-plan, most-marked, most-unmarked, served, not-served, sync-most, sync-within}
 use Rattle.rings.specs.declared.Ring.{Ring}
 
 -- the margin is exact on both sides of 0
@@ -58,14 +58,17 @@ module _ (r : Ring) (ask : Ask) (L : Shaped r) (s : Sound r) (named : LengthName
   unfolding recordOf
   amounts =
       record {
-        limit = limit-timely r;
-        limit-late = λ e l. limit-fddi r e ∙ offered-late (ttrt r) (timerOf (timersOf r) (r .token)) l;
-        limit-early = λ e z. limit-fddi r e ∙ offered-early (ttrt r) (timerOf (timersOf r) (r .token)) z;
-        served = λ h l. served r (asyncSent r ask) (true-and _ _ (lt-ltb _ _ h) (le-leb _ _ l));
+        limit = λ u n. limit-unmarked r u ∙ offer-timely r n;
+        limit-late = λ u e l. limit-unmarked r u ∙ offer-fddi r e ∙ offered-late (ttrt r) (timerOf (timersOf r) (r .token)) l;
+        limit-early = λ u e z. limit-unmarked r u ∙ offer-fddi r e ∙ offered-early (ttrt r) (timerOf (timersOf r) (r .token)) z;
+        served = λ u h l. served r (asyncSent r ask) (true-and _ _ (lt-ltb _ _ h) (le-leb _ _ l)) ∙ rw (most-unmarked r u) refl;
         early = λ l. ⊎-elim (λ (e : serves r (asyncSent r ask) ≡ true). absurd (not-before (asyncSent r ask) e l))
             (λ (e : serves r (asyncSent r ask) ≡ false). not-served r (asyncSent r ask) e)
             (true-or-false (serves r (asyncSent r ask)));
         none = λ e. omega (arith, sync-within r (asyncSent r ask) .1);
+        marked-limit = limit-marked r;
+        marked-sync = λ m. omega (arith, sync-most r (asyncSent r ask) .0, most-marked r m);
+        marked-async = λ m. rw (limit-marked r m) (frames-none ask);
         frames = refl;
         counted = frames-sent (limit r) ask (named .0);
         within = omega (arith, frames-within (limit r) ask (named .0), named .1);
@@ -157,6 +160,7 @@ module _ (r : Ring) (ask : Ask) (L : Shaped r) (s : Sound r) (named : LengthName
         alloc = refl;
         arrival = refl;
         had = refl;
+        mark = refl;
         sents = λ j n. getD-set-other (r .sent) (r .token) j (syncSent r (asyncSent r ask)) 0 (omega arith);
         rests = λ j n. getD-set-other (r .rest) (r .token) j _ 0 (omega arith);
         lasts = λ j n. getD-set-other (r .last) (r .token) j (syncStart r (asyncSent r ask)) 0 (omega arith);

@@ -2,19 +2,21 @@
 use Prim.Native.Nat.{ℕ, zero, suc, _≤_, _<_}
 use mathlib.Core.Path.{_≡_, refl}
 use mathlib.Core.Bool.{Bool, true, false}
-use mathlib.Core.Logic.{_↔_, _⊎_, inl, inr}
+use mathlib.Core.Logic.{_↔_, _⊎_, inl, inr, ⊎-elim}
 use native.Mathlib.Omega.{arith}
-use borrow.Author.Tests.{ltb-true, lt-ltb, eqb-true, eq-eqb}
-use lib.Dec.{leb}
+use borrow.Author.Tests.{ltb-true, lt-ltb}
+use lib.Dec.{leb, ltb}
 use Rattle.units.specs.Numbers.{mostClock}
 use Rattle.units.specs.Places.{at}
 use Rattle.units.specs.Judging.{orElse}
-use Rattle.units.specs.JudgingLaws.{Decides, decides-le, decides-between, given, given-later, not-given, iff-then, iff-under}
+use Rattle.units.specs.JudgingLaws.{Decides, true-or-false, decides-le, decides-between, given, given-later, not-given, iff-then, iff-under}
+use Rattle.units.specs.declared.Station.{Station}
 use Rattle.rings.specs.State.{count}
 use Rattle.rings.specs.Sound.{Sound, isSound}
 use Rattle.rings.specs.Steps.{Ask, LengthNamed, lengthNamed, visitNumber, visitedWith}
-use Rattle.rings.specs.HandingIn.{ArrivalAllowed, Takes, stationKnown, lengthAllowed, nothingHeld, arrivalAllowed, handInNumber}
-use Rattle.rings.specs.RingLaws.{decides-sound, decides-arrival}
+use Rattle.rings.specs.HandingIn.{ArrivalAllowed, Takes, stationKnown, lengthAllowed, stationFree, Free, arrivalAllowed, handInNumber}
+use Rattle.rings.specs.Marking.{markNumber, withdraws, withdrawal, markedWith, unmarkedWith}
+use Rattle.rings.specs.RingLaws.{decides-sound, decides-free, decides-arrival}
 use Rattle.rings.specs.declared.Ring.{Ring}
 use Rattle.rings.specs.declared.Message.{Message}
 
@@ -76,9 +78,6 @@ module _ (r : Ring) (m : Message) where
   decides-length : Decides (lengthAllowed r m) ((1 ≤ m .length .0) × (m .length .0 ≤ at (r .set .c) (m .station .0)))
   decides-length = decides-between 1 _ (m .length .0)
 
-  decides-free : Decides (nothingHeld r m) (at (r .rest) (m .station .0) ≡ 0)
-  decides-free = (eqb-true _ _, eq-eqb _ _)
-
   pub message-eight : (handInNumber r m ≡ 8) ↔ ¬ Sound r
   message-eight =
       given (isSound r) (Sound r) 8 _ (decides-sound r)
@@ -101,17 +100,17 @@ module _ (r : Ring) (m : Message) where
       (given (lengthAllowed r m) _ 10 _ decides-length (not-given _ 11 _ 10 (omega arith) (not-given _ 12 0 10 (omega arith) (omega arith)))))))
 
   pub message-eleven : (handInNumber r m ≡ 11) ↔ (Sound r × ((m .station .0 < count r)
-      × (((1 ≤ m .length .0) × (m .length .0 ≤ at (r .set .c) (m .station .0))) × ¬ (at (r .rest) (m .station .0) ≡ 0))))
+      × (((1 ≤ m .length .0) × (m .length .0 ≤ at (r .set .c) (m .station .0))) × ¬ Free r m)))
   message-eleven =
       iff-then (given-later (isSound r) (Sound r) 8 _ 11 (decides-sound r) (omega arith))
       (iff-under
       (iff-then (given-later (stationKnown r m) _ 9 _ 11 decides-known (omega arith))
       (iff-under
       (iff-then (given-later (lengthAllowed r m) _ 10 _ 11 decides-length (omega arith))
-      (iff-under (given (nothingHeld r m) _ 11 _ decides-free (not-given _ 12 0 11 (omega arith) (omega arith))))))))
+      (iff-under (given (stationFree r m) _ 11 _ (decides-free r m) (not-given _ 12 0 11 (omega arith) (omega arith))))))))
 
   pub message-twelve : (handInNumber r m ≡ 12) ↔ (Sound r × ((m .station .0 < count r)
-      × (((1 ≤ m .length .0) × (m .length .0 ≤ at (r .set .c) (m .station .0))) × ((at (r .rest) (m .station .0) ≡ 0) × ¬ ArrivalAllowed r m))))
+      × (((1 ≤ m .length .0) × (m .length .0 ≤ at (r .set .c) (m .station .0))) × (Free r m × ¬ ArrivalAllowed r m))))
   message-twelve =
       iff-then (given-later (isSound r) (Sound r) 8 _ 12 (decides-sound r) (omega arith))
       (iff-under
@@ -119,7 +118,7 @@ module _ (r : Ring) (m : Message) where
       (iff-under
       (iff-then (given-later (lengthAllowed r m) _ 10 _ 12 decides-length (omega arith))
       (iff-under
-      (iff-then (given-later (nothingHeld r m) _ 11 _ 12 decides-free (omega arith))
+      (iff-then (given-later (stationFree r m) _ 11 _ 12 (decides-free r m) (omega arith))
       (iff-under (given (arrivalAllowed r m) _ 12 0 (decides-arrival r m) (omega arith)))))))))
 
   pub message-none : (handInNumber r m ≡ 0) ↔ (Sound r × Takes r m)
@@ -130,13 +129,13 @@ module _ (r : Ring) (m : Message) where
       (iff-then (iff-under
       (iff-then (given-later (lengthAllowed r m) _ 10 _ 0 decides-length (omega arith))
       (iff-under
-      (iff-then (given-later (nothingHeld r m) _ 11 _ 0 decides-free (omega arith))
+      (iff-then (given-later (stationFree r m) _ 11 _ 0 (decides-free r m) (omega arith))
       (iff-under (given-later (arrivalAllowed r m) _ 12 0 0 (decides-arrival r m) (omega arith)))))))
       (λ h. record { known = h .0; length = h .1 .0; free = h .1 .1 .0; arrival = h .1 .1 .1 .0 }, λ t. (t .known, (t .length, (t .free, (t .arrival, refl))))))))
 
   pub message-only : (handInNumber r m ≡ 0) ⊎ ((8 ≤ handInNumber r m) × (handInNumber r m ≤ 12))
   unfolding orElse
-  message-only = go (isSound r) (stationKnown r m) (lengthAllowed r m) (nothingHeld r m) (arrivalAllowed r m)
+  message-only = go (isSound r) (stationKnown r m) (lengthAllowed r m) (stationFree r m) (arrivalAllowed r m)
     where
       among : Bool → Bool → Bool → Bool → Bool → ℕ
       among a b c d e = orElse a 8 (orElse b 9 (orElse c 10 (orElse d 11 (orElse e 12 0))))
@@ -148,3 +147,42 @@ module _ (r : Ring) (m : Message) where
       go true true true false e = inr (omega arith, omega arith)
       go true true true true false = inr (omega arith, omega arith)
       go true true true true true = inl refl
+
+-- ---- the numbers of a marking, which are those of taking the mark off
+
+pub marked-number : (k : ℕ) (r : Ring) (s : Station) → markedWith k r s .answer .number ≡ k
+unfolding markedWith withdrawal
+marked-number zero r s = ⊎-elim (λ (h : withdraws r (s .0) ≡ true). rw h) (λ (h : withdraws r (s .0) ≡ false). rw h) (true-or-false (withdraws r (s .0)))
+marked-number (suc k) r s = refl
+
+pub unmarked-number : (k : ℕ) (r : Ring) (s : Station) → unmarkedWith k r s .number ≡ k
+unfolding unmarkedWith
+unmarked-number zero r s = refl
+unmarked-number (suc k) r s = refl
+
+module _ (r : Ring) (s : Station) where
+  decides-station : Decides (ltb (s .0) (count r)) (s .0 < count r)
+  decides-station = (ltb-true _ _, lt-ltb _ _)
+
+  pub mark-eight : (markNumber r s ≡ 8) ↔ ¬ Sound r
+  mark-eight = given (isSound r) (Sound r) 8 _ (decides-sound r) (not-given _ 9 0 8 (omega arith) (omega arith))
+
+  pub mark-nine : (markNumber r s ≡ 9) ↔ (Sound r × ¬ (s .0 < count r))
+  mark-nine =
+      iff-then (given-later (isSound r) (Sound r) 8 _ 9 (decides-sound r) (omega arith))
+      (iff-under (given (ltb (s .0) (count r)) _ 9 0 decides-station (omega arith)))
+
+  pub mark-none : (markNumber r s ≡ 0) ↔ (Sound r × (s .0 < count r))
+  mark-none =
+      iff-then (given-later (isSound r) (Sound r) 8 _ 0 (decides-sound r) (omega arith))
+      (iff-under
+      (iff-then (given-later (ltb (s .0) (count r)) _ 9 0 0 decides-station (omega arith)) ((λ h. h .0), λ h. (h, refl))))
+
+  pub mark-only : (markNumber r s ≡ 0) ⊎ (markNumber r s ≡ 8) ⊎ (markNumber r s ≡ 9)
+  unfolding orElse
+  mark-only = go (isSound r) (ltb (s .0) (count r))
+    where
+      go : (a b : Bool) → let k = orElse a 8 (orElse b 9 0) in (k ≡ 0) ⊎ (k ≡ 8) ⊎ (k ≡ 9)
+      go false b = inr (inl refl)
+      go true false = inr (inr refl)
+      go true true = inl refl

@@ -61,6 +61,7 @@ module _ (t : Set) (a : Alloc) (h : judgedPlan t a ≡ 0) where
         rests = zero-at;
         had = zero-at;
         arrivals = zero-at;
+        marks = zero-at;
         lasts = zero-at;
         visits = refl;
         shaped = shaped;

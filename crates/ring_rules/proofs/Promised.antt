@@ -1,27 +1,33 @@
 -- Opening, visits and handing in keep their promises: each answer is the judgement's number with the ring that goes with it, and the laws beside this file say what that ring is.
-use Prim.Native.Nat.{ℕ}
+use Prim.Native.Nat.{ℕ, _≤_}
 use mathlib.Core.Path.{_≡_, sym, _∙_}
 use mathlib.Core.Logic.{_⊎_, _≢_, ⊎-elim, inl, inr}
 use native.Mathlib.Omega.{arith}
+use Rattle.units.specs.Numbers.{mostClock}
+use Rattle.units.specs.Places.{at}
 use Rattle.units.specs.SmallLaws.{below-or-not}
+use Rattle.units.specs.declared.Station.{Station}
 use Rattle.sets.specs.Rules.{SameSet}
 use Rattle.sets.specs.declared.Set.{Set}
 use Rattle.plans.specs.Planned.{judgedPlan}
 use Rattle.plans.proofs.SameLaws.{judged-plan-same}
 use Rattle.plans.specs.declared.Alloc.{Alloc}
-use Rattle.rings.specs.State.{overrun, Shaped, blankRing}
+use Rattle.rings.specs.State.{overrun, Marked, Unmarked, Shaped, blankRing}
 use Rattle.rings.specs.Opening.{openedRing, opening}
 use Rattle.rings.specs.Sound.{Sound}
 use Rattle.rings.specs.Steps.{Ask, LengthNamed, syncSent, asyncSent, moved, recordOf, visitNumber, acceptedVisit, refusedVisit, visited}
 use Rattle.rings.specs.HandingIn.{handInNumber, holding, handedIn}
-use Rattle.ring_rules.specs.Promised.{Fresh, Done, UncutVisit, Held, SameFirst, SameRing, Promised}
-use Rattle.rings.specs.TimerLaws.{lead-none, lead-all}
+use Rattle.ring_rules.specs.Promised.{Fresh, Done, UncutVisit, Held, idle, silent, WalksAsIdle, SameFirst, SameRing, Promised}
+use Rattle.rings.specs.Marking.{markNumber, withdrawal, marked, unmarked}
+use Rattle.rings.specs.TimerLaws.{lead-none, lead-all, marked-or-not}
+use Rattle.rings.specs.MarkLaws.{marked-refused, marked-accepted, mark-passed}
 use Rattle.rings.specs.RingLaws.{decides-sound, opened-number, taken-number, opened-refused, opened-accepted, visit-refused, visit-accepted, visit-passed, taken-refused, taken-accepted, taken-passed}
-use Rattle.ring_rules.proofs.NumberLaws.{visited-number, visit-eight, visit-ten, visit-thirteen, visit-none, visit-only, message-eight, message-nine, message-ten, message-eleven, message-twelve, message-none, message-only}
+use Rattle.ring_rules.proofs.NumberLaws.{visited-number, visit-eight, visit-ten, visit-thirteen, visit-none, visit-only, message-eight, message-nine, message-ten, message-eleven, message-twelve, message-none, message-only, mark-eight, mark-nine, mark-none, mark-only}
+use Rattle.ring_rules.proofs.MarkedLaws.{number-marked, number-unmarked, mark-unchanged, mark-switches, mark-withdraws, mark-takes-none, mark-stays, mark-twice, mark-arrivals, marked-eleven, unmark-unchanged, unmark-switches, unmark-stays, mark-sound, unmark-sound, idle-sound, idle-named, idle-clock, walks-alike, sound-marks, nothing-new}
 use Rattle.ring_rules.proofs.OpenedLaws.{fresh, opened-sound}
 use Rattle.ring_rules.proofs.MovedLaws.{margin-kept, margin-late, done}
 use Rattle.ring_rules.proofs.HeldLaws.{held, held-sound}
-use Rattle.ring_rules.proofs.FirstLaws.{sound-same, visit-number-same, sync-same, async-same, record-same, moved-same, message-number-same, held-same, fresh-same}
+use Rattle.ring_rules.proofs.FirstLaws.{sound-same, visit-number-same, sync-same, async-same, record-same, moved-same, message-number-same, held-same, through-same, in-same, mark-number-same, withdrawal-same, fresh-same}
 use Rattle.ring_rules.proofs.ModeLaws.{sound-timely, sound-fddi, late-alone, unused-alone}
 use Rattle.rings.specs.declared.Ring.{Ring}
 use Rattle.rings.specs.declared.Message.{Message}
@@ -75,13 +81,26 @@ module _ (r : Ring) (ask : Ask) where
   visit-done : Shaped r → visited r ask .answer .number ≡ 0 → Done r ask (visited r ask .ring) (visited r ask .answer .«record»)
   visit-done L e = rw (accepted e) (done r ask L (passed e) (named e))
 
+-- a marked station is walked through as an idle one
+marked-walks : (r : Ring) (ask : Ask) → Shaped r → visited r ask .answer .number ≡ 0 → Marked r (r .token) → WalksAsIdle r ask (visited r ask .ring)
+marked-walks r ask L e on =
+    let sound = passed r ask e in
+    let given = visit-passed r ask (sym (number-visited r ask) ∙ e) .1 in
+    let clock : idle r .clock ≤ mostClock = rw (idle-clock r ask L sound (given .0)) (given .1) in
+    let goes : visited (idle r) (silent ask) .answer .number ≡ 0 =
+    number-visited (idle r) (silent ask) ∙ visit-none (idle r) (silent ask) .1 (idle-sound r ask L sound (given .0), (idle-named r ask L sound (given .0), clock)) in
+    record {
+      goes = goes;
+      timing = rw (accepted (idle r) (silent ask) goes, accepted r ask e) (walks-alike r ask L sound (given .0) on);
+    }
+
 -- with F 1 no frame runs on
 uncut-visit : (r : Ring) (ask : Ask) → Shaped r → r .set .head .frame ≡ 1 → ask .length ≡ 1 → UncutVisit r ask
 uncut-visit r ask L one tick =
     let none : overrun r ≡ 0 = omega (arith, one) in
     record {
       not-ten = λ e. visit-ten r ask .0 (sym (number-visited r ask) ∙ e) .1 (omega (arith, tick), omega (arith, one, tick));
-      limit = λ e timely. omega (arith, none, visit-done r ask L e .amounts .limit timely);
+      limit = λ e here timely. omega (arith, none, visit-done r ask L e .amounts .limit here timely);
       sent = λ e. visit-done r ask L e .amounts .ticks tick;
     }
 
@@ -129,9 +148,38 @@ first-places-message a b m La Lb same =
     let numbers : handedIn a m .number ≡ handedIn b m .number = number-taken a m ∙ (message-number-same a b same m ∙ sym (number-taken b m)) in (
       numbers,
       ⊎-elim (λ (e : handedIn a m .number ≡ 0).
-          held-same a b same m _ _ (taken-passed a m (sym (number-taken a m) ∙ e) .1 .known) (message-held a m La e) (message-held b m Lb (sym numbers ∙ e)))
+          held-same a b same m _ _ (message-held a m La e) (message-held b m Lb (sym numbers ∙ e)))
           (λ (n : handedIn a m .number ≢ 0). rw (message-unchanged a m n, message-unchanged b m (λ f. n (numbers ∙ f))) same)
           (zero-or-not (handedIn a m .number)),
+    )
+
+-- ---- marking, and taking the mark off
+
+first-places-mark : (a b : Ring) (s : Station) → Shaped a → Shaped b → SameRing a b → (marked a s .answer ≡ marked b s .answer) × SameRing (marked a s .ring) (marked b s .ring)
+first-places-mark a b s La Lb same =
+    let numbers : markNumber a s ≡ markNumber b s = mark-number-same a b same s in
+    ⊎-elim (λ (e : markNumber a s ≡ 0).
+    let f : markNumber b s ≡ 0 = sym numbers ∙ e in
+    let ga : marked a s .answer .number ≡ 0 = number-marked a s ∙ e in
+    let gb : marked b s .answer .number ≡ 0 = number-marked b s ∙ f in
+    let known = mark-passed a s e .1 in
+    let answers : withdrawal a (s .0) ≡ withdrawal b (s .0) = withdrawal-same a b same (s .0) known in
+    let here : at (a .mark) (s .0) ≡ at (b .mark) (s .0) = same .mark (s .0) known in (
+      rw (marked-accepted _ a s e, marked-accepted _ b s f) answers,
+      ⊎-elim (λ (on : Marked a (s .0)). rw (mark-stays a s on .0, mark-stays b s (rw (← here) on) .0) same)
+          (λ (off : Unmarked a (s .0)). through-same a b same (s .0) _ _ (mark-switches a s La ga off) (mark-switches b s Lb gb (sym here ∙ off)))
+          (marked-or-not a (s .0)),
+    ))
+    (λ (n : markNumber a s ≢ 0). rw (marked-refused _ a s n, marked-refused _ b s (λ f. n (numbers ∙ f))) (rw numbers, same))
+    (zero-or-not (markNumber a s))
+
+first-places-unmark : (a b : Ring) (s : Station) → Shaped a → Shaped b → SameRing a b → (unmarked a s .number ≡ unmarked b s .number) × SameRing (unmarked a s .ring) (unmarked b s .ring)
+first-places-unmark a b s La Lb same =
+    let numbers : unmarked a s .number ≡ unmarked b s .number = number-unmarked a s ∙ (mark-number-same a b same s ∙ sym (number-unmarked b s)) in (
+      numbers,
+      ⊎-elim (λ (e : unmarked a s .number ≡ 0). in-same a b same (s .0) _ _ (unmark-switches a s La e) (unmark-switches b s Lb (sym numbers ∙ e)))
+          (λ (n : unmarked a s .number ≢ 0). rw (unmark-unchanged a s n, unmark-unchanged b s (λ f. n (numbers ∙ f))) same)
+          (zero-or-not (unmarked a s .number)),
     )
 
 pub promised : Promised
@@ -167,10 +215,33 @@ promised =
       message-unchanged = message-unchanged;
       message-held = message-held;
       message-sound = message-sound;
+      mark-eight = λ r s. rw (number-marked r s) (mark-eight r s);
+      mark-nine = λ r s. rw (number-marked r s) (mark-nine r s);
+      mark-none = λ r s. rw (number-marked r s) (mark-none r s);
+      mark-only = λ r s. rw (number-marked r s) (mark-only r s);
+      mark-unchanged = mark-unchanged;
+      mark-switches = mark-switches;
+      mark-withdraws = mark-withdraws;
+      mark-takes-none = mark-takes-none;
+      mark-stays = mark-stays;
+      mark-twice = mark-twice;
+      mark-arrivals = mark-arrivals;
+      marked-eleven = λ r m sound known length on. number-taken r m ∙ marked-eleven r m sound known length on;
+      unmark-number = λ r s. number-unmarked r s ∙ sym (number-marked r s);
+      unmark-unchanged = unmark-unchanged;
+      unmark-switches = unmark-switches;
+      unmark-stays = unmark-stays;
+      marked-walks = marked-walks;
+      sound-marks = sound-marks;
+      mark-sound = mark-sound;
+      unmark-sound = unmark-sound;
+      nothing-new = nothing-new;
       first-places-opening = first-places-opening;
       first-places-sound = sound-same;
       first-places-visit = first-places-visit;
       first-places-message = first-places-message;
+      first-places-mark = first-places-mark;
+      first-places-unmark = first-places-unmark;
       late-alone = late-alone;
       unused-alone = unused-alone;
     }

@@ -1,4 +1,4 @@
--- What is promised of opening, visits and handing in beside the contracts; `proofs/Promised.antt` proves it. What every run of calls keeps is promised in `promises`.
+-- What is promised of opening, visits, handing in and stations switched through beside the contracts; `proofs/Promised.antt` proves it. What every run of calls keeps is promised in `promises`.
 use Prim.Native.Nat.{ℕ, suc, _+_, _-_, _*_, _≤_, _<_, min}
 use mathlib.Core.Path.{_≡_}
 use mathlib.Core.Bool.{true}
@@ -9,20 +9,23 @@ use lib.ListN.{length}
 use Rattle.units.specs.Numbers.{mostClock}
 use Rattle.units.specs.Small.{roundedUp}
 use Rattle.units.specs.Places.{at, sumBelow, sumFrom}
+use Rattle.units.specs.declared.Station.{Station}
 use Rattle.sets.specs.Rules.{SameSet}
 use Rattle.sets.specs.declared.Set.{Set}
 use Rattle.plans.specs.Planned.{judgedPlan}
 use Rattle.plans.specs.declared.Alloc.{Alloc}
-use Rattle.timers.specs.Timers.{ticks, startedAt, visited as tokenAt}
-use Rattle.rings.specs.State.{count, ttrt, overrun, share, unusedAt, Shaped, timersOf, blankRing, withTimers}
-use Rattle.rings.specs.Timers.{Fddi, Earlier, lead, timerOf, TimersSound}
+use Rattle.timers.specs.Timers.{ticks, startedAt, offered, visited as tokenAt}
+use Rattle.rings.specs.State.{count, ttrt, overrun, share, unusedAt, Marked, Unmarked, Shaped, timersOf, blankRing, withTimers, withMessages}
+use Rattle.rings.specs.Timers.{Fddi, Earlier, lead, timerOf, limit, TimersSound}
 use Rattle.rings.specs.Frames.{framesSent}
 use Rattle.rings.specs.Opening.{opening}
 use Rattle.rings.specs.Sound.{Sound, isSound}
-use Rattle.rings.specs.Steps.{Ask, LengthNamed, blankRecord, visited}
+use Rattle.rings.specs.Steps.{Ask, LengthNamed, mostSent, blankRecord, visited}
 use Rattle.rings.specs.HandingIn.{Known, LengthAllowed, Free, ArrivalAllowed, Takes, handedIn}
+use Rattle.rings.specs.Marking.{switchedThrough, switchedIn, marked, unmarked}
 use Rattle.rings.specs.declared.Ring.{Ring}
 use Rattle.rings.specs.declared.Message.{Message}
+use Rattle.rings.specs.declared.MarkAnswer.{MarkAnswer}
 use Rattle.rings.specs.declared.VisitRecord.{VisitRecord}
 
 -- the list at all places but i is as it was
@@ -49,6 +52,8 @@ pub record Fresh (t : Set) (a : Alloc) (r : Ring) : Type 0 where
   pub rests : (i : ℕ) → at (r .rest) i ≡ 0
   pub had : (i : ℕ) → at (r .had) i ≡ 0
   pub arrivals : (i : ℕ) → at (r .arrival) i ≡ 0
+  -- no station is marked
+  pub marks : (i : ℕ) → Unmarked r i
   -- no station has been visited
   pub lasts : (i : ℕ) → at (r .last) i ≡ 0
   pub visits : r .visits ≡ 0
@@ -67,16 +72,20 @@ begins r v = r .clock + ahead r v
 -- the two amounts, as the steps have them
 pub record Amounts (r : Ring) (ask : Ask) (v : VisitRecord) : Type 0 where
   -- step 1, timely-token: the larger of TTRT − (F − 1) − u − TRT and 0
-  pub limit : ¬ Fddi (r .set) → v .limit .0 ≡ ttrt r - overrun r - r .unused - at (r .trt) (r .token)
+  pub limit : Unmarked r (r .token) → ¬ Fddi (r .set) → v .limit .0 ≡ ttrt r - overrun r - r .unused - at (r .trt) (r .token)
   -- FDDI: no asynchronous time where the late count is above 0, else TTRT less the timer
-  pub limit-late : Fddi (r .set) → 0 < at (r .late) (r .token) → v .limit .0 ≡ 0
-  pub limit-early : Fddi (r .set) → at (r .late) (r .token) ≡ 0 → v .limit .0 ≡ ttrt r - at (r .trt) (r .token)
+  pub limit-late : Unmarked r (r .token) → Fddi (r .set) → 0 < at (r .late) (r .token) → v .limit .0 ≡ 0
+  pub limit-early : Unmarked r (r .token) → Fddi (r .set) → at (r .late) (r .token) ≡ 0 → v .limit .0 ≡ ttrt r - at (r .trt) (r .token)
   -- step 3: a held message whose arrival is at or before the start of the synchronous part: the smaller of S and what remains
-  pub served : 0 < at (r .rest) (r .token) → at (r .arrival) (r .token) ≤ begins r v → v .synchronous .0 ≡ min (share r (r .token)) (at (r .rest) (r .token))
+  pub served : Unmarked r (r .token) → 0 < at (r .rest) (r .token) → at (r .arrival) (r .token) ≤ begins r v → v .synchronous .0 ≡ min (share r (r .token)) (at (r .rest) (r .token))
   -- a message that arrives after that start is not served
   pub early : begins r v < at (r .arrival) (r .token) → v .synchronous .0 ≡ 0
   -- no message, nothing sent
   pub none : at (r .rest) (r .token) ≡ 0 → v .synchronous .0 ≡ 0
+  -- a marked station is offered 0 and sends nothing of either kind, whatever it holds and whatever is asked for
+  pub marked-limit : Marked r (r .token) → v .limit .0 ≡ 0
+  pub marked-sync : Marked r (r .token) → v .synchronous .0 ≡ 0
+  pub marked-async : Marked r (r .token) → v .asynchronous .0 ≡ 0
   -- step 4: frame after frame while the time used is below the limit, each to its end
   pub frames : v .asynchronous .0 ≡ framesSent (v .limit .0) ask * ask .length
   -- so many are sent: the smaller of those asked for and limit / length rounded up
@@ -128,6 +137,7 @@ pub record Moved (r next : Ring) (v : VisitRecord) : Type 0 where
   pub alloc : next .alloc ≡ r .alloc
   pub arrival : next .arrival ≡ r .arrival
   pub had : next .had ≡ r .had
+  pub mark : next .mark ≡ r .mark
   pub sents : SameBut (r .token) (next .sent) (r .sent)
   pub rests : SameBut (r .token) (next .rest) (r .rest)
   pub lasts : SameBut (r .token) (next .last) (r .last)
@@ -162,20 +172,14 @@ pub record UncutVisit (r : Ring) (ask : Ask) : Type 0 where
   -- it is never refused for its length
   pub not-ten : visited r ask .answer .number ≢ 10
   -- timely-token: the limit is the larger of TTRT − u − TRT and 0
-  pub limit : visited r ask .answer .number ≡ 0 → ¬ Fddi (r .set) → visited r ask .answer .«record» .limit .0 ≡ ttrt r - r .unused - at (r .trt) (r .token)
+  pub limit : visited r ask .answer .number ≡ 0 → Unmarked r (r .token) → ¬ Fddi (r .set) → visited r ask .answer .«record» .limit .0 ≡ ttrt r - r .unused - at (r .trt) (r .token)
   -- and the smaller of the limit and the ticks asked for is sent
   pub sent : visited r ask .answer .number ≡ 0 → visited r ask .answer .«record» .asynchronous .0 ≡ min (visited r ask .answer .«record» .limit .0) (ask .frames)
 
--- ---- handing in
+-- ---- calls that are no visits
 
--- the message is held with its whole length remaining and with its arrival, which is then that station's last accepted one; nothing else in the ring changes
-pub record Held (r : Ring) (m : Message) (next : Ring) : Type 0 where
-  pub rest : at (next .rest) (m .station .0) ≡ m .length .0
-  pub arrival : at (next .arrival) (m .station .0) ≡ m .arrival .0
-  pub had : at (next .had) (m .station .0) ≡ 1
-  pub rests : SameBut (m .station .0) (next .rest) (r .rest)
-  pub arrivals : SameBut (m .station .0) (next .arrival) (r .arrival)
-  pub hads : SameBut (m .station .0) (next .had) (r .had)
+-- what such a call leaves alone: the plan, the timers, the token, the clock, the starts and the count of the visits
+pub record SameTiming (r next : Ring) : Type 0 where
   pub set : next .set ≡ r .set
   pub alloc : next .alloc ≡ r .alloc
   pub trt : next .trt ≡ r .trt
@@ -186,7 +190,71 @@ pub record Held (r : Ring) (m : Message) (next : Ring) : Type 0 where
   pub visits : next .visits ≡ r .visits
   pub token : next .token ≡ r .token
   pub unused : next .unused ≡ r .unused
+
+-- the message is held with its whole length remaining and with its arrival, which is then that station's last accepted one; nothing else in the ring changes
+pub record Held (r : Ring) (m : Message) (next : Ring) : Type 0 where
+  pub rest : at (next .rest) (m .station .0) ≡ m .length .0
+  pub arrival : at (next .arrival) (m .station .0) ≡ m .arrival .0
+  pub had : at (next .had) (m .station .0) ≡ 1
+  pub rests : SameBut (m .station .0) (next .rest) (r .rest)
+  pub arrivals : SameBut (m .station .0) (next .arrival) (r .arrival)
+  pub hads : SameBut (m .station .0) (next .had) (r .had)
+  pub mark : next .mark ≡ r .mark
+  pub timing : SameTiming r next
   pub shaped : Shaped next
+
+-- station i is switched through: its mark is set and nothing remains of its message; its last accepted arrival stays, and nothing else changes
+pub record SwitchedThrough (r : Ring) (i : ℕ) (next : Ring) : Type 0 where
+  pub mark : at (next .mark) i ≡ 1
+  pub rest : at (next .rest) i ≡ 0
+  pub marks : SameBut i (next .mark) (r .mark)
+  pub rests : SameBut i (next .rest) (r .rest)
+  pub arrival : next .arrival ≡ r .arrival
+  pub had : next .had ≡ r .had
+  pub timing : SameTiming r next
+  pub shaped : Shaped next
+
+-- station i is switched in again: its mark is taken off, and nothing else changes
+pub record SwitchedIn (r : Ring) (i : ℕ) (next : Ring) : Type 0 where
+  pub mark : Unmarked next i
+  pub marks : SameBut i (next .mark) (r .mark)
+  pub rest : next .rest ≡ r .rest
+  pub arrival : next .arrival ≡ r .arrival
+  pub had : next .had ≡ r .had
+  pub timing : SameTiming r next
+  pub shaped : Shaped next
+
+-- the message that station i held was withdrawn: what remained of it, and its arrival
+pub record Withdrawn (r : Ring) (i : ℕ) (a : MarkAnswer) : Type 0 where
+  pub flag : a .withdrawn ≡ 1
+  pub rest : a .rest .0 ≡ at (r .rest) i
+  pub arrival : a .arrival .0 ≡ at (r .arrival) i
+
+-- none was, and the flag says so
+pub record NoneWithdrawn (a : MarkAnswer) : Type 0 where
+  pub flag : a .withdrawn ≡ 0
+  pub rest : a .rest .0 ≡ 0
+  pub arrival : a .arrival .0 ≡ 0
+
+-- the ring in which the station that has the token is idle: it holds no message, and it is not marked
+abbrev pub idle : Ring → Ring
+idle r = switchedIn (switchedThrough r (r .token)) (r .token)
+
+-- the same frames, and none of them asked for
+abbrev pub silent : Ask → Ask
+silent ask = record { frames = 0; length = ask .length }
+
+-- the marked station's visit is that of an idle one that asks for nothing: it goes, and the timers, the clock, the starts, the token and the count move alike
+pub record WalksAsIdle (r : Ring) (ask : Ask) (next : Ring) : Type 0 where
+  pub goes : visited (idle r) (silent ask) .answer .number ≡ 0
+  pub timing : SameTiming (visited (idle r) (silent ask) .ring) next
+
+-- where no station is marked, the three definitions that ask for the mark are the formulas of before
+pub record NothingNew (r : Ring) : Type 0 where
+  pub limit-timely : ¬ Fddi (r .set) → limit r ≡ ttrt r - overrun r - r .unused - at (r .trt) (r .token)
+  pub limit-fddi : Fddi (r .set) → limit r ≡ offered (ttrt r) (timerOf (timersOf r) (r .token))
+  pub most : mostSent r ≡ share r (r .token)
+  pub free : (m : Message) → Known r m → Free r m ↔ (at (r .rest) (m .station .0) ≡ 0)
 
 -- ---- rings are compared over the first N places
 
@@ -204,6 +272,7 @@ pub record SameRing (a b : Ring) : Type 0 where
   pub rest : SameFirst (count a) (a .rest) (b .rest)
   pub arrival : SameFirst (count a) (a .arrival) (b .arrival)
   pub had : SameFirst (count a) (a .had) (b .had)
+  pub mark : SameFirst (count a) (a .mark) (b .mark)
   pub last : SameFirst (count a) (a .last) (b .last)
   pub clock : a .clock ≡ b .clock
   pub visits : a .visits ≡ b .visits
@@ -227,6 +296,14 @@ pub record LeftAlone (change : Ring → Ring) (r : Ring) : Type 0 where
   pub visit-ring : (ask : Ask) → visited (change r) ask .ring ≡ change (visited r ask .ring)
   pub message : (m : Message) → handedIn (change r) m .number ≡ handedIn r m .number
   pub message-ring : (m : Message) → handedIn (change r) m .ring ≡ change (handedIn r m .ring)
+  pub mark : (s : Station) → marked (change r) s .answer ≡ marked r s .answer
+  pub mark-ring : (s : Station) → marked (change r) s .ring ≡ change (marked r s .ring)
+  pub unmark : (s : Station) → unmarked (change r) s .number ≡ unmarked r s .number
+  pub unmark-ring : (s : Station) → unmarked (change r) s .ring ≡ change (unmarked r s .ring)
+
+-- the ring with other marks
+abbrev pub withMarks : List ℕ → Ring → Ring
+withMarks marks r = withMessages (record { rest = r .rest; arrival = r .arrival; had = r .had; mark = marks }) r
 
 -- ---- the promises
 
@@ -277,7 +354,7 @@ pub record Promised : Type 0 where
   pub message-nine : (r : Ring) (m : Message) → (handedIn r m .number ≡ 9) ↔ (Sound r × ¬ Known r m)
   -- 10 exactly if that passes and the length is 0 or above C
   pub message-ten : (r : Ring) (m : Message) → (handedIn r m .number ≡ 10) ↔ (Sound r × (Known r m × ¬ LengthAllowed r m))
-  -- 11 exactly if that passes and the station holds an unsent message
+  -- 11 exactly if that passes and the station holds an unsent message or is marked
   pub message-eleven : (r : Ring) (m : Message) → (handedIn r m .number ≡ 11) ↔ (Sound r × (Known r m × (LengthAllowed r m × ¬ Free r m)))
   -- 12 exactly if that passes and the arrival is not allowed
   pub message-twelve : (r : Ring) (m : Message) → (handedIn r m .number ≡ 12) ↔ (Sound r × (Known r m × (LengthAllowed r m × (Free r m × ¬ ArrivalAllowed r m))))
@@ -291,6 +368,46 @@ pub record Promised : Type 0 where
   pub message-held : (r : Ring) (m : Message) → Shaped r → handedIn r m .number ≡ 0 → Held r m (handedIn r m .ring)
   -- and the ring is as sound as before
   pub message-sound : (r : Ring) (m : Message) → Shaped r → handedIn r m .number ≡ 0 → Sound (handedIn r m .ring)
+  -- marking: 8 exactly if the ring is unsound
+  pub mark-eight : (r : Ring) (s : Station) → (marked r s .answer .number ≡ 8) ↔ ¬ Sound r
+  -- 9 exactly if it is sound and the station number is not below N
+  pub mark-nine : (r : Ring) (s : Station) → (marked r s .answer .number ≡ 9) ↔ (Sound r × ¬ (s .0 < count r))
+  -- 0 exactly if both pass
+  pub mark-none : (r : Ring) (s : Station) → (marked r s .answer .number ≡ 0) ↔ (Sound r × (s .0 < count r))
+  -- no other number is ever given
+  pub mark-only : (r : Ring) (s : Station) → (marked r s .answer .number ≡ 0) ⊎ (marked r s .answer .number ≡ 8) ⊎ (marked r s .answer .number ≡ 9)
+  -- a refused marking gives back the very ring, and withdraws nothing
+  pub mark-unchanged : (r : Ring) (s : Station) → marked r s .answer .number ≢ 0 → (marked r s .ring ≡ r) × NoneWithdrawn (marked r s .answer)
+  -- a station that was not marked is switched through
+  pub mark-switches : (r : Ring) (s : Station) → Shaped r → marked r s .answer .number ≡ 0 → Unmarked r (s .0) → SwitchedThrough r (s .0) (marked r s .ring)
+  -- the message that it held is withdrawn; where it held none, nothing is
+  pub mark-withdraws : (r : Ring) (s : Station) → marked r s .answer .number ≡ 0 → Unmarked r (s .0) → 0 < at (r .rest) (s .0) → Withdrawn r (s .0) (marked r s .answer)
+  pub mark-takes-none : (r : Ring) (s : Station) → at (r .rest) (s .0) ≡ 0 → NoneWithdrawn (marked r s .answer)
+  -- at a station that is marked already nothing changes and nothing is withdrawn
+  pub mark-stays : (r : Ring) (s : Station) → Marked r (s .0) → (marked r s .ring ≡ r) × NoneWithdrawn (marked r s .answer)
+  -- so marking twice changes nothing, and the second marking withdraws nothing
+  pub mark-twice : (r : Ring) (s : Station) → Shaped r → (marked (marked r s .ring) s .ring ≡ marked r s .ring) × NoneWithdrawn (marked (marked r s .ring) s .answer)
+  -- which arrivals 12 allows stays: the withdrawn message's is still the station's last accepted one
+  pub mark-arrivals : (r : Ring) (s : Station) (m : Message) → ArrivalAllowed (marked r s .ring) m ↔ ArrivalAllowed r m
+  -- while a station is marked, messages get 11
+  pub marked-eleven : (r : Ring) (m : Message) → Sound r → Known r m → LengthAllowed r m → Marked r (m .station .0) → handedIn r m .number ≡ 11
+  -- taking the mark off has the numbers of marking
+  pub unmark-number : (r : Ring) (s : Station) → unmarked r s .number ≡ marked r s .answer .number
+  -- refused, it gives back the very ring
+  pub unmark-unchanged : (r : Ring) (s : Station) → unmarked r s .number ≢ 0 → unmarked r s .ring ≡ r
+  -- accepted, it switches the station in again
+  pub unmark-switches : (r : Ring) (s : Station) → Shaped r → unmarked r s .number ≡ 0 → SwitchedIn r (s .0) (unmarked r s .ring)
+  -- and changes nothing at a station that is not marked
+  pub unmark-stays : (r : Ring) (s : Station) → Unmarked r (s .0) → unmarked r s .ring ≡ r
+  -- the token walks through a marked station as through an idle one, in each mode
+  pub marked-walks : (r : Ring) (ask : Ask) → Shaped r → visited r ask .answer .number ≡ 0 → Marked r (r .token) → WalksAsIdle r ask (visited r ask .ring)
+  -- whether a ring is sound does not go by its marks
+  pub sound-marks : (r : Ring) (marks : List ℕ) → isSound (withMarks marks r) ≡ isSound r
+  -- both leave a sound ring sound
+  pub mark-sound : (r : Ring) (s : Station) → Sound r → Sound (marked r s .ring)
+  pub unmark-sound : (r : Ring) (s : Station) → Sound r → Sound (unmarked r s .ring)
+  -- where no station is marked, nothing is new
+  pub nothing-new : (r : Ring) → r .token < count r → ((i : ℕ) → i < count r → Unmarked r i) → NothingNew r
   -- places from N on are never looked at, in opening
   pub first-places-opening : (t u : Set) (a b : Alloc) → SameSet t u → SameFirst (t .n) (a .s) (b .s)
       → (opening t a .number ≡ opening u b .number) × (opening t a .number ≡ 0 → SameRing (opening t a .ring) (opening u b .ring))
@@ -299,9 +416,14 @@ pub record Promised : Type 0 where
   -- in a visit
   pub first-places-visit : (a b : Ring) (ask : Ask) → Shaped a → Shaped b → SameRing a b
       → (visited a ask .answer ≡ visited b ask .answer) × SameRing (visited a ask .ring) (visited b ask .ring)
-  -- and in handing in
+  -- in handing in
   pub first-places-message : (a b : Ring) (m : Message) → Shaped a → Shaped b → SameRing a b
       → (handedIn a m .number ≡ handedIn b m .number) × SameRing (handedIn a m .ring) (handedIn b m .ring)
+  -- and in marking and taking the mark off
+  pub first-places-mark : (a b : Ring) (s : Station) → Shaped a → Shaped b → SameRing a b
+      → (marked a s .answer ≡ marked b s .answer) × SameRing (marked a s .ring) (marked b s .ring)
+  pub first-places-unmark : (a b : Ring) (s : Station) → Shaped a → Shaped b → SameRing a b
+      → (unmarked a s .number ≡ unmarked b s .number) × SameRing (unmarked a s .ring) (unmarked b s .ring)
   -- a timely-token ring's late counts are neither looked at nor changed
   pub late-alone : (r : Ring) (late : List ℕ) → ¬ Fddi (r .set) → LeftAlone (withLate late) r
   -- and an FDDI ring's u is neither looked at nor changed

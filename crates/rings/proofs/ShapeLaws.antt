@@ -20,6 +20,7 @@ blank-shaped t a =
       rest = refl;
       arrival = refl;
       had = refl;
+      mark = refl;
       last = refl;
     }
 
@@ -33,11 +34,12 @@ module _ (r : Ring) (L : Shaped r) where
         rest = L .rest;
         arrival = L .arrival;
         had = L .had;
+        mark = L .mark;
         last = L .last;
       }
 
-  pub messages-shaped : (m : Messages) → length (m .rest) ≡ 128 → length (m .arrival) ≡ 128 → length (m .had) ≡ 128 → Shaped (withMessages m r)
-  messages-shaped m rest arrival had =
+  pub messages-shaped : (m : Messages) → length (m .rest) ≡ 128 → length (m .arrival) ≡ 128 → length (m .had) ≡ 128 → length (m .mark) ≡ 128 → Shaped (withMessages m r)
+  messages-shaped m rest arrival had mark =
       record {
         trt = L .trt;
         late = L .late;
@@ -45,6 +47,7 @@ module _ (r : Ring) (L : Shaped r) where
         rest = rest;
         arrival = arrival;
         had = had;
+        mark = mark;
         last = L .last;
       }
 
@@ -57,6 +60,7 @@ module _ (r : Ring) (L : Shaped r) where
         rest = L .rest;
         arrival = L .arrival;
         had = L .had;
+        mark = L .mark;
         last = last;
       }
 
@@ -65,7 +69,7 @@ module _ (r : Ring) (L : Shaped r) where
   unfolding holding
   holding-shaped m =
       let i = m .station .0 in
-      messages-shaped r L _ (length-set (r .rest) i _ ∙ L .rest) (length-set (r .arrival) i _ ∙ L .arrival) (length-set (r .had) i _ ∙ L .had)
+      messages-shaped r L _ (length-set (r .rest) i _ ∙ L .rest) (length-set (r .arrival) i _ ∙ L .arrival) (length-set (r .had) i _ ∙ L .had) (L .mark)
 
   -- the timers are another matter: what became of them goes by the mode
   pub moved-shaped : (sync async : ℕ) → length (moved r sync async .trt) ≡ 128 → length (moved r sync async .late) ≡ 128 → Shaped (moved r sync async)
@@ -73,5 +77,5 @@ module _ (r : Ring) (L : Shaped r) where
   moved-shaped sync async trt late =
       let p = r .token in
       let course = course-shaped r L _ (length-set (r .sent) p _ ∙ L .sent) (length-set (r .last) p _ ∙ L .last) in
-      let rest = messages-shaped _ course _ (length-set (r .rest) p _ ∙ L .rest) (L .arrival) (L .had) in
+      let rest = messages-shaped _ course _ (length-set (r .rest) p _ ∙ L .rest) (L .arrival) (L .had) (L .mark) in
       timers-shaped _ rest _ trt late

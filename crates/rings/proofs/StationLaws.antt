@@ -19,8 +19,8 @@ use Rattle.plans.specs.declared.Alloc.{Alloc}
 use Rattle.timers.specs.Timers.{Timer, ran, later, startedAt, visited}
 use Rattle.timers.proofs.Promised.{promised}
 use Rattle.rings.specs.State.{count, ttrt, Shaped, timersOf}
-use Rattle.rings.specs.Timers.{Fddi, timerOf, hasRun, limit, rise, tokenCame, timePassed, silentTrt, silentFddi, mostLate}
-use Rattle.rings.specs.TimerLaws.{limit-fddi, after-fddi, opened-fddi}
+use Rattle.rings.specs.Timers.{Fddi, timerOf, hasRun, timersOffer, rise, tokenCame, timePassed, silentTrt, silentFddi, mostLate}
+use Rattle.rings.specs.TimerLaws.{offer-fddi, after-fddi, opened-fddi}
 use Rattle.rings.specs.Opening.{openedRing}
 use Rattle.rings.specs.Sound.{Sound}
 use Rattle.rings.specs.Steps.{moved}
@@ -81,8 +81,8 @@ module _ (r : Ring) (L : Shaped r) (s : Sound r) (e : Fddi (r .set)) where
   some : 0 < ttrt r
   some = omega (arith, timers-below (r .token) (s .token))
 
-  pub limit-ran : limit r ≡ ttrt r - hasRun (r .set) (timersOf r) (r .token)
-  limit-ran = limit-fddi r e ∙ promised .offered-is (ttrt r) (timerOf (timersOf r) (r .token)) (timers-below (r .token) (s .token))
+  pub offer-ran : timersOffer r ≡ ttrt r - hasRun (r .set) (timersOf r) (r .token)
+  offer-ran = offer-fddi r e ∙ promised .offered-is (ttrt r) (timerOf (timersOf r) (r .token)) (timers-below (r .token) (s .token))
 
   module _ (sync async : ℕ) where
     -- every station but the token's: time passes

@@ -8,7 +8,7 @@ use lib.ListN.{set}
 use Rattle.units.specs.Numbers.{accepted, unsound, noSuchStation, badLength, stillHeld, badArrival, mostClock}
 use Rattle.units.specs.Places.{at}
 use Rattle.units.specs.Judging.{orElse, between}
-use Rattle.rings.specs.State.{count, beforeFirstVisit, beforeFirstMessage, withMessages}
+use Rattle.rings.specs.State.{count, beforeFirstVisit, beforeFirstMessage, Unmarked, withMessages}
 use Rattle.rings.specs.Sound.{isSound}
 use Rattle.rings.specs.declared.Ring.{Ring}
 use Rattle.rings.specs.declared.Message.{Message}
@@ -24,9 +24,9 @@ Known r m = m .station .0 < count r
 abbrev pub LengthAllowed : Ring → Message → Type 0
 LengthAllowed r m = (1 ≤ m .length .0) × (m .length .0 ≤ at (r .set .c) (m .station .0))
 
--- 11: that station holds no unsent message
+-- 11: that station holds no unsent message and is not marked
 abbrev pub Free : Ring → Message → Type 0
-Free r m = at (r .rest) (m .station .0) ≡ 0
+Free r m = (at (r .rest) (m .station .0) ≡ 0) × Unmarked r (m .station .0)
 
 -- 12: when an arrival is allowed
 pub record ArrivalAllowed (r : Ring) (m : Message) : Type 0 where
@@ -54,9 +54,9 @@ stationKnown r m = ltb (m .station .0) (count r)
 abbrev pub lengthAllowed : Ring → Message → Bool
 lengthAllowed r m = between 1 (at (r .set .c) (m .station .0)) (m .length .0)
 
--- 11: that station holds no unsent message
-abbrev pub nothingHeld : Ring → Message → Bool
-nothingHeld r m = eqb (at (r .rest) (m .station .0)) 0
+-- 11: that station holds no unsent message and is not marked
+abbrev pub stationFree : Ring → Message → Bool
+stationFree r m = eqb (at (r .rest) (m .station .0)) 0 && eqb (at (r .mark) (m .station .0)) 0
 
 -- 12: the arrival is in range
 abbrev pub arrivalInRange : Message → Bool
@@ -84,6 +84,7 @@ holding r m =
       rest = set (r .rest) i (m .length .0);
       arrival = set (r .arrival) i (m .arrival .0);
       had = set (r .had) i 1;
+      mark = r .mark;
     })
     r
 
@@ -94,7 +95,7 @@ abbrev pub messageNumber : Ring → Message → ℕ
 messageNumber r m =
     orElse (stationKnown r m) noSuchStation
     (orElse (lengthAllowed r m) badLength
-    (orElse (nothingHeld r m) stillHeld
+    (orElse (stationFree r m) stillHeld
     (orElse (arrivalAllowed r m) badArrival accepted)))
 
 -- 8 for an unsound ring first

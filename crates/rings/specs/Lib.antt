@@ -5,10 +5,12 @@
 --     Sound        01's list of unsound states (8), a sentence and a test for each line
 --     Steps        the five steps of a visit, the record, and a visit's answer (8, 13)
 --     HandingIn    what each of 9 to 12 asks, the ring that holds the message, and the answer
+--     Marking      a station switched through, what that takes back, and switched in again
 --     Bounds       what the inner functions ask for and hand back
 -- and, for the proofs of the layers above:
 --     TimerLaws
 --     RingLaws
+--     MarkLaws
 pub mod State
 pub mod Timers
 pub mod Opening
@@ -16,7 +18,9 @@ pub mod Sound
 pub mod Frames
 pub mod Steps
 pub mod HandingIn
+pub mod Marking
 pub mod Bounds
 pub mod TimerLaws
 pub mod FrameLaws
 pub mod RingLaws
+pub mod MarkLaws

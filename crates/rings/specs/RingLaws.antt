@@ -18,13 +18,13 @@ use Rattle.units.specs.JudgingLaws.{Decides, true-or-false, decides-le, decides
 use Rattle.sets.specs.Rules.{tau, CountAllowed, NumbersAllowed, WalkTimeAllowed}
 use Rattle.plans.specs.Rules.{MeetsRules, AllocInRange}
 use Rattle.plans.specs.PlanLaws.{given-none}
-use Rattle.rings.specs.State.{count, ttrt, overrun, share, unusedAt, beforeFirstVisit, beforeFirstMessage, blankRing}
+use Rattle.rings.specs.State.{count, ttrt, overrun, share, unusedAt, beforeFirstVisit, beforeFirstMessage, Marked, Unmarked, blankRing}
 use Rattle.rings.specs.Opening.{openedWith}
 use Rattle.rings.specs.Timers.{Fddi, mostLate, TimelySound, FddiSound, TimersSound, trtSoundAt, unusedSound, timerSoundAt, lateSoundAt, timelySound, fddiSound, timersSound}
-use Rattle.rings.specs.TimerLaws.{fddi-or-not, fddi-true, fddi-false}
+use Rattle.rings.specs.TimerLaws.{fddi-or-not, fddi-true, fddi-false, marked-true, marked-false, marked-or-not}
 use Rattle.rings.specs.Sound.{Sound, sentSoundAt, restSoundAt, arrivalSoundAt, planSound, numberTests, isSound}
-use Rattle.rings.specs.Steps.{Ask, LengthNamed, lengthNamed, serves, syncSent, visitNumber, refusedVisit, acceptedVisit, visitedWith}
-use Rattle.rings.specs.HandingIn.{ArrivalAllowed, Takes, stationKnown, lengthAllowed, nothingHeld, arrivalInRange, laterThanLastStart, gapKept, arrivalAllowed, handInNumber, holding, messageNumber, takenWith}
+use Rattle.rings.specs.Steps.{Ask, LengthNamed, lengthNamed, serves, mostSent, syncSent, visitNumber, refusedVisit, acceptedVisit, visitedWith}
+use Rattle.rings.specs.HandingIn.{Free, ArrivalAllowed, Takes, stationKnown, lengthAllowed, stationFree, arrivalInRange, laterThanLastStart, gapKept, arrivalAllowed, handInNumber, holding, messageNumber, takenWith}
 use Rattle.rings.specs.Bounds.{Safe, SafeTimely, SafeTimers, Holdable}
 use Rattle.rings.specs.declared.Ring.{Ring}
 use Rattle.rings.specs.declared.Message.{Message}
@@ -178,7 +178,20 @@ taken-accepted k r m h = rw h
 
 -- ---- what is sent of the held message
 
-pub served : (r : Ring) (async : ℕ) → serves r async ≡ true → syncSent r async ≡ min (share r (r .token)) (at (r .rest) (r .token))
+-- a marked station sends nothing, any other at most S
+pub most-marked : (r : Ring) → Marked r (r .token) → mostSent r ≡ 0
+unfolding mostSent
+most-marked r m = rw (marked-true r (r .token) m)
+
+pub most-unmarked : (r : Ring) → Unmarked r (r .token) → mostSent r ≡ share r (r .token)
+unfolding mostSent
+most-unmarked r u = rw (marked-false r (r .token) u)
+
+pub most-within : (r : Ring) → mostSent r ≤ share r (r .token)
+most-within r =
+    ⊎-elim (λ (m : Marked r (r .token)). omega (arith, most-marked r m)) (λ (u : Unmarked r (r .token)). omega (arith, most-unmarked r u)) (marked-or-not r (r .token))
+
+pub served : (r : Ring) (async : ℕ) → serves r async ≡ true → syncSent r async ≡ min (mostSent r) (at (r .rest) (r .token))
 unfolding syncSent
 served r async h = rw h
 
@@ -186,12 +199,15 @@ pub not-served : (r : Ring) (async : ℕ) → serves r async ≡ false → syncS
 unfolding syncSent
 not-served r async h = rw h
 
--- what is sent of a message is within S and what remains
-pub sync-within : (r : Ring) (async : ℕ) → (syncSent r async ≤ share r (r .token)) × (syncSent r async ≤ at (r .rest) (r .token))
-sync-within r async =
+-- what is sent of a message is within that most, and so within S, and within what remains
+pub sync-most : (r : Ring) (async : ℕ) → (syncSent r async ≤ mostSent r) × (syncSent r async ≤ at (r .rest) (r .token))
+sync-most r async =
     ⊎-elim (λ (e : serves r async ≡ true). let s = served r async e in (omega arith, omega arith))
     (λ (e : serves r async ≡ false). let s = not-served r async e in (omega arith, omega arith))
     (true-or-false (serves r async))
+
+pub sync-within : (r : Ring) (async : ℕ) → (syncSent r async ≤ share r (r .token)) × (syncSent r async ≤ at (r .rest) (r .token))
+sync-within r async = (omega (arith, sync-most r async .0, most-within r), sync-most r async .1)
 
 -- ---- the numbers of a visit
 
@@ -216,13 +232,13 @@ module _ (r : Ring) (m : Message) where
   pub message-10 : stationKnown r m ≡ true → lengthAllowed r m ≡ false → messageNumber r m ≡ 10
   message-10 h₉ h₁₀ = held _ _ _ h₉ ∙ failed _ _ _ h₁₀
 
-  pub message-11 : stationKnown r m ≡ true → lengthAllowed r m ≡ true → nothingHeld r m ≡ false → messageNumber r m ≡ 11
+  pub message-11 : stationKnown r m ≡ true → lengthAllowed r m ≡ true → stationFree r m ≡ false → messageNumber r m ≡ 11
   message-11 h₉ h₁₀ h₁₁ = held _ _ _ h₉ ∙ held _ _ _ h₁₀ ∙ failed _ _ _ h₁₁
 
-  pub message-12 : stationKnown r m ≡ true → lengthAllowed r m ≡ true → nothingHeld r m ≡ true → arrivalAllowed r m ≡ false → messageNumber r m ≡ 12
+  pub message-12 : stationKnown r m ≡ true → lengthAllowed r m ≡ true → stationFree r m ≡ true → arrivalAllowed r m ≡ false → messageNumber r m ≡ 12
   message-12 h₉ h₁₀ h₁₁ h₁₂ = held _ _ _ h₉ ∙ held _ _ _ h₁₀ ∙ held _ _ _ h₁₁ ∙ failed _ _ _ h₁₂
 
-  pub message-0 : stationKnown r m ≡ true → lengthAllowed r m ≡ true → nothingHeld r m ≡ true → arrivalAllowed r m ≡ true → messageNumber r m ≡ 0
+  pub message-0 : stationKnown r m ≡ true → lengthAllowed r m ≡ true → stationFree r m ≡ true → arrivalAllowed r m ≡ true → messageNumber r m ≡ 0
   message-0 h₉ h₁₀ h₁₁ h₁₂ = held _ _ _ h₉ ∙ held _ _ _ h₁₀ ∙ held _ _ _ h₁₁ ∙ held _ _ _ h₁₂
 
 -- each test decides its sentence
@@ -247,19 +263,22 @@ decides-arrival r m =
       λ f. all .1 ((f .range, f .later), f .gap),
     )
 
+pub decides-free : (r : Ring) (m : Message) → Decides (stationFree r m) (Free r m)
+decides-free r m = decides-both _ _ _ _ (eqb-true _ _, eq-eqb _ _) (eqb-true _ _, eq-eqb _ _)
+
 -- a handing in is accepted exactly if the ring is sound and takes the message
 pub taken-passed : (r : Ring) (m : Message) → handInNumber r m ≡ 0 → Sound r × Takes r m
 taken-passed r m h =
     let p₈ = passed (isSound r) 8 (messageNumber r m) (omega arith) h in
     let p₉ = passed (stationKnown r m) 9 _ (omega arith) (p₈ .1) in
     let p₁₀ = passed (lengthAllowed r m) 10 _ (omega arith) (p₉ .1) in
-    let p₁₁ = passed (nothingHeld r m) 11 _ (omega arith) (p₁₀ .1) in
+    let p₁₁ = passed (stationFree r m) 11 _ (omega arith) (p₁₀ .1) in
     let p₁₂ = passed (arrivalAllowed r m) 12 0 (omega arith) (p₁₁ .1) in (
       sound-sentences r (p₈ .0),
       record {
         known = ltb-true _ _ (p₉ .0);
         length = decides-between 1 _ _ .0 (p₁₀ .0);
-        free = eqb-true _ _ (p₁₁ .0);
+        free = decides-free r m .0 (p₁₁ .0);
         arrival = decides-arrival r m .0 (p₁₂ .0);
       },
     )

@@ -1,5 +1,5 @@
 -- What the fields of a ring say of a station (a place from N on says nothing), and a ring made of its parts.
-use Prim.Native.Nat.{ℕ, _+_, _-_}
+use Prim.Native.Nat.{ℕ, _+_, _-_, _<_}
 use mathlib.Core.Bool.{Bool, cond}
 use lib.Dec.{ltb, leb, eqb}
 use mathlib.Core.Path.{_≡_}
@@ -49,6 +49,17 @@ beforeFirstVisit r i = leb (r .visits) i
 abbrev pub beforeFirstMessage : Ring → ℕ → Bool
 beforeFirstMessage r i = eqb (at (r .had) i) 0
 
+-- station i is switched through: its mark is not 0
+abbrev pub Marked : Ring → ℕ → Type 0
+Marked r i = 0 < at (r .mark) i
+
+abbrev pub Unmarked : Ring → ℕ → Type 0
+Unmarked r i = at (r .mark) i ≡ 0
+
+-- the same as a test
+abbrev pub isMarked : Ring → ℕ → Bool
+isMarked r i = ltb 0 (at (r .mark) i)
+
 -- the arrays that a ring changes have 128 places, as those of every ring of the code have
 pub record Shaped (r : Ring) : Type 0 where
   pub trt : length (r .trt) ≡ 128
@@ -57,6 +68,7 @@ pub record Shaped (r : Ring) : Type 0 where
   pub rest : length (r .rest) ≡ 128
   pub arrival : length (r .arrival) ≡ 128
   pub had : length (r .had) ≡ 128
+  pub mark : length (r .mark) ≡ 128
   pub last : length (r .last) ≡ 128
 
 -- ---- a ring by its parts. `made` lists its fields, and nothing else does: a ring that differs from another one is that ring with a part changed
@@ -65,14 +77,15 @@ pub record Shaped (r : Ring) : Type 0 where
 abbrev pub timersOf : Ring → Timers
 timersOf r = record { trt = r .trt; late = r .late; unused = r .unused }
 
--- the messages: what remains of the held one, the last accepted arrival, and whether one was ever accepted
+-- the messages: what remains of the held one, the last accepted arrival, whether one was ever accepted, and the mark of a station that takes none
 pub record Messages : Type 0 where
   pub rest : List ℕ
   pub arrival : List ℕ
   pub had : List ℕ
+  pub mark : List ℕ
 
 abbrev pub messagesOf : Ring → Messages
-messagesOf r = record { rest = r .rest; arrival = r .arrival; had = r .had }
+messagesOf r = record { rest = r .rest; arrival = r .arrival; had = r .had; mark = r .mark }
 
 -- how far the ring has come: s and the last start of each station, the token, the clock and the visit count
 pub record Course : Type 0 where
@@ -98,6 +111,7 @@ made t a timers messages course =
       token = course .token;
       arrival = messages .arrival;
       had = messages .had;
+      mark = messages .mark;
       last = course .last;
       clock = course .clock;
       visits = course .visits;
@@ -122,11 +136,11 @@ withCourse course r = made (r .set) (r .alloc) (timersOf r) (messagesOf r) cours
 
 -- with other remainders of the held messages
 abbrev pub withRest : List ℕ → Ring → Ring
-withRest rest r = withMessages (record { rest = rest; arrival = r .arrival; had = r .had }) r
+withRest rest r = withMessages (record { rest = rest; arrival = r .arrival; had = r .had; mark = r .mark }) r
 
--- no message is held, and none was ever accepted
+-- no message is held, none was ever accepted, and no station is marked
 abbrev pub noMessages : Messages
-noMessages = record { rest = zeros; arrival = zeros; had = zeros }
+noMessages = record { rest = zeros; arrival = zeros; had = zeros; mark = zeros }
 
 -- the blank ring: every number in it 0
 abbrev pub blankRing : Ring

@@ -7,7 +7,7 @@ use lib.ListN.{set}
 use Rattle.units.specs.Numbers.{accepted, unsound, badLength, clockTooHigh, mostClock}
 use Rattle.units.specs.Places.{at}
 use Rattle.units.specs.Judging.{orElse, between}
-use Rattle.rings.specs.State.{count, following, share, holds, withTimers, withRest, withCourse}
+use Rattle.rings.specs.State.{count, following, share, holds, isMarked, withTimers, withRest, withCourse}
 use Rattle.rings.specs.Timers.{limit, lead, rise, timersAfter}
 use Rattle.rings.specs.Sound.{isSound}
 use Rattle.rings.specs.Frames.{framesTime}
@@ -41,9 +41,13 @@ syncStart r async = r .clock + lead (r .set) async
 abbrev pub serves : Ring → ℕ → Bool
 serves r async = holds r (r .token) && leb (at (r .arrival) (r .token)) (syncStart r async)
 
--- 3: then it sends the smaller of S and what remains, else nothing
+-- the most that it may send: S, and 0 where it is marked
+unfoldable pub mostSent : Ring → ℕ
+mostSent r = cond (isMarked r (r .token)) 0 (share r (r .token))
+
+-- 3: then it sends the smaller of that and what remains, else nothing
 unfoldable pub syncSent : Ring → ℕ → ℕ
-syncSent r async = cond (serves r async) (min (share r (r .token)) (at (r .rest) (r .token))) 0
+syncSent r async = cond (serves r async) (min (mostSent r) (at (r .rest) (r .token))) 0
 
 -- 5: the token moves on, after N − 1 to 0
 abbrev pub nextToken : Ring → ℕ

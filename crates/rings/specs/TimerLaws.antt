@@ -4,13 +4,16 @@ use mathlib.Core.Path.{_≡_}
 use mathlib.Core.Bool.{true, false}
 use mathlib.Core.Logic.{_⊎_, inl, inr, ⊎-elim}
 use native.Mathlib.Omega.{arith}
-use borrow.Author.Tests.{eqb-true, eqb-false, eq-eqb, ne-eqb, lt-leb}
+use borrow.Author.Tests.{eqb-true, eqb-false, eq-eqb, ne-eqb, lt-leb, lt-ltb}
+use Rattle.units.specs.Places.{at}
 use Rattle.units.specs.JudgingLaws.{true-or-false}
+use Rattle.units.specs.SmallLaws.{below-or-not}
 use Rattle.sets.specs.declared.Set.{Set}
 use Rattle.plans.specs.Rules.{isFddi}
 use Rattle.plans.specs.declared.Alloc.{Alloc}
 use Rattle.timers.specs.Timers.{Timer, visited, offered}
-use Rattle.rings.specs.Timers.{Fddi, Earlier, isEarlier, lead, timelyLimit, fddiLimit, limit, timelyAfter, fddiAfter, timersAfter, silentTimely, silentFddi, silentTimers}
+use Rattle.rings.specs.State.{Marked, Unmarked, isMarked}
+use Rattle.rings.specs.Timers.{Fddi, Earlier, isEarlier, lead, timelyLimit, fddiLimit, timersOffer, limit, timelyAfter, fddiAfter, timersAfter, silentTimely, silentFddi, silentTimers}
 use Rattle.rings.specs.declared.Ring.{Ring}
 
 -- ---- the mode is FDDI or it is not
@@ -43,21 +46,49 @@ pub lead-within : (t : Set) (async : ℕ) → lead t async ≤ async
 lead-within t async =
     ⊎-elim (λ e. omega (arith, lead-all t e async)) (λ n. omega (arith, lead-none t n async)) (earlier-or-not t)
 
+-- ---- a station is marked or it is not
+
+pub none-left : (x : ℕ) → x ≤ 0 → x ≡ 0
+none-left x l = omega arith
+
+pub marked-true : (r : Ring) (i : ℕ) → Marked r i → isMarked r i ≡ true
+marked-true r i m = lt-ltb _ _ m
+
+pub marked-false : (r : Ring) (i : ℕ) → Unmarked r i → isMarked r i ≡ false
+marked-false r i u = rw u
+
+pub marked-or-not : (r : Ring) (i : ℕ) → Marked r i ⊎ Unmarked r i
+marked-or-not r i = ⊎-elim (λ (l : 0 < at (r .mark) i). inl l) (λ (l : at (r .mark) i ≤ 0). inr (none-left _ l)) (below-or-not 0 (at (r .mark) i))
+
+-- a marked station is offered 0, any other what the timers offer
+pub limit-marked : (r : Ring) → Marked r (r .token) → limit r ≡ 0
+unfolding limit
+limit-marked r m = rw (marked-true r (r .token) m)
+
+pub limit-unmarked : (r : Ring) → Unmarked r (r .token) → limit r ≡ timersOffer r
+unfolding limit
+limit-unmarked r u = rw (marked-false r (r .token) u)
+
+-- so nobody is offered more than that
+pub limit-within : (r : Ring) → limit r ≤ timersOffer r
+limit-within r =
+    ⊎-elim (λ (m : Marked r (r .token)). omega (arith, limit-marked r m)) (λ (u : Unmarked r (r .token)). omega (arith, limit-unmarked r u)) (marked-or-not r (r .token))
+
 -- ---- each definition in each mode
 
 module _ (r : Ring) (e : Fddi (r .set)) where
-  pub limit-fddi : limit r ≡ fddiLimit r
-  unfolding limit
-  limit-fddi = rw (fddi-true (r .set) e)
+  pub offer-fddi : timersOffer r ≡ fddiLimit r
+  unfolding timersOffer
+  offer-fddi = rw (fddi-true (r .set) e)
 
   pub after-fddi : (sync async : ℕ) → timersAfter r sync async ≡ fddiAfter r sync async
   unfolding timersAfter
   after-fddi sync async = rw (fddi-true (r .set) e)
 
 module _ (r : Ring) (n : ¬ Fddi (r .set)) where
-  pub limit-timely : limit r ≡ timelyLimit r
-  unfolding limit
-  limit-timely = rw (fddi-false (r .set) n)
+  pub offer-timely : timersOffer r ≡ timelyLimit r
+  unfolding timersOffer
+  offer-timely = rw (fddi-false (r .set) n)
 
   pub after-timely : (sync async : ℕ) → timersAfter r sync async ≡ timelyAfter r sync async
   unfolding timersAfter

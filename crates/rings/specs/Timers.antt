@@ -14,7 +14,7 @@ use Rattle.sets.specs.declared.Set.{Set}
 use Rattle.plans.specs.Rules.{isFddi}
 use Rattle.plans.specs.declared.Alloc.{Alloc}
 use Rattle.timers.specs.Timers.{Timer, ran, later, startedAt, visited, offered}
-use Rattle.rings.specs.State.{count, ttrt, overrun, share, unusedAt, timersOf}
+use Rattle.rings.specs.State.{count, ttrt, overrun, share, unusedAt, isMarked, timersOf}
 use Rattle.rings.specs.declared.Ring.{Ring}
 use Rattle.rings.specs.declared.Timers.{Timers}
 
@@ -51,9 +51,13 @@ hasRun t all i = ran (t .head .ttrt) (timerOf all i)
 abbrev pub fddiLimit : Ring → ℕ
 fddiLimit r = offered (ttrt r) (timerOf (timersOf r) (r .token))
 
--- 1: the limit
+-- what the timers offer, by the mode
+unfoldable pub timersOffer : Ring → ℕ
+timersOffer r = cond (isFddi (r .set)) (fddiLimit r) (timelyLimit r)
+
+-- 1: the limit is what the timers offer, and 0 for a station that is marked
 unfoldable pub limit : Ring → ℕ
-limit r = cond (isFddi (r .set)) (fddiLimit r) (timelyLimit r)
+limit r = cond (isMarked r (r .token)) 0 (timersOffer r)
 
 -- ---- at a visit
 

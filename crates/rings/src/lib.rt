@@ -1,5 +1,6 @@
-// The ring by value: opening, the test of soundness, visits and handing in.
+// The ring by value: opening, the test of soundness, visits, handing in, and stations switched through.
 mod frames;
+mod marking;
 mod messages;
 mod opening;
 mod soundness;
@@ -12,6 +13,7 @@ ghost use Rattle.rings.specs.Opening.{opening};
 ghost use Rattle.rings.specs.Sound.{isSound};
 ghost use Rattle.rings.specs.Steps.{visited};
 ghost use Rattle.rings.specs.HandingIn.{handedIn};
+ghost use Rattle.rings.specs.Marking.{marked, unmarked};
 use plans::Alloc;
 use sets::Set;
 use units::Station;
@@ -37,6 +39,8 @@ pub struct Ring {
     pub arrival: [u64; 128],
     // A message was ever accepted there: 0 is no, anything else yes.
     pub had: [u8; 128],
+    // The station is switched through: 0 is no, anything else yes.
+    pub mark: [u8; 128],
     // The start of the station's last synchronous part, which is that of its last visit but in the 2002 edition; there was one where the station's number is below visits.
     pub last: [u64; 128],
     pub clock: u64,
@@ -97,7 +101,25 @@ pub struct Visited {
     pub answer: VisitAnswer,
 }
 
-// The ring after a handing in, and the number.
+// What a marking answers: what it took back, and the number, 0 or a refusal with nothing taken back.
+#[repr(C)]
+pub struct MarkAnswer {
+    // What remained of the message that was withdrawn, and its arrival; both 0 where none was.
+    pub rest: Ticks,
+    pub arrival: Ticks,
+    // 1: a message was withdrawn. 0: none was.
+    pub withdrawn: u8,
+    pub number: u8,
+}
+
+// The ring after a marking, and the marking's answer.
+#[repr(C)]
+pub struct MarkedRing {
+    pub ring: Ring,
+    pub answer: MarkAnswer,
+}
+
+// The ring after a handing in, or after a mark was taken off, and the number.
 #[repr(C)]
 pub struct Taken {
     pub ring: Ring,
@@ -182,5 +204,33 @@ impl Ring {
             return Taken { ring, number };
         }
         Taken { ring: self, number }
+    }
+
+    // Switching a station through: the ring with its mark set and without its message, which is withdrawn, or the lower of 8 and 9 that applies with the ring as it was.
+    pub fn mark(mut self, station: Station) -> MarkedRing
+        ensures { λ r. ⌜ r ≡ marked self station ⌝ }
+    {
+        let steady = sound(self);
+        let number = marking::mark_number(steady, self.set.n, station);
+        if number != numbers::ACCEPTED {
+            let answer = marking::none_withdrawn(number);
+            return MarkedRing { ring: self, answer };
+        }
+        let answer = marking::withdrawal_of(self, station);
+        let ring = marking::switched_through(self, station);
+        MarkedRing { ring, answer }
+    }
+
+    // Switching a station in again: the ring without its mark, or the lower of 8 and 9 that applies with the ring as it was.
+    pub fn unmark(mut self, station: Station) -> Taken
+        ensures { λ r. ⌜ r ≡ unmarked self station ⌝ }
+    {
+        let steady = sound(self);
+        let number = marking::mark_number(steady, self.set.n, station);
+        if number != numbers::ACCEPTED {
+            return Taken { ring: self, number };
+        }
+        let ring = marking::switched_in(self, station);
+        Taken { ring, number }
     }
 }

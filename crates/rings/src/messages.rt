@@ -26,12 +26,12 @@ fn arrival_allowed(r: Ring, m: Message) -> bool
     let gaps = r.set.p;
     let starts = r.last;
     let arrivals = r.arrival;
-    let marks = r.had;
+    let ever = r.had;
     let in_range = a <= numbers::MOST_CLOCK;
     let start = starts[i];
     let later = later_than_start(r.visits, m.station.0, start, a);
     let next = arrivals[i] + units::wide(gaps[i]);
-    let gap = (marks[i] == 0) | (next <= a);
+    let gap = (ever[i] == 0) | (next <= a);
     in_range & later & gap
 }
 
@@ -46,12 +46,13 @@ pub(crate) fn message_number(r: Ring, m: Message) -> u8
     let i = m.station.0 as usize;
     let longest = r.set.c;
     let rests = r.rest;
-    let held = 0 < rests[i];
+    let marks = r.mark;
+    let free = (rests[i] == 0) & (marks[i] == 0);
     let fits = (1 <= m.length.0) & (m.length.0 <= units::wide(longest[i]));
     if !fits {
         return numbers::BAD_LENGTH;
     }
-    if held {
+    if !free {
         return numbers::STILL_HELD;
     }
     if !arrival_allowed(r, m) {

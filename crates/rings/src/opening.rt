@@ -24,6 +24,7 @@ pub(crate) fn blank_ring() -> Ring
         token: 0,
         arrival: [0; 128],
         had: [0; 128],
+        mark: [0; 128],
         last: [0; 128],
         clock: 0,
         visits: 0,

@@ -10,7 +10,9 @@ use units::numbers;
 ghost use mathlib.Core.Path.{_≡_};
 ghost use Prim.Native.Nat.{_+_, _<_, _^_};
 ghost use lib.IntN.{subℕ};
-ghost use Rattle.rings.specs.Steps.{syncStart, nextToken, moved, completes, deadline, recordOf, blankRecord, refusedVisit, firstRefusal};
+ghost use Rattle.units.specs.Small.{UpTo};
+ghost use Rattle.rings.specs.State.{share};
+ghost use Rattle.rings.specs.Steps.{syncStart, mostSent, nextToken, moved, completes, deadline, recordOf, blankRecord, refusedVisit, firstRefusal};
 ghost use Rattle.rings.specs.Bounds.{Safe, SafeTimers, Sendable, Sent};
 
 // The number of a visit, by its three tests in their order.
@@ -38,6 +40,20 @@ fn sync_start(r: Ring, asynchronous: u64) -> u64
     r.clock + lead
 }
 
+// The most that the station may send of it: S, and 0 where it is marked.
+fn most_sent(r: Ring) -> u64
+    requires { ⌜ r .token < 128 ⌝ }
+    ensures { λ x. ⌜ UpTo (share r (r .token)) (mostSent r) x ⌝ }
+{
+    let p = r.token as usize;
+    let marks = r.mark;
+    let shares = r.alloc.s;
+    if 0 < marks[p] {
+        return 0;
+    }
+    units::wide(shares[p])
+}
+
 // Step 3: what is sent of the held message.
 pub(crate) fn sync_sent(r: Ring, asynchronous: u64) -> u64
     requires { ⌜ (r .token < 128) × (r .clock + asynchronous < 2 ^ 64) ⌝ }
@@ -50,8 +66,7 @@ pub(crate) fn sync_sent(r: Ring, asynchronous: u64) -> u64
     let held = 0 < rests[p];
     let arrived = arrivals[p] <= start;
     if held & arrived {
-        let shares = r.alloc.s;
-        return units::least(units::wide(shares[p]), units::wide(rests[p]));
+        return units::least(most_sent(r), units::wide(rests[p]));
     }
     0
 }

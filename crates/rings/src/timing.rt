@@ -10,7 +10,7 @@ ghost use Rattle.units.specs.Small.{UpTo};
 ghost use Rattle.plans.specs.Planned.{judgedPlan};
 ghost use Rattle.timers.specs.Timers.{visited};
 ghost use Rattle.rings.specs.State.{ttrt, share, timersOf};
-ghost use Rattle.rings.specs.Timers.{FddiSound, lead, timelyLimit, fddiLimit, unusedAfter, rise, timelyAfter, tokenCame, fddiAfter, timersAfter};
+ghost use Rattle.rings.specs.Timers.{FddiSound, lead, timelyLimit, fddiLimit, timersOffer, unusedAfter, rise, timelyAfter, tokenCame, fddiAfter, timersAfter};
 ghost use Rattle.rings.specs.Timers.{silentTimely, silentFddi, silentTimers, timelySound, fddiSound, timersSound};
 ghost use Rattle.rings.specs.Bounds.{Safe, SafeTimely, SafeTimers, Sendable, Limit};
 
@@ -48,15 +48,28 @@ fn fddi_limit(r: Ring) -> u64
     units::room(units::wide(r.set.head.ttrt), units::wide(times[p]))
 }
 
-// The limit.
-pub(crate) fn limit_of(r: Ring) -> u64
+// What the timers offer, by the mode.
+fn timers_offer(r: Ring) -> u64
     requires { ⌜ r .token < 128 ⌝ }
-    ensures { λ x. ⌜ Limit r x ⌝ }
+    ensures { λ x. ⌜ UpTo (ttrt r) (timersOffer r) x ⌝ }
 {
     if r.set.head.mode == numbers::FDDI {
         return fddi_limit(r);
     }
     timely_limit(r)
+}
+
+// The limit: what the timers offer, and 0 for a station that is marked.
+pub(crate) fn limit_of(r: Ring) -> u64
+    requires { ⌜ r .token < 128 ⌝ }
+    ensures { λ x. ⌜ Limit r x ⌝ }
+{
+    let p = r.token as usize;
+    let marks = r.mark;
+    if 0 < marks[p] {
+        return 0;
+    }
+    timers_offer(r)
 }
 
 // ---- at a visit

@@ -46,7 +46,7 @@ pub(crate) fn put_byte(out: &mut [u8], at: usize, x: u32)
 }
 
 // Writes the start of a field: its tag, and its length in two bytes.
-pub(crate) fn put_mark(out: &mut [u8], at: usize, tag: u8, size: u8)
+pub(crate) fn put_start(out: &mut [u8], at: usize, tag: u8, size: u8)
     requires { ⌜ at + 3 ≤ length (now out) ⌝ }
     ensures { λ _. ⌜ now (out .exit) ≡ laid (now (out .entry)) at (tag ∷ 0 ∷ size ∷ []) ⌝ }
 {

@@ -1,7 +1,7 @@
 // Request and plan sheets: read from lent bytes, and written into them.
 mod bytes;
 mod reading;
-pub mod visits;
+pub mod records;
 mod writing;
 
 ghost use mathlib.Core.Path.{_≡_};

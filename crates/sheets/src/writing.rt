@@ -45,7 +45,7 @@ fn put_further(out: &mut [u8], at: usize, tag: u8, number: u32)
     if number != fields::ABSENT {
         let size = fields::further_size(tag);
         let short = size as u8;
-        bytes::put_mark(out, at, tag, short);
+        bytes::put_start(out, at, tag, short);
         put_body(out, at + 3, tag, number);
     }
 }
@@ -71,7 +71,7 @@ fn put_head(out: &mut [u8], h: Head)
     requires { ⌜ 7 + headLength h ≤ length (now out) ⌝ }
     ensures { λ _. ⌜ now (out .exit) ≡ laid (now (out .entry)) 0 (headBytes h) ⌝ }
 {
-    bytes::put_mark(out, 0, fields::HEAD_TAG, 4);
+    bytes::put_start(out, 0, fields::HEAD_TAG, 4);
     bytes::put_number(out, 3, h.ttrt);
     put_furthers(out, h);
 }
@@ -95,7 +95,7 @@ fn put_station(out: &mut [u8], at: usize, w: u32, c: u32, d: u32, p: u32)
     requires { ⌜ at + 19 ≤ length (now out) ⌝ }
     ensures { λ _. ⌜ now (out .exit) ≡ laid (now (out .entry)) at (stationWith w c d p) ⌝ }
 {
-    bytes::put_mark(out, at, fields::STATION_TAG, 16);
+    bytes::put_start(out, at, fields::STATION_TAG, 16);
     bytes::put_number(out, at + 3, w);
     bytes::put_number(out, at + 7, c);
     bytes::put_number(out, at + 11, d);
@@ -107,7 +107,7 @@ fn put_allocation(out: &mut [u8], at: usize, s: u32)
     requires { ⌜ at + 7 ≤ length (now out) ⌝ }
     ensures { λ _. ⌜ now (out .exit) ≡ laid (now (out .entry)) at (allocationWith s) ⌝ }
 {
-    bytes::put_mark(out, at, fields::ALLOCATION_TAG, 4);
+    bytes::put_start(out, at, fields::ALLOCATION_TAG, 4);
     bytes::put_number(out, at + 3, s);
 }
 
@@ -199,7 +199,7 @@ pub(crate) fn write_sheet(plan: bool, t: Set, a: Alloc, out: &mut [u8]) -> Writt
         return so_far;
     }
     let at = so_far.length;
-    bytes::put_mark(out, at, fields::END_TAG, 0);
+    bytes::put_start(out, at, fields::END_TAG, 0);
     Written {
         length: at + 3,
         number: numbers::ACCEPTED,

@@ -10,14 +10,14 @@ use Rattle.rings.specs.Frames.{framesFrom}
 use Rattle.rings.specs.Opening.{openedRing, openedWith}
 use Rattle.rings.specs.Sound.{isSound}
 use Rattle.rings.specs.State.{following}
-use Rattle.rings.specs.Timers.{limit, lead, timelyAfter, timersAfter, silentTimely, silentTimers, timelySound, timersSound}
-use Rattle.rings.specs.Steps.{syncSent, moved, recordOf, visitedWith}
+use Rattle.rings.specs.Timers.{timersOffer, limit, lead, timelyAfter, timersAfter, silentTimely, silentTimers, timelySound, timersSound}
+use Rattle.rings.specs.Steps.{mostSent, syncSent, moved, recordOf, visitedWith}
 use Rattle.rings.specs.HandingIn.{arrivalAllowed, holding, takenWith}
 use Rattle.stars.specs.Run.{WorkedRun}
 
 pub workedRun : WorkedRun
 unfolding framesFrom sumBelow allBelow fill raise orElse allHold headInRange stationInRange judgedThen timeAt spareTime smallestWith judgedPlan answered leastAlloc openedRing openedWith isSound
-    syncSent following limit lead timelyAfter timersAfter silentTimely silentTimers timelySound timersSound moved recordOf visitedWith arrivalAllowed holding takenWith
+    mostSent syncSent following timersOffer limit lead timelyAfter timersAfter silentTimely silentTimers timelySound timersSound moved recordOf visitedWith arrivalAllowed holding takenWith
 workedRun =
     record {
       plan = refl;

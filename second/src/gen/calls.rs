@@ -34,25 +34,25 @@ struct Script {
     manner: Manner,
     /// Whether frames of any length are asked for, or only such of one tick.
     uncut: bool,
+    /// Whether stations are marked, and unmarked again.
+    marked: bool,
 }
 
 impl Script {
     fn new(plan: &Plan, manner: Manner, sort: Sort) -> Script {
         let ring = Ring::open(plan, Planted::Nothing).expect("the plan is sound");
-        Script { ring, calls: vec![], manner, uncut: sort.uncut }
+        Script { ring, calls: vec![], manner, uncut: sort.uncut, marked: sort.marked }
     }
 
     fn push(&mut self, call: Call) {
         // A refused call leaves the ring as it was, and belongs to the script all the same.
-        let _ = match &call {
-            Call::Visit(ask) => self.ring.visit(*ask).map(|_| ()),
-            Call::HandIn(message) => self.ring.hand_in(message),
-        };
+        let _ = call.answer(&mut self.ring);
         self.calls.push(call);
     }
 
     fn push_any(&mut self, random: &mut Random) {
         let call = match self.manner {
+            _ if self.marked && random.once_in(8) => self.switch(random),
             Manner::Mixed => self.mixed_call(random),
             Manner::Crowded => self.crowded_call(random, |_| true),
             Manner::Unlucky => self.crowded_call(random, |index| self.just_missed(index)),
@@ -67,6 +67,27 @@ impl Script {
             (3..=6, Some(index)) => Call::HandIn(self.good_message(random, index)),
             (7.., _) => Call::HandIn(self.bad_message(random, free.unwrap_or(0))),
             _ => Call::Visit(self.ask(random)),
+        }
+    }
+
+    /// A marking or an unmarking: most often one that changes something, at times one that changes
+    /// nothing, or of a station that there is not.
+    fn switch(&self, random: &mut Random) -> Call {
+        let size = self.ring.size();
+        let any = random.index(size);
+        let from = |index: usize| (index..index + size).map(|index| index % size);
+        let marked = from(any).find(|&index| self.ring.marked(index)).unwrap_or(any);
+        let holder = from(any).find(|&index| self.ring.held(index).is_some()).unwrap_or(any);
+        let none = random.pick(&[size as u32, size as u32 + 1, 128, u32::MAX]);
+        let number = |index: usize| StationNumber(index as u32);
+        match random.between(0, 11) {
+            0 => random.pick(&[Call::Mark(StationNumber(none)), Call::Unmark(StationNumber(none))]),
+            1..=3 => Call::Mark(number(holder)),
+            4 => Call::Mark(number(self.ring.token())),
+            5 => Call::Mark(number(any)),
+            6 => Call::Mark(number(marked)),
+            7 => Call::Unmark(number(any)),
+            _ => Call::Unmark(number(marked)),
         }
     }
 
@@ -124,11 +145,11 @@ impl Script {
         u64::from(self.ring.plan().request.stations[index].longest)
     }
 
-    /// A station that has a stream, holds no message, and is ready for one.
+    /// A station that has a stream, is not marked, holds no message, and is ready for one.
     fn free_station(&self, random: &mut Random, ready: impl Fn(usize) -> bool) -> Option<usize> {
         let size = self.ring.size();
         let from = random.index(size);
-        let free = |index| self.longest(index) > 0 && self.ring.held(index).is_none();
+        let free = |index| self.longest(index) > 0 && !self.is_busy(index);
         (from..from + size).map(|index| index % size).find(|&index| free(index) && ready(index))
     }
 
@@ -184,7 +205,7 @@ impl Script {
                 let start = self.ring.last_start(message.station.index());
                 message.arrival = start.unwrap_or(0) as u64;
             }
-            4 if inside => message.station = self.holder().unwrap_or(message.station),
+            4 if inside => message.station = self.busy().unwrap_or(message.station),
             _ if inside => {
                 let earliest = self.ring.earliest_arrival(message.station.index());
                 message.arrival = (earliest - 1).max(0) as u64;
@@ -193,10 +214,15 @@ impl Script {
         }
     }
 
-    /// The first station that holds a message.
-    fn holder(&self) -> Option<StationNumber> {
-        let holder = (0..self.ring.size()).find(|&index| self.ring.held(index).is_some());
-        holder.map(|index| StationNumber(index as u32))
+    /// Whether a station holds a message or is marked.
+    fn is_busy(&self, index: usize) -> bool {
+        self.ring.held(index).is_some() || self.ring.marked(index)
+    }
+
+    /// The first station that is.
+    fn busy(&self) -> Option<StationNumber> {
+        let busy = (0..self.ring.size()).find(|&index| self.is_busy(index));
+        busy.map(|index| StationNumber(index as u32))
     }
 }
 

@@ -1,28 +1,21 @@
-//! Logs: of runs, with any numbers in their visits, and damaged; and logs to inspect, of which one
+//! Logs: of runs, with any numbers in their records, and damaged; and logs to inspect, of which one
 //! number is wrong, or that are cut and joined.
 
 use super::random::Random;
 use super::sort::Sort;
 use super::{calls, sets};
 use crate::inspect::Inspector;
-use crate::log::{log_of, Counter};
+use crate::log::{log_of, noted, Counter};
 use crate::planted::Planted;
 use crate::ring::Ring;
-use crate::rules::{Ask, Entry, Plan};
-use crate::sheet::{fields, visit_field};
+use crate::rules::{Ask, Entry, MarkEntry, Plan, VisitEntry};
+use crate::sheet::{fields, record_field};
 use crate::text::Call;
 
-/// The visits of a run, as a recorder notes them.
+/// The visits and marks of a run, as a recorder notes them.
 pub fn entries(plan: &Plan, calls: &[Call], counter: Counter) -> Vec<Entry> {
     let mut ring = Ring::open(plan, Planted::Nothing).expect("the plan is sound");
-    let mut entries = vec![];
-    for call in calls {
-        match call {
-            Call::Visit(ask) => entries.extend(ring.visit(*ask).map(|visit| counter.entry(&visit))),
-            Call::HandIn(message) => drop(ring.hand_in(message)),
-        }
-    }
-    entries
+    calls.iter().filter_map(|call| noted(call, &call.answer(&mut ring), counter)).collect()
 }
 
 /// What a recorder's counter showed at some time, often near its top.
@@ -36,18 +29,20 @@ pub fn counter(random: &mut Random) -> (u32, u64) {
     (shown, random.pick(&[0, 0, 0, 1, past, u64::MAX]))
 }
 
-/// The log's length, a little more or less, the plan's, that of some visits, or none.
+/// The log's length, a little more or less, the plan's, that of some records, or none.
 pub fn room(random: &mut Random, plan: &Plan, calls: &[Call]) -> usize {
     let sheet = fields(&plan.request, &plan.allocation).concat().len();
-    let visits = entries(plan, calls, Counter::ZERO).len();
-    let some = sheet + 20 * random.index(visits + 1);
-    let whole = sheet + 20 * visits;
+    let entries = entries(plan, calls, Counter::ZERO);
+    let length = |entries: &[Entry]| entries.iter().map(|entry| record_field(entry).len()).sum();
+    let [some, whole]: [usize; 2] =
+        [random.index(entries.len() + 1), entries.len()].map(|count| length(&entries[..count]));
+    let [some, whole] = [some, whole].map(|records| sheet + records);
     let room =
         random.pick(&[whole, whole, whole + 1, whole - 1, some, some - 1, some + 19, sheet, 0]);
     random.pick(&[room, room, room, sheet - 1, 65_535])
 }
 
-/// A run and its visits, at most so many.
+/// A run and its records, at most so many.
 pub fn run(random: &mut Random, sort: Sort, most: usize) -> (Plan, Vec<Entry>) {
     let (plan, calls) = calls::script(random, sort);
     let (shown, _) = counter(random);
@@ -61,21 +56,24 @@ fn any_number(random: &mut Random) -> u32 {
     random.pick(&[0, 1, any, u32::MAX])
 }
 
-fn any_entry(random: &mut Random) -> Entry {
-    Entry {
+fn any_entry(random: &mut Random, sort: Sort) -> Entry {
+    if sort.marked && random.once_in(2) {
+        return Entry::Mark(MarkEntry { station: random.byte(), mark: random.byte() });
+    }
+    Entry::Visit(VisitEntry {
         station: random.byte(),
         start: any_number(random),
         limit: any_number(random),
         synchronous: any_number(random),
         asynchronous: any_number(random),
-    }
+    })
 }
 
-/// A log of a run, with some visits of any numbers, or of a plan that is refused, or damaged.
+/// A log of a run, with some records of any numbers, or of a plan that is refused, or damaged.
 pub fn log(random: &mut Random, sort: Sort) -> Vec<u8> {
     let (plan, mut entries) = run(random, sort, 12);
     if random.once_in(3) {
-        let any = (0..=random.index(4)).map(|_| any_entry(random)).collect::<Vec<_>>();
+        let any = (0..=random.index(4)).map(|_| any_entry(random, sort)).collect::<Vec<_>>();
         entries.extend(any);
     }
     match random.between(0, 9) {
@@ -84,11 +82,11 @@ pub fn log(random: &mut Random, sort: Sort) -> Vec<u8> {
         5 => unjudged(&sets::plan(random, sort), &entries).concat(),
         6 => {
             let fields = unjudged(&sets::any_plan(random, sort), &entries);
-            damaged(random, fields)
+            damaged(random, fields, sort)
         }
         _ => {
             let fields = unjudged(&plan, &entries);
-            damaged(random, fields)
+            damaged(random, fields, sort)
         }
     }
 }
@@ -97,29 +95,30 @@ pub fn log(random: &mut Random, sort: Sort) -> Vec<u8> {
 fn unjudged(plan: &Plan, entries: &[Entry]) -> Vec<Vec<u8>> {
     let mut all = fields(&plan.request, &plan.allocation);
     let end = all.len() - 1;
-    all.splice(end..end, entries.iter().map(visit_field));
+    all.splice(end..end, entries.iter().map(record_field));
     all
 }
 
-/// Damage near the visits: a field elsewhere, twice, gone, or with another head; or to bytes.
-fn damaged(random: &mut Random, mut fields: Vec<Vec<u8>>) -> Vec<u8> {
+/// Damage near the records: a field elsewhere, twice, gone, or with another head; or to bytes.
+fn damaged(random: &mut Random, mut fields: Vec<Vec<u8>>, sort: Sort) -> Vec<u8> {
     let (index, other) = (place(random, fields.len()), place(random, fields.len()));
-    let any = any_entry(random);
+    let any = any_entry(random, sort);
     match random.between(0, 9) {
         0 => fields[index][0] = random.pick(&[0, 1, 2, 3, 4, 5, 15, 16, 17, 255]),
         1 => fields[index][1] = random.byte(),
+        2 if sort.marked => fields[index][2] = random.pick(&[0, 1, 2, 3, 5, 17]),
         2 => fields[index][2] = random.pick(&[0, 4, 16, 17, 18, 255]),
         3 => fields.insert(other, fields[index].clone()),
         4 => drop(fields.remove(index)),
         5 => fields.swap(index, other),
-        6 => fields.insert(other, visit_field(&any)),
+        6 => fields.insert(other, record_field(&any)),
         7 => fields[index].push(random.byte()),
         _ => return cut_or_changed(random, fields.concat()),
     }
     fields.concat()
 }
 
-/// A place among so many, most often among the last: there the visits and the end are.
+/// A place among so many, most often among the last: there the records and the end are.
 fn place(random: &mut Random, length: usize) -> usize {
     let behind = random.index(length);
     length - 1 - if random.once_in(2) { behind.min(3) } else { behind }
@@ -137,25 +136,45 @@ fn cut_or_changed(random: &mut Random, mut bytes: Vec<u8>) -> Vec<u8> {
 }
 
 /// A log that a run with any synchronous amounts gives: they need not come from messages.
-pub fn free_run(random: &mut Random, plan: &Plan, most: usize) -> Vec<Entry> {
+/// With marks, a station may be marked or unmarked at any place, the token's most often.
+pub fn free_run(random: &mut Random, plan: &Plan, most: usize, sort: Sort) -> Vec<Entry> {
     let mut inspector = Inspector::new(plan, Planted::Nothing);
     let (shown, _) = counter(random);
     let mut entries: Vec<Entry> = vec![];
+    let mut begun = false;
     for _ in 0..random.index(most + 1) {
-        let s = plan.allocation[inspector.station()];
-        let some = random.between32(0, s);
-        let limit = inspector.limit();
-        let entry = Entry {
-            station: inspector.station() as u8,
-            start: if entries.is_empty() { shown } else { inspector.counter() },
-            limit,
-            synchronous: random.pick(&[0, s, some]),
-            asynchronous: some_frames(random, plan, limit),
+        let entry = match sort.marked && random.once_in(4) {
+            true => free_mark(random, &inspector, plan),
+            false => {
+                let start = if begun { inspector.counter() } else { shown };
+                begun = true;
+                free_visit(random, &inspector, plan, start)
+            }
         };
         inspector.take(&entry);
         entries.push(entry);
     }
     entries
+}
+
+fn free_visit(random: &mut Random, inspector: &Inspector, plan: &Plan, start: u32) -> Entry {
+    let here = inspector.station();
+    let s = if inspector.marked() { 0 } else { plan.allocation[here] };
+    let some = random.between32(0, s);
+    let limit = inspector.limit();
+    Entry::Visit(VisitEntry {
+        station: here as u8,
+        start,
+        limit,
+        synchronous: random.pick(&[0, s, some]),
+        asynchronous: some_frames(random, plan, limit),
+    })
+}
+
+fn free_mark(random: &mut Random, inspector: &Inspector, plan: &Plan) -> Entry {
+    let any = random.index(plan.allocation.len());
+    let station = random.pick(&[inspector.station(), any]) as u8;
+    Entry::Mark(MarkEntry { station, mark: random.pick(&[0, 1, 1]) })
 }
 
 fn some_frames(random: &mut Random, plan: &Plan, limit: u32) -> u32 {
@@ -176,7 +195,7 @@ pub fn to_inspect(random: &mut Random, sort: Sort) -> Vec<u8> {
         true => run(random, sort, 40),
         false => {
             let plan = sets::plan_to_run(random, sort);
-            let entries = free_run(random, &plan, 40);
+            let entries = free_run(random, &plan, 40, sort);
             (plan, entries)
         }
     };
@@ -186,7 +205,7 @@ pub fn to_inspect(random: &mut Random, sort: Sort) -> Vec<u8> {
             let index = random.index(entries.len());
             spoil(random, &plan, &mut entries[index]);
         }
-        4 => cut_and_joined(random, &plan, &mut entries),
+        4 => cut_and_joined(random, &plan, &mut entries, sort),
         _ => {
             for _ in 0..random.between(0, 3).min(entries.len() as u64) {
                 let index = random.index(entries.len());
@@ -199,6 +218,21 @@ pub fn to_inspect(random: &mut Random, sort: Sort) -> Vec<u8> {
 
 /// One number changed: by one, to an edge of what its rule allows, or to any.
 fn spoil(random: &mut Random, plan: &Plan, entry: &mut Entry) {
+    match entry {
+        Entry::Visit(visit) => spoil_visit(random, plan, visit),
+        Entry::Mark(mark) => spoil_mark(random, plan, mark),
+    }
+}
+
+fn spoil_mark(random: &mut Random, plan: &Plan, entry: &mut MarkEntry) {
+    let count = plan.allocation.len() as u8;
+    match random.once_in(2) {
+        true => entry.station = random.pick(&[count - 1, count, count + 1, 128, 255]),
+        false => entry.mark = random.pick(&[1 - entry.mark.min(1), 2, 255]),
+    }
+}
+
+fn spoil_visit(random: &mut Random, plan: &Plan, entry: &mut VisitEntry) {
     let index = usize::from(entry.station).min(plan.allocation.len() - 1);
     let count = plan.allocation.len() as u8;
     let frame = plan.request.head.frame;
@@ -229,7 +263,7 @@ fn spoil(random: &mut Random, plan: &Plan, entry: &mut Entry) {
 
 /// Records dropped at the front or among the others, doubled or swapped, or those of another run
 /// put behind.
-fn cut_and_joined(random: &mut Random, plan: &Plan, entries: &mut Vec<Entry>) {
+fn cut_and_joined(random: &mut Random, plan: &Plan, entries: &mut Vec<Entry>, sort: Sort) {
     let from = random.index(entries.len() + 1);
     let to = from + random.index(entries.len() - from + 1);
     match random.between(0, 4) {
@@ -239,7 +273,7 @@ fn cut_and_joined(random: &mut Random, plan: &Plan, entries: &mut Vec<Entry>) {
             let doubled = entries[from..to].to_vec();
             entries.splice(from..from, doubled);
         }
-        3 => entries.extend(free_run(random, plan, 8)),
+        3 => entries.extend(free_run(random, plan, 8, sort)),
         _ if entries.len() > 1 => {
             let [one, other] = [0, 0].map(|_: usize| random.index(entries.len()));
             entries.swap(one, other);

@@ -20,7 +20,7 @@ pub fn pair(random: &mut Random, sort: Sort) -> (Vec<u8>, Vec<u8>) {
     let other = match random.between(0, 9) {
         0 => plan.clone(),
         1 => {
-            let sort = random.pick(&Sort::ALL);
+            let sort = random.pick(Sort::unmarked());
             sets::sound_plan(random, sort)
         }
         _ => {

@@ -161,7 +161,7 @@ fn feasible_of(
         _ => random.between32(1, ttrt / 8),
     };
     let room = ttrt - walk_sum;
-    let uncut = sort.uncut && !(sort.grid && random.once_in(2));
+    let uncut = sort.uncut && !((sort.grid || sort.marked) && random.once_in(2));
     let overrun = if uncut { overrun(random, room) } else { 0 };
     let room = room - overrun;
     let grid = if sort.grid { grid(random, room) } else { 1 };

@@ -14,7 +14,7 @@ const LAST_UNUSED: u64 = u32::MAX as u64;
 /// A state, and one to three calls.
 pub fn state_with_calls(random: &mut Random, sort: Sort) -> (State, Vec<Call>) {
     let mut state = state(random, sort);
-    add_histories(random, &mut state);
+    add_histories(random, &mut state, sort);
     let calls = (0..random.between(1, 3)).map(|_| call(random, &state, sort)).collect();
     (state, calls)
 }
@@ -34,14 +34,18 @@ pub fn sound_with_calls(random: &mut Random, sort: Sort) -> (State, Vec<Call>) {
             place.arrival = random.between(from, state.clock + ttrt).min(LAST_TIME);
         }
     }
-    add_histories(random, &mut state);
+    add_histories(random, &mut state, sort);
     let calls = (0..random.between(1, 6)).map(|_| call(random, &state, sort)).collect();
     (state, calls)
 }
 
-fn add_histories(random: &mut Random, state: &mut State) {
+fn add_histories(random: &mut Random, state: &mut State, sort: Sort) {
     for index in 0..state.places.len() {
         add_history(random, state, index);
+        if sort.marked {
+            // Any byte, and beside a held message too, which no run leads to.
+            state.places[index].mark = random.pick(&[0, 0, 0, 1, 1, 2, 128, 255]);
+        }
     }
     if random.once_in(4) {
         state.visits = random.between(0, state.places.len() as u64);
@@ -58,6 +62,9 @@ fn add_history(random: &mut Random, state: &mut State, index: usize) {
 }
 
 fn call(random: &mut Random, state: &State, sort: Sort) -> Call {
+    if sort.marked && random.once_in(3) {
+        return switch(random, state);
+    }
     if random.once_in(2) {
         let ticks = ticks(random, state);
         return Call::Visit(if sort.uncut { ask(random, state, ticks) } else { ticks.into() });
@@ -67,6 +74,16 @@ fn call(random: &mut Random, state: &State, sort: Sort) -> Call {
         spoil(random, state, &mut message);
     }
     Call::HandIn(message)
+}
+
+/// A marking or an unmarking, at times of a station that there is not.
+fn switch(random: &mut Random, state: &State) -> Call {
+    let count = state.places.len() as u32;
+    let [any, other] = [0, 0].map(|_: u32| random.between32(0, count.saturating_sub(1)));
+    let choices =
+        [state.token, any, any, other, other, other, count, random.pick(&[128, u32::MAX])];
+    let station = StationNumber(random.pick(&choices));
+    random.pick(&[Call::Mark(station), Call::Mark(station), Call::Unmark(station)])
 }
 
 /// About so many ticks in frames, or as many frames; their length may be none that there is.
@@ -103,7 +120,8 @@ fn good_message(random: &mut Random, state: &State) -> Message {
 
 /// Whether a station takes messages, holds none, and a next one can arrive in range.
 fn is_free(state: &State, index: usize) -> bool {
-    let free = longest(state, index) > 0 && state.places[index].remaining == 0;
+    let Place { remaining, mark, .. } = state.places[index];
+    let free = longest(state, index) > 0 && remaining == 0 && mark == 0;
     free && earliest_arrival(state, index) <= LAST_TIME
 }
 

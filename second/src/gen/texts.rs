@@ -81,6 +81,26 @@ const STRAY_GRIDS: [&str; 13] = [
     "mode 2",
 ];
 
+/// The same for texts that have marks, in calls and in logs.
+const STRAY_MARKS: [&str; 16] = [
+    "mark",
+    "mark 0",
+    "mark 4294967295",
+    "mark 4294967296",
+    "mark -1",
+    "mark 0 0",
+    "mark 0 1",
+    "mark 0 2",
+    "mark 255 255",
+    "mark 256 0",
+    "mark 0 256",
+    "mark 0 1 1",
+    "marks 0 1",
+    "unmark",
+    "unmark 0",
+    "unmark 4294967296",
+];
+
 /// The same for texts of logs.
 const STRAY_VISITS: [&str; 14] = [
     "visit 0 0 0 0 0",
@@ -114,7 +134,11 @@ pub fn log_text(random: &mut Random, sort: Sort) -> Vec<u8> {
     for _ in 0..random.between(0, 2) {
         let place = random.pick(&[0, 1, lines.len() - 1, lines.len()]);
         let place = if random.once_in(2) { random.index(lines.len() + 1) } else { place };
-        lines.insert(place, random.pick(&STRAY_VISITS));
+        let stray = match sort.marked && random.once_in(2) {
+            true => random.pick(&STRAY_MARKS),
+            false => random.pick(&STRAY_VISITS),
+        };
+        lines.insert(place, stray);
     }
     let text = lines.join("\n");
     if random.once_in(2) {
@@ -178,6 +202,9 @@ fn put_in(random: &mut Random, sort: Sort, lines: &mut Vec<String>, index: usize
         3 => lines[index] = format!("  {} ", lines[index].replace(' ', "  ")),
         4 => lines[index] = lines[index].replace(' ', "\t") + "\r",
         5 => lines[index] = lines[index].replace(' ', " 00"),
+        6 if sort.marked && random.once_in(2) => {
+            lines.insert(index + 1, random.pick(&STRAY_MARKS).to_string());
+        }
         6 if sort.grid && random.once_in(2) => {
             let place = random.pick(&[0, 1, 2, 3, 4, index + 1]).min(lines.len());
             lines.insert(place, random.pick(&STRAY_GRIDS).to_string());

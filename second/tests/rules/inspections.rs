@@ -9,7 +9,7 @@ use second::inspect::{in_frames, inspected, Inspector, Rule};
 use second::log::{log_of, Counter};
 use second::notation::{from_hex, to_hex};
 use second::planted::Planted;
-use second::rules::{Ask, Entry, Head, Mode, Plan, Request};
+use second::rules::{Ask, Entry, Head, MarkEntry, Mode, Plan, Request, VisitEntry};
 
 /// The record and rule, or `None` for accepted.
 fn found(plan: &Plan, entries: &[Entry]) -> Option<(u64, Rule)> {
@@ -232,7 +232,7 @@ fn an_fddi_log() {
 #[test]
 fn refusals_come_first() {
     let mut entries = worked_entries();
-    entries[0].station = 9;
+    entries[0] = entry([9, 0, 18, 20, 18]);
     let log = log_of(&worked_plan(), &entries).expect("sound");
     assert_eq!(printed(&log), "record 1 station\nexpected station 0, found 9\n");
     assert_eq!(printed(&log[..log.len() - 1]), "refused 1\n");
@@ -261,10 +261,22 @@ fn logs_of_runs() {
             continue;
         }
         let index = random.index(entries.len());
-        entries[index].limit ^= 1;
+        let rule = match &mut entries[index] {
+            Entry::Visit(visit) => {
+                visit.limit ^= 1;
+                Rule::Limit
+            }
+            Entry::Mark(mark) => {
+                mark.mark |= 2;
+                Rule::Station
+            }
+        };
         let finding = found(&plan, &entries);
-        assert_eq!(finding, Some((index as u64 + 1, Rule::Limit)));
-        entries[index + 1..].iter_mut().for_each(|entry| entry.start = entry.start.rotate_left(7));
+        assert_eq!(finding, Some((index as u64 + 1, rule)));
+        entries[index + 1..].iter_mut().for_each(|entry| match entry {
+            Entry::Visit(visit) => visit.start = visit.start.rotate_left(7),
+            Entry::Mark(mark) => mark.station = mark.station.rotate_left(7),
+        });
         assert_eq!(found(&plan, &entries), finding);
         entries.truncate(index + 1);
         assert_eq!(found(&plan, &entries), finding);
@@ -279,8 +291,9 @@ struct Steps {
     trt: Vec<i64>,
     late: Vec<i64>,
     sent: Vec<i64>,
+    marked: Vec<bool>,
     token: usize,
-    /// What passed since the first record; `None` before it.
+    /// What passed since the first visit; `None` before it.
     passed: Option<i64>,
 }
 
@@ -297,7 +310,8 @@ impl Steps {
                 (*timer, *count) = (0, 1);
             }
         }
-        Steps { trt, late, sent: vec![0; stations.len()], token: 0, passed: None }
+        let (sent, marked) = (vec![0; stations.len()], vec![false; stations.len()]);
+        Steps { trt, late, sent, marked, token: 0, passed: None }
     }
 
     /// A visit that sends so much, and frames as asked for: limit, asynchronous time, and what is after.
@@ -305,7 +319,7 @@ impl Steps {
         let (mut next, here) = (self.clone(), self.token);
         let head = plan.request.head;
         let (ttrt, overrun) = (i64::from(head.ttrt), i64::from(head.frame) - 1);
-        let limit = match plan.request.mode() {
+        let unmarked = match plan.request.mode() {
             Mode::Timely | Mode::Earlier => {
                 let unused: i64 = plan
                     .allocation
@@ -325,6 +339,7 @@ impl Steps {
                 ttrt - self.trt[here]
             }
         };
+        let limit = if self.marked[here] { 0 } else { unmarked };
         let (mut frames, length) = ask;
         let mut asynchronous = 0;
         while frames > 0 && asynchronous < limit {
@@ -348,33 +363,58 @@ impl Steps {
         next.passed = Some(self.passed.unwrap_or(0) + span);
         (limit, asynchronous, next)
     }
+
+    /// Every visit's record that may be next, with what is after it.
+    fn visits(&self, plan: &Plan, first: i64) -> Vec<([i64; 5], Steps)> {
+        let s = if self.marked[self.token] { 0 } else { i64::from(plan.allocation[self.token]) };
+        let (most, frame) = (i64::from(plan.request.head.ttrt) + 1, plan.request.head.frame.into());
+        let start = self.passed.map_or(first, |passed| (first + passed).rem_euclid(1 << 32));
+        let mut possible = vec![];
+        for synchronous in 0..=s {
+            for (frames, length) in (0..=most).flat_map(|n| (1..=frame).map(move |l| (n, l))) {
+                let (limit, asynchronous, next) = self.visit(plan, synchronous, (frames, length));
+                let record = [self.token as i64, start, limit, synchronous, asynchronous];
+                if !possible.contains(&(record, next.clone())) {
+                    possible.push((record, next));
+                }
+            }
+        }
+        possible
+    }
+
+    /// What is after every marking and unmarking that may be next and has this record.
+    fn marked(&self, entry: &MarkEntry) -> Vec<Steps> {
+        let every = (0..self.marked.len()).flat_map(|station| [0, 1].map(|mark| (station, mark)));
+        let given = (entry.station.into(), entry.mark);
+        let of = |(station, mark): (usize, u8)| {
+            let mut next = self.clone();
+            next.marked[station] = mark == 1;
+            next
+        };
+        every.filter(|&it| it == given).map(of).collect()
+    }
 }
 
 /// The first record that no run gives, and the first rule up to which none does, by trying every
 /// synchronous amount and every ask at every visit.
 fn by_every_run(plan: &Plan, entries: &[Entry]) -> Option<(u64, Rule)> {
     let mut rings = vec![Steps::opened(plan)];
+    let mut first = None;
     for (place, entry) in entries.iter().enumerate() {
-        // Every record that a run could give next, with what is after it.
-        let mut possible: Vec<([i64; 5], Steps)> = vec![];
-        for ring in &rings {
-            let s = i64::from(plan.allocation[ring.token]);
-            let (most, frame) =
-                (i64::from(plan.request.head.ttrt) + 1, plan.request.head.frame.into());
-            let first = i64::from(entries[0].start);
-            let start = ring.passed.map_or(first, |passed| (first + passed).rem_euclid(1 << 32));
-            for synchronous in 0..=s {
-                for (frames, length) in (0..=most).flat_map(|n| (1..=frame).map(move |l| (n, l))) {
-                    let (limit, asynchronous, next) =
-                        ring.visit(plan, synchronous, (frames, length));
-                    let record = [ring.token as i64, start, limit, synchronous, asynchronous];
-                    if !possible.contains(&(record, next.clone())) {
-                        possible.push((record, next));
-                    }
+        let visit = match entry {
+            Entry::Visit(visit) => visit,
+            Entry::Mark(mark) => {
+                rings = rings.iter().flat_map(|ring| ring.marked(mark)).collect();
+                if rings.is_empty() {
+                    return Some((place as u64 + 1, Rule::Station));
                 }
+                continue;
             }
-        }
-        let Entry { station, start, limit, synchronous, asynchronous } = *entry;
+        };
+        let first = i64::from(*first.get_or_insert(visit.start));
+        let every = rings.iter().flat_map(|ring| ring.visits(plan, first));
+        let mut possible: Vec<([i64; 5], Steps)> = every.collect();
+        let VisitEntry { station, start, limit, synchronous, asynchronous } = *visit;
         let given = [station.into(), start, limit, synchronous, asynchronous].map(i64::from);
         for (index, rule) in Rule::ALL.into_iter().enumerate() {
             possible.retain(|(record, _)| record[index] == given[index]);
@@ -406,6 +446,15 @@ fn small_plan(random: &mut Random) -> Option<Plan> {
 /// One number of a log moved a little.
 fn change(random: &mut Random, entry: &mut Entry) {
     let by = random.pick(&[1, 2, u32::MAX, u32::MAX - 1]);
+    let entry = match entry {
+        Entry::Visit(visit) => visit,
+        Entry::Mark(mark) => {
+            let number = random.pick(&[true, false]);
+            let number = if number { &mut mark.station } else { &mut mark.mark };
+            *number = number.wrapping_add(by as u8);
+            return;
+        }
+    };
     let number = match random.between(0, 4) {
         0 => {
             entry.station = entry.station.wrapping_add(by as u8);
@@ -421,11 +470,22 @@ fn change(random: &mut Random, entry: &mut Entry) {
 
 #[test]
 fn the_relation_on_small_sets() {
+    relation(71, 6_000, Sort::TIMELY);
+}
+
+/// With marks among the records.
+#[test]
+fn the_relation_with_marks() {
+    relation(73, 6_000, Sort::MARKED);
+}
+
+/// The sort says only whether there are marks.
+fn relation(seed: u64, logs: u64, sort: Sort) {
     let mut counts = [0; 6];
-    for place in 0..6_000 {
-        let random = &mut Random::of_case(71, place);
+    for place in 0..logs {
+        let random = &mut Random::of_case(seed, place);
         let Some(plan) = small_plan(random) else { continue };
-        let mut entries = logs::free_run(random, &plan, 5);
+        let mut entries = logs::free_run(random, &plan, 5, sort);
         if random.once_in(3) && !entries.is_empty() {
             let index = random.index(entries.len());
             change(random, &mut entries[index]);

@@ -7,7 +7,7 @@ use second::frames::answer;
 use second::log::log_of;
 use second::notation::{from_hex, to_hex};
 use second::planted::Planted;
-use second::sheet::{fields, visit_field, write_plan};
+use second::sheet::{fields, record_field, write_plan};
 
 /// What a command puts on standard output and standard error.
 fn said(command: &str, input: &[u8]) -> (Vec<u8>, String) {
@@ -66,7 +66,7 @@ fn a_refused_plan() {
     plan.allocation[0] = 19;
     let mut parts = fields(&plan.request, &plan.allocation);
     let end = parts.pop().expect("an end");
-    let visits: Vec<Vec<u8>> = worked_entries().iter().map(visit_field).collect();
+    let visits: Vec<Vec<u8>> = worked_entries().iter().map(record_field).collect();
     let log = [parts.concat(), visits.concat(), end].concat();
     assert_eq!(shown(&log), "refused 7\n");
     assert_eq!(shown(&log[..log.len() - 1]), "refused 1\n");

@@ -1,4 +1,4 @@
-//! Visit logs as bytes: reading with a plan's refusals, writing with 14, the recorder's counter.
+//! Logs as bytes: reading with a plan's refusals, writing with 14, the recorder's counter.
 
 use crate::{station, timely, worked_plan};
 use second::frames::answer;
@@ -6,12 +6,16 @@ use second::gen::{Kind, Sort};
 use second::log::{log_of, Recorder};
 use second::notation::to_hex;
 use second::planted::Planted;
-use second::rules::{Entry, Plan, Refusal, Request};
-use second::sheet::{end_field, read_any, read_log, read_plan, visit_field, write_plan, Sheet};
+use second::rules::{Entry, MarkEntry, Plan, Refusal, Request, VisitEntry};
+use second::sheet::{end_field, read_any, read_log, read_plan, record_field, write_plan, Sheet};
 
 pub fn entry(numbers: [u32; 5]) -> Entry {
     let [station, start, limit, synchronous, asynchronous] = numbers;
-    Entry { station: station as u8, start, limit, synchronous, asynchronous }
+    Entry::Visit(VisitEntry { station: station as u8, start, limit, synchronous, asynchronous })
+}
+
+pub fn mark(station: u8, mark: u8) -> Entry {
+    Entry::Mark(MarkEntry { station, mark })
 }
 
 /// The worked run.
@@ -69,7 +73,7 @@ fn cut_at_every_place_and_bytes_behind() {
     for cut in 0..worked_log().len() {
         assert_eq!(number(&worked_log()[..cut]), 1, "cut at {cut}");
     }
-    let visit = visit_field(&worked_entries()[0]);
+    let visit = record_field(&worked_entries()[0]);
     for behind in [&[0][..], &[255, 0, 0], &visit] {
         assert_eq!(number(&[&worked_log()[..], behind].concat()), 3);
     }
@@ -81,6 +85,32 @@ fn any_numbers_are_read() {
     let entries = [[255, top, top, top, top], [0, 0, 0, 0, 0], [128, 1, 2, 3, 4]].map(entry);
     let log = log_of(&worked_plan(), &entries).expect("sound");
     assert_eq!(read_log(&log), Ok((worked_plan(), entries.to_vec())));
+}
+
+/// A mark may stand before the first visit, between, and behind the last; any numbers are read.
+#[test]
+fn marks_among_the_visits() {
+    let [first, second] = [worked_entries()[0], worked_entries()[1]];
+    let entries = [mark(3, 1), first, mark(255, 255), mark(0, 0), second, mark(3, 0)];
+    let log = log_of(&worked_plan(), &entries).expect("sound");
+    assert_eq!(log.len(), 114 + 2 * 20 + 4 * 5);
+    assert_eq!(log[FIRST..FIRST + 5], [17, 0, 2, 3, 1]);
+    assert_eq!(log[FIRST + 25..FIRST + 35], [17, 0, 2, 255, 255, 17, 0, 2, 0, 0]);
+    assert_eq!(read_log(&log), Ok((worked_plan(), entries.to_vec())));
+    for cut in 0..log.len() {
+        assert_eq!(number(&log[..cut]), 1, "cut at {cut}");
+    }
+    // A mark with the length of a visit, and a visit with that of a mark, are no fields.
+    for (place, value) in
+        [(FIRST, 16), (FIRST + 2, 17), (FIRST + 2, 1), (FIRST + 1, 1), (FIRST, 18)]
+    {
+        let mut changed = log.clone();
+        changed[place] = value;
+        assert_eq!(number(&changed), 2, "{value} at {place}");
+    }
+    let alone = log_of(&worked_plan(), &[mark(9, 9)]).expect("sound");
+    assert_eq!(read_log(&alone), Ok((worked_plan(), vec![mark(9, 9)])));
+    assert_eq!(read_plan(&alone), Err(Refusal::WrongField));
 }
 
 /// Each byte of a visit's field and of the end behind it with every value.
@@ -104,7 +134,7 @@ fn every_byte_of_a_visit_and_of_the_end() {
 #[test]
 fn fields_elsewhere() {
     let log = worked_log();
-    let (visit, share) = (visit_field(&worked_entries()[0]), &log[FIRST - 7..FIRST]);
+    let (visit, share) = (record_field(&worked_entries()[0]), &log[FIRST - 7..FIRST]);
     let with = |place: usize, field: &[u8]| number(&[&log[..place], field, &log[place..]].concat());
     // Before TTRT, the stations, the allocations, the last of these.
     for place in [0, 7, 26, 83, 90, FIRST - 7] {
@@ -113,7 +143,8 @@ fn fields_elsewhere() {
     for place in [FIRST, FIRST + 20, FIRST + 120] {
         assert_eq!(with(place, &visit), 0, "at {place}");
     }
-    for field in [share, &log[..7], &log[7..26], &[4, 0, 1, 2], &[17, 0, 2, 0, 1], &[16, 0, 16]] {
+    for field in [share, &log[..7], &log[7..26], &[4, 0, 1, 2], &[17, 0, 3, 0, 1, 0], &[16, 0, 16]]
+    {
         assert_eq!([with(FIRST, field), with(FIRST + 20, field)], [2, 2], "{field:?}");
     }
     // An allocation too few, and one too many.
@@ -136,7 +167,7 @@ fn a_plans_refusals() {
         let mut plan = worked_plan();
         change(&mut plan);
         assert_eq!(log_of(&plan, &[]).map_err(Refusal::number), Err(expected));
-        let visits: Vec<Vec<u8>> = worked_entries().iter().map(visit_field).collect();
+        let visits: Vec<Vec<u8>> = worked_entries().iter().map(record_field).collect();
         let mut fields = second::sheet::fields(&plan.request, &plan.allocation);
         fields.pop();
         let log = [fields.concat(), visits.concat(), end_field()].concat();

@@ -13,6 +13,7 @@ mod inspections;
 mod layers;
 mod log_texts;
 mod logs;
+mod marks;
 mod planted;
 mod program;
 mod promises;

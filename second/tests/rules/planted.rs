@@ -24,9 +24,12 @@ fn shown_by(planted: Planted) -> (Kind, &'static [Sort]) {
         Sort::EARLIER,
         Sort::EARLIER_UNCUT,
         Sort::EARLIER_GRID,
+        Sort::MARKED,
+        Sort::EARLIER_MARKED,
     ];
-    const FDDI: &[Sort] = &[Sort::FDDI, Sort::FDDI_UNCUT, Sort::FDDI_GRID];
-    const EARLIER: &[Sort] = &[Sort::EARLIER, Sort::EARLIER_UNCUT, Sort::EARLIER_GRID];
+    const FDDI: &[Sort] = &[Sort::FDDI, Sort::FDDI_UNCUT, Sort::FDDI_GRID, Sort::FDDI_MARKED];
+    const EARLIER: &[Sort] =
+        &[Sort::EARLIER, Sort::EARLIER_UNCUT, Sort::EARLIER_GRID, Sort::EARLIER_MARKED];
     const UNCUT: &[Sort] = &[
         Sort::UNCUT,
         Sort::FDDI_UNCUT,
@@ -34,8 +37,12 @@ fn shown_by(planted: Planted) -> (Kind, &'static [Sort]) {
         Sort::GRID,
         Sort::FDDI_GRID,
         Sort::EARLIER_GRID,
+        Sort::MARKED,
+        Sort::FDDI_MARKED,
+        Sort::EARLIER_MARKED,
     ];
     const GRID: &[Sort] = &[Sort::GRID, Sort::EARLIER_GRID, Sort::FDDI_GRID];
+    const MARKED: &[Sort] = &[Sort::MARKED, Sort::EARLIER_MARKED, Sort::FDDI_MARKED];
     match planted {
         Planted::Nothing => (Kind::Runs, &[]),
         Planted::TimeForNobody | Planted::RoundedDown => (Kind::Planning, TIMELY),
@@ -61,6 +68,12 @@ fn shown_by(planted: Planted) -> (Kind, &'static [Sort]) {
         | Planted::NewBeforeOld
         | Planted::MissingAsZeros
         | Planted::AbsentModeIsZero => (Kind::Differences, &Sort::ALL),
+        Planted::MarkAfterSending
+        | Planted::MarkedLimitByTimers
+        | Planted::WithdrawnArrivalForgotten
+        | Planted::KeptUnderMark => (Kind::Runs, MARKED),
+        Planted::MarkedUnusedNotRaised => (Kind::Runs, &MARKED[..2]),
+        Planted::MarkCountedAsVisit | Planted::FirstStartBoundByMark => (Kind::Inspections, MARKED),
         _ => (Kind::Runs, TIMELY),
     }
 }
@@ -71,8 +84,10 @@ fn comparing_finds_every_planted_error() {
     for (kind, sort) in kinds.map(|kind| Sort::ALL.map(|sort| (kind, sort))).concat() {
         let answered = answered(kind, sort);
         for planted in Planted::ALL {
-            if kind == Kind::Openings && shown_by(planted).0 != kind {
-                // An error in the ring may show in the one that is opened, too.
+            let elsewhere = kind == Kind::Openings || planted == Planted::MarkedLimitByTimers;
+            if elsewhere && shown_by(planted).0 != kind {
+                // An error in the ring may show in the one that is opened, too, and the limits of
+                // marked visits in logs.
                 continue;
             }
             let differs = |(case, right): &&(String, String)| answer(case, planted) != *right;
@@ -80,15 +95,18 @@ fn comparing_finds_every_planted_error() {
             let tried = if shown { 400 } else { 100 };
             let found = answered[..tried].iter().filter(differs).count();
             // Among the sets with a mode are a few whose mode was changed.
-            let as_expected = if shown { found > 10 } else { found < 5 };
+            // Where stations are marked, fewer visits show what is wrong with the others.
+            let enough = if sort.marked { 5 } else { 10 };
+            let as_expected = if shown { found > enough } else { found < 5 };
             assert!(as_expected, "{planted:?}: {found} in {kind:?} of {sort:?}");
         }
     }
-    assert_eq!([0, 32].map(Planted::from_number), [None, None]);
+    assert_eq!([0, 39].map(Planted::from_number), [None, None]);
     assert_eq!(Planted::from_number(20), Some(Planted::FirstStartCompared));
     assert_eq!(Planted::from_number(24), Some(Planted::LogByTheLaterEdition));
     assert_eq!(Planted::from_number(27), Some(Planted::OffGridOutOfRange));
     assert_eq!(Planted::from_number(31), Some(Planted::AbsentModeIsZero));
+    assert_eq!(Planted::from_number(38), Some(Planted::FirstStartBoundByMark));
 }
 
 /// Every promise that the runs with the error break.
@@ -138,6 +156,25 @@ fn the_promises_find_the_2003_order() {
         for planted in [Planted::TrtResetFirst, Planted::LimitAfterSending] {
             assert!(broken(planted, sort).contains(&Broken::LimitNotExact), "{planted:?}");
         }
+    }
+}
+
+/// A marked visit that sends or is offered something, what is kept under a mark, and u too small
+/// behind a mark are found. A forgotten arrival is no broken promise: it lets a message in too soon.
+#[test]
+fn the_promises_find_wrong_marks() {
+    for sort in [Sort::MARKED, Sort::FDDI_MARKED, Sort::EARLIER_MARKED] {
+        for (planted, promise) in [
+            (Planted::MarkAfterSending, Broken::MarkedStationSent),
+            (Planted::MarkedLimitByTimers, Broken::MarkedStationSent),
+            (Planted::KeptUnderMark, Broken::HeldUnderMark),
+        ] {
+            assert!(broken(planted, sort).contains(&promise), "{sort:?}: {planted:?}");
+        }
+    }
+    for sort in [Sort::MARKED, Sort::EARLIER_MARKED] {
+        let broken = broken(Planted::MarkedUnusedNotRaised, sort);
+        assert!(broken.contains(&Broken::LimitNotExact), "{sort:?}: {broken:?}");
     }
 }
 

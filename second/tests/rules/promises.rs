@@ -12,7 +12,8 @@ use second::text::{Answer, Call};
 use second::waits;
 
 /// How often each answer was given: its number, or 0 for taken, 100 for a completion and 102 for
-/// one after the deadline.
+/// one after the deadline; 103 for a marking, 104 for one that took a message back, 105 for an
+/// unmarking.
 type Counts = HashMap<u8, usize>;
 
 fn follow(place: u64, sort: Sort, counts: &mut Counts) {
@@ -36,6 +37,9 @@ fn kind(answer: &Result<Answer, Refusal>) -> u8 {
         Ok(Answer::Visited(visit)) if visit.completed.is_some_and(|done| done.margin < 0) => 102,
         Ok(Answer::Visited(visit)) if visit.completed.is_some() => 100,
         Ok(Answer::Visited(_)) => 101,
+        Ok(Answer::Marked(None)) => 103,
+        Ok(Answer::Marked(Some(_))) => 104,
+        Ok(Answer::Unmarked) => 105,
         Err(refusal) => refusal.number(),
     }
 }
@@ -45,10 +49,12 @@ fn thousands_of_runs_keep_every_promise() {
     for sort in Sort::ALL {
         let mut counts = Counts::new();
         (0..2_000).for_each(|place| follow(place, sort, &mut counts));
-        for kind in [0, 9, 10, 11, 12, 100, 101] {
-            assert!(counts[&kind] > 1_000, "{sort:?}, {kind}: {counts:?}");
+        let kinds = [0, 9, 10, 11, 12, 100, 101, 103, 104, 105];
+        let kinds = if sort.marked { &kinds[..] } else { &kinds[..7] };
+        for kind in kinds {
+            assert!(counts[kind] > 1_000, "{sort:?}, {kind}: {counts:?}");
         }
-        assert_eq!(counts.len(), 7, "{sort:?}: {counts:?}");
+        assert_eq!(counts.len(), kinds.len(), "{sort:?}: {counts:?}");
     }
 }
 
@@ -86,6 +92,7 @@ fn count_edges(ring: &mut Ring, call: &Call, reached: &mut [usize; 7]) {
             reached[5] += usize::from(before_visit);
             reached[6] += usize::from(early && !before_visit);
         }
+        Call::Mark(_) | Call::Unmark(_) => unreachable!("no station of this sort is marked"),
     }
 }
 

@@ -6,7 +6,6 @@ use second::planted::Planted;
 use second::ring::{Ring, Ticks};
 use second::rules::{Mode, Plan};
 use second::state::{Place, State};
-use second::text::Call;
 
 fn opened(plan: &Plan) -> State {
     let stations = &plan.request.stations;
@@ -37,6 +36,7 @@ fn assert_same(ring: &Ring, state: &State) {
         let accepted = (place.had != 0).then_some(place.arrival as Ticks);
         let last_start = ((index as u64) < state.visits).then_some(place.last as Ticks);
         assert_eq!((ring.last_accepted(index), ring.last_start(index)), (accepted, last_start));
+        assert_eq!(ring.marked(index), place.mark != 0);
     }
 }
 
@@ -47,10 +47,7 @@ fn absolute_times_and_timers_agree() {
         let mut ring = Ring::open(&plan, Planted::Nothing).expect("sound");
         let mut state = opened(&plan);
         for call in &script {
-            match call {
-                Call::Visit(ask) => assert_eq!(ring.visit(*ask), state.visit(*ask)),
-                Call::HandIn(message) => assert_eq!(ring.hand_in(message), state.hand_in(message)),
-            }
+            assert_eq!(call.answer(&mut ring), state.answer(call));
             assert_same(&ring, &state);
         }
     }

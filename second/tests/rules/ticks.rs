@@ -87,8 +87,7 @@ fn follow(plan: &Plan, script: &[Call]) -> (usize, u32) {
     let (mut late_tokens, mut largest) = (0, 0);
     for call in script {
         let Call::Visit(ask) = call else {
-            let Call::HandIn(message) = call else { continue };
-            let _ = ring.hand_in(message);
+            let _ = call.answer(&mut ring);
             continue;
         };
         if !(1..=plan.request.head.frame).contains(&ask.length) {
@@ -99,7 +98,9 @@ fn follow(plan: &Plan, script: &[Call]) -> (usize, u32) {
         let here = visit.station.index();
         let before = timers.timers[here];
         assert_eq!((visit.start, visit.trt), (timers.now as Ticks, before.ticks.into()));
-        let limit = timers.token(here);
+        // The timer of a marked station moves as if it were idle.
+        let unmarked = timers.token(here);
+        let limit = if ring.marked(here) { 0 } else { unmarked };
         assert_eq!(visit.limit, limit.into());
         timers.pass(visit.synchronous as u32);
         assert_eq!(visit.asynchronous, timers.send(*ask, limit).into());
@@ -118,7 +119,7 @@ fn follow(plan: &Plan, script: &[Call]) -> (usize, u32) {
 fn absolute_times_and_ticks_agree() {
     let (mut runs, mut late_tokens) = (0, 0);
     for place in 0..2_000 {
-        let sort = if place % 2 == 0 { Sort::FDDI } else { Sort::FDDI_UNCUT };
+        let sort = [Sort::FDDI, Sort::FDDI_UNCUT, Sort::FDDI_MARKED][place as usize % 3];
         let (plan, script) = calls::script(&mut Random::of_case(12, place), sort);
         if plan.request.head.ttrt <= 300 {
             let (late, largest) = follow(&plan, &script);

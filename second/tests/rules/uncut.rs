@@ -79,7 +79,10 @@ fn frames_without_allocations() {
         assert_eq!(planned(&framed(lone(head, 3), 4)), Err(6));
         assert_eq!(planned(&framed(lone(head, 1), 1)), Ok((vec![0], 0)));
         assert_eq!(planned(&framed(lone(head, 1), 2)), Err(6));
-        assert_eq!(planned(&framed(lone(head, 1_000_000), 65_535)), Ok((vec![0], 999_999 - 65_534 * loses)));
+        assert_eq!(
+            planned(&framed(lone(head, 1_000_000), 65_535)),
+            Ok((vec![0], 999_999 - 65_534 * loses))
+        );
         assert_eq!(planned(&framed(lone(head, 1_000_000), 65_536)), Err(4));
         assert_eq!(planned(&framed(lone(head, 1_000_000), 0)), Err(4));
         // 4 before 5, and 5 before 6.

@@ -5,7 +5,7 @@ use Rattle.rings.specs.Steps.{visited}
 use Rattle.rings.specs.HandingIn.{handedIn}
 use Rattle.lines.specs.Scan.{isEmptyLine}
 use Rattle.calls.specs.Calls.{isVisit}
-use Rattle.calls.proofs.RunLaws.{called-empty, called-visit, called-message, called-unread}
+use Rattle.calls.proofs.RunLaws.{called-empty, called-visit, called-message, called-switched}
 use borrow.Author.Needs.{needs}
 use Rattle.calls.proofs.call_line.Statement.{statement}
 use Rattle.calls.proofs.call_line.Tie as tie
@@ -45,11 +45,12 @@ returns-3 c =
 
 returns-4 : tie.Need-returns-4
 returns-4 c =
-    let second = c .before .before in
-    called-unread _ _ (some-line (second .before .before)) (no-visit second) (sym (c .before .is-message .ensures) ∙ c .if3 .left)
+    let here = c .before in
+    let second = here .before .before in
+    c .switch-line .ensures ∙ called-switched _ _ (some-line (second .before .before)) (no-visit second) (sym (here .before .is-message .ensures) ∙ here .if3 .left)
 
 pub call-line-spec : {M : Type 1} → statement M
 call-line-spec =
     tie.close
     (tie.spec (λ c κs. search needs) returns (λ c κs. search needs) ask-in-requires (λ c κs. search needs) returns-2 (λ c κs. search needs)
-    (λ c κs. search needs) (λ c κs. search needs) returns-3 returns-4)
+    (λ c κs. search needs) (λ c κs. search needs) returns-3 (λ c κs. search needs) returns-4)

@@ -27,6 +27,18 @@ returns-4 : tie.Need-returns-4
 unfolding answerText
 returns-4 c =
     let called = c .before .before in
+    rw (called .before .before .before .answer3 .given .1) (called .put-mark .ensures)
+
+returns-5 : tie.Need-returns-5
+unfolding answerText
+returns-5 c =
+    let called = c .before .before in
+    rw (called .before .before .before .answer4 .given .1) (called .put-unmark .ensures)
+
+returns-6 : tie.Need-returns-6
+unfolding answerText
+returns-6 c =
+    let called = c .before .before in
     let told = called .before .before in
     rw (told .enum-told2 .given .1) (put-as (called .put-unread .ensures .put (search needs) (unread-short _)) refl (omega arith))
 
@@ -34,4 +46,5 @@ pub put-answer-spec : {M : Type 1} → statement M
 put-answer-spec =
     tie.close
     (tie.spec (λ c. search needs) (λ c. search needs) (λ c κs. search needs) (λ c. search needs) (λ c κs. search needs) (λ c. search needs)
-    (λ c κs. search needs) returns (λ c. search needs) returns-2 (λ c. search needs) returns-3 (λ c. search needs) returns-4)
+    (λ c κs. search needs) (λ c. search needs) (λ c κs. search needs) (λ c. search needs) (λ c κs. search needs) returns
+    (λ c. search needs) returns-2 (λ c. search needs) returns-3 (λ c. search needs) returns-4 (λ c. search needs) returns-5 (λ c. search needs) returns-6)

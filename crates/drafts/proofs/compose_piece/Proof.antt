@@ -27,7 +27,7 @@ abbrev Behind : List ℕ → List ℕ → Composing → ℕ → Composing → Li
 Behind text page₀ start i stands page next =
     (stands ≡ composeAfter start (take i text)) × Put page₀ 0 (sentOver start (take i text)) page next
 
--- how much that is; before the first visit nothing
+-- how much that is; before the first record nothing
 abbrev Little : ℕ → ℕ → ℕ → Type 0
 Little i kind next = (next ≤ mostSent i) × (kind ≤ 2 → next ≡ 0)
 

@@ -1,4 +1,4 @@
--- `goes_out` is right because it asks for a whole text and for an accepted plan behind a visit.
+-- `goes_out` is right because it asks for a whole text and for an accepted plan behind a record.
 use mathlib.Core.Path.{refl}
 use borrow.Author.Needs.{needs}
 use Rattle.drafts.proofs.goes_out.Statement.{statement}

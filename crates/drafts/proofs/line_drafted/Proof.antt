@@ -120,8 +120,8 @@ returns-5 c =
     let second = third .before .before in
     rw (some-line (second .before .before), no-ttrt second, no-further third, no-station fourth, a-plan-station here) (c .with-station2 .ensures)
 
-visit-drafted-requires : tie.Need-visit-drafted-requires
-visit-drafted-requires c κs = search needs
+record-drafted-requires : tie.Need-record-drafted-requires
+record-drafted-requires c κs = search needs
 
 returns-6 : tie.Need-returns-6
 unfolding lineDrafted
@@ -130,7 +130,7 @@ returns-6 c =
     let fourth = here .before .before in
     let third = fourth .before .before in
     let second = third .before .before in
-    rw (some-line (second .before .before), no-ttrt second, no-further third, no-station fourth, no-plan-station here) (c .visit-drafted .ensures)
+    rw (some-line (second .before .before), no-ttrt second, no-further third, no-station fourth, no-plan-station here) (c .record-drafted .ensures)
 
 pub line-drafted-spec : {M : Type 1} → statement M
 line-drafted-spec =
@@ -154,5 +154,5 @@ line-drafted-spec =
     is-line-requires-3
     with-station-requires-2
     returns-5
-    visit-drafted-requires
+    record-drafted-requires
     returns-6)

@@ -15,8 +15,8 @@ returns c =
     let compared = second .before .before in
     let first = compared .before .before .before in
     let found = first .before .before in
-    let room = found .before .before .before .before .before .pre in
-    put-as (put-short-then (first .put-record .ensures) (second .put-compared .ensures) (omega (arith, room)))
+    let room = found .before .before .before .before .before .before .pre in
+    put-as (put-short-then (first .put-record .ensures) (second .put-people .ensures) (omega (arith, room)))
     (rw (ap (λ (f : Finding). f .«record») (found .found .ensures), compared .compare .ensures) refl) (omega arith)
 
 pub put-broken-spec : {M : Type 1} → statement M

@@ -9,8 +9,8 @@ use Rattle.inspection.proofs.found.Statement.{statement}
 use Rattle.inspection.proofs.found.Tie as tie
 
 -- a finding with this record is the inspection's
-with-record : (s : Inspection) (visits number : ℕ) → number ≡ brokenRecord s → record { visits = visits; «record» = number; rule = s .rule; number = 0 } ≡ findingOf s visits
-with-record s visits number is = ap (λ (x : ℕ). record { visits = visits; «record» = x; rule = s .rule; number = 0 }) is
+with-record : (s : Inspection) (records number : ℕ) → number ≡ brokenRecord s → record { records = records; «record» = number; rule = s .rule; number = 0 } ≡ findingOf s records
+with-record s records number is = ap (λ (x : ℕ). record { records = records; «record» = x; rule = s .rule; number = 0 }) is
 
 wrapping-add-u64-requires : tie.Need-wrapping-add-u64-requires
 wrapping-add-u64-requires c κs = search needs

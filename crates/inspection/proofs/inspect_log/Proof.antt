@@ -14,6 +14,9 @@ refused-requires c κs = search needs
 returns : tie.Need-returns
 returns c = c .refused .ensures ∙ refused-in _ _ (c .before .before .before .read-log .ensures) (c .before .if1 .taken)
 
+begin-requires : tie.Need-begin-requires
+begin-requires c κs = search needs
+
 inspect-records-requires : tie.Need-inspect-records-requires
 inspect-records-requires c κs = search needs
 
@@ -22,7 +25,10 @@ found-requires c κs = search needs
 
 returns-2 : tie.Need-returns-2
 returns-2 c =
-    c .found .ensures ∙ found-in _ _ (c .before .before .before .before .before .before .read-log .ensures) _ (c .before .before .before .before .if1 .left) (c .before .inspect-records .ensures)
+    let looped = c .before in
+    let began = looped .before in
+    let read = began .before .before .before in
+    c .found .ensures ∙ found-in _ _ (read .before .before .read-log .ensures) _ _ (read .if1 .left) (began .begin .ensures) (looped .inspect-records .ensures)
 
 pub inspect-log-spec : {M : Type 1} → statement M
 inspect-log-spec =
@@ -31,6 +37,7 @@ inspect-log-spec =
     read-log-requires
     refused-requires
     returns
+    begin-requires
     inspect-records-requires
     found-requires
     returns-2)

@@ -1,13 +1,18 @@
--- `olivastrum_log_entry` is right because it is the handing out of a visit by the layer below.
+-- `olivastrum_log_entry` is right because it is the handing out of an entry by the layer below, told as a host is told of it.
+use mathlib.Core.Path.{ap, _∙_}
 use borrow.Author.Needs.{needs}
+use Rattle.lent.specs.Told.{told}
 use Rattle.lent.proofs.olivastrum_log_entry.Statement.{statement}
 use Rattle.lent.proofs.olivastrum_log_entry.Tie as tie
 
 log-entry-requires : tie.Need-log-entry-requires
 log-entry-requires c κs = search needs
 
+told-entry-requires : tie.Need-told-entry-requires
+told-entry-requires c κs = search needs
+
 returns : tie.Need-returns
-returns c = c .log-entry .ensures
+returns c = c .told-entry .ensures ∙ ap told (c .before .log-entry .ensures)
 
 pub olivastrum-log-entry-spec : {M : Type 1} → statement M
-olivastrum-log-entry-spec = tie.close (tie.spec log-entry-requires returns)
+olivastrum-log-entry-spec = tie.close (tie.spec log-entry-requires told-entry-requires returns)

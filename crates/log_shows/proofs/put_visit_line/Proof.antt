@@ -3,7 +3,7 @@ use mathlib.Core.Path.{sym}
 use native.Mathlib.Omega.{arith}
 use Rattle.outputs.specs.LogText.{visitLine}
 use Rattle.text.specs.TextLaws.{field-then, end-then, put-as}
-use Rattle.log_shows.proofs.ShowLaws.{entry-words}
+use Rattle.log_shows.proofs.ShowLaws.{visit-words}
 use borrow.Author.Needs.{needs}
 use Rattle.log_shows.proofs.put_visit_line.Statement.{statement}
 use Rattle.log_shows.proofs.put_visit_line.Tie as tie
@@ -71,7 +71,7 @@ returns c =
     put-as (end-then six (done .put-end .ensures) (omega (arith, room)))
     (rw
     (first .before .wide .ensures .same, second .before .wide2 .ensures .same, third .before .wide3 .ensures .same, fourth .before .wide4 .ensures .same, fifth .before .wide5 .ensures .same)
-    (sym (entry-words _ _ _ _ _ _)))
+    (sym (visit-words _ _ _ _ _ _)))
     (omega arith)
 
 pub put-visit-line-spec : {M : Type 1} → statement M

@@ -1,4 +1,4 @@
--- `show_piece` is right because after i turns the visits stand behind the first i bytes, and their lines are put.
+-- `show_piece` is right because after i turns the records stand behind the first i bytes, and their lines are put.
 use Prim.Native.Nat.{ℕ, zero, suc, _+_, _*_, _-_, _≤_, _<_}
 use mathlib.Core.Path.{_≡_, refl, sym, ap, _∙_}
 use mathlib.Core.List.{[]}
@@ -7,10 +7,10 @@ use Rattle.units.specs.Places.{at}
 use lib.ListN.{length, take}
 use Rattle.entries.specs.declared.NextEntry.{NextEntry}
 use Rattle.pieces.specs.Pieces.{entriesOf, readOver, handedOver}
-use Rattle.pieces.specs.declared.Visits.{Visits}
+use Rattle.pieces.specs.declared.Gathered.{Gathered}
 use Rattle.text.specs.Text.{PutShort}
 use Rattle.text.specs.TextLaws.{put-none, put-as}
-use Rattle.outputs.specs.LogText.{visitLines}
+use Rattle.outputs.specs.LogText.{entryLines}
 use Rattle.log_shows.specs.LogShown.{linesFor}
 use Rattle.log_shows.proofs.ShowLaws.{turn}
 use borrow.Author.Needs.{needs}
@@ -18,14 +18,14 @@ use Rattle.log_shows.proofs.show_piece.Statement.{statement}
 use Rattle.log_shows.proofs.show_piece.Tie as tie
 
 abbrev Inv-loop : tie.InvT-loop
-Inv-loop bytes end page₀ number visits₀ next₀ i₀ page visits next i =
-    (i ≤ end) × (length page ≡ length page₀) × (visits ≡ readOver visits₀ (take i bytes)) × PutShort (126 * i) page₀ 0 (linesFor number (handedOver visits₀ (take i bytes))) page next
+Inv-loop bytes end page₀ number gathered₀ next₀ i₀ page gathered next i =
+    (i ≤ end) × (length page ≡ length page₀) × (gathered ≡ readOver gathered₀ (take i bytes)) × PutShort (126 * i) page₀ 0 (linesFor number (handedOver gathered₀ (take i bytes))) page next
 
 abbrev μ-loop : tie.MeasureT-loop
-μ-loop bytes end page₀ number visits₀ next₀ i₀ page visits next i = end - i
+μ-loop bytes end page₀ number gathered₀ next₀ i₀ page gathered next i = end - i
 
 no-lines : (k : ℕ) → linesFor k [] ≡ []
-unfolding linesFor visitLines
+unfolding linesFor entryLines
 no-lines zero = refl
 no-lines (suc k) = refl
 
@@ -39,11 +39,11 @@ shared-slice-read-byte c = search needs
 step-requires : tie.Need-step-requires Inv-loop μ-loop
 step-requires c κs = search needs
 
-visit-in-requires : tie.Need-visit-in-requires Inv-loop μ-loop
-visit-in-requires c κs = search needs
+entry-in-requires : tie.Need-entry-in-requires Inv-loop μ-loop
+entry-in-requires c κs = search needs
 
-put-visit-requires : tie.Need-put-visit-requires Inv-loop μ-loop
-put-visit-requires c κs =
+put-entry-requires : tie.Need-put-entry-requires Inv-loop μ-loop
+put-entry-requires c κs =
     let in-loop = c .before .before .before .before in
     let at-loop = in-loop .before in
     let start = at-loop .before .before .before .before in
@@ -72,10 +72,10 @@ loop-again c =
     let inside : at-loop .loop .i < length bytes = omega (arith, start .pre .inside) in
     let room : 126 * at-loop .loop .i + 126 ≤ length (start .args .page .now) = omega (arith, start .pre .few, start .pre .large) in
     let number = start .args .showing .number in
-    let q = put-as {more = 126} (called .put-visit .ensures) (ap (λ (n : NextEntry). linesFor number (entriesOf n)) (handed .visit-in .ensures)) (omega arith) in
-    let t = turn bytes (start .args .page .now) (at-loop .loop .page) (called .put-visit .last .0) number (start .args .showing .visits)
-    (at-loop .loop .visits) (moved .step .result) i (at-loop .loop .next) (called .put-visit .result) inside room (inv .2) (inv .3) (moved .step .ensures) q in
-    (omega arith, called .put-visit .kept .0 ∙ inv .1, t .0, t .1)
+    let q = put-as {more = 126} (called .put-entry .ensures) (ap (λ (n : NextEntry). linesFor number (entriesOf n)) (handed .entry-in .ensures)) (omega arith) in
+    let t = turn bytes (start .args .page .now) (at-loop .loop .page) (called .put-entry .last .0) number (start .args .showing .gathered)
+    (at-loop .loop .gathered) (moved .step .result) i (at-loop .loop .next) (called .put-entry .result) inside room (inv .2) (inv .3) (moved .step .ensures) q in
+    (omega arith, called .put-entry .kept .0 ∙ inv .1, t .0, t .1)
 
 same-length : tie.Need-same-length Inv-loop μ-loop
 same-length c = search needs
@@ -87,7 +87,7 @@ returns c =
     let end : at-loop .loop .i ≡ start .args .end = omega arith in
     let there = rw end at (at-loop .loop .inv .2) in
     record {
-      behind = ap (λ (v : Visits). record { visits = v; number = start .args .showing .number }) there;
+      behind = ap (λ (v : Gathered). record { gathered = v; number = start .args .showing .number }) there;
       shown = put-as (at-loop .loop .inv .3) (rw end) (omega (arith, start .pre .few));
     }
 
@@ -100,8 +100,8 @@ show-piece-spec =
     loop-holds
     shared-slice-read-byte
     step-requires
-    visit-in-requires
-    put-visit-requires
+    entry-in-requires
+    put-entry-requires
     add-i
     loop-less
     loop-again

@@ -1,7 +1,7 @@
--- `show_start` is right because it reads the plan at the start, and looks for a whole visit behind it.
+-- `show_start` is right because it reads the plan at the start, and looks for a whole record behind it.
 use mathlib.Core.Path.{_≡_, sym, ap, _∙_}
 use borrow.Author.Tests.{not-true, not-false}
-use Rattle.pieces.specs.declared.Visits.{Visits}
+use Rattle.pieces.specs.declared.Gathered.{Gathered}
 use Rattle.sheets.specs.declared.PlanStart.{PlanStart}
 use Rattle.text.specs.TextLaws.{not-printed, says-as}
 use Rattle.log_shows.specs.LogShown.{showFrom}
@@ -11,15 +11,15 @@ use borrow.Author.Needs.{needs}
 use Rattle.log_shows.proofs.show_start.Statement.{statement}
 use Rattle.log_shows.proofs.show_start.Tie as tie
 
--- what is kept for the visits
+-- what is kept for the records
 kept : (c : tie.After-begin)
     → let start = c .before .before .before .before in
-    let made : Showing = record { visits = c .begin .result; number = start .read-start .result .number } in
+    let made : Showing = record { gathered = c .begin .result; number = start .read-start .result .number } in
     made ≡ showFrom (start .before .before .before .args .head .now)
 kept c =
     let start = c .before .before .before .before in
-    ap (λ (v : Visits). record { visits = v; number = start .read-start .result .number }) (c .begin .ensures)
-    ∙ ap (λ (p : PlanStart). record { visits = _; number = p .number }) (start .read-start .ensures)
+    ap (λ (v : Gathered). record { gathered = v; number = start .read-start .result .number }) (c .begin .ensures)
+    ∙ ap (λ (p : PlanStart). record { gathered = _; number = p .number }) (start .read-start .ensures)
 
 read-start-requires : tie.Need-read-start-requires
 read-start-requires c κs = search needs

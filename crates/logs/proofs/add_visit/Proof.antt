@@ -3,25 +3,25 @@ use mathlib.Core.Path.{sym, ap, subst, _∙_}
 use native.Mathlib.Omega.{arith}
 use Prim.Native.Nat.{_+_, _≤_}
 use lib.ListN.{length}
-use Rattle.entries.specs.Entry.{entryBytes}
-use Rattle.entries.specs.declared.Entry.{Entry}
+use Rattle.entries.specs.Visit.{visitBytes}
+use Rattle.entries.specs.declared.VisitEntry.{VisitEntry}
 use Rattle.sheets.specs.Writing.{PutAt}
-use Rattle.logs.specs.Writing.{entryBy}
-use Rattle.logs.proofs.WritingLaws.{room-fits, add-number, added-refused, added-all}
+use Rattle.logs.specs.Writing.{visitBy}
+use Rattle.logs.proofs.WritingLaws.{room-fits, visit-number, added-refused, added-all}
 use borrow.Author.Needs.{needs}
 use Rattle.logs.proofs.add_visit.Statement.{statement}
 use Rattle.logs.proofs.add_visit.Tie as tie
 
--- what was put is the field of the visit's entry
+-- what was put is the visit's field
 put-said : (c : tie.After-put-visit)
     → let args = c .before .before .before .before .args in
-    PutAt (args .recorder .at) (entryBytes (entryBy (args .recorder) (args .visit))) 3 (args .out .now) (c .put-visit .last .0) (c .put-visit .result)
+    PutAt (args .recorder .at) (visitBytes (visitBy (args .recorder) (args .visit))) 3 (args .out .now) (c .put-visit .last .0) (c .put-visit .result)
 put-said c =
     let args = c .before .before .before .before .args in
-    subst (λ (e : Entry). PutAt (args .recorder .at) (entryBytes e) 3 (args .out .now) (c .put-visit .last .0) (c .put-visit .result)) (c .before .before .entry-of .ensures) (c .put-visit .ensures)
+    subst (λ (e : VisitEntry). PutAt (args .recorder .at) (visitBytes e) 3 (args .out .now) (c .put-visit .last .0) (c .put-visit .result)) (c .before .before .visit-of .ensures) (c .put-visit .ensures)
 
-entry-of-requires : tie.Need-entry-of-requires
-entry-of-requires c κs = search needs
+visit-of-requires : tie.Need-visit-of-requires
+visit-of-requires c κs = search needs
 
 put-visit-requires : tie.Need-put-visit-requires
 put-visit-requires c κs = search needs
@@ -42,7 +42,7 @@ add-t9 : tie.Need-add-t9
 add-t9 c =
     let put = c .before .before .before .before in
     let args = put .before .before .before .before .args in
-    let fit : args .recorder .at + 20 + 3 ≤ length (args .out .now) = room-fits _ _ (sym (add-number (args .recorder) (args .visit) (args .out .now) _ _ (put-said put)) ∙ c .before .if1 .left) in
+    let fit : args .recorder .at + 20 + 3 ≤ length (args .out .now) = room-fits _ _ (sym (visit-number (args .recorder) (args .visit) (args .out .now) _ _ (put-said put)) ∙ c .before .if1 .left) in
     omega arith
 
 same-length-2 : tie.Need-same-length-2
@@ -52,14 +52,14 @@ returns-2 : tie.Need-returns-2
 returns-2 c =
     let put = c .before .before .before .before in
     let args = put .before .before .before .before .args in
-    let counter = ap (λ (e : Entry). e .start) (put .before .before .entry-of .ensures) in
+    let counter = ap (λ (e : VisitEntry). e .start) (put .before .before .visit-of .ensures) in
     rw counter (added-all (args .recorder) (args .visit) (args .out .now) _ _ (put-said put) (c .before .if1 .left))
 
 pub add-visit-spec : {M : Type 1} → statement M
 add-visit-spec =
     tie.close
     (tie.spec
-    entry-of-requires
+    visit-of-requires
     put-visit-requires
     stopped-requires
     same-length

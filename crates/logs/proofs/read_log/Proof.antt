@@ -1,4 +1,4 @@
--- `read_log` is right because it keeps the fault of the plan's fields, then that of the visits, then the number of the judgement.
+-- `read_log` is right because it keeps the fault of the plan's fields, then that of the records, then the number of the judgement.
 use mathlib.Core.Path.{sym, _∙_}
 use borrow.Author.Tests.{not-true, not-false}
 use Rattle.logs.proofs.ReadingLaws.{log-not-all, log-fault, log-judged, log-whole}
@@ -17,8 +17,8 @@ returns c =
     let start = c .before .before .before in
     c .refused .ensures ∙ sym (log-not-all _ _ (start .read-start .ensures) (not-true _ (c .before .if1 .taken)))
 
-walk-visits-requires : tie.Need-walk-visits-requires
-walk-visits-requires c κs = search needs
+walk-records-requires : tie.Need-walk-records-requires
+walk-records-requires c κs = search needs
 
 refused-requires-2 : tie.Need-refused-requires-2
 refused-requires-2 c κs = search needs
@@ -27,7 +27,7 @@ returns-2 : tie.Need-returns-2
 returns-2 c =
     let walk = c .before .before .before in
     let start = walk .before .before .before in
-    c .refused2 .ensures ∙ sym (log-fault _ _ (start .read-start .ensures) (not-false _ (walk .before .if1 .left)) _ (walk .walk-visits .ensures) (c .before .if2 .taken))
+    c .refused2 .ensures ∙ sym (log-fault _ _ (start .read-start .ensures) (not-false _ (walk .before .if1 .left)) _ (walk .walk-records .ensures) (c .before .if2 .taken))
 
 refused-requires-3 : tie.Need-refused-requires-3
 refused-requires-3 c κs = search needs
@@ -38,7 +38,7 @@ returns-3 c =
     let walk = none .before .before in
     let start = walk .before .before .before in
     c .refused3 .ensures
-    ∙ sym (log-judged _ _ (start .read-start .ensures) (not-false _ (walk .before .if1 .left)) _ (walk .walk-visits .ensures) (none .if2 .left) (c .before .if3 .taken))
+    ∙ sym (log-judged _ _ (start .read-start .ensures) (not-false _ (walk .before .if1 .left)) _ (walk .walk-records .ensures) (none .if2 .left) (c .before .if3 .taken))
 
 returns-4 : tie.Need-returns-4
 returns-4 c =
@@ -46,7 +46,7 @@ returns-4 c =
     let none = last .before .before in
     let walk = none .before .before in
     let start = walk .before .before .before in
-    log-whole _ _ (start .read-start .ensures) (not-false _ (walk .before .if1 .left)) _ (walk .walk-visits .ensures) (none .if2 .left) (last .if3 .left)
+    log-whole _ _ (start .read-start .ensures) (not-false _ (walk .before .if1 .left)) _ (walk .walk-records .ensures) (none .if2 .left) (last .if3 .left)
 
 pub read-log-spec : {M : Type 1} → statement M
 read-log-spec =
@@ -55,7 +55,7 @@ read-log-spec =
     read-start-requires
     refused-requires
     returns
-    walk-visits-requires
+    walk-records-requires
     refused-requires-2
     returns-2
     refused-requires-3

@@ -5,7 +5,7 @@ use Rattle.piece_inspections.proofs.begin.Statement.{statement}
 use Rattle.piece_inspections.proofs.begin.Tie as tie
 
 returns : tie.Need-returns
-returns c = kept-as _ (c .before .visits-from .ensures) (c .look-first .ensures)
+returns c = kept-as _ (c .before .gathered-from .ensures) (c .look-first .ensures)
 
 pub begin-spec : {M : Type 1} → statement M
 begin-spec = tie.close (tie.spec (λ c κs. search needs) (λ c κs. search needs) returns)

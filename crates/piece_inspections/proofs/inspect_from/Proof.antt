@@ -4,19 +4,19 @@ use mathlib.Core.Path.{_≡_, ap, _∙_}
 use mathlib.Core.Logic.{⊎-elim}
 use lib.ListN.{length}
 use Rattle.entries.specs.declared.NextEntry.{NextEntry}
-use Rattle.pieces.specs.Pieces.{visitIn, entriesOf}
+use Rattle.pieces.specs.Pieces.{entryIn, entriesOf}
 use Rattle.piece_inspections.specs.Inspecting.{lookedAll}
-use Rattle.piece_inspections.proofs.TurnLaws.{none-looked, one-looked, Going, going-first, going-on, going-ends}
+use Rattle.piece_inspections.proofs.TurnLaws.{none-looked, field-looked, Going, going-first, going-on, going-ends}
 use Rattle.piece_inspections.proofs.WholeLaws.{kept-as}
 use borrow.Author.Needs.{needs}
 use Rattle.piece_inspections.proofs.inspect_from.Statement.{statement}
 use Rattle.piece_inspections.proofs.inspect_from.Tie as tie
 
 abbrev Inv-loop : tie.InvT-loop
-Inv-loop bytes from start set alloc visits₀ looked₀ i₀ visits looked i = Going set alloc bytes visits₀ looked₀ from visits looked i
+Inv-loop bytes from start set alloc gathered₀ looked₀ i₀ gathered looked i = Going set alloc bytes gathered₀ looked₀ from gathered looked i
 
 abbrev μ-loop : tie.MeasureT-loop
-μ-loop bytes from start set alloc visits₀ looked₀ i₀ visits looked i = length bytes - i
+μ-loop bytes from start set alloc gathered₀ looked₀ i₀ gathered looked i = length bytes - i
 
 loop-holds : tie.Need-loop-holds Inv-loop μ-loop
 loop-holds c = going-first _ _ _ _ _ _
@@ -26,7 +26,7 @@ looked-then : (c : tie.Joined1 Inv-loop μ-loop)
     → let stepped = c .before .before .before in
     let at-loop = stepped .before .before .before in
     let kept = at-loop .before .before .before .before .before .before .before .args .inspecting in
-    c .if1 .looked ≡ lookedAll (kept .start .set) (kept .start .alloc) (at-loop .loop .looked) (entriesOf (visitIn (stepped .step .result)))
+    c .if1 .looked ≡ lookedAll (kept .start .set) (kept .start .alloc) (at-loop .loop .looked) (entriesOf (entryIn (stepped .step .result)))
 looked-then c =
     let handed = c .before .before in
     let at-loop = handed .before .before .before .before in
@@ -34,10 +34,10 @@ looked-then c =
     let t = kept .start .set in
     let a = kept .start .alloc in
     let l = at-loop .loop .looked in
-    let n = handed .visit-in .result in
-    let same : lookedAll t a l (entriesOf n) ≡ lookedAll t a l (entriesOf (visitIn (handed .before .step .result))) =
-    ap (λ (x : NextEntry). lookedAll t a l (entriesOf x)) (handed .visit-in .ensures) in
-    ⊎-elim (λ came. came .3 ∙ came .2 .ensures ∙ one-looked t a l n (came .0 .taken) ∙ same) (λ came. came .1 ∙ none-looked t a l n (came .0 .left) ∙ same) (c .if1 .came)
+    let n = handed .entry-in .result in
+    let same : lookedAll t a l (entriesOf n) ≡ lookedAll t a l (entriesOf (entryIn (handed .before .step .result))) =
+    ap (λ (x : NextEntry). lookedAll t a l (entriesOf x)) (handed .entry-in .ensures) in
+    ⊎-elim (λ came. came .2 ∙ came .1 .ensures ∙ field-looked t a l (handed .before .step .result) n (handed .entry-in .ensures) (came .0 .taken)) (λ came. came .1 ∙ none-looked t a l n (came .0 .left) ∙ same) (c .if1 .came)
 
 loop-again : tie.Need-loop-again Inv-loop μ-loop
 loop-again c =

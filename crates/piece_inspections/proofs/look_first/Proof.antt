@@ -1,11 +1,13 @@
--- `look_first` is right because it begins the inspection with the blank entry.
+-- `look_first` is right because it begins the inspection with the blank entry twice.
+use mathlib.Core.Path.{ap}
+use Rattle.entries.specs.declared.Entry.the-variants.{Visit}
 use Rattle.piece_inspections.proofs.LookLaws.{looked-as}
 use borrow.Author.Needs.{needs}
 use Rattle.piece_inspections.proofs.look_first.Statement.{statement}
 use Rattle.piece_inspections.proofs.look_first.Tie as tie
 
 returns : tie.Need-returns
-returns c = looked-as (c .before .begin .ensures) (c .blank-entry .ensures)
+returns c = looked-as (c .before .before .begin .ensures) (ap Visit (c .before .blank-visit .ensures)) (ap Visit (c .blank-visit2 .ensures))
 
 pub look-first-spec : {M : Type 1} → statement M
-look-first-spec = tie.close (tie.spec (λ c κs. search needs) (λ c κs. search needs) returns)
+look-first-spec = tie.close (tie.spec (λ c κs. search needs) (λ c κs. search needs) (λ c κs. search needs) returns)

@@ -1,4 +1,4 @@
--- `number_of` is right because a fault of the visits comes before the plan's refusal.
+-- `number_of` is right because a fault of the records comes before the plan's refusal.
 use mathlib.Core.Path.{sym, _∙_}
 use Rattle.sheets.specs.ReadLaws.{then-rest, then-keeps}
 use borrow.Author.Needs.{needs}

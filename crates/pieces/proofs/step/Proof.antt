@@ -1,7 +1,7 @@
 -- `step` is right because it stops at a fault, as the definition does, and else adds the byte to its field.
 use mathlib.Core.Path.{ap, _∙_}
 use Rattle.pieces.specs.Pieces.{withByte, told}
-use Rattle.pieces.specs.declared.Visits.{Visits}
+use Rattle.pieces.specs.declared.Gathered.{Gathered}
 use Rattle.pieces.proofs.StepLaws.{step-stopped, step-ended, step-on, room}
 use borrow.Author.Needs.{needs}
 use Rattle.pieces.proofs.step.Statement.{statement}
@@ -34,7 +34,7 @@ returns-3 c =
     let here = begun .before in
     let byte = here .before .before .before .args .byte in
     c .tell .ensures
-    ∙ ap told (joined .with-byte .ensures ∙ ap (λ (v : Visits). withByte v byte) (begun .at-field .ensures))
+    ∙ ap told (joined .with-byte .ensures ∙ ap (λ (v : Gathered). withByte v byte) (begun .at-field .ensures))
     ∙ step-on _ _ (here .before .if1 .left) (here .if2 .left)
 
 pub step-spec : {M : Type 1} → statement M

@@ -1,4 +1,4 @@
--- `record_piece` is right because after i turns the recording stands behind the first i bytes, and the fields of their visits are put.
+-- `record_piece` is right because after i turns the recording stands behind the first i bytes, and the fields of their records are put.
 use Prim.Native.Nat.{ℕ, _+_, _*_, _-_, _≤_, _<_}
 use mathlib.Core.Path.{_≡_, _∙_}
 use mathlib.Core.Logic.{⊎-elim}
@@ -6,12 +6,12 @@ use native.Mathlib.Omega.{arith}
 use lib.ListN.{length}
 use Rattle.units.specs.Places.{at}
 use Rattle.text.specs.TextLaws.{put-as}
-use Rattle.logs.specs.Layout.{visitsBytes}
+use Rattle.logs.specs.Layout.{entriesBytes}
 use Rattle.logs.specs.declared.Recorder.{Recorder}
 use Rattle.calls.specs.declared.Run.{Run}
 use Rattle.calls.proofs.ByteLaws.{Behind, behind-none, behind-more, behind-quiet}
 use Rattle.calls.proofs.RunLaws.{goes-on, line-ends}
-use Rattle.recordings.specs.LogText.{recordsIn, clockAfter, counterAfter, firstUnread, recordOn, loggedAt}
+use Rattle.recordings.specs.LogText.{visitsIn, clockAfter, counterAfter, entriesBy, firstUnread, recordOn, loggedAt}
 use Rattle.recordings.specs.declared.Recording.{Recording}
 use Rattle.recordings.proofs.RecordLaws.{record-byte}
 use borrow.Author.Needs.{needs}
@@ -33,7 +33,7 @@ loop-holds : tie.Need-loop-holds Inv-loop μ-loop
 loop-holds c = (omega arith, behind-none _ _ _)
 
 loop-again : tie.Need-loop-again Inv-loop μ-loop
-unfolding recordsIn clockAfter counterAfter firstUnread visitsBytes
+unfolding visitsIn clockAfter counterAfter entriesBy firstUnread entriesBytes
 loop-again c =
     let at-loop = c .before .before .before in
     let start = at-loop .before .before .before .before in

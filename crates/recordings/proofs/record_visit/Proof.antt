@@ -5,7 +5,7 @@ use Rattle.recordings.proofs.record_visit.Statement.{statement}
 use Rattle.recordings.proofs.record_visit.Tie as tie
 
 returns : tie.Need-returns
-returns c = visit-skipped _ _ _ (c .if1 .taken)
+returns c = visit-skipped _ _ _ _ (c .if1 .taken)
 
 returns-2 : tie.Need-returns-2
 returns-2 c =

@@ -16,6 +16,7 @@ returns c =
             rest = search needs;
             arrival = search needs;
             had = search needs;
+            mark = search needs;
             last = search needs;
           };
     }

@@ -5,7 +5,10 @@ use Rattle.inspection.proofs.rules.due.Statement.{statement}
 use Rattle.inspection.proofs.rules.due.Tie as tie
 
 returns : tie.Need-returns
-returns c = rw (c .limit-at .ensures, c .before .start-due .ensures, c .before .before .before .between .ensures) refl
+returns c =
+    let offered = c .before in
+    let limited = offered .before .before in
+    rw (c .unless-marked2 .ensures, offered .unless-marked .ensures, limited .limit-at .ensures, limited .before .between .ensures) refl
 
 pub due-spec : {M : Type 1} → statement M
-due-spec = tie.close (tie.spec (λ c κs. search needs) (λ c κs. search needs) (λ c κs. search needs) returns)
+due-spec = tie.close (tie.spec (λ c κs. search needs) (λ c κs. search needs) (λ c κs. search needs) (λ c κs. search needs) returns)

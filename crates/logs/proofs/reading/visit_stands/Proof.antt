@@ -4,7 +4,7 @@ use mathlib.Core.Path.{refl, _∙_}
 use native.Mathlib.Omega.{arith}
 use lib.ListN.{length}
 use borrow.Author.Tests.{le-leb, lt-leb}
-use Rattle.entries.specs.Entry.{visitStands}
+use Rattle.entries.specs.Visit.{visitStands}
 use borrow.Author.Needs.{needs}
 use Rattle.logs.proofs.reading.visit_stands.Statement.{statement}
 use Rattle.logs.proofs.reading.visit_stands.Tie as tie

@@ -2,13 +2,12 @@
 use mathlib.Core.Path.{_≡_, refl, sym, _∙_}
 use mathlib.Core.Bool.{true, false, _&&_}
 use native.Mathlib.Omega.{arith}
-use borrow.Author.Tests.{not-true, not-false, ltb-true, ltb-false, lt-ltb, le-ltb, eq-eqb, ne-eqb}
-use Rattle.units.specs.Places.{at}
-use Prim.Native.Nat.{_≤_, _<_}
+use borrow.Author.Tests.{not-true, not-false, lt-ltb, le-ltb}
+use Prim.Native.Nat.{_<_}
 use lib.Dec.{leb}
 use Rattle.rings.specs.RingLaws.{sound-sentences, sound-plan, message-9, message-10, message-11, message-12, message-0}
 use Rattle.rings.specs.State.{count}
-use Rattle.rings.specs.HandingIn.{stationKnown, lengthAllowed, nothingHeld}
+use Rattle.rings.specs.HandingIn.{stationKnown, lengthAllowed, stationFree}
 use borrow.Author.Needs.{needs}
 use Rattle.rings.proofs.messages.message_number.Statement.{statement}
 use Rattle.rings.proofs.messages.message_number.Tie as tie
@@ -26,25 +25,19 @@ known : (c : tie.Else1) → stationKnown (c .before .before .before .args .r) (c
 known c = lt-ltb _ _ (below c)
 
 -- the length's test is the definition's
-length-said : (c : tie.After-wide2) → let args = c .before .before .before .before .before .before .before .args in
+length-said : (c : tie.After-wide2) → let args = c .before .before .before .before .before .before .before .before .args in
     (leb 1 (args .m .length .0) && leb (args .m .length .0) (c .wide2 .result)) ≡ lengthAllowed (args .r) (args .m)
 length-said c = rw (c .wide2 .ensures .same) refl
 
-allowed : (c : tie.Else2) → let args = c .before .before .before .before .before .before .before .before .before .args in lengthAllowed (args .r) (args .m) ≡ true
+allowed : (c : tie.Else2) → let args = c .before .before .before .before .before .before .before .before .before .before .args in lengthAllowed (args .r) (args .m) ≡ true
 allowed c = sym (length-said (c .before .before)) ∙ not-false _ (c .if2 .left)
 
--- something of a message remains, or nothing does
-held : (c : tie.Then3) → let args = c .before .before .before .before .before .before .before .before .before .before .args in nothingHeld (args .r) (args .m) ≡ false
-held c =
-    let args = c .before .before .before .before .before .before .before .before .before .before .args in
-    let some : 0 < at (args .r .rest) (args .m .station .0) = ltb-true 0 _ (c .if3 .taken) in
-    ne-eqb (at (args .r .rest) (args .m .station .0)) 0 (omega arith)
+-- the station holds a message or is marked, or neither
+held : (c : tie.Then3) → let args = c .before .before .before .before .before .before .before .before .before .before .before .args in stationFree (args .r) (args .m) ≡ false
+held c = not-true _ (c .if3 .taken)
 
-free : (c : tie.Else3) → let args = c .before .before .before .before .before .before .before .before .before .before .args in nothingHeld (args .r) (args .m) ≡ true
-free c =
-    let args = c .before .before .before .before .before .before .before .before .before .before .args in
-    let none : at (args .r .rest) (args .m .station .0) ≤ 0 = ltb-false 0 _ (c .if3 .left) in
-    eq-eqb (at (args .r .rest) (args .m .station .0)) 0 (omega arith)
+free : (c : tie.Else3) → let args = c .before .before .before .before .before .before .before .before .before .before .before .args in stationFree (args .r) (args .m) ≡ true
+free c = not-false _ (c .if3 .left)
 
 wide-requires : tie.Need-wide-requires
 wide-requires c κs = search needs
@@ -54,36 +47,39 @@ returns c =
     let args = c .before .before .before .args in
     sym (message-9 (args .r) (args .m) (le-ltb _ _ (rw (c .before .before .wide .ensures .same) at (c .if1 .taken))))
 
-mul-held : tie.Need-mul-held
-mul-held c = search needs
+mul-free : tie.Need-mul-free
+mul-free c = search needs
 
-array-read-held : tie.Need-array-read-held
-array-read-held c = inside (c .before .before)
+array-read-free : tie.Need-array-read-free
+array-read-free c = inside (c .before .before .before)
+
+array-read-free-2 : tie.Need-array-read-free-2
+array-read-free-2 c = inside (c .before .before .before)
 
 mul-wide : tie.Need-mul-wide
 mul-wide c = search needs
 
 array-read-wide : tie.Need-array-read-wide
-array-read-wide c = inside (c .before .before .before)
+array-read-wide c = inside (c .before .before .before .before)
 
 wide-requires-2 : tie.Need-wide-requires-2
 wide-requires-2 c κs = search needs
 
 returns-2 : tie.Need-returns-2
 returns-2 c =
-    let else = c .before .before .before .before .before .before in
+    let else = c .before .before .before .before .before .before .before in
     let args = else .before .before .before .args in
     sym (message-10 (args .r) (args .m) (known else) (sym (length-said (c .before .before)) ∙ not-true _ (c .if2 .taken)))
 
 returns-3 : tie.Need-returns-3
 returns-3 c =
-    let else = c .before .before .before .before .before .before .before in
+    let else = c .before .before .before .before .before .before .before .before in
     let args = else .before .before .before .args in
     sym (message-11 (args .r) (args .m) (known else) (allowed (c .before)) (held c))
 
 arrival-allowed-requires : tie.Need-arrival-allowed-requires
 arrival-allowed-requires c κs =
-    let else = c .before .before .before .before .before .before .before in
+    let else = c .before .before .before .before .before .before .before .before in
     let args = else .before .before .before .args in
     let sound = sound-sentences (args .r) (else .before .before .before .pre) in
     record { inside = inside else; arrival = sound .arrivals (args .m .station .0) (below else) }
@@ -91,14 +87,14 @@ arrival-allowed-requires c κs =
 returns-4 : tie.Need-returns-4
 returns-4 c =
     let else3 = c .before .before in
-    let else = else3 .before .before .before .before .before .before .before in
+    let else = else3 .before .before .before .before .before .before .before .before in
     let args = else .before .before .before .args in
     sym (message-12 (args .r) (args .m) (known else) (allowed (else3 .before)) (free else3) (sym (c .before .arrival-allowed .ensures) ∙ not-true _ (c .if4 .taken)))
 
 returns-5 : tie.Need-returns-5
 returns-5 c =
     let else3 = c .before .before in
-    let else = else3 .before .before .before .before .before .before .before in
+    let else = else3 .before .before .before .before .before .before .before .before in
     let args = else .before .before .before .args in
     sym (message-0 (args .r) (args .m) (known else) (allowed (else3 .before)) (free else3) (sym (c .before .arrival-allowed .ensures) ∙ not-false _ (c .if4 .left)))
 
@@ -108,8 +104,9 @@ message-number-spec =
     (tie.spec
     wide-requires
     returns
-    mul-held
-    array-read-held
+    mul-free
+    array-read-free
+    array-read-free-2
     mul-wide
     array-read-wide
     wide-requires-2

@@ -3,7 +3,7 @@ use mathlib.Core.Path.{_≡_, refl, sym, _∙_}
 use native.Mathlib.Omega.{arith}
 use Prim.Native.Nat.{min}
 use Rattle.units.specs.Places.{at}
-use Rattle.rings.specs.State.{share}
+use Rattle.rings.specs.Steps.{mostSent}
 use Rattle.rings.specs.RingLaws.{served, not-served}
 use borrow.Author.Needs.{needs}
 use Rattle.rings.proofs.steps.sync_sent.Statement.{statement}
@@ -27,6 +27,9 @@ mul-arrived c = search needs
 array-read-arrived : tie.Need-array-read-arrived
 array-read-arrived c = search needs
 
+most-sent-requires : tie.Need-most-sent-requires
+most-sent-requires c κs = search needs
+
 mul-wide : tie.Need-mul-wide
 mul-wide c = search needs
 
@@ -36,25 +39,21 @@ array-read-wide c = search needs
 wide-requires : tie.Need-wide-requires
 wide-requires c κs = search needs
 
-mul-wide-2 : tie.Need-mul-wide-2
-mul-wide-2 c = search needs
-
-array-read-wide-2 : tie.Need-array-read-wide-2
-array-read-wide-2 c = search needs
-
-wide-requires-2 : tie.Need-wide-requires-2
-wide-requires-2 c κs = search needs
-
 least-requires : tie.Need-least-requires
 least-requires c κs = search needs
 
 returns : tie.Need-returns
 returns c =
-    let then = c .before .before .before .before in
+    let most = c .before .before in
+    let then = most .before in
     let args = then .before .before .before .before .before .args in
     let r = args .r in
-    let is : c .least .result ≡ min (share r (r .token)) (at (r .rest) (r .token)) = c .least .ensures ∙ rw (c .before .before .wide .ensures .same, c .before .wide2 .ensures .same) refl in
-    record { is = is ∙ sym (served r (args .asynchronous) (rw (then .before .sync-start .ensures) at (then .if1 .taken))); allotted = omega arith; rest = omega arith }
+    let is : c .least .result ≡ min (mostSent r) (at (r .rest) (r .token)) = c .least .ensures ∙ rw (most .most-sent .ensures .is, c .before .wide .ensures .same) refl in
+    record {
+      is = is ∙ sym (served r (args .asynchronous) (rw (then .before .sync-start .ensures) at (then .if1 .taken)));
+      allotted = omega (arith, c .least .ensures, most .most-sent .ensures .small);
+      rest = omega arith;
+    }
 
 returns-2 : tie.Need-returns-2
 returns-2 c =
@@ -71,12 +70,10 @@ sync-sent-spec =
     array-read-held
     mul-arrived
     array-read-arrived
+    most-sent-requires
     mul-wide
     array-read-wide
     wide-requires
-    mul-wide-2
-    array-read-wide-2
-    wide-requires-2
     least-requires
     returns
     returns-2)

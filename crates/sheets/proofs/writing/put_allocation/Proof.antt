@@ -8,8 +8,8 @@ use borrow.Author.Needs.{needs}
 use Rattle.sheets.proofs.writing.put_allocation.Statement.{statement}
 use Rattle.sheets.proofs.writing.put_allocation.Tie as tie
 
-put-mark-requires : tie.Need-put-mark-requires
-put-mark-requires c κs = search needs
+put-start-requires : tie.Need-put-start-requires
+put-start-requires c κs = search needs
 
 add-put-number : tie.Need-add-put-number
 add-put-number c = search needs
@@ -25,8 +25,8 @@ unfolding allocationWith bytesOf
 returns c =
     let numbered = c .before .before in
     let marked = numbered .before .before .before .before in
-    laid-more _ _ _ _ _ _ _ (marked .put-mark .ensures) refl (numbered .put-number .ensures) (omega arith)
+    laid-more _ _ _ _ _ _ _ (marked .put-start .ensures) refl (numbered .put-number .ensures) (omega arith)
 
 pub put-allocation-spec : {M : Type 1} → statement M
 put-allocation-spec =
-    tie.close (tie.spec put-mark-requires add-put-number put-number-requires same-length returns)
+    tie.close (tie.spec put-start-requires add-put-number put-number-requires same-length returns)

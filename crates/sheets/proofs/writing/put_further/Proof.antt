@@ -23,8 +23,8 @@ further-size-requires c κs = search needs
 cast-short : tie.Need-cast-short
 cast-short c = omega (arith, c .further-size .ensures, further-small (c .before .before .before .args .tag))
 
-put-mark-requires : tie.Need-put-mark-requires
-put-mark-requires c κs = omega (arith, long (c .before .before))
+put-start-requires : tie.Need-put-start-requires
+put-start-requires c κs = omega (arith, long (c .before .before))
 
 add-put-body : tie.Need-add-put-body
 add-put-body c = search needs
@@ -42,7 +42,7 @@ returns c =
     let sized = marked .before .before in
     let some = sized .before in
     let args = some .before .before .args in
-    let start = rw (sized .further-size .ensures) at (marked .put-mark .ensures) in
+    let start = rw (sized .further-size .ensures) at (marked .put-start .ensures) in
     rw (further-some _ _ (some .if1 .taken))
     (laid-more _ _ _ _ _ _ _ start refl (ended .put-body .ensures) (omega (arith, long some, body-length (args .tag) (args .number))))
 
@@ -55,7 +55,7 @@ put-further-spec =
     (tie.spec
     further-size-requires
     cast-short
-    put-mark-requires
+    put-start-requires
     add-put-body
     put-body-requires
     same-length

@@ -18,7 +18,7 @@ returns c =
     let start = marked .before .before .before in
     let h = start .args .h in
     let room = start .pre in
-    let ttrt = laid-more _ _ _ 0 3 _ _ (marked .put-mark .ensures) refl (numbered .put-number .ensures) (omega arith) in
+    let ttrt = laid-more _ _ _ 0 3 _ _ (marked .put-start .ensures) refl (numbered .put-number .ensures) (omega arith) in
     rw (up-to-rows h furtherCount) (laid-more _ _ _ 0 7 _ _ ttrt refl (ended .put-furthers .ensures) (omega (arith, further-rows h furtherCount)))
 
 pub put-head-spec : {M : Type 1} → statement M

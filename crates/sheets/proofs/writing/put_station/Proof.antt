@@ -8,8 +8,8 @@ use borrow.Author.Needs.{needs}
 use Rattle.sheets.proofs.writing.put_station.Statement.{statement}
 use Rattle.sheets.proofs.writing.put_station.Tie as tie
 
-put-mark-requires : tie.Need-put-mark-requires
-put-mark-requires c κs = search needs
+put-start-requires : tie.Need-put-start-requires
+put-start-requires c κs = search needs
 
 add-put-number : tie.Need-add-put-number
 add-put-number c = search needs
@@ -47,7 +47,7 @@ returns c =
     let walk = longest .before .before .before .before in
     let marked = walk .before .before .before .before in
     let fit = marked .before .before .before .pre in
-    let w = laid-more _ _ _ _ _ _ _ (marked .put-mark .ensures) refl (walk .put-number .ensures) (omega arith) in
+    let w = laid-more _ _ _ _ _ _ _ (marked .put-start .ensures) refl (walk .put-number .ensures) (omega arith) in
     let c = laid-more _ _ _ _ _ _ _ w refl (longest .put-number2 .ensures) (omega arith) in
     let d = laid-more _ _ _ _ _ _ _ c refl (deadline .put-number3 .ensures) (omega arith) in
     laid-more _ _ _ _ _ _ _ d refl (gap .put-number4 .ensures) (omega arith)
@@ -56,7 +56,7 @@ pub put-station-spec : {M : Type 1} → statement M
 put-station-spec =
     tie.close
     (tie.spec
-    put-mark-requires
+    put-start-requires
     add-put-number
     put-number-requires
     add-put-number-2

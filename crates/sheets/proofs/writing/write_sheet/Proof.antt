@@ -17,8 +17,8 @@ returns c =
     let args = wrote .before .before .before .args in
     wrote-refused (args .plan) (args .t) (args .a) (args .out .now) _ _ (wrote .write-fields .ensures) (c .if1 .taken)
 
-put-mark-requires : tie.Need-put-mark-requires
-put-mark-requires c κs =
+put-start-requires : tie.Need-put-start-requires
+put-start-requires c κs =
     let else = c .before in
     let wrote = else .before .before .before .before in
     let args = wrote .before .before .before .args in
@@ -44,7 +44,7 @@ returns-2 c =
     let else = put .before .before in
     let wrote = else .before .before .before .before in
     let args = wrote .before .before .before .args in
-    wrote-all (args .plan) (args .t) (args .a) (args .out .now) _ _ (wrote .write-fields .ensures) (else .if1 .left) _ (put .put-mark .ensures)
+    wrote-all (args .plan) (args .t) (args .a) (args .out .now) _ _ (wrote .write-fields .ensures) (else .if1 .left) _ (put .put-start .ensures)
 
 pub write-sheet-spec : {M : Type 1} → statement M
 write-sheet-spec =
@@ -53,7 +53,7 @@ write-sheet-spec =
     write-fields-requires
     same-length
     returns
-    put-mark-requires
+    put-start-requires
     add-t13
     same-length-2
     returns-2)

@@ -1,0 +1,39 @@
+-- What is promised of a log that `log` writes when `inspect` reads it; `proofs/Promised.antt` proves it.
+use Prim.Native.Nat.{ℕ, _^_, _<_}
+use mathlib.Core.Path.{_≡_}
+use mathlib.Core.Bool.{true}
+use mathlib.Core.List.{List, [], _∷_, _++_}
+use lib.ListN.{length}
+use Rattle.sheets.specs.Reading.{readPlan}
+use Rattle.calls.specs.Runs.{openedRun}
+use Rattle.recorded_logs.specs.Promised.{written, entriesFor}
+use Rattle.inspection.specs.Findings.{findingIn}
+use Rattle.piece_inspections.specs.Inspecting.{inspectOver, inspectStart}
+use Rattle.piece_inspections.specs.Promised.{Enough}
+use Rattle.piece_inspections.specs.declared.Inspecting.{Inspecting}
+use Rattle.finding_texts.specs.FindingText.{acceptedLine, findingText, isAccepted}
+
+-- the bytes of these pieces, one behind another
+unfoldable pub joined : List (List ℕ) → List ℕ
+joined [] = []
+joined (piece ∷ pieces) = piece ++ joined pieces
+
+-- what `inspect` keeps when these pieces have come too
+unfoldable pub inspectPieces : Inspecting → List (List ℕ) → Inspecting
+inspectPieces k [] = k
+inspectPieces k (piece ∷ pieces) = inspectPieces (inspectOver k piece) pieces
+
+-- these bytes come in these pieces, and the first is enough for the plan
+abbrev pub ComesIn : List ℕ → List ℕ → List (List ℕ) → Type 0
+ComesIn bs first pieces = (bs ≡ first ++ joined pieces) × Enough first (joined pieces)
+
+pub record Promised : Type 0 where
+  -- whatever plan the sheet opens, in every mode, and whatever calls the text makes, marks among them: `inspect` accepts the bytes that `log` writes, and counts all their records
+  pub accepted : (sheet text : List ℕ) → openedRun (readPlan sheet) .number ≡ 0
+      → findingIn (written sheet text) ≡ record { records = length (entriesFor sheet text); «record» = 0; rule = 0; number = 0 }
+  -- in whatever pieces these bytes come, the program ends with 0
+  pub status : (sheet text first : List ℕ) (pieces : List (List ℕ)) → openedRun (readPlan sheet) .number ≡ 0 → ComesIn (written sheet text) first pieces
+      → isAccepted (inspectPieces (inspectStart first) pieces) ≡ true
+  -- and prints `accepted` and the number of their records, fewer than 2 ^ 64
+  pub printed : (sheet text first : List ℕ) (pieces : List (List ℕ)) → openedRun (readPlan sheet) .number ≡ 0 → ComesIn (written sheet text) first pieces
+      → length (entriesFor sheet text) < 2 ^ 64 → findingText (inspectPieces (inspectStart first) pieces) ≡ acceptedLine (length (entriesFor sheet text))

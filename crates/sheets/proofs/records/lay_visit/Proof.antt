@@ -1,0 +1,79 @@
+-- `lay_visit` is right because the start of the field and its five numbers are laid one behind the other.
+use mathlib.Core.Path.{refl}
+use native.Mathlib.Omega.{arith}
+use Rattle.fields.specs.Bytes.{bytesOf}
+use Rattle.fields.proofs.SegmentLaws.{laid-more}
+use Rattle.entries.specs.Visit.{visitBytes}
+use borrow.Author.Needs.{needs}
+use Rattle.sheets.proofs.records.lay_visit.Statement.{statement}
+use Rattle.sheets.proofs.records.lay_visit.Tie as tie
+
+put-start-requires : tie.Need-put-start-requires
+put-start-requires c κs = search needs
+
+add-put-byte : tie.Need-add-put-byte
+add-put-byte c = search needs
+
+put-byte-requires : tie.Need-put-byte-requires
+put-byte-requires c κs = search needs
+
+add-put-number : tie.Need-add-put-number
+add-put-number c = search needs
+
+put-number-requires : tie.Need-put-number-requires
+put-number-requires c κs = search needs
+
+add-put-number-2 : tie.Need-add-put-number-2
+add-put-number-2 c = search needs
+
+put-number-requires-2 : tie.Need-put-number-requires-2
+put-number-requires-2 c κs = search needs
+
+add-put-number-3 : tie.Need-add-put-number-3
+add-put-number-3 c = search needs
+
+put-number-requires-3 : tie.Need-put-number-requires-3
+put-number-requires-3 c κs = search needs
+
+add-put-number-4 : tie.Need-add-put-number-4
+add-put-number-4 c = search needs
+
+put-number-requires-4 : tie.Need-put-number-requires-4
+put-number-requires-4 c κs = search needs
+
+same-length : tie.Need-same-length
+same-length c = search needs
+
+returns : tie.Need-returns
+unfolding visitBytes bytesOf
+returns c =
+    let fourth = c .before .before in
+    let third = fourth .before .before .before .before in
+    let second = third .before .before .before .before in
+    let first = second .before .before .before .before in
+    let stationed = first .before .before .before .before in
+    let marked = stationed .before .before .before .before in
+    let fit = marked .before .before .before .pre in
+    let s = laid-more _ _ _ _ _ _ _ (marked .put-start .ensures) refl (stationed .put-byte .ensures) (omega arith) in
+    let e₁ = laid-more _ _ _ _ _ _ _ s refl (first .put-number .ensures) (omega arith) in
+    let e₂ = laid-more _ _ _ _ _ _ _ e₁ refl (second .put-number2 .ensures) (omega arith) in
+    let e₃ = laid-more _ _ _ _ _ _ _ e₂ refl (third .put-number3 .ensures) (omega arith) in
+    laid-more _ _ _ _ _ _ _ e₃ refl (fourth .put-number4 .ensures) (omega arith)
+
+pub lay-visit-spec : {M : Type 1} → statement M
+lay-visit-spec =
+    tie.close
+    (tie.spec
+    put-start-requires
+    add-put-byte
+    put-byte-requires
+    add-put-number
+    put-number-requires
+    add-put-number-2
+    put-number-requires-2
+    add-put-number-3
+    put-number-requires-3
+    add-put-number-4
+    put-number-requires-4
+    same-length
+    returns)

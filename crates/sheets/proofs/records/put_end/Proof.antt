@@ -1,0 +1,33 @@
+-- `put_end` is right because it tests for the room, and then lays the field.
+use native.Mathlib.Omega.{arith}
+use Rattle.sheets.specs.Layout.{endBytes}
+use Rattle.sheets.proofs.WritingLaws.{put-short, put-there}
+use borrow.Author.Needs.{needs}
+use Rattle.sheets.proofs.records.put_end.Statement.{statement}
+use Rattle.sheets.proofs.records.put_end.Tie as tie
+
+left-requires : tie.Need-left-requires
+left-requires c κs = search needs
+
+returns : tie.Need-returns
+returns c =
+    let args = c .before .before .before .args in
+    let left = c .before .left .ensures in
+    put-short (args .out .now) (args .at) endBytes 0 (omega arith)
+
+put-start-requires : tie.Need-put-start-requires
+put-start-requires c κs = search needs
+
+same-length : tie.Need-same-length
+same-length c = search needs
+
+returns-2 : tie.Need-returns-2
+returns-2 c =
+    let put = c .before .before in
+    let else = put .before .before in
+    let args = else .before .before .before .args in
+    let left = else .before .left .ensures in
+    put-there (args .out .now) (args .at) endBytes 0 _ (omega arith) (put .put-start .ensures)
+
+pub put-end-spec : {M : Type 1} → statement M
+put-end-spec = tie.close (tie.spec left-requires returns put-start-requires same-length returns-2)

@@ -1,0 +1,69 @@
+-- `put_mark` is right because it tests for the room, and then lays the start of the field and its two numbers one behind the other.
+use mathlib.Core.Path.{refl}
+use native.Mathlib.Omega.{arith}
+use Rattle.fields.proofs.SegmentLaws.{laid-more}
+use Rattle.entries.specs.Mark.{markBytes}
+use Rattle.entries.proofs.MarkLaws.{mark-length}
+use Rattle.sheets.proofs.WritingLaws.{put-short, put-there}
+use borrow.Author.Needs.{needs}
+use Rattle.sheets.proofs.records.put_mark.Statement.{statement}
+use Rattle.sheets.proofs.records.put_mark.Tie as tie
+
+left-requires : tie.Need-left-requires
+left-requires c κs = search needs
+
+add-if1 : tie.Need-add-if1
+add-if1 c = search needs
+
+returns : tie.Need-returns
+returns c =
+    let args = c .before .before .before .args in
+    let left = c .before .left .ensures in
+    put-short (args .out .now) (args .at) (markBytes (args .mark)) 3 (omega (arith, mark-length (args .mark)))
+
+put-start-requires : tie.Need-put-start-requires
+put-start-requires c κs = search needs
+
+add-put-byte : tie.Need-add-put-byte
+add-put-byte c = search needs
+
+put-byte-requires : tie.Need-put-byte-requires
+put-byte-requires c κs = search needs
+
+add-put-byte-2 : tie.Need-add-put-byte-2
+add-put-byte-2 c = search needs
+
+put-byte-requires-2 : tie.Need-put-byte-requires-2
+put-byte-requires-2 c κs = search needs
+
+same-length : tie.Need-same-length
+same-length c = search needs
+
+returns-2 : tie.Need-returns-2
+unfolding markBytes
+returns-2 c =
+    let marked = c .before .before in
+    let stationed = marked .before .before .before .before in
+    let started = stationed .before .before .before .before in
+    let else = started .before .before in
+    let args = else .before .before .before .args in
+    let left = else .before .left .ensures in
+    let fit = mark-length (args .mark) in
+    let s = laid-more _ _ _ _ _ _ _ (started .put-start .ensures) refl (stationed .put-byte .ensures) (omega arith) in
+    put-there (args .out .now) (args .at) (markBytes (args .mark)) 3 _ (omega arith)
+    (laid-more _ _ _ _ _ _ _ s refl (marked .put-byte2 .ensures) (omega arith))
+
+pub put-mark-spec : {M : Type 1} → statement M
+put-mark-spec =
+    tie.close
+    (tie.spec
+    left-requires
+    add-if1
+    returns
+    put-start-requires
+    add-put-byte
+    put-byte-requires
+    add-put-byte-2
+    put-byte-requires-2
+    same-length
+    returns-2)
