@@ -224,9 +224,12 @@ static message_t any_message(const ring_t *ring)
 {
     uint32_t n = ring->set.n, i = random_number() % (n + n / 8 + 1);
     uint32_t c = ring->set.c[i % 128];
-    message_t message = {{i}, {random_number() % (c + 2)}, {ring->clock + random_number() % 100000}};
+    uint64_t back = random_number() % 4 ? 0 : random_number() % 1000;
+    message_t message = {{i}, {random_number() % (c + 2)}, {back < ring->clock ? ring->clock - back : 0}};
     if (random_number() % 8 == 0)
         message.arrival.ticks = random_number();
+    if (random_number() % 8 == 0)
+        message.arrival.ticks = ring->clock + random_number() % 3;
     return message;
 }
 
@@ -394,7 +397,7 @@ static message_t next_message(ring_t *ring, unsigned long call)
     uint32_t i = (uint32_t)call & (ring->set.n - 1);
     ring->rest[i] = 0;
     ring->had[i] = 0;
-    return (message_t){{i}, {ring->set.c[i]}, {ring->clock + 1}};
+    return (message_t){{i}, {ring->set.c[i]}, {ring->clock}};
 }
 
 static void hand_in_proved(struct work *w, unsigned long calls)

@@ -552,6 +552,8 @@ uint8_t plain_hand_in(ring_t *ring, const struct olivastrum_message *message)
         return OLIVASTRUM_BAD_LENGTH;
     if (ring->rest[i] > 0 || ring->mark[i])
         return OLIVASTRUM_STILL_HELD;
+    if (arrival > ring->clock)
+        return OLIVASTRUM_NOT_ARRIVED;
     if (arrival > MOST_CLOCK || (i < ring->visits && arrival <= ring->last[i]) ||
         (ring->had[i] && arrival < ring->arrival[i] + ring->set.p[i]))
         return OLIVASTRUM_BAD_ARRIVAL;

@@ -26,7 +26,7 @@ static void visit(void)
 /* Every handing in finds a station that holds nothing. */
 static void hand_in(void)
 {
-    struct olivastrum_message message = {{0}, {ring.set.c[0]}, {ring.clock + 1}};
+    struct olivastrum_message message = {{0}, {ring.set.c[0]}, {ring.clock}};
     ring.rest[0] = 0;
     ring.had[0] = 0;
     refused += olivastrum_hand_in(&ring, message);

@@ -18,11 +18,12 @@
  * message, an ask, a ring, a station, a recorder, a visit's record and a mark's entry is a value, and gets its answer.
  *
  * Refusals. `number` is 0 for accepted, or the refusal; the numbers are below, and within one call the lowest
- * that applies is given (1, 2 and 3: the first fault from the left of the sheet). A refused call changes nothing:
- * not a byte of a lent ring, not a byte of a lent buffer. What it returns beside `number` is blank, every number in
- * it 0; olivastrum_add_visit and olivastrum_add_mark alone hand back the recorder as it was, so that the log can be
- * ended. On a ring it stores the same bytes again, so a refused call too is one that writes: a ring that two threads share
- * is locked for it. An inspected log is accepted only if its rule is 0 too.
+ * that applies is given (1, 2 and 3: the first fault from the left of the sheet), but that 15 is given before 12, though
+ * it is higher: handing in asks 8, 9, 10, 11, 15, 12. A refused call changes nothing: not a byte of a lent ring, not a
+ * byte of a lent buffer. What it returns beside `number` is blank, every number in it 0; olivastrum_add_visit and
+ * olivastrum_add_mark alone hand back the recorder as it was, so that the log can be ended. On a ring it stores the same
+ * bytes again, so a refused call too is one that writes: a ring that two threads share is locked for it. An inspected log
+ * is accepted only if its rule is 0 too.
  *
  * Padding. olivastrum_set, olivastrum_alloc, olivastrum_ask, olivastrum_message, olivastrum_ring, olivastrum_recorder,
  * olivastrum_visit_entry, olivastrum_mark_entry and olivastrum_next_entry have none, so two rings can be compared by their
@@ -68,9 +69,9 @@
 
 /* The version of the header and the library, as `./olivastrum version` prints it. */
 #define OLIVASTRUM_VERSION_MAJOR 0
-#define OLIVASTRUM_VERSION_MINOR 12
+#define OLIVASTRUM_VERSION_MINOR 13
 #define OLIVASTRUM_VERSION_PATCH 0
-#define OLIVASTRUM_VERSION "0.12.0"
+#define OLIVASTRUM_VERSION "0.13.0"
 
 #ifdef __cplusplus
 extern "C" {
@@ -92,9 +93,10 @@ enum {
     OLIVASTRUM_NO_SUCH_STATION = 9,   /* station number not below N */
     OLIVASTRUM_BAD_LENGTH = 10,       /* message length 0 or above C; visit: frame length 0 or above F */
     OLIVASTRUM_STILL_HELD = 11,       /* that station still holds an unsent message, or is marked */
-    OLIVASTRUM_BAD_ARRIVAL = 12,      /* arrival time not allowed */
+    OLIVASTRUM_BAD_ARRIVAL = 12,      /* arrival above 1,000,000,000,000, not later than the station's `last`, or less than P after its last accepted one */
     OLIVASTRUM_CLOCK_TOO_HIGH = 13,   /* visit: the clock is above 1,000,000,000,000 */
-    OLIVASTRUM_BUFFER_TOO_SHORT = 14  /* the output buffer is too short for the sheet, or for a log's next record and its end */
+    OLIVASTRUM_BUFFER_TOO_SHORT = 14, /* the output buffer is too short for the sheet, or for a log's next record and its end */
+    OLIVASTRUM_NOT_ARRIVED = 15       /* the message's arrival is later than the ring's clock; given before 12 */
 };
 
 /* The most stations that a ring has, and so the places of each array. Places from N on are never looked at. */
@@ -370,8 +372,8 @@ struct olivastrum_opened olivastrum_open_ring(struct olivastrum_set set, struct 
 #define OLIVASTRUM_STACK_VISIT 31232
 struct olivastrum_visit_answer olivastrum_visit(struct olivastrum_ring *ring, struct olivastrum_ask ask);
 
-/* Hands in a message. A station that is marked takes none (11). The ring is changed where it stands; 8 to 12 leave it as it
- * was. Returns the number. */
+/* Hands in a message whose arrival the ring's clock has reached; before that it is 15. A station that is marked takes none
+ * (11). The ring is changed where it stands; 8 to 12 and 15 leave it as it was. Returns the number. */
 #define OLIVASTRUM_STACK_HAND_IN 25600
 uint8_t olivastrum_hand_in(struct olivastrum_ring *ring, struct olivastrum_message message);
 

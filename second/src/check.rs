@@ -35,6 +35,14 @@ pub enum Broken {
     Unsound,
     /// A message that kept C and P, and came in time, was answered 11 at an unmarked station.
     WrongElevenAnswer,
+    /// A message whose arrival the clock has reached was answered 15.
+    WrongFifteenAnswer,
+    /// A message is held whose arrival is ahead of the clock.
+    HeldAhead,
+    /// A visit did not send the smaller of S and what its station held.
+    NotServed,
+    /// In the 2002 edition a message was taken that arrived in its station's own asynchronous part.
+    TakenInOwnPart,
     /// A visit of a marked station had a limit or sent something.
     MarkedStationSent,
     /// A marked station holds a message.
@@ -48,8 +56,8 @@ struct Watch {
     spare: Ticks,
     /// The asynchronous time of the N visits before; the silent rotation counts as nothing.
     before: VecDeque<Ticks>,
-    /// The start of each station's last visit, and of that visit's synchronous part.
-    last_starts: Vec<Option<(Ticks, Ticks)>>,
+    /// The start of each visit of each station, and of that visit's synchronous part.
+    starts: Vec<Vec<(Ticks, Ticks)>>,
     /// The message that each station was last handed, with what is unsent of it.
     unsent: Vec<Option<Held>>,
 }
@@ -59,7 +67,7 @@ impl Watch {
         Watch {
             spare: ring.plan().spare() as Ticks,
             before: VecDeque::from(vec![0; ring.size()]),
-            last_starts: vec![None; ring.size()],
+            starts: vec![vec![]; ring.size()],
             unsent: vec![None; ring.size()],
         }
     }
@@ -70,9 +78,12 @@ impl Watch {
             Mode::Timely | Mode::Fddi => visit.start,
             Mode::Earlier => visit.start + visit.asynchronous,
         };
-        let before = self.last_starts[index].replace((visit.start, served));
+        let before = self.starts[index].last().copied();
+        self.starts[index].push((visit.start, served));
         let apart = before.map(|(start, served)| (visit.start - start, visit.start - served));
         let synchronous = visit.synchronous <= ring.allocation(index);
+        let unsent = self.unsent[index].map_or(0, |held| held.remaining);
+        let served_all = visit.synchronous == unsent.min(ring.allocation(index));
         self.sent(index, visit);
         let amounts = [visit.limit, visit.synchronous, visit.asynchronous];
         let passed_over = !ring.marked(index) || amounts == [0, 0, 0];
@@ -82,6 +93,8 @@ impl Watch {
             (synchronous, Broken::TooMuchSynchronous),
             (whole_frames(ask, visit), Broken::FramesNotExact),
             (visit.asynchronous <= most, Broken::TooMuchAsynchronous),
+            (served_all, Broken::NotServed),
+            (none_held_ahead(ring), Broken::HeldAhead),
             (passed_over, Broken::MarkedStationSent),
             (none_held_under_mark(ring), Broken::HeldUnderMark),
             (sound(ring), Broken::Unsound),
@@ -98,6 +111,22 @@ impl Watch {
             held.remaining -= visit.synchronous;
         }
         self.unsent[index] = self.unsent[index].filter(|held| held.remaining > 0);
+    }
+
+    /// What is held has arrived, and of each visit of its station by the start or behind the start of
+    /// the synchronous part.
+    fn handed_in(&mut self, ring: &Ring, message: &Message, taken: bool) -> Vec<Broken> {
+        if !taken {
+            return vec![];
+        }
+        let index = message.station.index();
+        self.unsent[index] = ring.held(index);
+        let arrival = message.arrival as Ticks;
+        let inside = |(start, served): (Ticks, Ticks)| start < arrival && arrival <= served;
+        broken(&[
+            (none_held_ahead(ring), Broken::HeldAhead),
+            (!self.starts[index].iter().copied().any(inside), Broken::TakenInOwnPart),
+        ])
     }
 
     /// A marking of an unmarked station hands back all that is unsent; any other nothing.
@@ -125,6 +154,10 @@ impl Watch {
             (unsent, Broken::UnsentAtDeadline),
         ])
     }
+}
+
+fn none_held_ahead(ring: &Ring) -> bool {
+    (0..ring.size()).all(|index| ring.held(index).is_none_or(|held| held.arrival <= ring.clock()))
 }
 
 fn none_held_under_mark(ring: &Ring) -> bool {
@@ -194,7 +227,7 @@ fn sound(ring: &Ring) -> bool {
 
 /// Whether a message keeps C and P, and is handed in when the clock has reached its arrival
 /// and it is later than the station's last start. Such a message is never answered 11, but where its
-/// station is marked.
+/// station is marked; nor is it ever answered 15.
 fn due(ring: &Ring, message: &Message) -> bool {
     let index = message.station.index();
     let longest = u64::from(ring.plan().request.stations[index].longest);
@@ -214,6 +247,10 @@ fn handed_in(ring: &Ring, message: &Message, answer: Result<(), Refusal>) -> Vec
         }
         Err(Refusal::StillHeld) if deadlines => {
             broken(&[(!due(ring, message), Broken::WrongElevenAnswer)])
+        }
+        Err(Refusal::NotArrived) => {
+            let ahead = message.arrival > ring.clock() as u64;
+            broken(&[(ahead, Broken::WrongFifteenAnswer)])
         }
         Err(_) => vec![],
     }
@@ -272,11 +309,9 @@ impl WatchedRing {
         let answer = self.ring.hand_in(message);
         let broken = match &mut self.watch {
             Some(watch) => {
-                if answer.is_ok() {
-                    let index = message.station.index();
-                    watch.unsent[index] = self.ring.held(index);
-                }
-                handed_in(&self.ring, message, answer)
+                let mut broken = handed_in(&self.ring, message, answer);
+                broken.extend(watch.handed_in(&self.ring, message, answer.is_ok()));
+                broken
             }
             None => vec![],
         };

@@ -44,7 +44,7 @@ fn try_answer(case: &str, planted: Planted) -> Option<String> {
         "open" => opening(rest, planted),
         "run" => running(rest, planted, |answers, _| answers.join("|")),
         "ring" => running(rest, planted, |_, ring| show_ring(ring)),
-        "state" => any_state(rest),
+        "state" => any_state(rest, planted),
         "log" => {
             Some(line(read_log(&from_hex(rest)?), |(plan, entries)| show_log(&plan, &entries)))
         }
@@ -197,14 +197,14 @@ fn add_records(
 }
 
 /// Makes every call on a state; shows the answers, and then the state.
-fn any_state(rest: &str) -> Option<String> {
+fn any_state(rest: &str, planted: Planted) -> Option<String> {
     let parts: Vec<&str> = rest.split(';').collect();
     let is_call = |part: &&str| !part.starts_with(|first: char| first.is_ascii_digit());
     let calls = parts.iter().position(is_call).unwrap_or(parts.len());
     let mut state = State::read(&parts[..calls])?;
     let mut shown = vec![];
     for step in read_steps(parts[calls..].iter().copied())? {
-        shown.push(step.answer(|call| state.answer(call)));
+        shown.push(step.answer(|call| state.answer_with(call, planted)));
     }
     shown.push(show_state(&state));
     Some(shown.join("|"))

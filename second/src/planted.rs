@@ -11,7 +11,8 @@ pub enum Planted {
     LimitWithoutUnused,
     /// 4: u starts at 0.
     UnusedFromZero,
-    /// 5: a message that arrives after the visit's start is served.
+    /// 5: a message that arrives after the visit's start is served. Only states that no run leads to
+    /// hold one.
     ServedAhead,
     /// 6: TRT becomes 0 after the visit's sending, not before.
     TrtResetLate,
@@ -45,7 +46,7 @@ pub enum Planted {
     FirstStartCompared,
     /// 21: in the 2002 edition TRT becomes 0 before the asynchronous part.
     TrtResetFirst,
-    /// 22: in the 2002 edition a message is looked at when the visit starts.
+    /// 22: in the 2002 edition a message is looked at when the visit starts, which states alone show.
     LookedAtFirst,
     /// 23: in the 2002 edition the limit is taken after the synchronous part.
     LimitAfterSending,
@@ -79,10 +80,16 @@ pub enum Planted {
     KeptUnderMark,
     /// 38: a log's mark before the first visit binds that visit's start.
     FirstStartBoundByMark,
+    /// 39: number 12 is given before 15.
+    NotArrivedLast,
+    /// 40: a message that arrives just when it is handed in is answered 15.
+    NotArrivedAtClock,
+    /// 41: in the 2002 edition 15 goes by the start of the station's last synchronous part.
+    ServedForClock,
 }
 
 impl Planted {
-    pub const ALL: [Planted; 38] = [
+    pub const ALL: [Planted; 41] = [
         Planted::TimeForNobody,
         Planted::RoundedDown,
         Planted::LimitWithoutUnused,
@@ -121,6 +128,9 @@ impl Planted {
         Planted::MarkCountedAsVisit,
         Planted::KeptUnderMark,
         Planted::FirstStartBoundByMark,
+        Planted::NotArrivedLast,
+        Planted::NotArrivedAtClock,
+        Planted::ServedForClock,
     ];
 
     /// The error of a number, from 1 on.

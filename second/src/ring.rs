@@ -313,7 +313,7 @@ impl Ring {
 
     /// The message that a station sends of, looked at at this time.
     fn served(&self, here: usize, now: Ticks) -> Option<Held> {
-        let arrived = self.held(here).filter(|held| self.has_arrived(held, now));
+        let arrived = self.held(here).filter(|held| held.arrival <= now);
         arrived.filter(|_| !self.passed_over(here))
     }
 
@@ -340,25 +340,42 @@ impl Ring {
         (sent, Some(Completed { finish, margin: deadline - finish }))
     }
 
-    fn has_arrived(&self, held: &Held, now: Ticks) -> bool {
-        let looked_at = if self.planted == Planted::LookedAtFirst { self.clock } else { now };
-        held.arrival <= looked_at || self.planted == Planted::ServedAhead
-    }
-
-    /// Hands in a message, or gives number 9, 10, 11 or 12.
+    /// Hands in a message, or gives number 9, 10, 11, 15 or 12.
     pub fn hand_in(&mut self, message: &Message) -> Result<(), Refusal> {
         let index = message.station.index();
         require(index < self.size(), Refusal::NoSuchStation)?;
         let longest = u64::from(self.plan.request.stations[index].longest);
         require((1..=longest).contains(&message.length), Refusal::WrongLength)?;
         require(self.held(index).is_none() && !self.marked(index), Refusal::StillHeld)?;
-        require(message.arrival <= LAST_TIME, Refusal::WrongArrival)?;
+        self.judge_arrival(index, message.arrival)?;
         let arrival = message.arrival as Ticks;
-        require(arrival >= self.earliest_arrival(index), Refusal::WrongArrival)?;
         let remaining = message.length as Ticks;
         self.memories[index].held = Some(Held { remaining, arrival });
         self.memories[index].last_accepted = Some(arrival);
         Ok(())
+    }
+
+    /// Number 15 of an arrival that the clock has not reached, and only then 12.
+    fn judge_arrival(&self, index: usize, arrival: u64) -> Result<(), Refusal> {
+        let arrived = require(self.reached(index, arrival), Refusal::NotArrived);
+        let allowed = arrival <= LAST_TIME && arrival as Ticks >= self.earliest_arrival(index);
+        let allowed = require(allowed, Refusal::WrongArrival);
+        match self.planted {
+            Planted::NotArrivedLast => allowed.and(arrived),
+            _ => arrived.and(allowed),
+        }
+    }
+
+    /// Whether the clock has reached an arrival.
+    fn reached(&self, index: usize, arrival: u64) -> bool {
+        let clock = match (self.mode(), self.planted) {
+            (_, Planted::NotArrivedAtClock) => self.clock - 1,
+            (Mode::Earlier, Planted::ServedForClock) => {
+                self.last_start(index).unwrap_or(self.clock)
+            }
+            _ => self.clock,
+        };
+        i128::from(arrival) <= i128::from(clock)
     }
 
     /// Switches a station through, or gives number 9. The message that it held is withdrawn; its

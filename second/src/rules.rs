@@ -68,6 +68,7 @@ pub enum Refusal {
     WrongArrival = 12,
     ClockPast = 13,
     NoRoom = 14,
+    NotArrived = 15,
 }
 
 impl Refusal {

@@ -3,6 +3,7 @@
 //! that a ring stores.
 
 use crate::notation::{number, read_head, show_head};
+use crate::planted::Planted;
 use crate::ring::{Completed, Held, Message, StationNumber, Ticks, Visit};
 use crate::rules::{require, Ask, Mode, Plan, Refusal, Request, Station};
 use crate::rules::{LAST_CLOCK, LAST_TIME, MOST_LATE, VISITS_END};
@@ -99,8 +100,14 @@ impl State {
     }
 
     pub fn answer(&mut self, call: &Call) -> Result<Answer, Refusal> {
+        self.answer_with(call, Planted::Nothing)
+    }
+
+    /// The answer with an error planted. Only those are, of a message that is looked at, which no ring
+    /// from an opening shows: what it holds has arrived.
+    pub fn answer_with(&mut self, call: &Call, planted: Planted) -> Result<Answer, Refusal> {
         match call {
-            Call::Visit(ask) => self.visit(*ask).map(Answer::Visited),
+            Call::Visit(ask) => self.visit_with(*ask, planted).map(Answer::Visited),
             Call::HandIn(message) => self.hand_in(message).map(|()| Answer::Taken),
             Call::Mark(station) => self.mark(*station).map(Answer::Marked),
             Call::Unmark(station) => self.unmark(*station).map(|()| Answer::Unmarked),
@@ -109,7 +116,10 @@ impl State {
 
     /// One visit at the station that has the token, or number 8, 10 or 13.
     pub fn visit(&mut self, ask: impl Into<Ask>) -> Result<Visit, Refusal> {
-        let ask = ask.into();
+        self.visit_with(ask.into(), Planted::Nothing)
+    }
+
+    fn visit_with(&mut self, ask: Ask, planted: Planted) -> Result<Visit, Refusal> {
         require(!self.unsound(), Refusal::Unsound)?;
         ask.judge(&self.plan.request.head)?;
         require(self.clock <= LAST_TIME, Refusal::ClockPast)?;
@@ -134,7 +144,12 @@ impl State {
             self.places[here].trt = 0;
             self.unused -= self.unused_at(here);
         }
-        let (synchronous, completed) = self.serve(here);
+        let looked_at = match planted {
+            Planted::ServedAhead => u64::MAX,
+            Planted::LookedAtFirst => start,
+            _ => served,
+        };
+        let (synchronous, completed) = self.serve(here, looked_at);
         self.places[here].sent = synchronous;
         if mode != Mode::Fddi {
             self.unused += self.unused_at(here);
@@ -195,11 +210,11 @@ impl State {
         }
     }
 
-    /// Sends the smaller of S and what remains of a message that has arrived; nothing at a marked
-    /// station.
-    fn serve(&mut self, here: usize) -> (u32, Option<Completed>) {
+    /// Sends the smaller of S and what remains of a message that has arrived when it is looked at;
+    /// nothing at a marked station.
+    fn serve(&mut self, here: usize, looked_at: u64) -> (u32, Option<Completed>) {
         let place = &mut self.places[here];
-        if place.mark != 0 || place.remaining == 0 || place.arrival > self.clock {
+        if place.mark != 0 || place.remaining == 0 || place.arrival > looked_at {
             return (0, None);
         }
         let sent = place.remaining.min(self.plan.allocation[here]);
@@ -212,7 +227,7 @@ impl State {
         (sent, Some(Completed { finish, margin: deadline as Ticks - finish }))
     }
 
-    /// Hands in a message, or gives number 8, 9, 10, 11 or 12.
+    /// Hands in a message, or gives number 8, 9, 10, 11, 15 or 12.
     pub fn hand_in(&mut self, message: &Message) -> Result<(), Refusal> {
         require(!self.unsound(), Refusal::Unsound)?;
         let index = message.station.index();
@@ -222,6 +237,7 @@ impl State {
         let visited = (index as u64) < self.visits;
         let place = &mut self.places[index];
         require(place.remaining == 0 && place.mark == 0, Refusal::StillHeld)?;
+        require(message.arrival <= self.clock, Refusal::NotArrived)?;
         let soon = place.had != 0 && message.arrival < place.arrival + u64::from(gap);
         let early = visited && message.arrival <= place.last;
         require(message.arrival <= LAST_TIME && !early && !soon, Refusal::WrongArrival)?;

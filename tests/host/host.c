@@ -350,6 +350,10 @@ static int switched_through(ring_t ring)
     CHECK(olivastrum_unmark(&ring, door) == 0 && ring.mark[0] == 0);
     before = ring;
     CHECK(olivastrum_unmark(&ring, door) == 0 && memcmp(&ring, &before, sizeof before) == 0);
+    CHECK(hand_in_refused(&ring, 0, 20, 2, OLIVASTRUM_BAD_ARRIVAL));
+    CHECK(hand_in_refused(&ring, 0, 20, 3, OLIVASTRUM_NOT_ARRIVED));
+    CHECK(hand_in_refused(&ring, 0, 20, 100, OLIVASTRUM_NOT_ARRIVED));
+    ring.clock = 100;
     CHECK(hand_in_refused(&ring, 0, 20, 99, OLIVASTRUM_BAD_ARRIVAL));
     CHECK(olivastrum_hand_in(&ring, message(0, 20, 100)) == 0);
     return 1;
@@ -380,11 +384,15 @@ static int worked_run(ring_t *ring)
         CHECK(ring->visits == k + 1 && ring->rest[row[0]] == 0 && ring->sent[row[0]] == 20);
         CHECK(ring->last[row[0]] == (uint64_t)row[1] && ring->had[row[0]] == 1);
         CHECK(ring->arrival[row[0]] == (k < STATIONS ? 0 : 100));
-        if (k < STATIONS) {
-            CHECK(hand_in_refused(ring, (uint64_t)row[0], 20, 99, OLIVASTRUM_BAD_ARRIVAL));
-            CHECK(hand_in_refused(ring, (uint64_t)row[0], 20, 1000000000001u, OLIVASTRUM_BAD_ARRIVAL));
-            CHECK(olivastrum_hand_in(ring, message((uint64_t)row[0], 20, 100)) == 0);
-            CHECK(ring->arrival[row[0]] == 100 && ring->last[row[0]] == (uint64_t)row[1]);
+        if (k + 1 < STATIONS)
+            CHECK(hand_in_refused(ring, (uint64_t)row[0], 20, 100, OLIVASTRUM_NOT_ARRIVED));
+        /* The clock has reached 100. */
+        for (uint64_t i = 0; k + 1 == STATIONS && i < STATIONS; i++) {
+            CHECK(hand_in_refused(ring, i, 20, 99, OLIVASTRUM_BAD_ARRIVAL));
+            CHECK(hand_in_refused(ring, i, 20, 101, OLIVASTRUM_NOT_ARRIVED));
+            CHECK(hand_in_refused(ring, i, 20, 1000000000001u, OLIVASTRUM_NOT_ARRIVED));
+            CHECK(olivastrum_hand_in(ring, message(i, 20, 100)) == 0);
+            CHECK(ring->arrival[i] == 100 && ring->last[i] == (uint64_t)rows[i][1]);
         }
     }
     CHECK(ring->clock == 160 && ring->token == 2 && ring->unused == 0);
@@ -414,8 +422,8 @@ static int recording(struct olivastrum_set set, struct olivastrum_alloc alloc, u
         CHECK(whole.number == 0);
         part = olivastrum_add_visit(part, record, shorter, sizeof shorter);
         CHECK(part.number == (k + 1 < VISITS ? 0 : OLIVASTRUM_BUFFER_TOO_SHORT));
-        if (k < STATIONS)
-            CHECK(olivastrum_hand_in(&ring, message(k, 20, 100)) == 0);
+        for (uint64_t i = 0; k + 1 == STATIONS && i < STATIONS; i++)
+            CHECK(olivastrum_hand_in(&ring, message(i, 20, 100)) == 0);
     }
     struct olivastrum_written ended = olivastrum_end_log(whole, log, LOG_BYTES);
     CHECK(ended.number == 0 && ended.length == LOG_BYTES);

@@ -1,5 +1,5 @@
 -- What every kind of ring promises, read off what every run keeps.
-use Prim.Native.Nat.{ℕ, _≤_, _<_}
+use Prim.Native.Nat.{ℕ, _≤_, _<_, min}
 use mathlib.Core.Path.{_≡_, sym, ap, _∙_}
 use mathlib.Core.List.{List}
 use mathlib.Core.Logic.{_≢_, _↔_, ⊎-elim}
@@ -7,23 +7,22 @@ use mathlib.Core.Option.{none, some}
 use native.Mathlib.Omega.{arith}
 use Rattle.units.specs.Numbers.{mostClock}
 use Rattle.units.specs.Places.{at}
-use Rattle.units.specs.JudgingLaws.{held, not-given}
 use Rattle.sets.specs.declared.Set.{Set}
 use Rattle.plans.specs.declared.Alloc.{Alloc}
-use Rattle.rings.specs.Sound.{isSound}
-use Rattle.rings.specs.Steps.{Ask, visited}
-use Rattle.rings.specs.HandingIn.{messageNumber, handedIn}
+use Rattle.rings.specs.Steps.{Ask, visitNumber, visited}
+use Rattle.rings.specs.HandingIn.{handedIn}
 use Rattle.rings.specs.RingLaws.{sound-sentences}
 use Rattle.rings.specs.declared.Message.{Message}
 use Rattle.rings.specs.declared.VisitRecord.{VisitRecord}
+use Rattle.ring_rules.proofs.NumberLaws.{visited-number}
 use Rattle.ring_rules.proofs.Promised.{promised as rules}
 use Rattle.promises.specs.Run.{Call, Run, runOf, ringOf, records, messages}
 use Rattle.promises.specs.History.{syncStartOf, latestOf, latestFor}
-use Rattle.promises.specs.Facts.{timing}
+use Rattle.promises.specs.Facts.{timing, Sending, Silent}
 use Rattle.promises.specs.Valid.{FramesNamed, Common}
 use Rattle.promises.proofs.Course.{Plan, Unvisited, Since}
 use Rattle.promises.proofs.Stores.{Latest, Never}
-use Rattle.promises.proofs.Runs.{Kept, Steady, message-number}
+use Rattle.promises.proofs.Runs.{Kept, Steady, made, visit-goes, course-facts, message-parts, message-number}
 use Rattle.promises.proofs.Followed.{Follows, followed-from}
 
 module _ (t : Set) (a : Alloc) (s : Run) (K : Kept t a s) where
@@ -42,13 +41,8 @@ module _ (t : Set) (a : Alloc) (s : Run) (K : Kept t a s) where
 
   -- ---- messages
 
-  pub answer-of : (m : Message) → handedIn (s .ring) m .number ≡ messageNumber (s .ring) m
-  answer-of m = message-number (s .ring) m ∙ held (isSound (s .ring)) 8 (messageNumber (s .ring) m) (K .sound)
-
   message-never-8 : (m : Message) → handedIn (s .ring) m .number ≢ 8
-  message-never-8 m =
-      rw (answer-of m)
-      (not-given _ 9 _ 8 (omega arith) (not-given _ 10 _ 8 (omega arith) (not-given _ 11 _ 8 (omega arith) (not-given _ 12 _ 8 (omega arith) (omega arith)))))
+  message-never-8 m e = rules .message-eight (s .ring) m .0 e (sound-sentences (s .ring) (K .sound))
 
   -- ---- the last start and the last message of a station
 
@@ -80,6 +74,28 @@ module _ (t : Set) (a : Alloc) (s : Run) (K : Kept t a s) where
       (λ (x : (o : Message) × Latest (s .ring) (messages s) i o). let z : _≡_ {A = ℕ} 0 1 = cc (e, x .1 .latest) in absurd (omega arith))
       (K .told i)
 
+-- ---- what is held is served
+
+module _ (t : Set) (a : Alloc) (P : Plan t a) (s : Run) (K : Kept t a s) where
+  -- what is held has arrived, so nothing is sent only where none is held
+  made-serves : (ask : Ask) → visitNumber (s .ring) ask ≡ 0 → made s ask .synchronous .0 ≡ min (at (a .s) (s .ring .token)) (at (s .ring .rest) (s .ring .token))
+  made-serves ask go =
+      let r = s .ring in
+      let v = made s ask in
+      let C = course-facts t a P s K ask go in
+      ⊎-elim (λ (x : Sending a r (syncStartOf t v) v). x .amount)
+      (λ (x : Silent r (syncStartOf t v) v).
+      ⊎-elim (λ (none : at (r .rest) (r .token) ≡ 0). omega (arith, x .nothing))
+      (λ (late : syncStartOf t v < at (r .arrival) (r .token)). absurd (omega (arith, C .start, K .passed .arrived (r .token))))
+      (x .reason))
+      (message-parts t a P s K ask go .sending)
+
+  visit-serves : (ask : Ask) → visited (s .ring) ask .answer .number ≡ 0
+      → visited (s .ring) ask .answer .«record» .synchronous .0 ≡ min (at (a .s) (s .ring .token)) (at (s .ring .rest) (s .ring .token))
+  visit-serves ask e =
+      let go : visitNumber (s .ring) ask ≡ 0 = sym (visited-number (visitNumber (s .ring) ask) (s .ring) ask) ∙ e in
+      rw (visit-goes (s .ring) ask go) (made-serves ask go)
+
 -- ---- all of it
 
 module _ (t : Set) (a : Alloc) (P : Plan t a) (K : Run → Type 0) (S : Steady t a K) (every : (calls : List Call) → K (runOf t a calls)) where
@@ -98,6 +114,9 @@ module _ (t : Set) (a : Alloc) (P : Plan t a) (K : Run → Type 0) (S : Steady t
         marks-told = λ calls. kept calls .marks-told;
         walked-through = λ calls. kept calls .walked;
         clear = λ calls. kept calls .clear;
+        arrived = λ calls i _. kept calls .passed .arrived i;
+        serves = λ calls. visit-serves t a P (runOf t a calls) (kept calls);
+        no-15 = λ calls m come e. rules .message-fifteen (ringOf t a calls) m .0 e .1 .1 .1 .1 come;
         followed = λ calls m h later.
             followed-from t a P K S m (λ r. Unit {0}) (λ v. Unit {0}) (to-the-end m) (runOf t a calls) (every calls) (sym (message-number (ringOf t a calls) m) ∙ h) later;
         sound = λ calls. sound-sentences (ringOf t a calls) (kept calls .sound);

@@ -21,7 +21,7 @@ use Rattle.promises.proofs.Lists.{each-of}
 use Rattle.promises.proofs.Course.{Plan}
 use Rattle.promises.proofs.Laps.{Lapped, latest-within, late-small, rise-small, lapped-kept, first-within}
 use Rattle.promises.proofs.Steps.{visit-early, visit-laps, mark-switching, unmark-switching}
-use Rattle.promises.proofs.Opening.{opened-places, opened-lapped, opened-stored, opened-told, opened-clear, opened-mark}
+use Rattle.promises.proofs.Opening.{opened-places, opened-lapped, opened-stored, opened-told, opened-passed, opened-clear, opened-mark}
 use Rattle.promises.proofs.Soundness.{is-sound, lapped-sound}
 use Rattle.promises.proofs.Runs.{Kept, made, movedRun, heldRun, markedRun, unmarkedRun, kept-marked, kept-unmarked, course-facts, next-stored, kept-moved, message-facts, kept-held, Steady, steady-run}
 
@@ -104,6 +104,7 @@ older-opened t a P e =
             course = lapped .course;
             stored = opened-stored t a P;
             told = opened-told t a P;
+            passed = opened-passed t a P;
             clear = opened-clear t a P;
             walked = tt;
             marks = λ i l. opened-mark t a P i;

@@ -5,6 +5,7 @@
 --     Deadlines    the arithmetic of a held message
 --     Course       what every visit keeps, whatever its timers are
 --     Stores       what every call keeps of the stored messages
+--     Arrivals     what the clock has passed: messages have arrived, and none in a part of its own station
 --     Timing       what every visit of a timely-token ring keeps of the token's timing
 --     Laps         what every visit of an FDDI ring keeps of its timers
 --     Messages     what every call of a timely-token ring keeps of the deadlines
@@ -35,6 +36,7 @@ pub mod Windows
 pub mod Deadlines
 pub mod Course
 pub mod Stores
+pub mod Arrivals
 pub mod Timing
 pub mod Laps
 pub mod Messages

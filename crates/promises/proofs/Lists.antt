@@ -8,9 +8,10 @@ use native.Mathlib.Omega.{arith}
 use borrow.Author.Tests.{ne-eqb}
 use lib.Dec.{eqb}
 use Rattle.units.specs.JudgingLaws.{true-or-false}
+use Rattle.rings.specs.declared.Message.{Message}
 use Rattle.rings.specs.declared.VisitRecord.{VisitRecord}
 use Rattle.promises.specs.Run.{Event, aVisit, aMessage, aMarking, anUnmarking, noted, recordsIn}
-use Rattle.promises.specs.History.{Each, Somewhere, EachVisit, NeverMarked, markIn, MarksTold}
+use Rattle.promises.specs.History.{Each, Somewhere, EachMessage, EachVisit, NeverMarked, markIn, MarksTold}
 
 -- what follows at each visit
 pub each-of : {A B : VisitRecord → List VisitRecord → Type 0} → ((v : VisitRecord) (before : List VisitRecord) → A v before → B v before) → (h : List VisitRecord) → Each A h → Each B h
@@ -37,6 +38,12 @@ module _ (A B : VisitRecord → List VisitRecord → Type 0) where
   somewhere-each [] f E = f
   somewhere-each (v ∷ h) (inl f) E = inl (f, E .0)
   somewhere-each (v ∷ h) (inr f) E = inr (somewhere-each h f (E .1))
+
+-- ---- messages
+
+pub each-message-of : {A B : Message → Type 0} → ((m : Message) → A m → B m) → (ms : List Message) → EachMessage A ms → EachMessage B ms
+each-message-of f [] E = tt
+each-message-of f (m ∷ ms) E = (f m (E .0), each-message-of f ms (E .1))
 
 -- ---- events
 

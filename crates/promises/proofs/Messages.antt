@@ -19,7 +19,6 @@ use Rattle.promises.specs.History.{syncStartOf}
 use Rattle.promises.specs.Facts.{Timing, timing, VisitCourse, VisitTimers, VisitMessages, Sending, Silent, Completing, Accepting, Switching, rises}
 use Rattle.promises.proofs.Sums.{sum-between}
 use Rattle.promises.proofs.Course.{Plan, Unvisited, Since, same-or-not}
-use Rattle.promises.proofs.Stores.{Stored}
 use Rattle.promises.proofs.Deadlines.{InTime, in-time, ended-in-time, served-in-time, fresh-in-time, later-in-time}
 use Rattle.promises.proofs.Timing.{Timed, token-timer, never-late, room}
 
@@ -107,25 +106,11 @@ module _ (t : Set) (a : Alloc) (r q : Ring) (v : VisitRecord) (h : List VisitRec
   begun-in-time : Waiting t a r (r .token) → r .clock + lead t (v .asynchronous .0) + at (r .rest) (r .token) ≤ deadlineAt t r (r .token)
   begun-in-time w = still-in-time t a r h P T (r .token) (lead t (v .asynchronous .0)) (T .course .token) not-late-here w
 
-  -- the station that is visited sends nothing
-  silent-kept : Stored t r (r .token) → Messaged t a r (r .token) → Silent r (syncStartOf t v) v → Idle t q (r .token) ⊎ Waiting t a q (r .token)
-  silent-kept K M s =
-      ⊎-elim (λ (b : 0 < at (r .rest) (r .token)).
-      let w : Waiting t a r (r .token) = held-in-time t a r h P T (r .token) (T .course .token) M b in
-      let same : at (q .rest) (r .token) ≡ at (r .rest) (r .token) = omega (arith, G .rest-here, s .nothing) in
-      let fits = within-c t a r h P T (r .token) (T .course .token) (at (r .rest) (r .token)) (K .small) in
-      let ahead : syncStartOf t v < at (r .arrival) (r .token) = ⊎-elim (λ (z : at (r .rest) (r .token) ≡ 0). absurd (omega arith)) (λ z. z) (s .reason) in
-      inr
-      (record {
-        held = rw same b;
-        had = rw (G .had) (w .had);
-        intime =
-            rw (C .sent-here, s .nothing, same, G .arrival)
-            (fresh-in-time (at (r .arrival) (r .token)) (at (t .d) (r .token)) fits (omega (arith, C .start, C .clock, F .trt-here)));
-      }))
-      (λ (b : at (r .rest) (r .token) ≤ 0).
-      inl (record { none = omega (arith, G .rest-here); ended = inl (C .sent-here ∙ s .nothing) }))
-      (below-or-not 0 (at (r .rest) (r .token)))
+  -- the station that is visited sends nothing: it holds none, since one that it held would have arrived
+  silent-kept : at (r .arrival) (r .token) ≤ r .clock → Silent r (syncStartOf t v) v → Idle t q (r .token) ⊎ Waiting t a q (r .token)
+  silent-kept come s =
+      let none : at (r .rest) (r .token) ≡ 0 = ⊎-elim (λ z. z) (λ (late : syncStartOf t v < at (r .arrival) (r .token)). absurd (omega (arith, C .start))) (s .reason) in
+      inl (record { none = omega (arith, G .rest-here); ended = inl (C .sent-here ∙ s .nothing) })
 
   -- it sends of its message
   sending-kept : Messaged t a r (r .token) → Sending a r (syncStartOf t v) v → Idle t q (r .token) ⊎ Waiting t a q (r .token)
@@ -152,12 +137,12 @@ module _ (t : Set) (a : Alloc) (r q : Ring) (v : VisitRecord) (h : List VisitRec
       }))
       (below-or-not (at (a .s) (r .token)) (at (r .rest) (r .token)))
 
-  here-kept : Stored t r (r .token) → Messaged t a r (r .token) → Messaged t a q (r .token)
-  here-kept K M = ⊎-elim (sending-kept M) (silent-kept K M) (G .sending)
+  here-kept : at (r .arrival) (r .token) ≤ r .clock → Messaged t a r (r .token) → Messaged t a q (r .token)
+  here-kept come M = ⊎-elim (sending-kept M) (silent-kept come) (G .sending)
 
-  pub messaged-kept : Stored t r (r .token) → ((i : ℕ) → i < t .n → Messaged t a r i) → (i : ℕ) → i < t .n → Messaged t a q i
-  messaged-kept K M i l =
-      ⊎-elim (λ (b : i ≡ r .token). rw b (here-kept K (M (r .token) (T .course .token))))
+  pub messaged-kept : at (r .arrival) (r .token) ≤ r .clock → ((i : ℕ) → i < t .n → Messaged t a r i) → (i : ℕ) → i < t .n → Messaged t a q i
+  messaged-kept come M i l =
+      ⊎-elim (λ (b : i ≡ r .token). rw b (here-kept come (M (r .token) (T .course .token))))
       (λ (b : i ≢ r .token). other-kept i l b (M i l))
       (same-or-not i (r .token))
 

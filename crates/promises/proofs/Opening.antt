@@ -23,6 +23,7 @@ use Rattle.promises.specs.History.{asyncOf, latest, due}
 use Rattle.promises.specs.Facts.{timing, timerPlan}
 use Rattle.promises.proofs.Windows.{own}
 use Rattle.promises.proofs.Course.{Plan, Course}
+use Rattle.promises.proofs.Arrivals.{Passed}
 use Rattle.promises.proofs.Stores.{Stored, Told}
 use Rattle.promises.proofs.Timing.{Timed}
 use Rattle.promises.proofs.Laps.{Lapped}
@@ -117,6 +118,10 @@ module _ (t : Set) (a : Alloc) (P : Plan t a) where
   pub opened-told : (i : ℕ) → Told (openedRing t a) [] i
   unfolding openedRing latest
   opened-told i = inl (record { latest = refl; had = zero-at i })
+
+  pub opened-passed : Passed t (openedRing t a) [] []
+  unfolding openedRing
+  opened-passed = record { arrived = λ i. omega (arith, zero-at i); messages = tt; lasts = λ i. omega (arith, zero-at i); visits = tt }
 
   pub opened-mark : (i : ℕ) → Unmarked (openedRing t a) i
   unfolding openedRing

@@ -5,11 +5,8 @@ use mathlib.Core.Bool.{true}
 use mathlib.Core.List.{List, []}
 use mathlib.Core.Logic.{_≢_, _↔_, ⊎-elim}
 use native.Mathlib.Omega.{arith}
-use borrow.Author.Tests.{ltb-true, lt-ltb}
 use Rattle.units.specs.Numbers.{mostClock}
 use Rattle.units.specs.Places.{at}
-use Rattle.units.specs.Judging.{orElse}
-use Rattle.units.specs.JudgingLaws.{Decides, held, given, given-later, not-given, decides-between}
 use Rattle.units.specs.SmallLaws.{below-or-not}
 use Rattle.sets.specs.declared.Set.{Set}
 use Rattle.plans.specs.Planned.{judgedPlan, planned}
@@ -23,12 +20,13 @@ use Rattle.rings.specs.Timers.{Fddi}
 use Rattle.rings.specs.TimerLaws.{fddi-or-not}
 use Rattle.rings.specs.Steps.{Ask, visitNumber, visited}
 use Rattle.rings.specs.State.{Unmarked}
-use Rattle.rings.specs.HandingIn.{stationKnown, Free, lengthAllowed, stationFree, arrivalAllowed, messageNumber, handedIn}
-use Rattle.rings.specs.RingLaws.{opened-number, opened-accepted, decides-free, decides-arrival}
+use Rattle.rings.specs.HandingIn.{LengthAllowed, handedIn}
+use Rattle.rings.specs.RingLaws.{opened-number, opened-accepted, sound-sentences}
 use Rattle.rings.specs.declared.Opened.{Opened}
+use Rattle.ring_rules.proofs.Promised.{promised as rules}
 use Rattle.rings.specs.declared.Message.{Message}
 use Rattle.rings.specs.declared.VisitRecord.{VisitRecord}
-use Rattle.promises.specs.Run.{Call, Run, run, runOf, ringOf, records, messages, eventsOf, recordsOf}
+use Rattle.promises.specs.Run.{Call, Run, run, runOf, ringOf, records, messages, eventsOf, recordsOf, messagesOf}
 use Rattle.promises.specs.History.{Each}
 use Rattle.promises.specs.Facts.{timing, Leaving}
 use Rattle.promises.specs.Valid.{AheadOf, Regular, FinishesInTime, dueBy, NeverLate, ExactLimits, DeadlinesKept, TimelyKept, Valid}
@@ -37,6 +35,7 @@ use Rattle.promises.proofs.Lists.{each-visit-of, each-record-of}
 use Rattle.promises.proofs.Windows.{lookBack, look-back-all, look-back-less}
 use Rattle.promises.proofs.Course.{Plan, Unvisited, Since, same-or-not}
 use Rattle.promises.proofs.Stores.{Latest, Never}
+use Rattle.promises.proofs.Arrivals.{outside-all}
 use Rattle.promises.proofs.Timing.{latest-within}
 use Rattle.promises.proofs.Messages.{Waiting, deadlineAt, clock-ahead, held-in-time, completed-in-time}
 use Rattle.promises.proofs.Steps.{visit-facts, message-facts as handing-facts, mark-facts, unmark-facts}
@@ -45,7 +44,7 @@ use Rattle.promises.proofs.Runs.{made, movedRun, Completes, visit-goes,
 use Rattle.promises.proofs.Timely.{TimelyVisit, Timely, timer-facts, margin-made, window-kept, tick-limit, steady, timely}
 use Rattle.promises.proofs.Fddi.{Older, older-steady, older, fddi-kept}
 use Rattle.promises.proofs.Followed.{Follows, followed-from}
-use Rattle.promises.proofs.Common.{common, answer-of}
+use Rattle.promises.proofs.Common.{common}
 use Rattle.promises.proofs.Bulk.{bulk}
 use Rattle.promises.proofs.Witness.{happens}
 use Rattle.promises.proofs.FddiWitness.{fddi-happens}
@@ -120,26 +119,30 @@ module _ (t : Set) (a : Alloc) (P : Plan t a) (s : Run) (K : Timely t a s) where
       (below-or-not 0 (at (s .ring .rest) (m .station .0)))
 
   -- the ring's own set is the one with which it was opened
-  known : (m : Message) → Decides (stationKnown (s .ring) m) (m .station .0 < t .n)
-  known m = rw (K .common .course .set) (ltb-true (m .station .0) (t .n), lt-ltb (m .station .0) (t .n))
+  stations : s .ring .set .n ≡ t .n
+  stations = ap (λ (x : Set). x .n) (K .common .course .set)
 
-  short : (m : Message) → Regular t s m → lengthAllowed (s .ring) m ≡ true
-  short m R = rw (K .common .course .set) (decides-between 1 (at (t .c) (m .station .0)) (m .length .0) .1 (R .length))
+  short : (m : Message) → Regular t s m → LengthAllowed (s .ring) m
+  short m R = rw (K .common .course .set) (R .length)
 
   never-11 : (m : Message) → Unmarked (s .ring) (m .station .0) → Regular t s m → handedIn (s .ring) m .number ≢ 11
   never-11 m off R e =
-      let n : messageNumber (s .ring) m ≡ 11 = sym (answer-of t a s (K .common) m) ∙ e in
-      let x = given-later _ _ 9 _ 11 (known m) (omega arith) .0 n in
-      let y : orElse (stationFree (s .ring) m) 11 (orElse (arrivalAllowed (s .ring) m) 12 0) ≡ 11 = sym (held _ 10 _ (short m R)) ∙ x .1 in
-      given (stationFree (s .ring) m) (Free (s .ring) m) 11 _ (decides-free (s .ring) m) (not-given _ 12 0 11 (omega arith) (omega arith)) .0 y
-      (free m (x .0) R, off)
+      let x = rules .message-eleven (s .ring) m .0 e in
+      x .1 .1 .1 (free m (omega (arith, x .1 .0, stations)) R, off)
 
   message-is-taken : (m : Message) → m .station .0 < t .n → m .arrival .0 ≤ mostClock → Unmarked (s .ring) (m .station .0) → Regular t s m → handedIn (s .ring) m .number ≡ 0
   message-is-taken m l range off R =
-      let none : stationFree (s .ring) m ≡ true = decides-free (s .ring) m .1 (free m l R, off) in
       let gap : at (s .ring .had) (m .station .0) ≢ 0 → at (s .ring .arrival) (m .station .0) + at (s .ring .set .p) (m .station .0) ≤ m .arrival .0 = rw (K .common .course .set) (gap-of m R) in
-      let allowed : arrivalAllowed (s .ring) m ≡ true = decides-arrival (s .ring) m .1 (record { range = range; later = later-than m R l; gap = gap }) in
-      answer-of t a s (K .common) m ∙ held _ 9 _ (known m .1 l) ∙ held _ 10 _ (short m R) ∙ held _ 11 _ none ∙ held _ 12 0 allowed
+      rules .message-none (s .ring) m .1 (
+        sound-sentences (s .ring) (K .common .sound),
+        record {
+          known = omega (arith, stations);
+          length = short m R;
+          free = (free m l R, off);
+          arrived = R .arrived;
+          arrival = record { range = range; later = later-than m R l; gap = gap };
+        },
+      )
 
 -- ---- a message followed, in time
 
@@ -210,6 +213,7 @@ valid t a h =
       timely = λ m. rw (look-back-all t m) at (timely-kept t a plan (λ e. omega arith));
       fddi = fddi-kept t a plan;
       earlier = λ m. rw (look-back-less t m) at (timely-kept t a plan (λ e. omega arith));
+      own-part = λ m calls. outside-all t m (ringOf t a calls) (recordsOf t a calls) (messagesOf t a calls) (timely t a plan (λ e. omega arith) calls .common .passed .messages);
     }
 
 -- ---- where plans come from

@@ -28,6 +28,7 @@ use Rattle.promises.specs.Valid.{InTurn, ShareKept, WalkedThrough}
 use Rattle.promises.proofs.Course.{Plan, Course, course-kept, same-or-not}
 use Rattle.promises.proofs.Lists.{mark-small}
 use Rattle.promises.proofs.Stores.{Stored, Latest, Never, Told, stored-kept, told-kept, stored-taken, told-taken}
+use Rattle.promises.proofs.Arrivals.{Passed, passed-moved, passed-same, passed-taken}
 use Rattle.promises.proofs.Steps.{visit-early, visit-through, mark-switching, unmark-switching, mark-remarks, unmark-remarks, visit-places, visit-course, visit-messages, holding-places, holding-sound, message-accepts}
 
 -- ---- the answers
@@ -81,6 +82,7 @@ pub record Kept (t : Set) (a : Alloc) (s : Run) : Type 0 where
   pub course : Course t a (timing (s .ring)) (records s)
   pub stored : (i : ℕ) → i < t .n → Stored t (s .ring) i
   pub told : (i : ℕ) → Told (s .ring) (messages s) i
+  pub passed : Passed t (s .ring) (records s) (messages s)
   -- no message is held under a mark
   pub clear : (i : ℕ) → 0 < at (s .ring .rest) i → Unmarked (s .ring) i
   pub walked : EachVisit WalkedThrough (s .events)
@@ -121,6 +123,7 @@ module _ (t : Set) (a : Alloc) (P : Plan t a) (s : Run) (K : Kept t a s) where
         course = course-kept t a (timing (s .ring)) (timing (movedRun s ask .ring)) (made s ask) (records s) P (K .course) F short (visit-early (s .ring) (K .places) ask go);
         stored = next-stored ask go;
         told = λ i. told-kept t a (s .ring) (movedRun s ask .ring) (made s ask) (message-parts ask go) (messages s) i (K .told i);
+        passed = passed-moved t a (s .ring) (movedRun s ask .ring) (made s ask) (records s) (messages s) (omega (arith, K .course .rounds .1 .visits)) F (message-parts ask go) (K .passed);
         clear = next-clear ask go;
         walked = (visit-through (s .ring) (K .places) ask go (records s), K .walked);
         marks = λ i l. ap (λ (xs : List ℕ). at xs i) (message-parts ask go .mark) ∙ K .marks i l;
@@ -149,6 +152,7 @@ module _ (t : Set) (a : Alloc) (P : Plan t a) (s : Run) (K : Kept t a s) where
         course = rw (A .timing-same) (K .course);
         stored = stored-taken t (s .ring) (holding (s .ring) m) m A (K .stored);
         told = λ i. told-taken t (s .ring) (holding (s .ring) m) m A (messages s) i (K .told i);
+        passed = passed-taken t (s .ring) (holding (s .ring) m) m (records s) (messages s) A (K .passed);
         clear = held-clear m e;
         walked = K .walked;
         marks = λ i l. ap (λ (xs : List ℕ). at xs i) (A .mark-same) ∙ K .marks i l;
@@ -182,6 +186,7 @@ module _ (t : Set) (a : Alloc) (P : Plan t a) (s : Run) (K : Kept t a s) where
           course = rw (same, W .timing-same) (K .course);
           stored = switched-stored;
           told = rw told switched-told;
+          passed = rw (same, told) (passed-same t (s .ring) q (records s) (messages s) (W .timing-same) (K .passed) (rw (W .arrival) (K .passed .arrived)));
           clear = W .clear (K .clear);
           walked = walked;
           marks = marks;

@@ -263,6 +263,7 @@ module _ (r : Ring) (L : Shaped r) (m : Message) (e : handInNumber r m ≡ 0) wh
         length = A .length;
         free = A .free .0;
         unmarked = A .free .1;
+        arrived = A .arrived;
         range = A .arrival .range;
         later = A .arrival .later;
         gap = A .arrival .gap;

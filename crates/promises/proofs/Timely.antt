@@ -32,7 +32,7 @@ use Rattle.promises.proofs.Course.{Plan}
 use Rattle.promises.proofs.Timing.{Timed, token-timer, never-late, latest-within, rise-small, timed-kept, room}
 use Rattle.promises.proofs.Messages.{Messaged, deadlineAt, messaged-kept, messaged-taken, messaged-switched, completed-in-time}
 use Rattle.promises.proofs.Steps.{visit-early, visit-timers, visit-offer, mark-switching, unmark-switching}
-use Rattle.promises.proofs.Opening.{opened-places, opened-timed, opened-stored, opened-told, opened-clear, opened-mark, opened-messaged}
+use Rattle.promises.proofs.Opening.{opened-places, opened-timed, opened-stored, opened-told, opened-passed, opened-clear, opened-mark, opened-messaged}
 use Rattle.promises.proofs.Soundness.{timed-sound, is-sound}
 use Rattle.promises.proofs.Runs.{Kept, made, movedRun, heldRun, markedRun, unmarkedRun, course-facts, message-parts, next-stored, kept-moved, message-facts, kept-held, kept-marked, kept-unmarked, Steady, steady-run}
 
@@ -162,7 +162,7 @@ module _ (t : Set) (a : Alloc) (P : Plan t a) (s : Run) (K : Timely t a s) where
       record {
         common = kept-moved t a P s (K .common) ask go (omega (arith, rise-small t a (timing r) (timing q) v (records s) P (K .timed) C F)) sound;
         timed = timed;
-        messaged = messaged-kept t a r q v (records s) P (K .timed) C F G (K .common .stored (r .token) token) (K .messaged);
+        messaged = messaged-kept t a r q v (records s) P (K .timed) C F G (K .common .passed .arrived (r .token)) (K .messaged);
         each = (visit-made t a r q v (records s) P (K .timed) C F G (K .messaged (r .token) token) (K .common .turns) (at (r .mark) (r .token)) O, K .each);
       }
 
@@ -210,6 +210,7 @@ timely-opened t a P mode =
             course = timed .course;
             stored = opened-stored t a P;
             told = opened-told t a P;
+            passed = opened-passed t a P;
             clear = opened-clear t a P;
             walked = tt;
             marks = λ i l. opened-mark t a P i;

@@ -46,9 +46,13 @@ happens =
       accepted = refl;
       held = refl;
       refused = refl;
-      early = refl;
       early-clock = refl;
+      early = refl;
+      early-too = refl;
       unserved = refl;
       regular = regular;
       taken = refl;
+      waited-clock = refl;
+      just = refl;
+      not-yet = refl;
     }

@@ -91,7 +91,7 @@ pub record Sending (a : Alloc) (r : Ring) (begins : ℕ) (v : VisitRecord) : Typ
   pub arrived : at (r .arrival) (r .token) ≤ begins
   pub amount : v .synchronous .0 ≡ min (at (a .s) (r .token)) (at (r .rest) (r .token))
 
--- or it sends nothing, because it holds none, or one that has not arrived yet
+-- or it sends nothing, because it holds none, or one that has not arrived yet, which no ring that is reached holds
 pub record Silent (r : Ring) (begins : ℕ) (v : VisitRecord) : Type 0 where
   pub nothing : v .synchronous .0 ≡ 0
   pub reason : (at (r .rest) (r .token) ≡ 0) ⊎ (begins < at (r .arrival) (r .token))
@@ -139,6 +139,7 @@ pub record Accepting (t : Set) (r q : Ring) (m : Message) : Type 0 where
   pub length : (1 ≤ m .length .0) × (m .length .0 ≤ at (t .c) (m .station .0))
   pub free : at (r .rest) (m .station .0) ≡ 0
   pub unmarked : Unmarked r (m .station .0)
+  pub arrived : m .arrival .0 ≤ r .clock
   pub range : m .arrival .0 ≤ mostClock
   pub later : m .station .0 < r .visits → at (r .last) (m .station .0) < m .arrival .0
   pub gap : at (r .had) (m .station .0) ≢ 0 → at (r .arrival) (m .station .0) + at (t .p) (m .station .0) ≤ m .arrival .0

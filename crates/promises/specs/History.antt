@@ -68,6 +68,11 @@ abbrev pub Somewhere : (VisitRecord → List VisitRecord → Type 0) → List Vi
 Somewhere P [] = ⊥
 Somewhere P (v ∷ before) = P v before ⊎ Somewhere P before
 
+-- every message of the list is so
+abbrev pub EachMessage : (Message → Type 0) → List Message → Type 0
+EachMessage P [] = Unit {0}
+EachMessage P (m ∷ before) = P m × EachMessage P before
+
 -- every visit among the events, taken with its station's mark and the visits before it, is so
 abbrev pub EachVisit : (ℕ → VisitRecord → List VisitRecord → Type 0) → List Event → Type 0
 EachVisit P [] = Unit {0}

@@ -23,9 +23,9 @@ takenBack rest arrival flag = record { rest = record { 0 = rest }; arrival = rec
 abbrev pub bypassed : List Call
 bypassed = message (thirty 0) ∷ greedy ∷ greedy ∷ mark door ∷ []
 
--- and it is switched in again at once
+-- and it is switched in again three rotations on
 abbrev pub back : List Call
-back = bypassed ++ unmark door ∷ []
+back = bypassed ++ greedy ∷ greedy ∷ greedy ∷ greedy ∷ greedy ∷ greedy ∷ unmark door ∷ []
 
 -- a frame of 2 ticks, where F is 1
 abbrev pub long : Ask

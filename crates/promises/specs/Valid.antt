@@ -1,5 +1,5 @@
 -- Demand 3 in parts: what every run of calls keeps on the ring that set t and allocation a open. Each part is a record by itself; `Valid`, at the end, says which of them a plan promises, by its mode.
-use Prim.Native.Nat.{ℕ, _+_, _-_, _*_, _≤_, _<_}
+use Prim.Native.Nat.{ℕ, _+_, _-_, _*_, _≤_, _<_, min}
 use mathlib.Core.Path.{_≡_}
 use mathlib.Core.List.{List, [], _++_, _∷_}
 use mathlib.Core.Logic.{_⊎_, _≢_, _↔_}
@@ -24,7 +24,7 @@ use Rattle.rings.specs.declared.Message.{Message}
 use Rattle.rings.specs.declared.MarkAnswer.{MarkAnswer}
 use Rattle.rings.specs.declared.VisitRecord.{VisitRecord}
 use Rattle.promises.specs.Run.{Call, message, Event, aVisit, aMessage, aMarking, anUnmarking, Run, after, run, runOf, ringOf, recordsIn, records, messages, eventsOf, recordsOf, messagesOf}
-use Rattle.promises.specs.History.{asyncOf, overrunOf, syncStartOf, latestOf, latestFor, sentBy, due, Each, Somewhere, EachVisit, NeverMarked, markIn, MarksTold}
+use Rattle.promises.specs.History.{asyncOf, overrunOf, syncStartOf, latestOf, latestFor, sentBy, due, Each, Somewhere, EachMessage, EachVisit, NeverMarked, markIn, MarksTold}
 
 -- ---- what each visit keeps: v is its record, `before` are the records of the visits before it, the latest first
 
@@ -161,6 +161,16 @@ pub record Regular (t : Set) (s : Run) (m : Message) : Type 0 where
   -- it arrives later than its station's last start, where there was a visit
   pub later : (u : VisitRecord) → latestOf (m .station .0) (records s) ≡ some u → syncStartOf t u < m .arrival .0
 
+-- ---- a message, and the visits of its station, those before its handing in and those after
+
+-- it arrived inside the asynchronous part of the visit, which is the first part in the 2002 edition: behind the start, and not behind the end
+abbrev pub Inside : Message → VisitRecord → Type 0
+Inside m v = (v .start .0 < m .arrival .0) × (m .arrival .0 ≤ v .start .0 + v .asynchronous .0)
+
+-- of none of them did it
+abbrev pub OutsideAll : List VisitRecord → Message → Type 0
+OutsideAll records m = Each (λ v before. v .station .0 ≡ m .station .0 → ¬ Inside m v) records
+
 -- ---- the parts
 
 -- the frames asked for have a length from 1 to F
@@ -180,6 +190,14 @@ pub record Common (t : Set) (a : Alloc) : Type 0 where
   pub walked-through : (calls : List Call) → EachVisit WalkedThrough (eventsOf t a calls)
   -- no message is held under a mark
   pub clear : (calls : List Call) (i : ℕ) → 0 < at (ringOf t a calls .rest) i → Unmarked (ringOf t a calls) i
+  -- a message that is held has arrived: its arrival is not later than the clock
+  pub arrived : (calls : List Call) (i : ℕ) → 0 < at (ringOf t a calls .rest) i → at (ringOf t a calls .arrival) i ≤ ringOf t a calls .clock
+  -- so a visit serves whatever its station holds: it sends the smaller of S and what remains
+  pub serves : (calls : List Call) (ask : Ask)
+      → visited (ringOf t a calls) ask .answer .number ≡ 0
+      → visited (ringOf t a calls) ask .answer .«record» .synchronous .0 ≡ min (at (a .s) (ringOf t a calls .token)) (at (ringOf t a calls .rest) (ringOf t a calls .token))
+  -- never 15 for a message whose arrival the clock has reached
+  pub no-15 : (calls : List Call) (m : Message) → m .arrival .0 ≤ ringOf t a calls .clock → handedIn (ringOf t a calls) m .number ≢ 15
   -- every accepted message, followed from its handing in, is held with what is left of it, or was completed with its whole length, or was withdrawn
   pub followed : (calls : List Call) (m : Message)
       → handedIn (ringOf t a calls) m .number ≡ 0 → (later : List Call)
@@ -291,3 +309,5 @@ pub record Valid (t : Set) (a : Alloc) : Type 0 where
   pub fddi : Fddi t → FddiKept t a
   -- the 2002 edition: it is A* less that of the N − 1 visits before, since the station's own last asynchronous part is not in its timer
   pub earlier : Earlier t → TimelyKept t a (t .n - 1)
+  -- and no message that is ever taken arrived inside its station's own asynchronous part
+  pub own-part : Earlier t → (calls : List Call) → EachMessage (OutsideAll (recordsOf t a calls)) (messagesOf t a calls)

@@ -53,7 +53,7 @@ begun = message (thirty 0) ∷ message (thirty 0) ∷ greedy ∷ greedy ∷ []
 abbrev pub completed : List Call
 completed = begun ++ greedy ∷ []
 
--- the next one is handed in ahead of its arrival; station 0 is visited before it
+-- the next one is handed in ahead of its arrival, and refused; both stations are visited before it
 abbrev pub ahead : List Call
 ahead = completed ++ message (thirty 250) ∷ greedy ∷ greedy ∷ []
 
@@ -88,10 +88,15 @@ pub record Happens : Type 0 where
   pub held : at (ringOf pair shares begun .rest) 0 ≡ 15
   -- a call between them is refused
   pub refused : handedIn (ringOf pair shares (message (thirty 0) ∷ [])) (thirty 0) .number ≡ 11
-  -- a message is accepted while its arrival lies ahead of the clock, and a visit before that sends nothing of it
-  pub early : handedIn (ringOf pair shares completed) (thirty 250) .number ≡ 0
+  -- a message is refused while its arrival lies ahead of the clock, also where 12 would refuse it, and nothing of it is sent
   pub early-clock : ringOf pair shares completed .clock ≡ 116
+  pub early : handedIn (ringOf pair shares completed) (thirty 250) .number ≡ 15
+  pub early-too : handedIn (ringOf pair shares completed) (thirty 249) .number ≡ 15
   pub unserved : recordsOf pair shares ahead ≡ row 0 200 100 0 0 0 0 (pos 0) 0 ∷ row 1 116 17 83 0 83 0 (pos 0) 0 ∷ recordsOf pair shares completed
   -- a message that keeps C and P is handed in when the clock has reached its arrival, and taken
   pub regular : Regular pair (runOf pair shares waited) (thirty 250)
   pub taken : handedIn (ringOf pair shares waited) (thirty 250) .number ≡ 0
+  -- and so is one that arrives just then, but none that arrives a tick later
+  pub waited-clock : ringOf pair shares waited .clock ≡ 286
+  pub just : handedIn (ringOf pair shares waited) (thirty 286) .number ≡ 0
+  pub not-yet : handedIn (ringOf pair shares waited) (thirty 287) .number ≡ 15

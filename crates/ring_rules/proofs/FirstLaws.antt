@@ -211,7 +211,7 @@ module _ (a b : Ring) (e : SameRing a b) where
     unfolding arrivalAllowed
     known-same l =
         let i = m .station .0 in
-        rw (e .set .longest i l, e .rest i l, e .mark i l, e .last i l, e .had i l, e .arrival i l, e .set .gap i l, e .visits, e .set .count)
+        rw (e .set .longest i l, e .rest i l, e .mark i l, e .last i l, e .had i l, e .arrival i l, e .set .gap i l, e .visits, e .clock, e .set .count)
 
     -- any other: 9 for both
     unknown-same : count a ≤ m .station .0 → messageNumber a m ≡ messageNumber b m

@@ -2,7 +2,7 @@
 use Prim.Native.Nat.{ℕ, zero, suc, _≤_, _<_}
 use mathlib.Core.Path.{_≡_, refl}
 use mathlib.Core.Bool.{Bool, true, false}
-use mathlib.Core.Logic.{_↔_, _⊎_, inl, inr, ⊎-elim}
+use mathlib.Core.Logic.{_↔_, _≢_, _⊎_, inl, inr, ⊎-elim}
 use native.Mathlib.Omega.{arith}
 use borrow.Author.Tests.{ltb-true, lt-ltb}
 use lib.Dec.{leb, ltb}
@@ -14,7 +14,7 @@ use Rattle.units.specs.declared.Station.{Station}
 use Rattle.rings.specs.State.{count}
 use Rattle.rings.specs.Sound.{Sound, isSound}
 use Rattle.rings.specs.Steps.{Ask, LengthNamed, lengthNamed, visitNumber, visitedWith}
-use Rattle.rings.specs.HandingIn.{ArrivalAllowed, Takes, stationKnown, lengthAllowed, stationFree, Free, arrivalAllowed, handInNumber}
+use Rattle.rings.specs.HandingIn.{ArrivalAllowed, Takes, stationKnown, lengthAllowed, stationFree, Free, Arrived, hasArrived, arrivalAllowed, handInNumber}
 use Rattle.rings.specs.Marking.{markNumber, withdraws, withdrawal, markedWith, unmarkedWith}
 use Rattle.rings.specs.RingLaws.{decides-sound, decides-free, decides-arrival}
 use Rattle.rings.specs.declared.Ring.{Ring}
@@ -78,18 +78,25 @@ module _ (r : Ring) (m : Message) where
   decides-length : Decides (lengthAllowed r m) ((1 ≤ m .length .0) × (m .length .0 ≤ at (r .set .c) (m .station .0)))
   decides-length = decides-between 1 _ (m .length .0)
 
+  decides-arrived : Decides (hasArrived r m) (Arrived r m)
+  decides-arrived = decides-le _ _
+
+  -- what stands behind 11 gives 15, 12 or 0
+  behind-eleven : (k : ℕ) → 0 < k → k < 12 → orElse (hasArrived r m) 15 (orElse (arrivalAllowed r m) 12 0) ≢ k
+  behind-eleven k above below = not-given _ 15 _ k (omega arith) (not-given _ 12 0 k (omega arith) (omega arith))
+
   pub message-eight : (handInNumber r m ≡ 8) ↔ ¬ Sound r
   message-eight =
       given (isSound r) (Sound r) 8 _ (decides-sound r)
       (not-given _ 9 _ 8 (omega arith)
-      (not-given _ 10 _ 8 (omega arith) (not-given _ 11 _ 8 (omega arith) (not-given _ 12 0 8 (omega arith) (omega arith)))))
+      (not-given _ 10 _ 8 (omega arith) (not-given _ 11 _ 8 (omega arith) (behind-eleven 8 (omega arith) (omega arith)))))
 
   pub message-nine : (handInNumber r m ≡ 9) ↔ (Sound r × ¬ (m .station .0 < count r))
   message-nine =
       iff-then (given-later (isSound r) (Sound r) 8 _ 9 (decides-sound r) (omega arith))
       (iff-under
       (given (stationKnown r m) _ 9 _ decides-known
-      (not-given _ 10 _ 9 (omega arith) (not-given _ 11 _ 9 (omega arith) (not-given _ 12 0 9 (omega arith) (omega arith))))))
+      (not-given _ 10 _ 9 (omega arith) (not-given _ 11 _ 9 (omega arith) (behind-eleven 9 (omega arith) (omega arith))))))
 
   pub message-ten : (handInNumber r m ≡ 10) ↔ (Sound r × ((m .station .0 < count r) × ¬ ((1 ≤ m .length .0) × (m .length .0 ≤ at (r .set .c) (m .station .0)))))
   message-ten =
@@ -97,7 +104,7 @@ module _ (r : Ring) (m : Message) where
       (iff-under
       (iff-then (given-later (stationKnown r m) _ 9 _ 10 decides-known (omega arith))
       (iff-under
-      (given (lengthAllowed r m) _ 10 _ decides-length (not-given _ 11 _ 10 (omega arith) (not-given _ 12 0 10 (omega arith) (omega arith)))))))
+      (given (lengthAllowed r m) _ 10 _ decides-length (not-given _ 11 _ 10 (omega arith) (behind-eleven 10 (omega arith) (omega arith)))))))
 
   pub message-eleven : (handInNumber r m ≡ 11) ↔ (Sound r × ((m .station .0 < count r)
       × (((1 ≤ m .length .0) × (m .length .0 ≤ at (r .set .c) (m .station .0))) × ¬ Free r m)))
@@ -107,10 +114,22 @@ module _ (r : Ring) (m : Message) where
       (iff-then (given-later (stationKnown r m) _ 9 _ 11 decides-known (omega arith))
       (iff-under
       (iff-then (given-later (lengthAllowed r m) _ 10 _ 11 decides-length (omega arith))
-      (iff-under (given (stationFree r m) _ 11 _ (decides-free r m) (not-given _ 12 0 11 (omega arith) (omega arith))))))))
+      (iff-under (given (stationFree r m) _ 11 _ (decides-free r m) (behind-eleven 11 (omega arith) (omega arith))))))))
+
+  pub message-fifteen : (handInNumber r m ≡ 15) ↔ (Sound r × ((m .station .0 < count r)
+      × (((1 ≤ m .length .0) × (m .length .0 ≤ at (r .set .c) (m .station .0))) × (Free r m × ¬ Arrived r m))))
+  message-fifteen =
+      iff-then (given-later (isSound r) (Sound r) 8 _ 15 (decides-sound r) (omega arith))
+      (iff-under
+      (iff-then (given-later (stationKnown r m) _ 9 _ 15 decides-known (omega arith))
+      (iff-under
+      (iff-then (given-later (lengthAllowed r m) _ 10 _ 15 decides-length (omega arith))
+      (iff-under
+      (iff-then (given-later (stationFree r m) _ 11 _ 15 (decides-free r m) (omega arith))
+      (iff-under (given (hasArrived r m) _ 15 _ decides-arrived (not-given _ 12 0 15 (omega arith) (omega arith))))))))))
 
   pub message-twelve : (handInNumber r m ≡ 12) ↔ (Sound r × ((m .station .0 < count r)
-      × (((1 ≤ m .length .0) × (m .length .0 ≤ at (r .set .c) (m .station .0))) × (Free r m × ¬ ArrivalAllowed r m))))
+      × (((1 ≤ m .length .0) × (m .length .0 ≤ at (r .set .c) (m .station .0))) × (Free r m × (Arrived r m × ¬ ArrivalAllowed r m)))))
   message-twelve =
       iff-then (given-later (isSound r) (Sound r) 8 _ 12 (decides-sound r) (omega arith))
       (iff-under
@@ -119,7 +138,9 @@ module _ (r : Ring) (m : Message) where
       (iff-then (given-later (lengthAllowed r m) _ 10 _ 12 decides-length (omega arith))
       (iff-under
       (iff-then (given-later (stationFree r m) _ 11 _ 12 (decides-free r m) (omega arith))
-      (iff-under (given (arrivalAllowed r m) _ 12 0 (decides-arrival r m) (omega arith)))))))))
+      (iff-under
+      (iff-then (given-later (hasArrived r m) _ 15 _ 12 decides-arrived (omega arith))
+      (iff-under (given (arrivalAllowed r m) _ 12 0 (decides-arrival r m) (omega arith)))))))))))
 
   pub message-none : (handInNumber r m ≡ 0) ↔ (Sound r × Takes r m)
   message-none =
@@ -130,23 +151,28 @@ module _ (r : Ring) (m : Message) where
       (iff-then (given-later (lengthAllowed r m) _ 10 _ 0 decides-length (omega arith))
       (iff-under
       (iff-then (given-later (stationFree r m) _ 11 _ 0 (decides-free r m) (omega arith))
-      (iff-under (given-later (arrivalAllowed r m) _ 12 0 0 (decides-arrival r m) (omega arith)))))))
-      (λ h. record { known = h .0; length = h .1 .0; free = h .1 .1 .0; arrival = h .1 .1 .1 .0 }, λ t. (t .known, (t .length, (t .free, (t .arrival, refl))))))))
+      (iff-under
+      (iff-then (given-later (hasArrived r m) _ 15 _ 0 decides-arrived (omega arith))
+      (iff-under (given-later (arrivalAllowed r m) _ 12 0 0 (decides-arrival r m) (omega arith))))))))) (
+        λ h. record { known = h .0; length = h .1 .0; free = h .1 .1 .0; arrived = h .1 .1 .1 .0; arrival = h .1 .1 .1 .1 .0 },
+        λ t. (t .known, (t .length, (t .free, (t .arrived, (t .arrival, refl))))),
+      ))))
 
-  pub message-only : (handInNumber r m ≡ 0) ⊎ ((8 ≤ handInNumber r m) × (handInNumber r m ≤ 12))
+  pub message-only : (handInNumber r m ≡ 0) ⊎ ((8 ≤ handInNumber r m) × (handInNumber r m ≤ 12)) ⊎ (handInNumber r m ≡ 15)
   unfolding orElse
-  message-only = go (isSound r) (stationKnown r m) (lengthAllowed r m) (stationFree r m) (arrivalAllowed r m)
+  message-only = go (isSound r) (stationKnown r m) (lengthAllowed r m) (stationFree r m) (hasArrived r m) (arrivalAllowed r m)
     where
-      among : Bool → Bool → Bool → Bool → Bool → ℕ
-      among a b c d e = orElse a 8 (orElse b 9 (orElse c 10 (orElse d 11 (orElse e 12 0))))
+      among : Bool → Bool → Bool → Bool → Bool → Bool → ℕ
+      among a b c d e f = orElse a 8 (orElse b 9 (orElse c 10 (orElse d 11 (orElse e 15 (orElse f 12 0)))))
 
-      go : (a b c d e : Bool) → (among a b c d e ≡ 0) ⊎ ((8 ≤ among a b c d e) × (among a b c d e ≤ 12))
-      go false b c d e = inr (omega arith, omega arith)
-      go true false c d e = inr (omega arith, omega arith)
-      go true true false d e = inr (omega arith, omega arith)
-      go true true true false e = inr (omega arith, omega arith)
-      go true true true true false = inr (omega arith, omega arith)
-      go true true true true true = inl refl
+      go : (a b c d e f : Bool) → let k = among a b c d e f in (k ≡ 0) ⊎ ((8 ≤ k) × (k ≤ 12)) ⊎ (k ≡ 15)
+      go false b c d e f = inr (inl (omega arith, omega arith))
+      go true false c d e f = inr (inl (omega arith, omega arith))
+      go true true false d e f = inr (inl (omega arith, omega arith))
+      go true true true false e f = inr (inl (omega arith, omega arith))
+      go true true true true false f = inr (inr refl)
+      go true true true true true false = inr (inl (omega arith, omega arith))
+      go true true true true true true = inl refl
 
 -- ---- the numbers of a marking, which are those of taking the mark off
 

@@ -22,7 +22,7 @@ use Rattle.rings.specs.Marking.{markNumber, withdrawal, marked, unmarked}
 use Rattle.rings.specs.TimerLaws.{lead-none, lead-all, marked-or-not}
 use Rattle.rings.specs.MarkLaws.{marked-refused, marked-accepted, mark-passed}
 use Rattle.rings.specs.RingLaws.{decides-sound, opened-number, taken-number, opened-refused, opened-accepted, visit-refused, visit-accepted, visit-passed, taken-refused, taken-accepted, taken-passed}
-use Rattle.ring_rules.proofs.NumberLaws.{visited-number, visit-eight, visit-ten, visit-thirteen, visit-none, visit-only, message-eight, message-nine, message-ten, message-eleven, message-twelve, message-none, message-only, mark-eight, mark-nine, mark-none, mark-only}
+use Rattle.ring_rules.proofs.NumberLaws.{visited-number, visit-eight, visit-ten, visit-thirteen, visit-none, visit-only, message-eight, message-nine, message-ten, message-eleven, message-fifteen, message-twelve, message-none, message-only, mark-eight, mark-nine, mark-none, mark-only}
 use Rattle.ring_rules.proofs.MarkedLaws.{number-marked, number-unmarked, mark-unchanged, mark-switches, mark-withdraws, mark-takes-none, mark-stays, mark-twice, mark-arrivals, marked-eleven, unmark-unchanged, unmark-switches, unmark-stays, mark-sound, unmark-sound, idle-sound, idle-named, idle-clock, walks-alike, sound-marks, nothing-new}
 use Rattle.ring_rules.proofs.OpenedLaws.{fresh, opened-sound}
 use Rattle.ring_rules.proofs.MovedLaws.{margin-kept, margin-late, done}
@@ -209,6 +209,7 @@ promised =
       message-nine = λ r m. rw (number-taken r m) (message-nine r m);
       message-ten = λ r m. rw (number-taken r m) (message-ten r m);
       message-eleven = λ r m. rw (number-taken r m) (message-eleven r m);
+      message-fifteen = λ r m. rw (number-taken r m) (message-fifteen r m);
       message-twelve = λ r m. rw (number-taken r m) (message-twelve r m);
       message-none = λ r m. rw (number-taken r m) (message-none r m);
       message-only = λ r m. rw (number-taken r m) (message-only r m);

@@ -21,7 +21,7 @@ use Rattle.rings.specs.Frames.{framesSent}
 use Rattle.rings.specs.Opening.{opening}
 use Rattle.rings.specs.Sound.{Sound, isSound}
 use Rattle.rings.specs.Steps.{Ask, LengthNamed, mostSent, blankRecord, visited}
-use Rattle.rings.specs.HandingIn.{Known, LengthAllowed, Free, ArrivalAllowed, Takes, handedIn}
+use Rattle.rings.specs.HandingIn.{Known, LengthAllowed, Free, Arrived, ArrivalAllowed, Takes, handedIn}
 use Rattle.rings.specs.Marking.{switchedThrough, switchedIn, marked, unmarked}
 use Rattle.rings.specs.declared.Ring.{Ring}
 use Rattle.rings.specs.declared.Message.{Message}
@@ -356,12 +356,14 @@ pub record Promised : Type 0 where
   pub message-ten : (r : Ring) (m : Message) → (handedIn r m .number ≡ 10) ↔ (Sound r × (Known r m × ¬ LengthAllowed r m))
   -- 11 exactly if that passes and the station holds an unsent message or is marked
   pub message-eleven : (r : Ring) (m : Message) → (handedIn r m .number ≡ 11) ↔ (Sound r × (Known r m × (LengthAllowed r m × ¬ Free r m)))
+  -- 15 exactly if that passes and the arrival is later than the clock; it comes before 12
+  pub message-fifteen : (r : Ring) (m : Message) → (handedIn r m .number ≡ 15) ↔ (Sound r × (Known r m × (LengthAllowed r m × (Free r m × ¬ Arrived r m))))
   -- 12 exactly if that passes and the arrival is not allowed
-  pub message-twelve : (r : Ring) (m : Message) → (handedIn r m .number ≡ 12) ↔ (Sound r × (Known r m × (LengthAllowed r m × (Free r m × ¬ ArrivalAllowed r m))))
-  -- 0 exactly if all that passes: the clock plays no part, so arrivals may lie ahead of it
+  pub message-twelve : (r : Ring) (m : Message) → (handedIn r m .number ≡ 12) ↔ (Sound r × (Known r m × (LengthAllowed r m × (Free r m × (Arrived r m × ¬ ArrivalAllowed r m)))))
+  -- 0 exactly if all that passes
   pub message-none : (r : Ring) (m : Message) → (handedIn r m .number ≡ 0) ↔ (Sound r × Takes r m)
   -- no other number is ever given
-  pub message-only : (r : Ring) (m : Message) → (handedIn r m .number ≡ 0) ⊎ ((8 ≤ handedIn r m .number) × (handedIn r m .number ≤ 12))
+  pub message-only : (r : Ring) (m : Message) → (handedIn r m .number ≡ 0) ⊎ ((8 ≤ handedIn r m .number) × (handedIn r m .number ≤ 12)) ⊎ (handedIn r m .number ≡ 15)
   -- a refused handing in gives back the very ring
   pub message-unchanged : (r : Ring) (m : Message) → handedIn r m .number ≢ 0 → handedIn r m .ring ≡ r
   -- an accepted message is held, and nothing else in the ring changes; this too of any ring that is lent, and so the others that ask for `Shaped`

@@ -1,11 +1,11 @@
--- Handing in a message: what each of the numbers 9 to 12 asks, the ring that holds the message, and the answer.
+-- Handing in a message: what each of the numbers 9 to 12 and 15 asks, the ring that holds the message, and the answer.
 use Prim.Native.Nat.{ℕ, zero, suc, _+_, _≤_, _<_}
 use mathlib.Core.Path.{_≡_}
 use mathlib.Core.Logic.{_≢_}
 use mathlib.Core.Bool.{Bool, _&&_, _||_}
 use lib.Dec.{ltb, leb, eqb}
 use lib.ListN.{set}
-use Rattle.units.specs.Numbers.{accepted, unsound, noSuchStation, badLength, stillHeld, badArrival, mostClock}
+use Rattle.units.specs.Numbers.{accepted, unsound, noSuchStation, badLength, stillHeld, badArrival, notArrived, mostClock}
 use Rattle.units.specs.Places.{at}
 use Rattle.units.specs.Judging.{orElse, between}
 use Rattle.rings.specs.State.{count, beforeFirstVisit, beforeFirstMessage, Unmarked, withMessages}
@@ -28,6 +28,10 @@ LengthAllowed r m = (1 ≤ m .length .0) × (m .length .0 ≤ at (r .set .c) (m 
 abbrev pub Free : Ring → Message → Type 0
 Free r m = (at (r .rest) (m .station .0) ≡ 0) × Unmarked r (m .station .0)
 
+-- 15: it has arrived: its arrival is not later than the ring's clock
+abbrev pub Arrived : Ring → Message → Type 0
+Arrived r m = m .arrival .0 ≤ r .clock
+
 -- 12: when an arrival is allowed
 pub record ArrivalAllowed (r : Ring) (m : Message) : Type 0 where
   -- it is in range
@@ -42,6 +46,7 @@ pub record Takes (r : Ring) (m : Message) : Type 0 where
   pub known : Known r m
   pub length : LengthAllowed r m
   pub free : Free r m
+  pub arrived : Arrived r m
   pub arrival : ArrivalAllowed r m
 
 -- ---- the same as tests, one for each number
@@ -57,6 +62,10 @@ lengthAllowed r m = between 1 (at (r .set .c) (m .station .0)) (m .length .0)
 -- 11: that station holds no unsent message and is not marked
 abbrev pub stationFree : Ring → Message → Bool
 stationFree r m = eqb (at (r .rest) (m .station .0)) 0 && eqb (at (r .mark) (m .station .0)) 0
+
+-- 15: it has arrived: its arrival is not later than the ring's clock
+abbrev pub hasArrived : Ring → Message → Bool
+hasArrived r m = leb (m .arrival .0) (r .clock)
 
 -- 12: the arrival is in range
 abbrev pub arrivalInRange : Message → Bool
@@ -90,13 +99,14 @@ holding r m =
 
 -- ---- the answer
 
--- 9 to 12 of a sound ring, the lowest that applies
+-- 9 to 12 and 15 of a sound ring: 15 comes before 12, else the lowest that applies
 abbrev pub messageNumber : Ring → Message → ℕ
 messageNumber r m =
     orElse (stationKnown r m) noSuchStation
     (orElse (lengthAllowed r m) badLength
     (orElse (stationFree r m) stillHeld
-    (orElse (arrivalAllowed r m) badArrival accepted)))
+    (orElse (hasArrived r m) notArrived
+    (orElse (arrivalAllowed r m) badArrival accepted))))
 
 -- 8 for an unsound ring first
 abbrev pub handInNumber : Ring → Message → ℕ

@@ -4,7 +4,7 @@
 --     Opening      the opened ring, and opening's answer
 --     Sound        01's list of unsound states (8), a sentence and a test for each line
 --     Steps        the five steps of a visit, the record, and a visit's answer (8, 13)
---     HandingIn    what each of 9 to 12 asks, the ring that holds the message, and the answer
+--     HandingIn    what each of 9 to 12 and 15 asks, the ring that holds the message, and the answer
 --     Marking      a station switched through, what that takes back, and switched in again
 --     Bounds       what the inner functions ask for and hand back
 -- and, for the proofs of the layers above:

@@ -24,7 +24,7 @@ use Rattle.rings.specs.Timers.{Fddi, mostLate, TimelySound, FddiSound, T
 use Rattle.rings.specs.TimerLaws.{fddi-or-not, fddi-true, fddi-false, marked-true, marked-false, marked-or-not}
 use Rattle.rings.specs.Sound.{Sound, sentSoundAt, restSoundAt, arrivalSoundAt, planSound, numberTests, isSound}
 use Rattle.rings.specs.Steps.{Ask, LengthNamed, lengthNamed, serves, mostSent, syncSent, visitNumber, refusedVisit, acceptedVisit, visitedWith}
-use Rattle.rings.specs.HandingIn.{Free, ArrivalAllowed, Takes, stationKnown, lengthAllowed, stationFree, arrivalInRange, laterThanLastStart, gapKept, arrivalAllowed, handInNumber, holding, messageNumber, takenWith}
+use Rattle.rings.specs.HandingIn.{Free, ArrivalAllowed, Takes, stationKnown, lengthAllowed, stationFree, hasArrived, arrivalInRange, laterThanLastStart, gapKept, arrivalAllowed, handInNumber, holding, messageNumber, takenWith}
 use Rattle.rings.specs.Bounds.{Safe, SafeTimely, SafeTimers, Holdable}
 use Rattle.rings.specs.declared.Ring.{Ring}
 use Rattle.rings.specs.declared.Message.{Message}
@@ -235,11 +235,14 @@ module _ (r : Ring) (m : Message) where
   pub message-11 : stationKnown r m ≡ true → lengthAllowed r m ≡ true → stationFree r m ≡ false → messageNumber r m ≡ 11
   message-11 h₉ h₁₀ h₁₁ = held _ _ _ h₉ ∙ held _ _ _ h₁₀ ∙ failed _ _ _ h₁₁
 
-  pub message-12 : stationKnown r m ≡ true → lengthAllowed r m ≡ true → stationFree r m ≡ true → arrivalAllowed r m ≡ false → messageNumber r m ≡ 12
-  message-12 h₉ h₁₀ h₁₁ h₁₂ = held _ _ _ h₉ ∙ held _ _ _ h₁₀ ∙ held _ _ _ h₁₁ ∙ failed _ _ _ h₁₂
+  pub message-15 : stationKnown r m ≡ true → lengthAllowed r m ≡ true → stationFree r m ≡ true → hasArrived r m ≡ false → messageNumber r m ≡ 15
+  message-15 h₉ h₁₀ h₁₁ h₁₅ = held _ _ _ h₉ ∙ held _ _ _ h₁₀ ∙ held _ _ _ h₁₁ ∙ failed _ _ _ h₁₅
 
-  pub message-0 : stationKnown r m ≡ true → lengthAllowed r m ≡ true → stationFree r m ≡ true → arrivalAllowed r m ≡ true → messageNumber r m ≡ 0
-  message-0 h₉ h₁₀ h₁₁ h₁₂ = held _ _ _ h₉ ∙ held _ _ _ h₁₀ ∙ held _ _ _ h₁₁ ∙ held _ _ _ h₁₂
+  pub message-12 : stationKnown r m ≡ true → lengthAllowed r m ≡ true → stationFree r m ≡ true → hasArrived r m ≡ true → arrivalAllowed r m ≡ false → messageNumber r m ≡ 12
+  message-12 h₉ h₁₀ h₁₁ h₁₅ h₁₂ = held _ _ _ h₉ ∙ held _ _ _ h₁₀ ∙ held _ _ _ h₁₁ ∙ held _ _ _ h₁₅ ∙ failed _ _ _ h₁₂
+
+  pub message-0 : stationKnown r m ≡ true → lengthAllowed r m ≡ true → stationFree r m ≡ true → hasArrived r m ≡ true → arrivalAllowed r m ≡ true → messageNumber r m ≡ 0
+  message-0 h₉ h₁₀ h₁₁ h₁₅ h₁₂ = held _ _ _ h₉ ∙ held _ _ _ h₁₀ ∙ held _ _ _ h₁₁ ∙ held _ _ _ h₁₅ ∙ held _ _ _ h₁₂
 
 -- each test decides its sentence
 
@@ -273,12 +276,14 @@ taken-passed r m h =
     let p₉ = passed (stationKnown r m) 9 _ (omega arith) (p₈ .1) in
     let p₁₀ = passed (lengthAllowed r m) 10 _ (omega arith) (p₉ .1) in
     let p₁₁ = passed (stationFree r m) 11 _ (omega arith) (p₁₀ .1) in
-    let p₁₂ = passed (arrivalAllowed r m) 12 0 (omega arith) (p₁₁ .1) in (
+    let p₁₅ = passed (hasArrived r m) 15 _ (omega arith) (p₁₁ .1) in
+    let p₁₂ = passed (arrivalAllowed r m) 12 0 (omega arith) (p₁₅ .1) in (
       sound-sentences r (p₈ .0),
       record {
         known = ltb-true _ _ (p₉ .0);
         length = decides-between 1 _ _ .0 (p₁₀ .0);
         free = decides-free r m .0 (p₁₁ .0);
+        arrived = leb-true _ _ (p₁₅ .0);
         arrival = decides-arrival r m .0 (p₁₂ .0);
       },
     )

@@ -191,7 +191,7 @@ impl Ring {
         Visited { ring, answer }
     }
 
-    // Handing in a message: the ring that holds it, or the lowest of 8 to 12 that applies with the ring as it was.
+    // Handing in a message: the ring that holds it, or the first of 8 to 11, 15 and 12 that applies with the ring as it was.
     pub fn hand_in(mut self, message: Message) -> Taken
         ensures { λ r. ⌜ r ≡ handedIn self message ⌝ }
     {

@@ -1,4 +1,4 @@
-// Handing in: what each of the numbers 9 to 12 asks, and the ring that holds the message.
+// Handing in: what each of the numbers 9 to 12 and 15 asks, and the ring that holds the message.
 use super::Message;
 use super::Ring;
 use units::numbers;
@@ -35,7 +35,7 @@ fn arrival_allowed(r: Ring, m: Message) -> bool
     in_range & later & gap
 }
 
-// The lowest of 9 to 12 that applies to a sound ring, or 0.
+// The first of 9, 10, 11, 15 and 12 that applies to a sound ring, or 0.
 pub(crate) fn message_number(r: Ring, m: Message) -> u8
     requires { ⌜ isSound r ≡ true ⌝ }
     ensures { λ x. ⌜ x ≡ messageNumber r m ⌝ }
@@ -54,6 +54,9 @@ pub(crate) fn message_number(r: Ring, m: Message) -> u8
     }
     if !free {
         return numbers::STILL_HELD;
+    }
+    if r.clock < m.arrival.0 {
+        return numbers::NOT_ARRIVED;
     }
     if !arrival_allowed(r, m) {
         return numbers::BAD_ARRIVAL;

@@ -1,4 +1,4 @@
--- The worked run holds because opening, handing in and visits compute to the table's numbers, through every test of 8 and 12.
+-- The worked run holds because opening, handing in and visits compute to the table's numbers, through every test of 8 to 12 and 15.
 use mathlib.Core.Path.{refl}
 use Rattle.units.specs.Places.{sumBelow, allBelow, fill, raise}
 use Rattle.units.specs.Judging.{orElse, allHold}

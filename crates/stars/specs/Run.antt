@@ -44,7 +44,7 @@ pub data Call : Type 0 where
   message : ℕ → ℕ → Call
   visit : Row → Call
 
--- each station gets messages of 20 arriving at 0 and 100, the second handed in after the first is sent
+-- each station gets messages of 20 arriving at 0 and 100, the second handed in when the clock has reached 100
 abbrev pub calls : List Call
 calls =
     message 0 0 ∷
@@ -52,12 +52,12 @@ calls =
     message 2 0 ∷
     message 3 0 ∷
     visit (row 0 0 2 18 20 18 20 (pos 80)) ∷
-    message 0 100 ∷
     visit (row 1 40 40 0 20 0 60 (pos 40)) ∷
-    message 1 100 ∷
     visit (row 2 60 60 0 20 0 80 (pos 20)) ∷
-    message 2 100 ∷
     visit (row 3 80 80 0 20 0 100 (pos 0)) ∷
+    message 0 100 ∷
+    message 1 100 ∷
+    message 2 100 ∷
     message 3 100 ∷
     visit (row 0 100 100 0 20 0 120 (pos 80)) ∷
     visit (row 1 122 82 18 20 18 142 (pos 58)) ∷

@@ -1,4 +1,4 @@
-// The ★ worked run of the build definition: four stations, messages of 20, six visits with 1,000 asynchronous ticks asked for. It prints the table.
+// The ★ worked run of the build definition: four stations, messages of 20 that arrive at 0 and at 100 and are handed in then, six visits with 1,000 asynchronous ticks asked for. It prints the table.
 use libc::STDOUT_FILENO;
 use plans::Alloc;
 use rings::Ask;
@@ -116,12 +116,12 @@ fn main() {
     ring = message(ring, 2, 0);
     ring = message(ring, 3, 0);
     ring = visit(ring, 1);
-    ring = message(ring, 0, 100);
     ring = visit(ring, 2);
-    ring = message(ring, 1, 100);
     ring = visit(ring, 3);
-    ring = message(ring, 2, 100);
     ring = visit(ring, 4);
+    ring = message(ring, 0, 100);
+    ring = message(ring, 1, 100);
+    ring = message(ring, 2, 100);
     ring = message(ring, 3, 100);
     ring = visit(ring, 5);
     visit(ring, 6);

@@ -54,14 +54,17 @@ impl Script {
         let call = match self.manner {
             _ if self.marked && random.once_in(8) => self.switch(random),
             Manner::Mixed => self.mixed_call(random),
-            Manner::Crowded => self.crowded_call(random, |_| true),
-            Manner::Unlucky => self.crowded_call(random, |index| self.just_missed(index)),
+            Manner::Crowded => self.crowded_call(random, |index| self.is_due(index)),
+            Manner::Unlucky => {
+                self.crowded_call(random, |index| self.is_due(index) && self.just_missed(index))
+            }
         };
         self.push(call);
     }
 
     fn mixed_call(&self, random: &mut Random) -> Call {
-        let free = self.free_station(random, |_| true);
+        let due = self.free_station(random, |index| self.is_due(index));
+        let free = due.or_else(|| self.free_station(random, |_| true));
         match (random.between(0, 9), free) {
             (0..=2, _) => Call::Visit(self.ask(random)),
             (3..=6, Some(index)) => Call::HandIn(self.good_message(random, index)),
@@ -153,6 +156,11 @@ impl Script {
         (from..from + size).map(|index| index % size).find(|&index| free(index) && ready(index))
     }
 
+    /// Whether the clock has reached the earliest arrival that a station's next message may have.
+    fn is_due(&self, index: usize) -> bool {
+        self.ring.earliest_arrival(index) <= self.ring.clock()
+    }
+
     /// Whether a station's next message may arrive just after its last visit's start.
     fn just_missed(&self, index: usize) -> bool {
         self.ring
@@ -165,21 +173,30 @@ impl Script {
         self.message(index, self.longest(index), self.ring.earliest_arrival(index) as u64)
     }
 
-    /// A message that a free station accepts, unless the times have run out.
+    /// A message that a free station accepts if it may have one already, unless the times have run
+    /// out. Else the clock has not reached its arrival.
     fn good_message(&self, random: &mut Random, index: usize) -> Message {
         let longest = self.longest(index);
         let length = if random.once_in(2) { longest } else { random.between(1, longest) };
         let earliest = self.ring.earliest_arrival(index).max(0) as u64;
-        let ttrt = u64::from(self.ring.plan().request.head.ttrt);
         let clock = self.ring.clock() as u64;
         let arrival = match random.between(0, 5) {
             0 => clock.max(earliest),
-            1 => random.between(earliest, clock),
-            2 => earliest + random.between(0, 3 * ttrt),
-            3 => random.pick(&[clock + 1, earliest + 1]).max(earliest),
+            1 | 2 => random.between(earliest, clock),
+            3 => (earliest + 1).min(clock.max(earliest)),
             _ => earliest,
         };
         self.message(index, length, arrival)
+    }
+
+    /// An arrival that the clock has not reached: by a tick, by up to three rotations, or what the
+    /// station may have next; at times one that is not allowed either.
+    fn arrival_ahead(&self, random: &mut Random, index: usize) -> u64 {
+        let clock = self.ring.clock() as u64;
+        let earliest = self.ring.earliest_arrival(index).max(0) as u64;
+        let ttrt = u64::from(self.ring.plan().request.head.ttrt);
+        let far = clock + random.between(1, 3 * ttrt);
+        random.pick(&[clock + 1, far, earliest.max(clock + 1), earliest.saturating_sub(1)])
     }
 
     /// A message with one or two faults.
@@ -194,7 +211,10 @@ impl Script {
     fn spoil(&self, random: &mut Random, message: &mut Message) {
         let count = self.ring.size() as u32;
         let inside = message.station.0 < count;
-        match random.between(0, 5) {
+        match random.between(0, 7) {
+            6 | 7 if inside => {
+                message.arrival = self.arrival_ahead(random, message.station.index());
+            }
             0 => message.station = StationNumber(random.pick(&[count, count + 1, 128, u32::MAX])),
             1 if inside => {
                 let longest = self.longest(message.station.index());
@@ -205,7 +225,10 @@ impl Script {
                 let start = self.ring.last_start(message.station.index());
                 message.arrival = start.unwrap_or(0) as u64;
             }
-            4 if inside => message.station = self.busy().unwrap_or(message.station),
+            4 if inside => {
+                message.station = self.busy().unwrap_or(message.station);
+                message.arrival = random.pick(&[message.arrival, self.ring.clock() as u64]);
+            }
             _ if inside => {
                 let earliest = self.ring.earliest_arrival(message.station.index());
                 message.arrival = (earliest - 1).max(0) as u64;

@@ -34,9 +34,24 @@ pub fn sound_with_calls(random: &mut Random, sort: Sort) -> (State, Vec<Call>) {
             place.arrival = random.between(from, state.clock + ttrt).min(LAST_TIME);
         }
     }
+    if random.once_in(4) != (sort.mode == Mode::Earlier) {
+        arrive_soon(random, &mut state);
+    }
     add_histories(random, &mut state, sort);
     let calls = (0..random.between(1, 6)).map(|_| call(random, &state, sort)).collect();
     (state, calls)
+}
+
+/// The station that has the token holds a message that arrives soon after the clock, in the 2002
+/// edition most often in the station's own asynchronous part. No run leads to that.
+fn arrive_soon(random: &mut Random, state: &mut State) {
+    let ttrt = state.plan.request.head.ttrt;
+    let token = state.token as usize;
+    let longest = longest(state, token) as u32;
+    let place = &mut state.places[token];
+    place.trt = random.between32(0, ttrt / 8);
+    place.remaining = random.between32(longest.min(1), longest);
+    place.arrival = (state.clock + random.between(1, 1 + u64::from(ttrt) / 8)).min(LAST_TIME);
 }
 
 fn add_histories(random: &mut Random, state: &mut State, sort: Sort) {
@@ -106,11 +121,15 @@ fn good_message(random: &mut Random, state: &State) -> Message {
     let count = state.places.len();
     let from = random.index(count.max(1));
     let mut indices = (from..from + count).map(|index| index % count);
-    let index = indices.find(|&index| is_free(state, index)).unwrap_or(from);
+    let due = |index| is_free(state, index) && earliest_arrival(state, index) <= state.clock;
+    let found = indices.clone().find(|&index| due(index));
+    let free = found.or_else(|| indices.find(|&index| is_free(state, index)));
+    let index = free.unwrap_or(from);
     let earliest = earliest_arrival(state, index);
-    let arrival = match random.between(0, 3) {
+    let arrival = match random.between(0, 4) {
         0 => random.between(earliest, LAST_TIME.max(earliest)),
-        1 => state.clock.max(earliest),
+        1 => random.between(earliest, state.clock.max(earliest)),
+        2 => state.clock.max(earliest),
         _ => earliest,
     };
     let longest = longest(state, index);
@@ -144,7 +163,8 @@ fn earliest_arrival(state: &State, index: usize) -> u64 {
 fn spoil(random: &mut Random, state: &State, message: &mut Message) {
     let count = state.places.len() as u32;
     let index = message.station.index();
-    match random.between(0, 4) {
+    match random.between(0, 5) {
+        5 => message.arrival = random.pick(&[state.clock, state.clock.saturating_add(1)]),
         0 => message.station = StationNumber(random.pick(&[count, count + 1, 128, u32::MAX])),
         1 => message.length = random.pick(&[0, longest(state, index) + 1, u64::MAX]),
         2 => message.station = StationNumber(random.between32(0, count)),

@@ -51,7 +51,9 @@ fn the_worked_run() {
     ];
     for row in table {
         assert_eq!(visited(&mut ring, 1_000), row);
-        ring.hand_in(&message(row.0[0] as u32, 20, 100)).ok();
+        if ring.clock() == 100 {
+            (0..4).for_each(|index| ring.hand_in(&message(index, 20, 100)).expect("taken"));
+        }
     }
     assert_eq!([0, 1, 2, 3].map(|index| ring.trt(index)), [42, 20, 100, 80]);
 }
@@ -63,15 +65,33 @@ fn pair() -> Ring {
 
 #[test]
 fn a_message_is_looked_at_when_the_synchronous_part_starts() {
+    // No run leads to a message that arrives after 0.
+    let visit = |arrival: u64, ask: u32| {
+        let places = format!("1,30,250,250,15,2,0,30,1,{arrival},0;1,0,100,100,0,1,0,0,0,0,0");
+        let said = answer(&format!("state 0,0,0,15;100,3;{places};visit {ask}"), Planted::Nothing);
+        said.split('|').next().expect("a visit").to_string()
+    };
     for (arrival, sent) in [(0, 15), (83, 15), (84, 0), (85, 0)] {
-        let mut ring = pair();
-        ring.hand_in(&message(0, 30, arrival)).expect("taken");
-        assert_eq!(visited(&mut ring, 1_000), ([0, 0, 2, 83, sent, 83], None), "{arrival}");
+        assert_eq!(visit(arrival, 1_000), format!("visit 0 0 2 83 {sent} 83 - -"), "{arrival}");
     }
     // With fewer ticks asked for it starts sooner.
+    assert_eq!(visit(5, 4), "visit 0 0 2 83 0 4 - -");
+}
+
+/// Before the visit it has not arrived, and behind it it is not later than the synchronous part's
+/// start.
+#[test]
+fn none_is_taken_that_arrives_in_the_own_asynchronous_part() {
     let mut ring = pair();
-    ring.hand_in(&message(0, 30, 5)).expect("taken");
-    assert_eq!(visited(&mut ring, 4), ([0, 0, 2, 83, 0, 4], None));
+    for arrival in 1..=84 {
+        assert_eq!(ring.hand_in(&message(0, 30, arrival)), Err(Refusal::NotArrived));
+    }
+    assert_eq!(visited(&mut ring, 1_000), ([0, 0, 2, 83, 0, 83], None));
+    for arrival in 1..=83 {
+        assert_eq!(ring.hand_in(&message(0, 30, arrival)), Err(Refusal::WrongArrival));
+    }
+    assert_eq!(ring.hand_in(&message(0, 30, 85)), Err(Refusal::NotArrived));
+    assert_eq!(ring.hand_in(&message(0, 30, 84)), Ok(()));
 }
 
 #[test]

@@ -153,8 +153,8 @@ fn a_fault_behind_a_visit() {
 fn the_log_of_a_run() {
     let plan = to_hex(&write_plan(&worked_plan(), 114).expect("sound"));
     let calls = "message 0 20 0\nmessage 1 20 0\nmessage 2 20 0\nmessage 3 20 0\nvisit 1000\n\
-                 message 0 20 100\nvisit 1000\nmessage 9 1 1\nvisit 1000 2\nmessage 1 20 100\n\
-                 visit 1000\nvisit 1000\nvisit 1000\nvisit 1000";
+                 message 0 20 100\nvisit 1000\nmessage 9 1 1\nvisit 1000 2\nvisit 1000\nvisit 1000\n\
+                 message 0 20 100\nmessage 1 20 100\nvisit 1000\nvisit 1000";
     let log = |calls: &str| said(&format!("log;{plan}"), calls.as_bytes());
     assert_eq!(log(calls), (worked_log(), String::new()));
     assert_eq!(log(""), (from_hex(&plan).expect("bytes"), String::new()));

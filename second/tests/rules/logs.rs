@@ -245,8 +245,8 @@ fn cases() {
     let plan = to_hex(&write_plan(&worked_plan(), 114).expect("sound"));
     let log = to_hex(&worked_log());
     let planset = "100;2,20,100,100,20;0,20,100,100,20;0,20,100,100,20;0,20,100,100,20";
-    let calls = "message 0 20 0;message 1 20 0;message 2 20 0;message 3 20 0;visit 1000;\
-                 message 0 20 100;visits 3 1000;message 1 20 100;visits 2 1000";
+    let calls = "message 0 20 0;message 1 20 0;message 2 20 0;message 3 20 0;\
+                 visits 4 1000;message 0 20 100;message 1 20 100;visits 2 1000";
     assert_eq!(answered(&format!("record 234;0,0;{plan};{calls}")), format!("0 {log}"));
     let short = to_hex(&log_of(&worked_plan(), &worked_entries()[..5]).expect("sound"));
     assert_eq!(answered(&format!("record 233;0,0;{plan};{calls}")), format!("14 {short}"));

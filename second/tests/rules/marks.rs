@@ -48,10 +48,13 @@ fn marking_withdraws_what_is_unsent() {
     // The withdrawn message's arrival counts for the next one, though nothing of it was sent.
     let said = answers(
         &plan,
-        "message 0 20 7;mark 0;message 0 20 300;unmark 0;message 0 20 256;message 0 20 257",
+        "visit 5;message 0 20 7;mark 0;message 0 20 300;unmark 0;message 0 20 256;visit 83;visit 0;\
+         visit 88;visit 0;visit 88;message 0 20 256;message 0 20 257",
     );
-    let refused = ["taken", "marked withdrawn 20 7", "refused 11", "unmarked", "refused 12"];
-    assert_eq!(said, [&refused[..], &["taken"]].concat());
+    let said: Vec<&str> =
+        said.iter().map(String::as_str).filter(|line| !line.starts_with("visit")).collect();
+    let refused = ["taken", "marked withdrawn 20 7", "refused 11", "unmarked", "refused 15"];
+    assert_eq!(said, [&refused[..], &["refused 12", "taken"]].concat());
 }
 
 #[test]
@@ -110,6 +113,7 @@ fn each_mode() {
 fn answers_of_the_calls() {
     let mut ring = Ring::open(&worked_plan(), Planted::Nothing).expect("sound");
     let station = StationNumber(1);
+    ring.visit(1).expect("in time");
     ring.hand_in(&Message { station, length: 7, arrival: 3 }).expect("taken");
     let held = Some(Held { remaining: 7, arrival: 3 });
     assert_eq!(Call::Mark(station).answer(&mut ring), Ok(Answer::Marked(held)));

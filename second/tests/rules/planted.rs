@@ -14,8 +14,9 @@ fn answered(kind: Kind, sort: Sort) -> Vec<(String, String)> {
     cases.map(|case| (case.clone(), answer(&case, Planted::Nothing))).collect()
 }
 
-/// The kind and the sorts whose cases show an error. A message served ahead shows in every sort, and
-/// so does a frame that begins at the limit: one of one tick is such a frame too.
+/// The kind and the sorts whose cases show an error. A message served ahead, or looked
+/// at too soon, shows in states only: in runs every message that is held has arrived. A frame that
+/// begins at the limit shows in every sort: one of one tick is such a frame too.
 fn shown_by(planted: Planted) -> (Kind, &'static [Sort]) {
     const TIMELY: &[Sort] = &[
         Sort::TIMELY,
@@ -51,11 +52,15 @@ fn shown_by(planted: Planted) -> (Kind, &'static [Sort]) {
         Planted::DownToTheGrid => (Kind::Planning, &GRID[..2]),
         Planted::ClimbOffTheGrid => (Kind::Planning, &GRID[2..]),
         Planted::OffGridOutOfRange => (Kind::Openings, GRID),
-        Planted::ServedAhead | Planted::FrameAtLimit => (Kind::Runs, &Sort::ALL),
+        Planted::ServedAhead => (Kind::Steps, &Sort::ALL),
+        Planted::LookedAtFirst => (Kind::Steps, EARLIER),
+        Planted::FrameAtLimit | Planted::NotArrivedLast | Planted::NotArrivedAtClock => {
+            (Kind::Runs, &Sort::ALL)
+        }
         Planted::CountNotLowered | Planted::TimerResetWhenLate | Planted::HoldingAfterSending => {
             (Kind::Runs, FDDI)
         }
-        Planted::TrtResetFirst | Planted::LookedAtFirst | Planted::LimitAfterSending => {
+        Planted::TrtResetFirst | Planted::LimitAfterSending | Planted::ServedForClock => {
             (Kind::Runs, EARLIER)
         }
         Planted::FrameCut => (Kind::Runs, UNCUT),
@@ -80,7 +85,14 @@ fn shown_by(planted: Planted) -> (Kind, &'static [Sort]) {
 
 #[test]
 fn comparing_finds_every_planted_error() {
-    let kinds = [Kind::Planning, Kind::Runs, Kind::Openings, Kind::Inspections, Kind::Differences];
+    let kinds = [
+        Kind::Planning,
+        Kind::Runs,
+        Kind::Steps,
+        Kind::Openings,
+        Kind::Inspections,
+        Kind::Differences,
+    ];
     for (kind, sort) in kinds.map(|kind| Sort::ALL.map(|sort| (kind, sort))).concat() {
         let answered = answered(kind, sort);
         for planted in Planted::ALL {
@@ -101,12 +113,13 @@ fn comparing_finds_every_planted_error() {
             assert!(as_expected, "{planted:?}: {found} in {kind:?} of {sort:?}");
         }
     }
-    assert_eq!([0, 39].map(Planted::from_number), [None, None]);
+    assert_eq!([0, 42].map(Planted::from_number), [None, None]);
     assert_eq!(Planted::from_number(20), Some(Planted::FirstStartCompared));
     assert_eq!(Planted::from_number(24), Some(Planted::LogByTheLaterEdition));
     assert_eq!(Planted::from_number(27), Some(Planted::OffGridOutOfRange));
     assert_eq!(Planted::from_number(31), Some(Planted::AbsentModeIsZero));
     assert_eq!(Planted::from_number(38), Some(Planted::FirstStartBoundByMark));
+    assert_eq!(Planted::from_number(41), Some(Planted::ServedForClock));
 }
 
 /// Every promise that the runs with the error break.
@@ -130,9 +143,11 @@ fn the_promises_find_wrong_limits() {
         Broken::WrongElevenAnswer,
         Broken::Unsound,
     ]);
-    assert_eq!(broken(Planted::LimitWithoutUnused, Sort::TIMELY), late);
-    let earlier = broken(Planted::LimitWithoutUnused, Sort::EARLIER);
-    assert!(earlier.is_subset(&late) && earlier.len() >= 6, "{earlier:?}");
+    // A message that is unsent for all of P, so that the next gets 11, is rare.
+    for sort in [Sort::TIMELY, Sort::EARLIER] {
+        let found = broken(Planted::LimitWithoutUnused, sort);
+        assert!(found.is_subset(&late) && found.len() >= 6, "{sort:?}: {found:?}");
+    }
     for sort in [Sort::TIMELY, Sort::UNCUT, Sort::EARLIER, Sort::EARLIER_UNCUT] {
         for planted in [
             Planted::UnusedFromZero,
@@ -176,6 +191,17 @@ fn the_promises_find_wrong_marks() {
         let broken = broken(Planted::MarkedUnusedNotRaised, sort);
         assert!(broken.contains(&Broken::LimitNotExact), "{sort:?}: {broken:?}");
     }
+}
+
+/// 15 for what has arrived is found. The order of 15 and 12 is no promise.
+#[test]
+fn the_promises_find_a_wrong_fifteen() {
+    for sort in [Sort::TIMELY, Sort::FDDI, Sort::EARLIER] {
+        let broken = broken(Planted::NotArrivedAtClock, sort);
+        assert_eq!(broken, HashSet::from([Broken::WrongFifteenAnswer]), "{sort:?}");
+    }
+    let broken = broken(Planted::ServedForClock, Sort::EARLIER);
+    assert_eq!(broken, HashSet::from([Broken::WrongFifteenAnswer]));
 }
 
 #[test]

@@ -107,9 +107,9 @@ fn file(name: &str, bytes: &[u8]) -> String {
 fn the_worked_run_as_calls() {
     let plan = file("worked.plan", &plan_sheet());
     let calls = "message 0 20 0\nmessage 1 20 0 # both\n\nvisit 1000\nvisit\nvisit 0\nvisit 5\n\
-                 message 4 1 1\nmessage 0 20 100";
+                 message 4 1 1\nmessage 0 20 100\nmessage 0 20 41";
     let answers = "taken\ntaken\nvisit 0 0 2 18 20 18 20 80\nline 5: cannot be read\n\
-                   visit 1 40 40 0 20 0 60 40\nvisit 2 60 60 0 0 0 - -\nrefused 9\ntaken\n";
+                   visit 1 40 40 0 20 0 60 40\nvisit 2 60 60 0 0 0 - -\nrefused 9\nrefused 15\nrefused 12\n";
     assert_eq!(said(&["run", &plan], calls.as_bytes()), answers);
     fs::remove_file(plan).expect("the file is there");
 }

@@ -49,8 +49,8 @@ fn thousands_of_runs_keep_every_promise() {
     for sort in Sort::ALL {
         let mut counts = Counts::new();
         (0..2_000).for_each(|place| follow(place, sort, &mut counts));
-        let kinds = [0, 9, 10, 11, 12, 100, 101, 103, 104, 105];
-        let kinds = if sort.marked { &kinds[..] } else { &kinds[..7] };
+        let kinds = [0, 9, 10, 11, 12, 15, 100, 101, 103, 104, 105];
+        let kinds = if sort.marked { &kinds[..] } else { &kinds[..8] };
         for kind in kinds {
             assert!(counts[kind] > 1_000, "{sort:?}, {kind}: {counts:?}");
         }
@@ -58,11 +58,11 @@ fn thousands_of_runs_keep_every_promise() {
     }
 }
 
-/// What the scripts reach: asks at both ends, margins of 0 or 1, messages ahead of the clock,
-/// and each of the reasons for number 12.
+/// What the scripts reach: asks at both ends, margins of 0 or 1, messages at the clock and a tick
+/// ahead of it, such as are refused twice over, and the reasons for number 12.
 #[test]
 fn the_scripts_reach_the_edges() {
-    let mut reached = [0; 7];
+    let mut reached = [0; 8];
     for place in 0..1_000 {
         let (plan, script) = calls::script(&mut Random::of_case(2, place), Sort::TIMELY);
         let mut ring = Ring::open(&plan, Planted::Nothing).expect("sound");
@@ -71,7 +71,7 @@ fn the_scripts_reach_the_edges() {
     assert!(reached.iter().all(|&times| times > 50), "{reached:?}");
 }
 
-fn count_edges(ring: &mut Ring, call: &Call, reached: &mut [usize; 7]) {
+fn count_edges(ring: &mut Ring, call: &Call, reached: &mut [usize; 8]) {
     match call {
         Call::Visit(ask) => {
             let visit = ring.visit(*ask).expect("in time");
@@ -83,14 +83,17 @@ fn count_edges(ring: &mut Ring, call: &Call, reached: &mut [usize; 7]) {
             let answer = ring.hand_in(message);
             let index = message.station.index();
             let refused = answer == Err(Refusal::WrongArrival);
-            let past = message.arrival > LAST_TIME;
-            let early = refused && !past;
-            let arrival = message.arrival as i64;
-            let before_visit = early && ring.last_start(index).is_some_and(|last| arrival <= last);
-            reached[3] += usize::from(answer.is_ok() && arrival > ring.clock());
-            reached[4] += usize::from(refused && past);
+            let ahead = answer == Err(Refusal::NotArrived);
+            let arrival = i128::from(message.arrival);
+            let clock = i128::from(ring.clock());
+            let before_visit =
+                refused && ring.last_start(index).is_some_and(|last| arrival <= last.into());
+            let soon = ahead && arrival < ring.earliest_arrival(index).into();
+            reached[3] += usize::from(answer.is_ok() && arrival == clock);
+            reached[4] += usize::from(ahead && arrival == clock + 1);
             reached[5] += usize::from(before_visit);
-            reached[6] += usize::from(early && !before_visit);
+            reached[6] += usize::from(refused && !before_visit);
+            reached[7] += usize::from(soon || ahead && message.arrival > LAST_TIME);
         }
         Call::Mark(_) | Call::Unmark(_) => unreachable!("no station of this sort is marked"),
     }

@@ -41,7 +41,12 @@ fn the_worked_run() {
         let station = StationNumber(index as u32);
         let row = Visit { station, start, trt, limit, synchronous, asynchronous, completed };
         assert_eq!(ring.visit(1_000), Ok(row));
-        assert_eq!(hand_in(&mut ring, index as u32, 20, 100), if start < 100 { 0 } else { 12 });
+        match start {
+            0..=79 => assert_eq!(hand_in(&mut ring, index as u32, 20, 100), 15),
+            // The clock has reached 100.
+            80 => (0..4).for_each(|index| assert_eq!(hand_in(&mut ring, index, 20, 100), 0)),
+            _ => assert_eq!(hand_in(&mut ring, index as u32, 20, 100), 12),
+        }
     }
 }
 
@@ -84,14 +89,19 @@ fn stations_and_lengths() {
 #[test]
 fn arrivals() {
     let mut ring = lone();
-    assert_eq!(hand_in(&mut ring, 0, 1, LAST_TIME + 1), 12);
-    assert_eq!(hand_in(&mut ring, 0, 1, u64::MAX), 12);
+    for ahead in [1, LAST_TIME, LAST_TIME + 1, u64::MAX] {
+        assert_eq!(hand_in(&mut ring, 0, 1, ahead), 15);
+    }
     assert_eq!(hand_in(&mut ring, 0, 1, 0), 0);
     ring.visit(0).expect("in time");
+    assert_eq!(ring.clock(), 3);
     assert_eq!(hand_in(&mut ring, 0, 1, 0), 12);
-    assert_eq!(hand_in(&mut ring, 0, 1, 29), 12);
-    assert_eq!(hand_in(&mut ring, 0, 1, 30), 0);
-    assert_eq!(hand_in(&mut lone(), 0, 1, LAST_TIME), 0);
+    // Less than P after 0, but 15 comes before 12.
+    assert_eq!([3, 4].map(|arrival| hand_in(&mut ring, 0, 1, arrival)), [12, 15]);
+    (0..14).for_each(|_| assert!(ring.visit(0).is_ok()));
+    assert_eq!((ring.clock(), ring.last_start(0)), (31, Some(29)));
+    assert_eq!([29, 32].map(|arrival| hand_in(&mut ring, 0, 1, arrival)), [12, 15]);
+    assert_eq!([30, 31].map(|arrival| hand_in(&mut ring.clone(), 0, 1, arrival)), [0, 0]);
 }
 
 #[test]
@@ -116,14 +126,15 @@ fn before_its_first_visit_a_station_takes_any_arrival() {
 }
 
 #[test]
-fn a_message_ahead_of_the_clock_waits() {
+fn a_message_is_taken_when_the_clock_has_reached_it() {
     let mut ring = lone();
-    assert_eq!(hand_in(&mut ring, 0, 4, 3), 0);
+    for (start, ask) in [(0, 0), (2, 1)] {
+        assert_eq!(hand_in(&mut ring, 0, 4, 3), 15);
+        let waiting = ring.visit(ask).expect("in time");
+        assert_eq!((waiting.start, waiting.limit, waiting.synchronous), (start, 6, 0));
+    }
+    assert_eq!((ring.clock(), hand_in(&mut ring, 0, 4, 3)), (5, 0));
     let mut visit = |ask| ring.visit(ask).expect("in time");
-    let waiting = visit(0);
-    assert_eq!((waiting.start, waiting.synchronous, waiting.completed), (0, 0, None));
-    let waiting = visit(1);
-    assert_eq!((waiting.start, waiting.limit, waiting.synchronous), (2, 6, 0));
     let begun = visit(0);
     assert_eq!((begun.start, begun.synchronous, begun.completed), (5, 2, None));
     let done = visit(u32::MAX);
@@ -144,4 +155,19 @@ fn the_last_time_at_which_a_visit_may_start() {
     assert_eq!(ring.visit(0), Err(Refusal::ClockPast));
     assert_eq!(ring, before);
     assert_eq!(ring.clock(), LAST_TIME as Ticks + 1_000_000);
+}
+
+/// 12 for what is past the range needs a clock that is past it too.
+#[test]
+fn the_last_arrival() {
+    let stations = vec![station(999_990, 0, 1, 1), station(0, 1, 2_000_000, 2_000_000)];
+    let request = Request { head: timely(1_000_000), stations };
+    let mut ring = open(&Plan { request, allocation: vec![0, 1] });
+    while ring.clock() <= LAST_TIME as Ticks {
+        ring.visit(u32::MAX).expect("in time");
+    }
+    let past = ring.clock() as u64;
+    assert!(past > LAST_TIME + 1);
+    let answers = [past + 1, past, LAST_TIME + 1, LAST_TIME];
+    assert_eq!(answers.map(|arrival| hand_in(&mut ring, 1, 1, arrival)), [15, 12, 12, 0]);
 }

@@ -14,8 +14,8 @@ const LATE: &str =
 
 /// The state with one text in it changed.
 fn with(from: &str, to: &str) -> String {
-    assert_eq!(LATE.matches(from).count(), 1, "{from}");
-    LATE.replace(from, to)
+    assert!(from.is_empty() || LATE.matches(from).count() == 1, "{from}");
+    LATE.replacen(from, to, 1)
 }
 
 #[test]
@@ -63,12 +63,15 @@ fn a_visit_may_leave_a_state_unsound() {
 
 #[test]
 fn messages() {
-    let taken = |at: &str| format!("taken|1000,1,9,18;30,12,{at},960;90,5,10,1,850,700");
-    // From 960 + 1 and from 900 + 150 on.
-    assert_eq!(answered(&format!("{LATE};message 0 20 1050")), taken("20,1,1050"));
-    assert_eq!(answered(&format!("{LATE};message 0 7 1000000000000")), taken("7,1,1000000000000"));
+    // The same state at 2000.
+    let with = |from: &str, to: &str| with(from, to).replacen("1000,1,", "2000,1,", 1);
+    let late = with("", "");
+    let taken = |at: &str| format!("taken|2000,1,9,18;30,12,{at},960;90,5,10,1,850,700");
+    // From 960 + 1 and from 900 + 150 on, to the clock.
+    assert_eq!(answered(&format!("{late};message 0 20 1050")), taken("20,1,1050"));
+    assert_eq!(answered(&format!("{late};message 0 7 2000")), taken("7,1,2000"));
     let refused =
-        |number: u8| format!("refused {number}|1000,1,9,18;30,12,0,1,900,960;90,5,10,1,850,700");
+        |number: u8| format!("refused {number}|2000,1,9,18;30,12,0,1,900,960;90,5,10,1,850,700");
     for (message, number) in [
         ("2 1 5000", 9),
         ("0 0 5000", 10),
@@ -76,10 +79,21 @@ fn messages() {
         ("1 11 5000", 10),
         ("1 10 5000", 11),
         ("0 20 1049", 12),
-        ("0 20 1000000000001", 12),
+        ("0 20 2001", 15),
+        ("0 20 1000000000001", 15),
+        ("0 20 18446744073709551615", 15),
     ] {
-        assert_eq!(answered(&format!("{LATE};message {message}")), refused(number), "{message}");
+        assert_eq!(answered(&format!("{late};message {message}")), refused(number), "{message}");
     }
+    // 15 comes before 12: less than 150 after 1900, and ahead of the clock or not.
+    let soon = with("0,1,900,960", "0,1,1900,960");
+    assert!(answered(&format!("{soon};message 0 20 2000")).starts_with("refused 12|"));
+    assert!(answered(&format!("{soon};message 0 20 2001")).starts_with("refused 15|"));
+    // 12 for what is past the range, where the clock is too.
+    let last = late.replacen("2000,1,", "1000000000001,1,", 1);
+    assert!(answered(&format!("{last};message 0 20 1000000000000")).starts_with("taken|"));
+    assert!(answered(&format!("{last};message 0 20 1000000000001")).starts_with("refused 12|"));
+    assert!(answered(&format!("{last};message 0 20 1000000000002")).starts_with("refused 15|"));
     // Without a message accepted before, only the last start counts; any byte but 0 is a yes.
     let none = with("0,1,900,960", "0,0,900,960");
     assert_eq!(answered(&format!("{none};message 0 20 961")), taken("20,1,961"));

@@ -2,12 +2,12 @@
 use mathlib.Core.Path.{_≡_, refl, sym, _∙_}
 use mathlib.Core.Bool.{true, false, _&&_}
 use native.Mathlib.Omega.{arith}
-use borrow.Author.Tests.{not-true, not-false, lt-ltb, le-ltb}
+use borrow.Author.Tests.{not-true, not-false, lt-ltb, le-ltb, le-leb, lt-leb}
 use Prim.Native.Nat.{_<_}
 use lib.Dec.{leb}
-use Rattle.rings.specs.RingLaws.{sound-sentences, sound-plan, message-9, message-10, message-11, message-12, message-0}
+use Rattle.rings.specs.RingLaws.{sound-sentences, sound-plan, message-9, message-10, message-11, message-15, message-12, message-0}
 use Rattle.rings.specs.State.{count}
-use Rattle.rings.specs.HandingIn.{stationKnown, lengthAllowed, stationFree}
+use Rattle.rings.specs.HandingIn.{stationKnown, lengthAllowed, stationFree, hasArrived}
 use borrow.Author.Needs.{needs}
 use Rattle.rings.proofs.messages.message_number.Statement.{statement}
 use Rattle.rings.proofs.messages.message_number.Tie as tie
@@ -38,6 +38,13 @@ held c = not-true _ (c .if3 .taken)
 
 free : (c : tie.Else3) → let args = c .before .before .before .before .before .before .before .before .before .before .before .args in stationFree (args .r) (args .m) ≡ true
 free c = not-false _ (c .if3 .left)
+
+-- its arrival is later than the clock, or it has arrived
+ahead : (c : tie.Then4) → let args = c .before .before .before .before .before .before .before .before .before .before .before .before .before .before .args in hasArrived (args .r) (args .m) ≡ false
+ahead c = lt-leb _ _ (c .if4 .taken)
+
+arrived : (c : tie.Else4) → let args = c .before .before .before .before .before .before .before .before .before .before .before .before .before .before .args in hasArrived (args .r) (args .m) ≡ true
+arrived c = le-leb _ _ (c .if4 .left)
 
 wide-requires : tie.Need-wide-requires
 wide-requires c κs = search needs
@@ -77,26 +84,39 @@ returns-3 c =
     let args = else .before .before .before .args in
     sym (message-11 (args .r) (args .m) (known else) (allowed (c .before)) (held c))
 
+returns-4 : tie.Need-returns-4
+returns-4 c =
+    let else3 = c .before .before .before in
+    let else = else3 .before .before .before .before .before .before .before .before in
+    let args = else .before .before .before .args in
+    sym (message-15 (args .r) (args .m) (known else) (allowed (else3 .before)) (free else3) (ahead c))
+
 arrival-allowed-requires : tie.Need-arrival-allowed-requires
 arrival-allowed-requires c κs =
-    let else = c .before .before .before .before .before .before .before .before in
+    let else = c .before .before .before .before .before .before .before .before .before .before .before in
     let args = else .before .before .before .args in
     let sound = sound-sentences (args .r) (else .before .before .before .pre) in
     record { inside = inside else; arrival = sound .arrivals (args .m .station .0) (below else) }
 
-returns-4 : tie.Need-returns-4
-returns-4 c =
-    let else3 = c .before .before in
-    let else = else3 .before .before .before .before .before .before .before .before in
-    let args = else .before .before .before .args in
-    sym (message-12 (args .r) (args .m) (known else) (allowed (else3 .before)) (free else3) (sym (c .before .arrival-allowed .ensures) ∙ not-true _ (c .if4 .taken)))
-
 returns-5 : tie.Need-returns-5
 returns-5 c =
-    let else3 = c .before .before in
+    let else4 = c .before .before in
+    let else3 = else4 .before .before .before in
     let else = else3 .before .before .before .before .before .before .before .before in
     let args = else .before .before .before .args in
-    sym (message-0 (args .r) (args .m) (known else) (allowed (else3 .before)) (free else3) (sym (c .before .arrival-allowed .ensures) ∙ not-false _ (c .if4 .left)))
+    sym
+    (message-12 (args .r) (args .m) (known else) (allowed (else3 .before)) (free else3) (arrived else4)
+    (sym (c .before .arrival-allowed .ensures) ∙ not-true _ (c .if5 .taken)))
+
+returns-6 : tie.Need-returns-6
+returns-6 c =
+    let else4 = c .before .before in
+    let else3 = else4 .before .before .before in
+    let else = else3 .before .before .before .before .before .before .before .before in
+    let args = else .before .before .before .args in
+    sym
+    (message-0 (args .r) (args .m) (known else) (allowed (else3 .before)) (free else3) (arrived else4)
+    (sym (c .before .arrival-allowed .ensures) ∙ not-false _ (c .if5 .left)))
 
 pub message-number-spec : {M : Type 1} → statement M
 message-number-spec =
@@ -112,6 +132,7 @@ message-number-spec =
     wide-requires-2
     returns-2
     returns-3
-    arrival-allowed-requires
     returns-4
-    returns-5)
+    arrival-allowed-requires
+    returns-5
+    returns-6)
