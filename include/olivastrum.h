@@ -7,6 +7,7 @@
  *     set and allocation --olivastrum_begin_log, olivastrum_add_visit, olivastrum_add_mark, olivastrum_end_log--> log bytes
  *     log bytes --olivastrum_read_log, olivastrum_log_entry--> set, allocation, visits and marks
  *     log bytes --olivastrum_inspect_log--> the first record that no run could have given, if there is one
+ *     sheet bytes --olivastrum_store_plan--> a numbered version in an area of the host --olivastrum_find_version--> the same bytes
  *
  * Who owns what. The host owns all memory. A function looks at what it is handed while the call runs, keeps no
  * pointer, takes nothing from the heap, prints nothing and has no state of its own. So every function is reentrant:
@@ -14,16 +15,18 @@
  *
  * What the host owes. A pointer is never null, not even beside a length of 0. It points at as many bytes as its
  * length says, or at a whole ring, aligned for uint64_t. While a call runs nothing else reads or writes what is
- * lent to be written (a ring, an `out` buffer). Nothing more: every bit pattern of a set, an allocation, a
+ * lent to be written (a ring, an `out` buffer, an area), and what is lent to be written overlaps nothing else that the call
+ * is lent: a sheet that is stored does not stand in the area. Nothing more: every bit pattern of a set, an allocation, a
  * message, an ask, a ring, a station, a recorder, a visit's record and a mark's entry is a value, and gets its answer.
  *
  * Refusals. `number` is 0 for accepted, or the refusal; the numbers are below, and within one call the lowest
  * that applies is given (1, 2 and 3: the first fault from the left of the sheet), but that 15 is given before 12, though
- * it is higher: handing in asks 8, 9, 10, 11, 15, 12. A refused call changes nothing: not a byte of a lent ring, not a
- * byte of a lent buffer. What it returns beside `number` is blank, every number in it 0; olivastrum_add_visit and
- * olivastrum_add_mark alone hand back the recorder as it was, so that the log can be ended. On a ring it stores the same
- * bytes again, so a refused call too is one that writes: a ring that two threads share is locked for it. An inspected log
- * is accepted only if its rule is 0 too.
+ * it is higher: handing in asks 8, 9, 10, 11, 15, 12; and that an area which is no store is 2 before its sheet is looked
+ * at, so before the sheet's 1. A refused call changes nothing: not a byte of a lent ring, not a byte of a lent buffer.
+ * What it returns beside `number` is blank, every number in it 0; olivastrum_add_visit and olivastrum_add_mark alone hand
+ * back the recorder as it was, so that the log can be ended. On a ring it stores the same bytes again, so a refused call
+ * too is one that writes: a ring that two threads share is locked for it. An inspected log is accepted only if its rule is
+ * 0 too.
  *
  * Padding. olivastrum_set, olivastrum_alloc, olivastrum_ask, olivastrum_message, olivastrum_ring, olivastrum_recorder,
  * olivastrum_visit_entry, olivastrum_mark_entry and olivastrum_next_entry have none, so two rings can be compared by their
@@ -96,7 +99,9 @@ enum {
     OLIVASTRUM_BAD_ARRIVAL = 12,      /* arrival above 1,000,000,000,000, not later than the station's `last`, or less than P after its last accepted one */
     OLIVASTRUM_CLOCK_TOO_HIGH = 13,   /* visit: the clock is above 1,000,000,000,000 */
     OLIVASTRUM_BUFFER_TOO_SHORT = 14, /* the output buffer is too short for the sheet, or for a log's next record and its end */
-    OLIVASTRUM_NOT_ARRIVED = 15       /* the message's arrival is later than the ring's clock; given before 12 */
+    OLIVASTRUM_NOT_ARRIVED = 15,      /* the message's arrival is later than the ring's clock; given before 12 */
+    OLIVASTRUM_NO_VERSION = 17,       /* no such version: it was dropped, or never given */
+    OLIVASTRUM_VERSIONS_USED = 18     /* storing: the version numbers are used up */
 };
 
 /* The most stations that a ring has, and so the places of each array. Places from N on are never looked at. */
@@ -126,6 +131,13 @@ enum {
 /* What kind a record is: its tag. */
 #define OLIVASTRUM_VISIT_TAG 16u
 #define OLIVASTRUM_MARK_TAG 17u
+
+/* An area for plan versions has exactly so many bytes, aligned in any way, and keeps at most so many versions. For each
+ * kept one, oldest first: tag 32, a length of two bytes, the version's number in four bytes, the high byte first, and the
+ * plan sheet as it was handed in; then the end field of a sheet; then zeros to the area's end. Where an area is kept, in a
+ * file or in a memory that lasts, is the host's; olivastrum_empty_store makes it a store at first. */
+#define OLIVASTRUM_STORE_BYTES 65536u
+#define OLIVASTRUM_MOST_VERSIONS 16u
 
 /* A count of ticks, and a station's number from 0 in ring order. The one is never the other. */
 struct olivastrum_ticks {
@@ -306,6 +318,27 @@ struct olivastrum_mark_answer {
     uint8_t number;
 };
 
+/* The number that a stored plan got, from 1 on; 0 where it was refused. */
+struct olivastrum_stored_plan {
+    uint32_t version;
+    uint8_t number;
+};
+
+/* Where a version's plan sheet stands: the place of its first byte in the area, and how many bytes it has; both 0 where it
+ * was refused. */
+struct olivastrum_found_version {
+    size_t place;
+    size_t length;
+    uint8_t number;
+};
+
+/* The oldest and the newest kept version, and all between are kept; both 0 where there is none. */
+struct olivastrum_versions {
+    uint32_t oldest;
+    uint32_t newest;
+    uint8_t number;
+};
+
 /* ---- the library was compiled with these sizes */
 #ifdef __cplusplus
 #define OLIVASTRUM_SIZE(type, bytes) static_assert(sizeof(type) == (bytes), "the size of " #type)
@@ -337,6 +370,9 @@ OLIVASTRUM_SIZE(struct olivastrum_mark_entry, 8);
 OLIVASTRUM_SIZE(struct olivastrum_read_log, 2608);
 OLIVASTRUM_SIZE(struct olivastrum_next_entry, 40);
 OLIVASTRUM_SIZE(struct olivastrum_finding, 24);
+OLIVASTRUM_SIZE(struct olivastrum_stored_plan, 8);
+OLIVASTRUM_SIZE(struct olivastrum_found_version, 24);
+OLIVASTRUM_SIZE(struct olivastrum_versions, 12);
 
 #undef OLIVASTRUM_SIZE
 
@@ -426,6 +462,27 @@ struct olivastrum_next_entry olivastrum_log_entry(const uint8_t *log, size_t len
  * and the first rule that it breaks. Or 1 to 5 or 7, with the rest 0. */
 #define OLIVASTRUM_STACK_INSPECT_LOG 18944
 struct olivastrum_finding olivastrum_inspect_log(const uint8_t *log, size_t length);
+
+/* Makes an area a store without a version, whatever it held: the next one stored is version 1. 2 for another length, and
+ * no byte is written. Returns the number. */
+#define OLIVASTRUM_STACK_EMPTY_STORE 512
+uint8_t olivastrum_empty_store(uint8_t *area, size_t length);
+
+/* Stores a plan sheet as the next version: its number, one more than that of the version stored before. 2 where the area
+ * is no store; then 1, 2, 3, 4, 5 or 7 as reading the sheet gives them; then 18 where the newest version is 4,294,967,295:
+ * none is stored from then on. A refused call writes no byte. Of sixteen the oldest goes. The area is written where it
+ * stands, byte after byte: a host whose power may fail in between stores in a copy, and keeps that when the call is over. */
+#define OLIVASTRUM_STACK_STORE_PLAN 19968
+struct olivastrum_stored_plan olivastrum_store_plan(uint8_t *area, size_t length, const uint8_t *sheet, size_t sheet_length);
+
+/* Where the plan sheet of a version stands in the area: the bytes that were stored. 2 where the area is no store, then 17
+ * where that version was dropped or never given. */
+#define OLIVASTRUM_STACK_FIND_VERSION 17408
+struct olivastrum_found_version olivastrum_find_version(const uint8_t *area, size_t length, uint32_t version);
+
+/* Which versions an area keeps, or 2 where it is no store. */
+#define OLIVASTRUM_STACK_VERSIONS_IN 17408
+struct olivastrum_versions olivastrum_versions_in(const uint8_t *area, size_t length);
 
 /* The most that a call of any of them needs. */
 #define OLIVASTRUM_STACK_MOST 36864

@@ -194,8 +194,9 @@ def build_driver():
 
 
 def build_commands():
-    """What answers the `command` cases of `diff`: the proved program, with the sheets in files."""
-    build_proved(program_of(["diff"]))
+    """What answers the `command` cases of `diff` and of stores: the proved programs, with the sheets and stores in files."""
+    for word in ["diff", "keep"]:
+        build_proved(program_of([word]))
     return [os.path.join(ROOT, "tests", "driver", "commands")]
 
 

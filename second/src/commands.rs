@@ -8,7 +8,9 @@ use crate::frames;
 use crate::gen::{self, Kind};
 use crate::notation::number;
 use crate::planted::Planted;
+use crate::rules::Refusal;
 use crate::sheet::PLAN_READ;
+use crate::store::{laid_out, Area, AREA};
 use crate::streams::{at_most, Streams};
 use crate::waits;
 
@@ -31,6 +33,17 @@ usage: second [--planted K] [COMMAND]
   diff OLD NEW
               two plan sheets in, a line for each difference, or `same`, out
                 second diff left.plan came-back.plan
+  empty-store STORE
+              makes the file STORE, a store without a version
+                second empty-store yard.store
+  keep STORE  a plan sheet in, its version's number out; STORE keeps it
+                second keep yard.store < ring.plan
+  kept STORE N
+              the plan sheet of version N out
+                second kept yard.store 1 > ring.plan
+  versions STORE
+              a line for each version that STORE keeps out
+                second versions yard.store
   generate KIND SEED COUNT [DIR]
               framed cases out, or into a file in DIR; fddi-KIND for sets that run FDDI,
               earlier-KIND for the 2002 edition; uncut-KIND, fddi-uncut-KIND and
@@ -51,6 +64,30 @@ fn answers(cases: impl Read, planted: Planted, out: &mut impl Write) -> io::Resu
         writeln!(out, "{}", frames::answer_bytes(&case?, planted))?;
     }
     Ok(())
+}
+
+/// Makes a file that is not there yet, whole.
+fn make(path: &str, bytes: &[u8]) -> io::Result<()> {
+    let mut file = File::create_new(path)?;
+    file.write_all(bytes)?;
+    file.sync_all()
+}
+
+/// Keeps a plan in the store of a file, which is replaced as a whole; the file beside it is the lock.
+fn keep(path: &str, plan: &[u8], planted: Planted) -> io::Result<Result<u32, Refusal>> {
+    let beside = format!("{path}.new");
+    make(&beside, &[])?;
+    let mut area = Area::new(at_most(File::open(path)?, AREA + 1)?, planted);
+    let stored = area.store(plan);
+    if stored.is_err() {
+        fs::remove_file(&beside)?;
+        return Ok(stored);
+    }
+    let mut file = File::create(&beside)?;
+    file.write_all(&area.bytes)?;
+    file.sync_all()?;
+    fs::rename(&beside, path)?;
+    Ok(stored)
 }
 
 fn generate(arguments: &[&str]) -> io::Result<bool> {
@@ -110,10 +147,16 @@ fn command(arguments: &[&str], planted: Planted) -> io::Result<bool> {
     let out = BufWriter::new(io::stdout().lock());
     let mut streams = Streams { out, err: vec![] };
     let plan = |path: &str| at_most(File::open(path)?, PLAN_READ);
+    let area = |path: &str| at_most(File::open(path)?, AREA + 1);
+    let whole = |word: &str| !word.is_empty() && word.bytes().all(|byte| byte.is_ascii_digit());
     match arguments {
         ["run", path] => streams.run(&plan(path)?, input, planted)?,
         ["log", path] => streams.log(&plan(path)?, input, planted)?,
         ["diff", old, new] => streams.diff(&plan(old)?, &plan(new)?, planted)?,
+        ["empty-store", path] => make(path, &laid_out(&[]))?,
+        ["keep", path] => streams.keep(keep(path, &at_most(input, PLAN_READ)?, planted)?)?,
+        ["kept", path, word] if whole(word) => streams.kept(area(path)?, word, planted)?,
+        ["versions", path] => streams.versions(&area(path)?)?,
         ["answers"] => answers(input, planted, &mut streams.out)?,
         ["generate", rest @ ..] => return generate(rest),
         ["waits", seed, count] => return waits(seed, count),

@@ -11,6 +11,7 @@ use crate::rules::{Entry, MarkEntry, VisitEntry, MOST_STATIONS};
 use crate::rules::{Plan, Refusal, Request, Station};
 use crate::sheet::{read_log, read_plan, read_request, write_plan, write_request};
 use crate::state::{Place, State};
+use crate::store::Area;
 use crate::streams::Streams;
 use crate::text::{answer_line, ask, call, Answer, Call};
 
@@ -55,6 +56,7 @@ fn try_answer(case: &str, planted: Planted) -> Option<String> {
                 (_, Some(finding)) => finding.to_string(),
             }
         })),
+        "store" => storing(rest, planted),
         "command" => command(rest, planted),
         _ => None,
     }
@@ -273,7 +275,63 @@ fn show_state(state: &State) -> String {
     ring_text(head, state.places.iter().map(Place::numbers))
 }
 
-/// The `command` case: `NAME;HEX`, or `run;HEXPLAN;HEX` and the same with `log`, or `diff;HEX;HEX`.
+/// The longest area that a case has.
+const MOST_AREA: usize = 65_600;
+
+/// `LENGTH,HEX`: the bytes, and zeros behind them up to the length.
+fn read_area(part: &str) -> Option<Vec<u8>> {
+    let (length, hex) = part.split_once(',')?;
+    let (length, mut bytes): (usize, _) = (parse(length)?, from_hex(hex)?);
+    if bytes.len() > length || length > MOST_AREA {
+        return None;
+    }
+    bytes.resize(length, 0);
+    Some(bytes)
+}
+
+/// The bytes of an area without the zeros at its end.
+fn show_area(bytes: &[u8]) -> String {
+    let used = bytes.iter().rposition(|&byte| byte != 0).map_or(0, |last| last + 1);
+    to_hex(&bytes[..used])
+}
+
+/// The `store` case: an area and calls on it, their answers, and the area after them.
+fn storing(rest: &str, planted: Planted) -> Option<String> {
+    let mut parts = rest.split(';');
+    let mut area = Area::new(read_area(parts.next()?)?, planted);
+    let answers: Option<Vec<String>> = parts.map(|part| on_area(part, &mut area)).collect();
+    let mut said = answers?;
+    said.push(show_area(&area.bytes));
+    Some(said.join("|"))
+}
+
+/// One call on an area, and its answer.
+fn on_area(part: &str, area: &mut Area) -> Option<String> {
+    let words: Vec<&str> = part.split(' ').collect();
+    let stored = |number: u32| format!("version {number}");
+    let said = match words[..] {
+        ["empty"] => area.empty().map(|()| "emptied".to_string()),
+        ["store", sheet] => area.store(&from_hex(sheet)?).map(stored),
+        ["stores", count, sheet] => {
+            let (count, sheet): (u32, _) = (parse(count)?, from_hex(sheet)?);
+            (0..count).map(|_| area.store(&sheet).map(stored)).last()?
+        }
+        ["find", number] => {
+            let found = area.find(parse(number)?);
+            found.map(|at| format!("found {} {}", at.start, to_hex(&area.bytes[at.clone()])))
+        }
+        ["versions"] => area.versions().map(|(old, new)| format!("versions {old} {new}")),
+        ["byte", place, value] => {
+            *area.bytes.get_mut(parse::<usize>(place)?)? = parse(value)?;
+            Ok("byte".to_string())
+        }
+        _ => return None,
+    };
+    Some(said.unwrap_or_else(|refusal| format!("refused {}", refusal.number())))
+}
+
+/// The `command` case: `NAME;HEX`, `run;HEXPLAN;HEX` and the same with `log`, `diff;HEX;HEX`, and
+/// those of stores.
 fn command(rest: &str, planted: Planted) -> Option<String> {
     let parts: Vec<&str> = rest.split(';').collect();
     let mut streams = Streams { out: vec![], err: vec![] };
@@ -284,6 +342,9 @@ fn command(rest: &str, planted: Planted) -> Option<String> {
         ["log", plan, calls] => {
             streams.log(&from_hex(plan)?, &from_hex(calls)?[..], planted).ok()?;
         }
+        ["kept", area, number] => streams.kept(read_area(area)?, number, planted).ok()?,
+        ["versions", area] => streams.versions(&read_area(area)?).ok()?,
+        ["keep", area, plan] => return keeping(read_area(area)?, &from_hex(plan)?, planted),
         ["diff", old, new] => streams.diff(&from_hex(old)?, &from_hex(new)?, planted).ok()?,
         [name, input] => {
             let input = from_hex(input)?;
@@ -292,4 +353,12 @@ fn command(rest: &str, planted: Planted) -> Option<String> {
         _ => return None,
     };
     Some(format!("{} {}", to_hex(&streams.out), to_hex(&streams.err)))
+}
+
+/// The `command` case of `keep`: both streams, and the store after it.
+fn keeping(area: Vec<u8>, plan: &[u8], planted: Planted) -> Option<String> {
+    let mut streams = Streams { out: vec![], err: vec![] };
+    let mut area = Area::new(area, planted);
+    streams.keep(area.store(plan)).ok()?;
+    Some(format!("{} {} {}", to_hex(&streams.out), to_hex(&streams.err), show_area(&area.bytes)))
 }

@@ -8,6 +8,7 @@ pub mod sets;
 pub mod sheets;
 pub mod sort;
 pub mod states;
+pub mod stores;
 pub mod texts;
 
 use std::io::{Result, Write};
@@ -38,10 +39,12 @@ pub enum Kind {
     Records,
     Inspections,
     Differences,
+    Versions,
+    Keeping,
 }
 
 impl Kind {
-    pub const ALL: [Kind; 16] = [
+    pub const ALL: [Kind; 18] = [
         Kind::Requests,
         Kind::Plans,
         Kind::Planning,
@@ -58,6 +61,8 @@ impl Kind {
         Kind::Records,
         Kind::Inspections,
         Kind::Differences,
+        Kind::Versions,
+        Kind::Keeping,
     ];
 
     pub fn name(self) -> &'static str {
@@ -78,6 +83,8 @@ impl Kind {
             Kind::Records => "records",
             Kind::Inspections => "inspections",
             Kind::Differences => "differences",
+            Kind::Versions => "versions",
+            Kind::Keeping => "keeping",
         }
     }
 
@@ -113,6 +120,8 @@ impl Kind {
                 vec![format!("inspect {}", to_hex(&logs::to_inspect(random, sort)))]
             }
             Kind::Differences => vec![format!("command diff;{}", diff_input(random, sort))],
+            Kind::Versions => vec![stores::sequence(random, sort)],
+            Kind::Keeping => vec![format!("command {}", stores::command(random, sort))],
         }
     }
 }

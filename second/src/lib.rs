@@ -17,6 +17,7 @@ pub mod ring;
 pub mod rules;
 pub mod sheet;
 pub mod state;
+pub mod store;
 pub mod streams;
 pub mod text;
 pub mod waits;

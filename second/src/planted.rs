@@ -86,10 +86,18 @@ pub enum Planted {
     NotArrivedAtClock,
     /// 41: in the 2002 edition 15 goes by the start of the station's last synchronous part.
     ServedForClock,
+    /// 42: a version's number is taken from how many are kept.
+    NumberFromCount,
+    /// 43: the oldest of sixteen versions is kept, and the newest dropped.
+    NewestDropped,
+    /// 44: old bytes are left behind a store's end.
+    HoleLeft,
+    /// 45: a refused plan's number is used up.
+    RefusedNumberUsed,
 }
 
 impl Planted {
-    pub const ALL: [Planted; 41] = [
+    pub const ALL: [Planted; 45] = [
         Planted::TimeForNobody,
         Planted::RoundedDown,
         Planted::LimitWithoutUnused,
@@ -131,6 +139,10 @@ impl Planted {
         Planted::NotArrivedLast,
         Planted::NotArrivedAtClock,
         Planted::ServedForClock,
+        Planted::NumberFromCount,
+        Planted::NewestDropped,
+        Planted::HoleLeft,
+        Planted::RefusedNumberUsed,
     ];
 
     /// The error of a number, from 1 on.

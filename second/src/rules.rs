@@ -69,6 +69,8 @@ pub enum Refusal {
     ClockPast = 13,
     NoRoom = 14,
     NotArrived = 15,
+    NoSuchVersion = 17,
+    NumbersUsedUp = 18,
 }
 
 impl Refusal {

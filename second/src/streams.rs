@@ -14,6 +14,7 @@ use crate::ring::Ring;
 use crate::rules::{Plan, Refusal};
 use crate::sheet::{end_field, read_plan, read_request, record_field, write_plan};
 use crate::sheet::{Sheet, ANY_TABLE, LOG_TABLE, PLAN_READ, REQUEST_READ};
+use crate::store::{self, Area};
 use crate::text::{self, answer_line, read_call, Fault};
 
 /// Where a command writes: standard output and standard error.
@@ -174,6 +175,23 @@ impl<O: Write, E: Write> Streams<O, E> {
     /// Says what differs in two plan sheets, or which of them is refused.
     pub fn diff(&mut self, old: &[u8], new: &[u8], planted: Planted) -> io::Result<()> {
         self.text(&differences::compared(old, new, planted))
+    }
+
+    /// Says the number of a version that was stored.
+    pub fn keep(&mut self, stored: Result<u32, Refusal>) -> io::Result<()> {
+        self.text(&stored.map_or_else(refused, |number| format!("version {number}\n")))
+    }
+
+    /// Writes the plan of a version. A number that has more than 32 bits was never given.
+    pub fn kept(&mut self, area: Vec<u8>, number: &str, planted: Planted) -> io::Result<()> {
+        let area = Area::new(area, planted);
+        let found = area.find(number.parse().unwrap_or(0));
+        self.sheet(found.map(|place| area.bytes[place].to_vec()))
+    }
+
+    /// Says which versions are kept.
+    pub fn versions(&mut self, area: &[u8]) -> io::Result<()> {
+        self.text(&store::listed(area).unwrap_or_else(refused))
     }
 }
 

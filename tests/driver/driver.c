@@ -551,6 +551,114 @@ static void inspect_case(void)
     }
 }
 
+/* ---- areas with plan versions */
+static void put_stored(struct olivastrum_stored_plan stored)
+{
+    if (stored.number != 0) {
+        put_refused(stored.number);
+        return;
+    }
+    put("version");
+    put_after(' ', stored.version);
+}
+
+/* A plan sheet that stands here, stored so many times; the last answer. */
+static void store(size_t length, uint64_t count)
+{
+    struct olivastrum_stored_plan stored = {0, 0};
+    size_t n = hex(bytes, MOST_BYTES);
+    if (count == 0)
+        no_case();
+    for (; count > 0; count--)
+        stored = storing(length, bytes, n);
+    put_stored(stored);
+}
+
+static void find(const uint8_t *area, size_t length)
+{
+    struct olivastrum_found_version found = finding(length, number32());
+    if (found.number != 0) {
+        put_refused(found.number);
+        return;
+    }
+    put("found");
+    put_after(' ', found.place);
+    put(" ");
+    if (found.place <= length && found.length <= length - found.place)
+        put_hex(area + found.place, found.length);
+}
+
+static void list(size_t length)
+{
+    struct olivastrum_versions kept = listing(length);
+    if (kept.number != 0) {
+        put_refused(kept.number);
+        return;
+    }
+    put("versions");
+    put_after(' ', kept.oldest);
+    put_after(' ', kept.newest);
+}
+
+/* No call: a byte of the area becomes another. */
+static void change(uint8_t *area, size_t length)
+{
+    uint64_t place = number();
+    pass(" ");
+    uint8_t value = number8();
+    if (place >= length)
+        no_case();
+    area[place] = value;
+    put("byte");
+}
+
+/* The call that stands here, made on the area. */
+static void store_call(uint8_t *area, size_t length)
+{
+    if (passed("store ")) {
+        store(length, 1);
+    } else if (passed("stores ")) {
+        uint64_t count = number();
+        pass(" ");
+        store(length, count);
+    } else if (passed("find ")) {
+        find(area, length);
+    } else if (passed("versions")) {
+        list(length);
+    } else if (passed("byte ")) {
+        change(area, length);
+    } else {
+        pass("empty");
+        uint8_t number = emptying(length);
+        if (number != 0)
+            put_refused(number);
+        else
+            put("emptied");
+    }
+}
+
+/* `store LENGTH,HEX` and STORECALLS */
+static void store_case(void)
+{
+    uint64_t length = number();
+    pass(",");
+    size_t used = hex(bytes, MOST_BYTES);
+    if (length > MOST_AREA || used > length)
+        no_case();
+    uint8_t *area = lend_area(bytes, used, length);
+    while (passed(";")) {
+        store_call(area, length);
+        put("|");
+    }
+    if (!ended())
+        no_case();
+    for (used = length; used > 0 && area[used - 1] == 0; used--)
+        ;
+    if (used == 0)
+        put("-");
+    put_hex(area, used);
+}
+
 static void answer(void)
 {
     if (passed("request "))
@@ -577,6 +685,8 @@ static void answer(void)
         record_case();
     else if (passed("inspect "))
         inspect_case();
+    else if (passed("store "))
+        store_case();
     else
         no_case();
 }

@@ -26,6 +26,10 @@ struct olivastrum_recorder __real_olivastrum_add_mark(struct olivastrum_recorder
                                                       size_t length);
 struct olivastrum_written __real_olivastrum_end_log(struct olivastrum_recorder recorder, uint8_t *out, size_t length);
 struct olivastrum_finding __real_olivastrum_inspect_log(const uint8_t *log, size_t length);
+uint8_t __real_olivastrum_empty_store(uint8_t *area, size_t length);
+struct olivastrum_stored_plan __real_olivastrum_store_plan(uint8_t *area, size_t length, const uint8_t *sheet, size_t sheet_length);
+struct olivastrum_found_version __real_olivastrum_find_version(const uint8_t *area, size_t length, uint32_t version);
+struct olivastrum_versions __real_olivastrum_versions_in(const uint8_t *area, size_t length);
 
 /* What is changed where the fault of that name is asked for and the condition holds. */
 #define FAULT(name, condition, place)            \
@@ -271,4 +275,47 @@ struct olivastrum_finding __wrap_olivastrum_inspect_log(const uint8_t *log, size
     if (is_fault("found-far") && found.rule != 0)
         found.record = found.records + 1;
     return found;
+}
+
+/* ---- areas */
+static void spoil_area(uint8_t number, const uint8_t *area, size_t length)
+{
+    uint8_t *bytes = (uint8_t *)area;
+    FAULT("area-before", 1, bytes[-1]);
+    FAULT("area-behind", 1, bytes[length]);
+    FAULT("area-refused", number != 0 && length > 0, bytes[length - 1]);
+}
+
+uint8_t __wrap_olivastrum_empty_store(uint8_t *area, size_t length)
+{
+    uint8_t number = __real_olivastrum_empty_store(area, length);
+    spoil_area(number, area, length);
+    return number;
+}
+
+struct olivastrum_stored_plan __wrap_olivastrum_store_plan(uint8_t *area, size_t length, const uint8_t *sheet, size_t sheet_length)
+{
+    struct olivastrum_stored_plan stored = __real_olivastrum_store_plan(area, length, sheet, sheet_length);
+    spoil_area(stored.number, area, length);
+    spoil_sheet(sheet, sheet_length);
+    FAULT("stored-refused", stored.number != 0, stored.version);
+    return stored;
+}
+
+struct olivastrum_found_version __wrap_olivastrum_find_version(const uint8_t *area, size_t length, uint32_t version)
+{
+    struct olivastrum_found_version found = __real_olivastrum_find_version(area, length, version);
+    spoil_area(found.number, area, length);
+    FAULT("found-place", found.number != 0 && length > 0, found.place);
+    if (is_fault("found-long") && found.number == 0)
+        found.length = length;
+    return found;
+}
+
+struct olivastrum_versions __wrap_olivastrum_versions_in(const uint8_t *area, size_t length)
+{
+    struct olivastrum_versions kept = __real_olivastrum_versions_in(area, length);
+    spoil_area(kept.number, area, length);
+    FAULT("listed-refused", kept.number != 0, kept.newest);
+    return kept;
 }

@@ -354,3 +354,70 @@ struct olivastrum_written ending_log(struct olivastrum_recorder recorder, size_t
     *log = lent + GUARD;
     return ended;
 }
+
+/* ---- areas */
+static uint8_t area[GUARD + MOST_AREA + GUARD], area_was[MOST_AREA];
+
+/* The guard bytes of an area of this length. */
+static uint8_t *area_guard(size_t length, int behind)
+{
+    return behind ? area + GUARD + length : area;
+}
+
+uint8_t *lend_area(const uint8_t *bytes, size_t used, size_t length)
+{
+    memset(area_guard(length, 0), 0xa5, GUARD);
+    memset(area_guard(length, 1), 0x5a, GUARD);
+    memcpy(area + GUARD, bytes, used);
+    memset(area + GUARD + used, 0, length - used);
+    return area + GUARD;
+}
+
+static void area_before(size_t length)
+{
+    memcpy(area_was, area + GUARD, length);
+}
+
+/* Nothing round the area has changed, and nothing of it where nothing may have. */
+static void area_kept(size_t length, int may_change)
+{
+    must(guard_of(area_guard(length, 0), 0xa5) && guard_of(area_guard(length, 1), 0x5a), "touched");
+    must(may_change || same(area + GUARD, area_was, length), "changed");
+}
+
+uint8_t emptying(size_t length)
+{
+    area_before(length);
+    uint8_t number = olivastrum_empty_store(area + GUARD, length);
+    area_kept(length, number == 0);
+    return number;
+}
+
+struct olivastrum_stored_plan storing(size_t length, const uint8_t *sheet, size_t sheet_length)
+{
+    area_before(length);
+    struct olivastrum_stored_plan stored = olivastrum_store_plan(area + GUARD, length, lend_sheet(sheet, sheet_length), sheet_length);
+    sheet_unchanged(sheet, sheet_length);
+    area_kept(length, stored.number == 0);
+    must((stored.number == 0) == (stored.version != 0), "not-blank");
+    return stored;
+}
+
+struct olivastrum_found_version finding(size_t length, uint32_t version)
+{
+    area_before(length);
+    struct olivastrum_found_version found = olivastrum_find_version(area + GUARD, length, version);
+    area_kept(length, 0);
+    must(found.number == 0 || (found.place == 0 && found.length == 0), "not-blank");
+    must(found.place <= length && found.length <= length - found.place, "too-long");
+    return found;
+}
+
+struct olivastrum_versions listing(size_t length)
+{
+    area_before(length);
+    struct olivastrum_versions kept = olivastrum_versions_in(area + GUARD, length);
+    area_kept(length, 0);
+    must(kept.number == 0 || (kept.oldest == 0 && kept.newest == 0), "not-blank");
+    return kept;
+}

@@ -48,4 +48,15 @@ struct olivastrum_recorder beginning_log(const set_t *set, const alloc_t *alloc,
 struct olivastrum_recorder adding_visit(struct olivastrum_recorder recorder, struct olivastrum_visit_record record, size_t room);
 struct olivastrum_recorder adding_mark(struct olivastrum_recorder recorder, struct olivastrum_mark_entry mark, size_t room);
 struct olivastrum_written ending_log(struct olivastrum_recorder recorder, size_t room, const uint8_t **log);
+
+/* The longest area that is lent. */
+#define MOST_AREA 65600
+
+/* An area between guard bytes, with these bytes and zeros behind them, where it stays until the next one is lent; its bytes
+ * are at the place that is returned. */
+uint8_t *lend_area(const uint8_t *bytes, size_t used, size_t length);
+uint8_t emptying(size_t length);
+struct olivastrum_stored_plan storing(size_t length, const uint8_t *sheet, size_t sheet_length);
+struct olivastrum_found_version finding(size_t length, uint32_t version);
+struct olivastrum_versions listing(size_t length);
 #endif

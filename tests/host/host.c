@@ -1,7 +1,8 @@
 /*
  * A host in C that does the whole job with the worked run of the build definition: it reads a request, plans, writes
  * and reads the plan sheet, opens the ring, hands in messages and visits, and holds each number to the definition's; it
- * writes the log of the run, reads it back and inspects it; and the same of a run in which a station is switched through.
+ * writes the log of the run, reads it back and inspects it; and the same of a run in which a station is switched through; it
+ * keeps the plan in a store of versions.
  * Refused calls must leave every byte of the ring and of the buffers as they were, and any bytes at all in place of a
  * ring must get an answer. The header's structs and constants are held to the Rattle sources (tests/host/run says how).
  * Prints `ok`, or the first line that failed.
@@ -68,6 +69,12 @@ static int layouts(void)
          AT(olivastrum_recorder, counter), AT(olivastrum_recorder, number));
     SAME(FIELDS_FINDING, sizeof(struct olivastrum_finding), AT(olivastrum_finding, records), AT(olivastrum_finding, record),
          AT(olivastrum_finding, rule), AT(olivastrum_finding, number));
+
+    SAME(FIELDS_STORED_PLAN, sizeof(struct olivastrum_stored_plan), AT(olivastrum_stored_plan, version), AT(olivastrum_stored_plan, number));
+    SAME(FIELDS_FOUND_VERSION, sizeof(struct olivastrum_found_version), AT(olivastrum_found_version, place),
+         AT(olivastrum_found_version, length), AT(olivastrum_found_version, number));
+    SAME(FIELDS_VERSIONS_IN, sizeof(struct olivastrum_versions), AT(olivastrum_versions, oldest), AT(olivastrum_versions, newest),
+         AT(olivastrum_versions, number));
 
     CHECK(sizeof(struct olivastrum_set) == 5 * 4 + 4 * 128 * 4);
     CHECK(sizeof(struct olivastrum_alloc) == 128 * 4);
@@ -826,6 +833,50 @@ static int stepped_ring(void)
     return 1;
 }
 
+/* ---- plan versions: seventeen of the worked plan, of which the sixteen newest are kept */
+static uint8_t area[OLIVASTRUM_STORE_BYTES], area_was[sizeof area];
+
+/* A refused call has left the area as it was. */
+static int area_same(void)
+{
+    return memcmp(area, area_was, sizeof area) == 0;
+}
+
+static int refused_storing(const uint8_t *sheet, size_t length)
+{
+    memcpy(area_was, area, sizeof area);
+    CHECK(olivastrum_store_plan(area, sizeof area, sheet, length - 1).number == OLIVASTRUM_SHEET_ENDS && area_same());
+    CHECK(olivastrum_store_plan(area, sizeof area - 1, sheet, length).number == OLIVASTRUM_SHEET_WRONG && area_same());
+    CHECK(olivastrum_empty_store(area, sizeof area - 1) == OLIVASTRUM_SHEET_WRONG && area_same());
+    CHECK(olivastrum_find_version(area, sizeof area, 18).number == OLIVASTRUM_NO_VERSION);
+    CHECK(olivastrum_find_version(area, sizeof area, 1).number == OLIVASTRUM_NO_VERSION && area_same());
+    return 1;
+}
+
+static int versions(struct olivastrum_set set, struct olivastrum_alloc alloc)
+{
+    uint8_t sheet[OLIVASTRUM_PLAN_BYTES(4)];
+    CHECK(olivastrum_write_plan_sheet(set, alloc, sheet, sizeof sheet).length == sizeof sheet);
+    memset(area, 7, sizeof area);
+    CHECK(olivastrum_versions_in(area, sizeof area).number == OLIVASTRUM_SHEET_WRONG);
+    CHECK(olivastrum_empty_store(area, sizeof area) == 0 && area[0] == 255 && area[sizeof area - 1] == 0);
+    struct olivastrum_versions kept = olivastrum_versions_in(area, sizeof area);
+    CHECK(kept.number == 0 && kept.oldest == 0 && kept.newest == 0);
+    for (uint32_t k = 1; k <= OLIVASTRUM_MOST_VERSIONS + 1; k++) {
+        struct olivastrum_stored_plan stored = olivastrum_store_plan(area, sizeof area, sheet, sizeof sheet);
+        CHECK(stored.number == 0 && stored.version == k);
+    }
+    kept = olivastrum_versions_in(area, sizeof area);
+    CHECK(kept.number == 0 && kept.oldest == 2 && kept.newest == 17);
+    struct olivastrum_found_version found = olivastrum_find_version(area, sizeof area, 17);
+    CHECK(found.number == 0 && found.place == 15 * (7 + sizeof sheet) + 7 && found.length == sizeof sheet);
+    CHECK(memcmp(area + found.place, sheet, sizeof sheet) == 0);
+    CHECK(refused_storing(sheet, sizeof sheet));
+    area[sizeof area - 1] = 1;
+    CHECK(olivastrum_store_plan(area, sizeof area, sheet, 0).number == OLIVASTRUM_SHEET_WRONG);
+    return olivastrum_empty_store(area, sizeof area) == 0 && olivastrum_store_plan(area, sizeof area, sheet, sizeof sheet).version == 1;
+}
+
 int main(void)
 {
     static ring_t ring;
@@ -833,7 +884,7 @@ int main(void)
     struct olivastrum_alloc alloc;
     if (!layouts() || !constants() || !places() || !planning(&set, &alloc) || !opening(&ring, set, alloc))
         return 1;
-    if (!asked_less(ring) || !switched_through(ring) || !worked_run(&ring) || !logs(set, alloc) || !marked_log(set, alloc) || !any_bytes(&ring) || !older_ring() || !uncut_ring() || !earlier_ring() || !stepped_ring())
+    if (!asked_less(ring) || !switched_through(ring) || !worked_run(&ring) || !logs(set, alloc) || !marked_log(set, alloc) || !any_bytes(&ring) || !older_ring() || !uncut_ring() || !earlier_ring() || !stepped_ring() || !versions(set, alloc))
         return 1;
     puts("ok");
     return 0;

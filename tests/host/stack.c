@@ -29,6 +29,8 @@ static struct olivastrum_station station;
 static struct olivastrum_mark_entry mark_entry;
 static uint8_t sheet[OLIVASTRUM_PLAN_BYTES(128) + OLIVASTRUM_MODE_BYTES + OLIVASTRUM_FRAME_BYTES + OLIVASTRUM_VISIT_BYTES + OLIVASTRUM_MARK_BYTES + 1];
 static size_t length;
+/* A store, which fills as plans are stored, and an area that is emptied. */
+static uint8_t area[OLIVASTRUM_STORE_BYTES], emptied[OLIVASTRUM_STORE_BYTES];
 
 /* ---- the calls: what is passed by value is copied to the stack, and the answer goes where `answer` is */
 static struct olivastrum_read_request read_request(void)
@@ -116,6 +118,26 @@ static struct olivastrum_finding inspect_log(void)
     return olivastrum_inspect_log(sheet, length);
 }
 
+static uint8_t empty_store(void)
+{
+    return olivastrum_empty_store(emptied, sizeof emptied);
+}
+
+static struct olivastrum_stored_plan store_plan(void)
+{
+    return olivastrum_store_plan(area, sizeof area, sheet, length);
+}
+
+static struct olivastrum_found_version find_version(void)
+{
+    return olivastrum_find_version(area, sizeof area, olivastrum_versions_in(area, sizeof area).newest);
+}
+
+static struct olivastrum_versions versions_in(void)
+{
+    return olivastrum_versions_in(area, sizeof area);
+}
+
 typedef void call(void);
 
 static struct function {
@@ -140,6 +162,10 @@ static struct function {
     {"olivastrum_read_log", (call *)read_log, OLIVASTRUM_STACK_READ_LOG, 0},
     {"olivastrum_log_entry", (call *)log_entry, OLIVASTRUM_STACK_LOG_ENTRY, 0},
     {"olivastrum_inspect_log", (call *)inspect_log, OLIVASTRUM_STACK_INSPECT_LOG, 0},
+    {"olivastrum_empty_store", (call *)empty_store, OLIVASTRUM_STACK_EMPTY_STORE, 0},
+    {"olivastrum_store_plan", (call *)store_plan, OLIVASTRUM_STACK_STORE_PLAN, 0},
+    {"olivastrum_find_version", (call *)find_version, OLIVASTRUM_STACK_FIND_VERSION, 0},
+    {"olivastrum_versions_in", (call *)versions_in, OLIVASTRUM_STACK_VERSIONS_IN, 0},
 };
 
 #define FUNCTIONS (sizeof functions / sizeof *functions)
@@ -250,6 +276,7 @@ int main(void)
 {
     int wrong = 0;
     size_t most = 0;
+    olivastrum_empty_store(area, sizeof area);
     for (uint32_t mode = OLIVASTRUM_TIMELY; mode <= OLIVASTRUM_EARLIER; mode++)
         for (uint32_t frame = 1; frame <= 40; frame += 39) {
             with_stations(mode, frame, 1);

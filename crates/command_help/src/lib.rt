@@ -51,6 +51,10 @@ With no command it is `plan`. For example:
   olivastrum log four.plan < examples/worked-run.calls > worked.log
   olivastrum inspect < worked.log
   olivastrum diff examples/left.plan examples/came-back.plan
+  olivastrum empty-store yard.store
+  olivastrum keep yard.store < examples/left.plan
+  olivastrum versions yard.store
+  olivastrum kept yard.store 1 > left.plan
 
 ",
     )

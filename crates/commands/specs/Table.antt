@@ -4,11 +4,11 @@ use mathlib.Core.Path.{_≡_}
 use mathlib.Core.List.{List, [], _∷_}
 use lib.ListN.{getD}
 use Rattle.commands.specs.declared.Command.{Command}
-use Rattle.commands.specs.declared.Command.the-variants.{Plan, PlanSheet, Compose, Show, Run, Log, Inspect, Diff, Version, Help, Unknown}
+use Rattle.commands.specs.declared.Command.the-variants.{Plan, PlanSheet, Compose, Show, Run, Log, Inspect, Diff, EmptyStore, Keep, Kept, Versions, Version, Help, Unknown}
 
 -- all of them, in the order of the table
 abbrev pub commands : List Command
-commands = Plan ∷ PlanSheet ∷ Compose ∷ Show ∷ Run ∷ Log ∷ Inspect ∷ Diff ∷ Version ∷ Help ∷ []
+commands = Plan ∷ PlanSheet ∷ Compose ∷ Show ∷ Run ∷ Log ∷ Inspect ∷ Diff ∷ EmptyStore ∷ Keep ∷ Kept ∷ Versions ∷ Version ∷ Help ∷ []
 
 -- the command at a place of the table; behind the last of them there is none
 abbrev pub commandAt : ℕ → Command
@@ -24,6 +24,10 @@ wordOf Run = 114 ∷ 117 ∷ 110 ∷ []
 wordOf Log = 108 ∷ 111 ∷ 103 ∷ []
 wordOf Inspect = 105 ∷ 110 ∷ 115 ∷ 112 ∷ 101 ∷ 99 ∷ 116 ∷ []
 wordOf Diff = 100 ∷ 105 ∷ 102 ∷ 102 ∷ []
+wordOf EmptyStore = 101 ∷ 109 ∷ 112 ∷ 116 ∷ 121 ∷ 45 ∷ 115 ∷ 116 ∷ 111 ∷ 114 ∷ 101 ∷ []
+wordOf Keep = 107 ∷ 101 ∷ 101 ∷ 112 ∷ []
+wordOf Kept = 107 ∷ 101 ∷ 112 ∷ 116 ∷ []
+wordOf Versions = 118 ∷ 101 ∷ 114 ∷ 115 ∷ 105 ∷ 111 ∷ 110 ∷ 115 ∷ []
 wordOf Version = 118 ∷ 101 ∷ 114 ∷ 115 ∷ 105 ∷ 111 ∷ 110 ∷ []
 wordOf Help = 104 ∷ 101 ∷ 108 ∷ 112 ∷ []
 wordOf Unknown = []
@@ -38,6 +42,10 @@ leastOf Run = 1
 leastOf Log = 1
 leastOf Inspect = 0
 leastOf Diff = 2
+leastOf EmptyStore = 1
+leastOf Keep = 1
+leastOf Kept = 2
+leastOf Versions = 1
 leastOf Version = 0
 leastOf Help = 0
 leastOf Unknown = 1
@@ -52,6 +60,10 @@ mostOf Run = 1
 mostOf Log = 1
 mostOf Inspect = 0
 mostOf Diff = 2
+mostOf EmptyStore = 1
+mostOf Keep = 1
+mostOf Kept = 2
+mostOf Versions = 1
 mostOf Version = 0
 mostOf Help = 0
 mostOf Unknown = 0

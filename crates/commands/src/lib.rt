@@ -17,13 +17,17 @@ pub enum Command {
     Log,
     Inspect,
     Diff,
+    EmptyStore,
+    Keep,
+    Kept,
+    Versions,
     Version,
     Help,
     Unknown,
 }
 
 // How many commands there are.
-pub const COUNT: usize = 10;
+pub const COUNT: usize = 14;
 
 // The commands in the order of the table; behind the last of them there is none.
 pub fn command_at(place: usize) -> Command
@@ -38,8 +42,12 @@ pub fn command_at(place: usize) -> Command
         5 => Command::Log,
         6 => Command::Inspect,
         7 => Command::Diff,
-        8 => Command::Version,
-        9 => Command::Help,
+        8 => Command::EmptyStore,
+        9 => Command::Keep,
+        10 => Command::Kept,
+        11 => Command::Versions,
+        12 => Command::Version,
+        13 => Command::Help,
         _ => Command::Unknown,
     }
 }
@@ -57,6 +65,10 @@ fn has_word(command: Command, word: &[u8]) -> bool
         Command::Log => words::same_bytes(word, b"log"),
         Command::Inspect => words::same_bytes(word, b"inspect"),
         Command::Diff => words::same_bytes(word, b"diff"),
+        Command::EmptyStore => words::same_bytes(word, b"empty-store"),
+        Command::Keep => words::same_bytes(word, b"keep"),
+        Command::Kept => words::same_bytes(word, b"kept"),
+        Command::Versions => words::same_bytes(word, b"versions"),
         Command::Version => words::same_bytes(word, b"version"),
         Command::Help => words::same_bytes(word, b"help"),
         Command::Unknown => words::same_bytes(word, b""),
@@ -82,6 +94,10 @@ fn following(command: Command) -> Range
         Command::Log => Range { least: 1, most: 1 },
         Command::Inspect => Range { least: 0, most: 0 },
         Command::Diff => Range { least: 2, most: 2 },
+        Command::EmptyStore => Range { least: 1, most: 1 },
+        Command::Keep => Range { least: 1, most: 1 },
+        Command::Kept => Range { least: 2, most: 2 },
+        Command::Versions => Range { least: 1, most: 1 },
         Command::Version => Range { least: 0, most: 0 },
         Command::Help => Range { least: 0, most: 0 },
         Command::Unknown => Range { least: 1, most: 0 },

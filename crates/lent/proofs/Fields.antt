@@ -25,6 +25,9 @@ use Rattle.entries.proofs.MarkEntry.Laws as MarkEntry
 use Rattle.logs.proofs.ReadLog.Laws as ReadLog
 use Rattle.logs.proofs.Recorder.Laws as Recorder
 use Rattle.inspection.proofs.Finding.Laws as Finding
+use Rattle.versions.proofs.StoredPlan.Laws as StoredPlan
+use Rattle.versions.proofs.FoundVersion.Laws as FoundVersion
+use Rattle.versions.proofs.VersionsIn.Laws as VersionsIn
 use Rattle.lent.proofs.LogEntry.Laws as LogEntry
 
 abbrev place : Option (Ty × ℕ) → ℕ
@@ -99,3 +102,12 @@ recorder = refl
 
 finding : layout Finding.mir 4 ≡ 24 ∷ 0 ∷ 8 ∷ 16 ∷ 17 ∷ []
 finding = refl
+
+stored-plan : layout StoredPlan.mir 2 ≡ 8 ∷ 0 ∷ 4 ∷ []
+stored-plan = refl
+
+found-version : layout FoundVersion.mir 3 ≡ 24 ∷ 0 ∷ 8 ∷ 16 ∷ []
+found-version = refl
+
+versions-in : layout VersionsIn.mir 3 ≡ 12 ∷ 0 ∷ 4 ∷ 8 ∷ []
+versions-in = refl

@@ -12,6 +12,7 @@ ghost use Rattle.lent.specs.Told.{toldOf, told};
 ghost use Rattle.logs.specs.Reading.{readLog};
 ghost use Rattle.logs.specs.Writing.{Began, Added, AddedMark, EndedLog};
 ghost use Rattle.inspection.specs.Findings.{findingIn};
+ghost use Rattle.versions.specs.Answers.{Emptied, Stored, foundVersion, versionsIn};
 use entries::Entry;
 use entries::MarkEntry;
 use entries::NextEntry;
@@ -33,6 +34,9 @@ use sheets::ReadPlan;
 use sheets::ReadRequest;
 use sheets::Written;
 use units::Station;
+use versions::FoundVersion;
+use versions::StoredPlan;
+use versions::VersionsIn;
 
 // What stands at a place of a log: an exported function returns no enum, so a number says the kind. It is the field's tag, 16 of a visit and 17 of a mark; 0 where no entry stands. The numbers of another kind are 0.
 #[repr(C)]
@@ -237,4 +241,36 @@ pub extern "C" fn olivastrum_inspect_log(log: &[u8]) -> Finding
     ensures { λ r. ⌜ r ≡ findingIn (now (log .entry)) ⌝ }
 {
     inspection::inspect_log(log)
+}
+
+// Makes the lent area a store without a version.
+#[no_mangle]
+pub extern "C" fn olivastrum_empty_store(area: &mut [u8]) -> u8
+    ensures { λ r. ⌜ Emptied (now (area .entry)) (now (area .exit)) r ⌝ }
+{
+    versions::empty_store(area)
+}
+
+// Stores a plan sheet in the lent area as its next version.
+#[no_mangle]
+pub extern "C" fn olivastrum_store_plan(area: &mut [u8], sheet: &[u8]) -> StoredPlan
+    ensures { λ r. ⌜ Stored (now (sheet .entry)) (now (area .entry)) (now (area .exit)) r ⌝ }
+{
+    versions::store_plan(area, sheet)
+}
+
+// Where the plan sheet of a version stands in the lent area.
+#[no_mangle]
+pub extern "C" fn olivastrum_find_version(area: &[u8], version: u32) -> FoundVersion
+    ensures { λ r. ⌜ r ≡ foundVersion (now (area .entry)) version ⌝ }
+{
+    versions::find_version(area, version)
+}
+
+// The oldest and the newest version that the lent area keeps.
+#[no_mangle]
+pub extern "C" fn olivastrum_versions_in(area: &[u8]) -> VersionsIn
+    ensures { λ r. ⌜ r ≡ versionsIn (now (area .entry)) ⌝ }
+{
+    versions::versions_in(area)
 }

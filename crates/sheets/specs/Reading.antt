@@ -3,6 +3,7 @@
 use Prim.Native.Nat.{ℕ, zero, suc, _+_, _*_}
 use mathlib.Core.Bool.{Bool, cond, true, false}
 use mathlib.Core.List.{List}
+use lib.Dec.{leb}
 use Rattle.units.specs.Places.{fill}
 use Rattle.sets.specs.Judged.{judged, blankSet, zeros}
 use Rattle.sets.specs.declared.Head.{Head}
@@ -10,7 +11,7 @@ use Rattle.sets.specs.declared.Set.{Set}
 use Rattle.plans.specs.Planned.{judgedPlan, blankAlloc}
 use Rattle.plans.specs.declared.Alloc.{Alloc}
 use Rattle.fields.specs.Bytes.{numberAt}
-use Rattle.fields.specs.Fields.{modeTag, frameTag, gridTag, endTag, endSize, isAllowed}
+use Rattle.fields.specs.Fields.{modeTag, frameTag, gridTag, endTag, endSize, isAllowed, left}
 use Rattle.fields.specs.Header.{placeOf, givenAt}
 use Rattle.fields.specs.declared.Passed.{Passed}
 use Rattle.scan.specs.Scanned.{scanned}
@@ -19,6 +20,10 @@ use Rattle.sheets.specs.declared.ReadPlan.{ReadPlan}
 use Rattle.sheets.specs.declared.PlanStart.{PlanStart}
 
 -- ---- the numbers that are read
+
+-- the number in the four bytes from the place a on; 0 where there are fewer
+unfoldable pub numberOrZero : List ℕ → ℕ → ℕ
+numberOrZero bs a = cond (leb 4 (left bs a)) (numberAt bs a) 0
 
 -- one number from each of n like fields, 0 in the places from n on
 abbrev pub column : List ℕ → ℕ → ℕ → ℕ → List ℕ

@@ -1,11 +1,13 @@
-// A visit's field in a log, a mark's, and the log's end: read from lent bytes, and written into them.
+// A visit's field in a log, a mark's, a number and the end: read from lent bytes, and written into them.
 ghost use mathlib.Core.Path.{_≡_};
 ghost use Prim.Native.Nat.{_+_, _-_, _≤_};
 ghost use lib.ListN.{length};
 ghost use Rattle.fields.specs.Rows.{laid};
+ghost use Rattle.fields.specs.Bytes.{bytesOf};
 ghost use Rattle.entries.specs.Visit.{visitBytes, visitAt, visitOrBlank};
 ghost use Rattle.entries.specs.Mark.{markBytes, markOrBlank};
 ghost use Rattle.sheets.specs.Layout.{endBytes};
+ghost use Rattle.sheets.specs.Reading.{numberOrZero};
 ghost use Rattle.sheets.specs.Writing.{PutAt};
 use crate::bytes;
 use entries::MarkEntry;
@@ -20,6 +22,16 @@ pub fn left(size: usize, at: usize) -> usize
         return 0;
     }
     size - at
+}
+
+// The number in the four bytes from the place on; 0 where there are fewer.
+pub fn number_from(bs: &[u8], at: usize) -> u32
+    ensures { λ r. ⌜ r ≡ numberOrZero (now (bs .entry)) at ⌝ }
+{
+    if left(bs.len(), at) < 4 {
+        return 0;
+    }
+    bytes::number_at(bs, at)
 }
 
 // The five numbers of the visit whose field begins at the place.
@@ -92,6 +104,17 @@ pub fn put_mark(out: &mut [u8], at: usize, mark: MarkEntry) -> u8
     bytes::put_start(out, at, entries::MARK_TAG, 2);
     bytes::put_byte(out, at + 3, mark.station);
     bytes::put_byte(out, at + 4, mark.mark);
+    numbers::ACCEPTED
+}
+
+// Writes a number in the four bytes from the place on, if they fit; else 14, and nothing is written.
+pub fn put_number(out: &mut [u8], at: usize, x: u32) -> u8
+    ensures { λ r. ⌜ PutAt at (bytesOf x) 0 (now (out .entry)) (now (out .exit)) r ⌝ }
+{
+    if left(out.len(), at) < 4 {
+        return numbers::BUFFER_TOO_SHORT;
+    }
+    bytes::put_number(out, at, x);
     numbers::ACCEPTED
 }
 

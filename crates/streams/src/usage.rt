@@ -3,6 +3,7 @@ ghost use mathlib.Core.Path.{_≡_};
 ghost use Rattle.streams.specs.Ends.{failed};
 use crate::ending;
 use commands::Command;
+use commands::status;
 use commands::words;
 use libc::STDERR_FILENO;
 
@@ -41,6 +42,22 @@ pub fn put_line(to: i32, command: Command) -> bool {
             to,
             b"olivastrum diff OLD NEW           print the differences of two plan sheets, or `same`\n",
         ),
+        Command::EmptyStore => io::write_all(
+            to,
+            b"olivastrum empty-store STORE      make the file STORE, a store of plan versions without one\n",
+        ),
+        Command::Keep => io::write_all(
+            to,
+            b"olivastrum keep STORE < PLAN      keep a plan sheet in STORE as its next version, and print its number\n",
+        ),
+        Command::Kept => io::write_all(
+            to,
+            b"olivastrum kept STORE N           write the plan sheet of version N\n",
+        ),
+        Command::Versions => io::write_all(
+            to,
+            b"olivastrum versions STORE         print the kept versions: number, and the first line of the plan\n",
+        ),
         Command::Version => io::write_all(
             to,
             b"olivastrum version                print the version\n",
@@ -67,6 +84,14 @@ pub(crate) fn no_command(word: &[u8]) {
 pub(crate) fn miscounted(command: Command) {
     io::write_all(STDERR_FILENO, b"usage: ");
     put_line(STDERR_FILENO, command);
+}
+
+// A word that is none of those that the command takes: the command's own line.
+pub fn misused(command: Command) -> u8
+    ensures { λ r. ⌜ r ≡ failed ⌝ }
+{
+    miscounted(command);
+    status::FAILED
 }
 
 // A command that this program does not have; the script `olivastrum` knows which one does.

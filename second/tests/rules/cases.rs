@@ -69,6 +69,27 @@ fn every_frame_has_its_answer() {
             format!("{} -", to_hex(b"visit 0 0 2 18 0 0 - -\nline 2: cannot be read\n")),
         ),
         (format!("command diff;{plan};{plan}"), format!("{} -", to_hex(b"same\n"))),
+        (
+            format!("store 65536,-;versions;empty;store {plan};stores 2 {plan};versions;find 4"),
+            format!(
+                "refused 2|emptied|version 1|version 3|versions 1 3|refused 17|{}ff",
+                (1..4).map(|n| format!("2000760000000{n}{plan}")).collect::<String>()
+            ),
+        ),
+        (
+            format!("store 65536,20007600000001{plan}ff;find 1;byte 65535 9;find 1"),
+            format!(
+                "found 7 {plan}|byte|refused 2|20007600000001{plan}ff{}09",
+                "0".repeat(130_826)
+            ),
+        ),
+        ("store 2,ff00;empty;versions".to_string(), "refused 2|refused 2|ff".to_string()),
+        (
+            format!("command keep;65536,ff;{plan}"),
+            format!("{} - 20007600000001{plan}ff", to_hex(b"version 1\n")),
+        ),
+        ("command kept;65536,ff;4294967296".to_string(), format!("- {}", to_hex(b"refused 17\n"))),
+        ("command versions;65537,ff".to_string(), format!("{} -", to_hex(b"refused 2\n"))),
         (format!("command diff;-;{plan}"), format!("{} -", to_hex(b"old refused 1\n"))),
     ];
     for (case, expected) in cases {
@@ -102,6 +123,13 @@ fn a_line_of_no_frame() {
         "command else;-",
         "command plan;-;-",
         "command diff;-",
+        "store 2",
+        "store 2,ffffff",
+        "store 65601,-",
+        "store 2,-;stores 0 -",
+        "store 2,-;byte 2 0",
+        "store 2,-;find 4294967296",
+        "command kept;0,-",
         "command diff;-;-;-",
     ];
     for line in lines {
@@ -182,6 +210,8 @@ fn every_number_of_a_kind_is_reached() {
         for kind in [Kind::States, Kind::Steps] {
             assert_eq!(numbers_of_calls((kind, sort), 2_000), [0, 8, 9, 10, 11, 12, 13, 15]);
         }
+        let stored = numbers_of_calls((Kind::Versions, sort), 1_500);
+        assert_eq!(stored, [0, 1, 2, 3, 4, 5, 7, 17, 18]);
     }
 }
 

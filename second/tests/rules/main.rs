@@ -25,6 +25,7 @@ mod texts;
 mod ticks;
 mod uncut;
 mod uncut_sheets;
+mod versions;
 
 use second::compose::compose;
 use second::rules::{Head, Mode, Plan, Request, Station};

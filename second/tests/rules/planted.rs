@@ -79,6 +79,10 @@ fn shown_by(planted: Planted) -> (Kind, &'static [Sort]) {
         | Planted::KeptUnderMark => (Kind::Runs, MARKED),
         Planted::MarkedUnusedNotRaised => (Kind::Runs, &MARKED[..2]),
         Planted::MarkCountedAsVisit | Planted::FirstStartBoundByMark => (Kind::Inspections, MARKED),
+        Planted::NumberFromCount
+        | Planted::NewestDropped
+        | Planted::HoleLeft
+        | Planted::RefusedNumberUsed => (Kind::Versions, &Sort::ALL),
         _ => (Kind::Runs, TIMELY),
     }
 }
@@ -92,6 +96,7 @@ fn comparing_finds_every_planted_error() {
         Kind::Openings,
         Kind::Inspections,
         Kind::Differences,
+        Kind::Versions,
     ];
     for (kind, sort) in kinds.map(|kind| Sort::ALL.map(|sort| (kind, sort))).concat() {
         let answered = answered(kind, sort);
@@ -113,13 +118,14 @@ fn comparing_finds_every_planted_error() {
             assert!(as_expected, "{planted:?}: {found} in {kind:?} of {sort:?}");
         }
     }
-    assert_eq!([0, 42].map(Planted::from_number), [None, None]);
+    assert_eq!([0, 46].map(Planted::from_number), [None, None]);
     assert_eq!(Planted::from_number(20), Some(Planted::FirstStartCompared));
     assert_eq!(Planted::from_number(24), Some(Planted::LogByTheLaterEdition));
     assert_eq!(Planted::from_number(27), Some(Planted::OffGridOutOfRange));
     assert_eq!(Planted::from_number(31), Some(Planted::AbsentModeIsZero));
     assert_eq!(Planted::from_number(38), Some(Planted::FirstStartBoundByMark));
     assert_eq!(Planted::from_number(41), Some(Planted::ServedForClock));
+    assert_eq!(Planted::from_number(45), Some(Planted::RefusedNumberUsed));
 }
 
 /// Every promise that the runs with the error break.

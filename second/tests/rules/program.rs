@@ -163,6 +163,33 @@ fn two_plans_side_by_side() {
 }
 
 #[test]
+fn versions_in_a_file() {
+    let store = file("yard.store", b"");
+    assert!(!second(&["empty-store", &store], b"").status.success());
+    fs::remove_file(&store).expect("the file is there");
+    assert_eq!(said(&["empty-store", &store], b""), "");
+    assert_eq!(said(&["versions", &store], b""), "");
+    assert_eq!(said(&["keep", &store], &plan_sheet()), "version 1\n");
+    assert_eq!(said(&["keep", &store], &request_sheet()), "refused 2\n");
+    assert_eq!(said(&["keep", &store], &plan_sheet()), "version 2\n");
+    assert_eq!(said(&["versions", &store], b""), "1 plan 4 100 2 18\n2 plan 4 100 2 18\n");
+    assert_eq!(second(&["kept", &store, "02"], b"").stdout, plan_sheet());
+    for number in ["0", "3", "4294967297"] {
+        let output = second(&["kept", &store, number], b"");
+        assert_eq!((&output.stdout[..], &output.stderr[..]), (&b""[..], &b"refused 17\n"[..]));
+    }
+    let beside = format!("{store}.new");
+    fs::write(&beside, b"").expect("a place for files");
+    assert!(!second(&["keep", &store], &plan_sheet()).status.success());
+    fs::remove_file(&beside).expect("the file is there");
+    fs::write(&store, b"short").expect("a place for files");
+    assert_eq!(said(&["versions", &store], b""), "refused 2\n");
+    assert_eq!(said(&["keep", &store], &plan_sheet()), "refused 2\n");
+    fs::remove_file(&store).expect("the file is there");
+    assert!(!second(&["versions", &store], b"").status.success());
+}
+
+#[test]
 fn an_answer_does_not_wait_for_the_next_call() {
     let plan = file("waiting.plan", &plan_sheet());
     let mut child = Command::new(env!("CARGO_BIN_EXE_second"))
@@ -194,16 +221,24 @@ fn usage_for_anything_else() {
         "log PLAN",
         "inspect",
         "diff OLD NEW",
+        "empty-store STORE",
+        "keep STORE",
+        "kept STORE N",
+        "versions STORE",
         "generate",
         "answers",
     ] {
         assert!(usage.contains(&format!("  {name}")), "{name}");
     }
-    let others: [&[&str]; 9] = [
+    let others: [&[&str]; 13] = [
         &["else"],
         &["plan", "more"],
         &["run"],
         &["diff", "old"],
+        &["empty-store"],
+        &["kept", "store"],
+        &["kept", "store", ""],
+        &["kept", "store", "-1"],
         &["diff", "old", "new", "more"],
         &["--planted", "99", "plan"],
         &["--planted"],

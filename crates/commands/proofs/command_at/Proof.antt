@@ -22,7 +22,7 @@ past (suc n) place none =
     let other : place ≡ n → ⊥ = none .1 in
     omega arith
 
-behind : tie.Need-returns-11
+behind : tie.Need-returns-15
 unfolding NoneBelow
 behind c = sym (List·getD-eq-default commands Unknown (past (length commands) (c .before .args .place) (c .match .rest)))
 
@@ -31,4 +31,5 @@ command-at-spec =
     tie.close
     (tie.spec
     (λ c. search needs) (λ c. search needs) (λ c. search needs) (λ c. search needs) (λ c. search needs)
-    (λ c. search needs) (λ c. search needs) (λ c. search needs) (λ c. search needs) (λ c. search needs) behind)
+    (λ c. search needs) (λ c. search needs) (λ c. search needs) (λ c. search needs) (λ c. search needs)
+    (λ c. search needs) (λ c. search needs) (λ c. search needs) (λ c. search needs) behind)

@@ -36,6 +36,18 @@ returns-10 c = rw (c .before .before .enum-told10 .given .1) (c .same-bytes10 .e
 returns-11 : tie.Need-returns-11
 returns-11 c = rw (c .before .before .enum-told11 .given .1) (c .same-bytes11 .ensures)
 
+returns-12 : tie.Need-returns-12
+returns-12 c = rw (c .before .before .enum-told12 .given .1) (c .same-bytes12 .ensures)
+
+returns-13 : tie.Need-returns-13
+returns-13 c = rw (c .before .before .enum-told13 .given .1) (c .same-bytes13 .ensures)
+
+returns-14 : tie.Need-returns-14
+returns-14 c = rw (c .before .before .enum-told14 .given .1) (c .same-bytes14 .ensures)
+
+returns-15 : tie.Need-returns-15
+returns-15 c = rw (c .before .before .enum-told15 .given .1) (c .same-bytes15 .ensures)
+
 pub has-word-spec : {M : Type 1} → statement M
 has-word-spec =
     tie.close
@@ -51,4 +63,8 @@ has-word-spec =
     (λ c. search needs) (λ c. search needs) (λ c κs. search needs)
     (λ c. search needs) (λ c. search needs) (λ c κs. search needs)
     (λ c. search needs) (λ c. search needs) (λ c κs. search needs)
-    returns returns-2 returns-3 returns-4 returns-5 returns-6 returns-7 returns-8 returns-9 returns-10 returns-11)
+    (λ c. search needs) (λ c. search needs) (λ c κs. search needs)
+    (λ c. search needs) (λ c. search needs) (λ c κs. search needs)
+    (λ c. search needs) (λ c. search needs) (λ c κs. search needs)
+    (λ c. search needs) (λ c. search needs) (λ c κs. search needs)
+    returns returns-2 returns-3 returns-4 returns-5 returns-6 returns-7 returns-8 returns-9 returns-10 returns-11 returns-12 returns-13 returns-14 returns-15)
