@@ -7,6 +7,7 @@
  *     set and allocation --olivastrum_begin_log, olivastrum_add_visit, olivastrum_add_mark, olivastrum_end_log--> log bytes
  *     log bytes --olivastrum_read_log, olivastrum_log_entry--> set, allocation, visits and marks
  *     log bytes --olivastrum_inspect_log--> the first record that no run could have given, if there is one
+ *     wagon list --olivastrum_couple_train--> train, list and allocation --olivastrum_change_wagon, olivastrum_couple_wagon, olivastrum_uncouple_wagon, olivastrum_change_train--> the train, changed
  *     sheet bytes --olivastrum_store_plan--> a numbered version in an area of the host --olivastrum_find_version--> the same bytes
  *
  * Who owns what. The host owns all memory. A function looks at what it is handed while the call runs, keeps no
@@ -248,6 +249,31 @@ struct olivastrum_mark_entry {
     uint32_t mark;
 };
 
+/* The most wagons of a hopper train, and so the places of each array of a list. Places from n on are never looked at. */
+#define OLIVASTRUM_MOST_WAGONS 12
+
+/* A wagon: how many axle boxes it has, 0 to 8, and whether a brake unit and a door unit are fitted, 1 or 0. */
+struct olivastrum_wagon {
+    uint32_t boxes;
+    uint32_t brake;
+    uint32_t door;
+};
+
+/* The wagons of a hopper train from its head on, 1 to 12. Each is a station with w 1, C = 4 boxes + 6 brake + 2 door, and D
+ * and P 500; TTRT is 250. */
+struct olivastrum_wagon_list {
+    uint32_t n;
+    uint32_t boxes[OLIVASTRUM_MOST_WAGONS];
+    uint32_t brake[OLIVASTRUM_MOST_WAGONS];
+    uint32_t door[OLIVASTRUM_MOST_WAGONS];
+};
+
+/* A hopper train: its wagons, and the allocation that is in force. */
+struct olivastrum_train {
+    struct olivastrum_wagon_list list;
+    struct olivastrum_alloc plan;
+};
+
 /* ---- answers */
 struct olivastrum_read_request {
     struct olivastrum_set set;
@@ -339,6 +365,13 @@ struct olivastrum_versions {
     uint8_t number;
 };
 
+/* What became of a train: 0 with the train as it then is; or a refusal with the train as it was, which for coupling is the
+ * blank one. */
+struct olivastrum_coupled {
+    struct olivastrum_train train;
+    uint8_t number;
+};
+
 /* ---- the library was compiled with these sizes */
 #ifdef __cplusplus
 #define OLIVASTRUM_SIZE(type, bytes) static_assert(sizeof(type) == (bytes), "the size of " #type)
@@ -373,6 +406,10 @@ OLIVASTRUM_SIZE(struct olivastrum_finding, 24);
 OLIVASTRUM_SIZE(struct olivastrum_stored_plan, 8);
 OLIVASTRUM_SIZE(struct olivastrum_found_version, 24);
 OLIVASTRUM_SIZE(struct olivastrum_versions, 12);
+OLIVASTRUM_SIZE(struct olivastrum_wagon, 12);
+OLIVASTRUM_SIZE(struct olivastrum_wagon_list, 148);
+OLIVASTRUM_SIZE(struct olivastrum_train, 660);
+OLIVASTRUM_SIZE(struct olivastrum_coupled, 664);
 
 #undef OLIVASTRUM_SIZE
 
@@ -396,7 +433,7 @@ struct olivastrum_written olivastrum_write_plan_sheet(struct olivastrum_set set,
 
 /* Plans a set: the least vector of multiples of g, no other that meets the rules has less at any station; or 2, 4, 5 or 6.
  * 6 is given exactly if no such allocation exists. With mode 2 the plan meets FDDI's rules and promises no deadline. */
-#define OLIVASTRUM_STACK_PLAN_SET 8704
+#define OLIVASTRUM_STACK_PLAN_SET 10240
 struct olivastrum_planned olivastrum_plan_set(struct olivastrum_set set);
 
 /* Opens a ring: clock 0, the token at station 0, nothing held, no station marked; or 2, 4, 5 or 7 with the blank ring. */
@@ -486,6 +523,37 @@ struct olivastrum_versions olivastrum_versions_in(const uint8_t *area, size_t le
 
 /* The most that a call of any of them needs. */
 #define OLIVASTRUM_STACK_MOST 36864
+
+/* The request of a wagon list: its set, or 2 or 4 with the blank set. */
+#define OLIVASTRUM_STACK_HOPPER_REQUEST 4608
+struct olivastrum_read_request olivastrum_hopper_request(struct olivastrum_wagon_list list);
+
+/* Writes the request sheet of a wagon list, as olivastrum_write_request_sheet does: its length, or 2, 4 or 14. A list that
+ * has no plan has its sheet. */
+#define OLIVASTRUM_STACK_WRITE_HOPPER_SHEET 15360
+struct olivastrum_written olivastrum_write_hopper_sheet(struct olivastrum_wagon_list list, uint8_t *out, size_t length);
+
+/* Couples the wagons of a list: the train with its plan, which is what olivastrum_plan_set answers to the list's request; or
+ * 2, 4 or 6 with the blank train. */
+#define OLIVASTRUM_STACK_COUPLE_TRAIN 10752
+struct olivastrum_coupled olivastrum_couple_train(struct olivastrum_wagon_list list);
+
+/* Another list for a train, of which only the refused answer makes use: 2, 4 or 6 hand it back as it was. */
+#define OLIVASTRUM_STACK_CHANGE_TRAIN 11776
+struct olivastrum_coupled olivastrum_change_train(struct olivastrum_train train, struct olivastrum_wagon_list list);
+
+/* Another wagon at a place of a train, counted from 0; 2, 4, 9 or 6 hand the train back as it was. 2 and 4 are of the list
+ * with that wagon, and 4 of the wagon itself, which comes before 9. */
+#define OLIVASTRUM_STACK_CHANGE_WAGON 12288
+struct olivastrum_coupled olivastrum_change_wagon(struct olivastrum_train train, struct olivastrum_station place, struct olivastrum_wagon wagon);
+
+/* One wagon more at the end of a train; 2, 4 or 6 hand it back as it was. A thirteenth is 2. */
+#define OLIVASTRUM_STACK_COUPLE_WAGON 11776
+struct olivastrum_coupled olivastrum_couple_wagon(struct olivastrum_train train, struct olivastrum_wagon wagon);
+
+/* The last wagon off a train; 2, 4 or 6 hand it back as it was. The last one of all is 2. */
+#define OLIVASTRUM_STACK_UNCOUPLE_WAGON 11776
+struct olivastrum_coupled olivastrum_uncouple_wagon(struct olivastrum_train train);
 
 #ifdef __cplusplus
 }

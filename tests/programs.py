@@ -194,9 +194,9 @@ def build_driver():
 
 
 def build_commands():
-    """What answers the `command` cases of `diff` and of stores: the proved programs, with the sheets and stores in files."""
-    for word in ["diff", "keep"]:
-        build_proved(program_of([word]))
+    """What answers the `command` cases: the proved programs, with the sheets, stores and lists in files."""
+    for name in sorted({program_of([word]) for word in ["diff", "keep", "hopper", "hopper-sheet", "refit"]}):
+        build_proved(name)
     return [os.path.join(ROOT, "tests", "driver", "commands")]
 
 

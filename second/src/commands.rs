@@ -44,6 +44,13 @@ usage: second [--planted K] [COMMAND]
   versions STORE
               a line for each version that STORE keeps out
                 second versions yard.store
+  hopper      a wagon list as text in, the plan of its request sheet out
+                second hopper < train.wagons
+  hopper-sheet
+              a wagon list as text in, its request sheet out
+                second hopper-sheet < train.wagons > train.request
+  refit LIST  changes of the train of a wagon list in, the plan in force after each out
+                second refit train.wagons < changes.txt
   generate KIND SEED COUNT [DIR]
               framed cases out, or into a file in DIR; fddi-KIND for sets that run FDDI,
               earlier-KIND for the 2002 edition; uncut-KIND, fddi-uncut-KIND and
@@ -152,6 +159,7 @@ fn command(arguments: &[&str], planted: Planted) -> io::Result<bool> {
     match arguments {
         ["run", path] => streams.run(&plan(path)?, input, planted)?,
         ["log", path] => streams.log(&plan(path)?, input, planted)?,
+        ["refit", path] => streams.refit(&fs::read(path)?, input, planted)?,
         ["diff", old, new] => streams.diff(&plan(old)?, &plan(new)?, planted)?,
         ["empty-store", path] => make(path, &laid_out(&[]))?,
         ["keep", path] => streams.keep(keep(path, &at_most(input, PLAN_READ)?, planted)?)?,

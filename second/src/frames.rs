@@ -1,6 +1,7 @@
 //! Framed cases, one on a line, and the one line of answer to each. README.md has the format.
 
 use crate::check::WatchedRing;
+use crate::hopper::{read_wagon, read_wagons, show_wagons, Change, Train, MOST_WAGONS};
 use crate::inspect::inspected;
 use crate::log::{noted, Counter, Recorder};
 use crate::notation::{from_hex, joined, number, parse, read_head, show_set, to_hex};
@@ -57,6 +58,7 @@ fn try_answer(case: &str, planted: Planted) -> Option<String> {
             }
         })),
         "store" => storing(rest, planted),
+        "train" => any_train(rest, planted),
         "command" => command(rest, planted),
         _ => None,
     }
@@ -330,8 +332,41 @@ fn on_area(part: &str, area: &mut Area) -> Option<String> {
     Some(said.unwrap_or_else(|refusal| format!("refused {}", refusal.number())))
 }
 
-/// The `command` case: `NAME;HEX`, `run;HEXPLAN;HEX` and the same with `log`, `diff;HEX;HEX`, and
-/// those of stores.
+/// Couples a train, makes every call on it, and shows the answers and the list that is in force, at
+/// most twelve of its wagons. A train whose coupling is refused is blank.
+fn any_train(rest: &str, planted: Planted) -> Option<String> {
+    let mut parts = rest.split(';');
+    let list = read_wagons(parts.next()?)?;
+    let mut train = Train::default();
+    let mut shown = vec![];
+    let answer = train.relist(list, planted);
+    shown.push(train_line(&train, answer));
+    for part in parts {
+        let answer = match part.split(' ').collect::<Vec<&str>>()[..] {
+            ["change", place, wagon] => {
+                train.change(&Change::Other(parse(place)?, read_wagon(wagon)?), planted)
+            }
+            ["couple", wagon] => train.change(&Change::Couple(read_wagon(wagon)?), planted),
+            ["uncouple"] => train.change(&Change::Uncouple, planted),
+            ["list", list] => train.relist(read_wagons(list)?, planted),
+            ["given", list] => {
+                train = Train { list: read_wagons(list)?, plan: None };
+                continue;
+            }
+            _ => return None,
+        };
+        shown.push(train_line(&train, answer));
+    }
+    shown.push(show_wagons(&train.list[..train.list.len().min(MOST_WAGONS)]));
+    Some(shown.join("|"))
+}
+
+fn train_line(train: &Train, answer: Result<(), Refusal>) -> String {
+    line(answer, |()| joined(&train.plan.as_ref().expect("accepted").allocation))
+}
+
+/// The `command` case: `NAME;HEX`, `run;HEXPLAN;HEX` and the same with `log`, `diff;HEX;HEX`,
+/// `refit;HEX;HEX`, and those of stores.
 fn command(rest: &str, planted: Planted) -> Option<String> {
     let parts: Vec<&str> = rest.split(';').collect();
     let mut streams = Streams { out: vec![], err: vec![] };
@@ -345,6 +380,9 @@ fn command(rest: &str, planted: Planted) -> Option<String> {
         ["kept", area, number] => streams.kept(read_area(area)?, number, planted).ok()?,
         ["versions", area] => streams.versions(&read_area(area)?).ok()?,
         ["keep", area, plan] => return keeping(read_area(area)?, &from_hex(plan)?, planted),
+        ["refit", list, changes] => {
+            streams.refit(&from_hex(list)?, &from_hex(changes)?[..], planted).ok()?;
+        }
         ["diff", old, new] => streams.diff(&from_hex(old)?, &from_hex(new)?, planted).ok()?,
         [name, input] => {
             let input = from_hex(input)?;

@@ -10,6 +10,7 @@ pub mod sort;
 pub mod states;
 pub mod stores;
 pub mod texts;
+pub mod trains;
 
 use std::io::{Result, Write};
 
@@ -41,10 +42,13 @@ pub enum Kind {
     Differences,
     Versions,
     Keeping,
+    ShortTrains,
+    Trains,
+    Hoppers,
 }
 
 impl Kind {
-    pub const ALL: [Kind; 18] = [
+    pub const ALL: [Kind; 21] = [
         Kind::Requests,
         Kind::Plans,
         Kind::Planning,
@@ -63,6 +67,9 @@ impl Kind {
         Kind::Differences,
         Kind::Versions,
         Kind::Keeping,
+        Kind::ShortTrains,
+        Kind::Trains,
+        Kind::Hoppers,
     ];
 
     pub fn name(self) -> &'static str {
@@ -85,7 +92,15 @@ impl Kind {
             Kind::Differences => "differences",
             Kind::Versions => "versions",
             Kind::Keeping => "keeping",
+            Kind::ShortTrains => "short-trains",
+            Kind::Trains => "trains",
+            Kind::Hoppers => "hoppers",
         }
+    }
+
+    /// Whether the cases are of sets, each sort of which has its own. Those of wagons are not.
+    pub fn has_sorts(self) -> bool {
+        ![Kind::ShortTrains, Kind::Trains, Kind::Hoppers].contains(&self)
     }
 
     /// A kind and the sort of its sets: `KIND` is timely-token and has no F, `fddi-KIND` is FDDI,
@@ -94,11 +109,12 @@ impl Kind {
     /// `marked-KIND`, `fddi-marked-KIND` and `earlier-marked-KIND`.
     pub fn from_name(name: &str) -> Option<(Kind, Sort)> {
         let names = |kind: Kind| Sort::ALL.map(|sort| (kind, sort));
-        let mut every = Kind::ALL.into_iter().flat_map(names);
+        let sorted = |(kind, sort): &(Kind, Sort)| kind.has_sorts() || *sort == Sort::TIMELY;
+        let mut every = Kind::ALL.into_iter().flat_map(names).filter(sorted);
         every.find(|(kind, sort)| format!("{}{}", sort.prefix(), kind.name()) == name)
     }
 
-    /// The lines of one case; more than one only for `edges`.
+    /// The lines of one case; more than one only for `edges` and `short-trains`.
     pub fn case(self, sort: Sort, seed: u64, place: u64) -> Vec<String> {
         let random = &mut Random::of_case(seed, place);
         match self {
@@ -122,6 +138,18 @@ impl Kind {
             Kind::Differences => vec![format!("command diff;{}", diff_input(random, sort))],
             Kind::Versions => vec![stores::sequence(random, sort)],
             Kind::Keeping => vec![format!("command {}", stores::command(random, sort))],
+            Kind::ShortTrains => {
+                let lists = trains::every_short_list();
+                lists.iter().map(|list| trains::train_case(random, list, 1)).collect()
+            }
+            Kind::Trains => {
+                let list = trains::list(random);
+                vec![trains::train_case(random, &list, 12)]
+            }
+            Kind::Hoppers => {
+                let name = random.pick(&["hopper", "hopper-sheet", "refit", "refit"]);
+                vec![format!("command {name};{}", hopper_input(random, name))]
+            }
         }
     }
 }
@@ -210,8 +238,20 @@ fn edge_cases(random: &mut Random, sort: Sort) -> Vec<String> {
 }
 
 fn command_case(random: &mut Random, sort: Sort) -> String {
-    let names = ["plan", "plan-sheet", "show", "compose", "run", "log", "inspect", "diff"];
-    let name = random.pick(&names);
+    const NAMES: [&str; 11] = [
+        "plan",
+        "plan-sheet",
+        "show",
+        "compose",
+        "run",
+        "log",
+        "inspect",
+        "diff",
+        "hopper",
+        "hopper-sheet",
+        "refit",
+    ];
+    let name = random.pick(&NAMES);
     let kind = random.pick(&[SheetKind::Request, SheetKind::Plan]);
     let of_log = random.once_in(3);
     let input = match name {
@@ -223,6 +263,7 @@ fn command_case(random: &mut Random, sort: Sort) -> String {
         "compose" if of_log => to_hex(&texts::log_text(random, sort)),
         "compose" => to_hex(&texts::sheet_text(random, sort)),
         "diff" => diff_input(random, sort),
+        "hopper" | "hopper-sheet" | "refit" => hopper_input(random, name),
         _ => run_input(random, sort),
     };
     format!("command {name};{input}")
@@ -243,6 +284,15 @@ fn run_input(random: &mut Random, sort: Sort) -> String {
 fn diff_input(random: &mut Random, sort: Sort) -> String {
     let (old, new) = pairs::pair(random, sort);
     format!("{};{}", to_hex(&old), to_hex(&new))
+}
+
+/// The text of a wagon list; for `refit` that of changes too.
+fn hopper_input(random: &mut Random, name: &str) -> String {
+    let list = to_hex(&trains::list_text(random));
+    match name {
+        "refit" => format!("{list};{}", to_hex(&trains::changes_text(random))),
+        _ => list,
+    }
 }
 
 /// A run to record, into room enough, or too short for the plan, for some visit or for the end.

@@ -6,6 +6,7 @@ pub mod compose;
 pub mod differences;
 pub mod frames;
 pub mod gen;
+pub mod hopper;
 pub mod inspect;
 pub mod lines;
 pub mod log;

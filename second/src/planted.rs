@@ -94,10 +94,18 @@ pub enum Planted {
     HoleLeft,
     /// 45: a refused plan's number is used up.
     RefusedNumberUsed,
+    /// 46: of a wagon 6 for the door unit and 2 for the brake unit.
+    DoorForBrake,
+    /// 47: a wagon's station without its walk time.
+    WalkLeftOut,
+    /// 48: a train keeps the new list when its plan is refused.
+    RefusedListKept,
+    /// 49: a list of no wagon is planned.
+    EmptyListPlanned,
 }
 
 impl Planted {
-    pub const ALL: [Planted; 45] = [
+    pub const ALL: [Planted; 49] = [
         Planted::TimeForNobody,
         Planted::RoundedDown,
         Planted::LimitWithoutUnused,
@@ -143,6 +151,10 @@ impl Planted {
         Planted::NewestDropped,
         Planted::HoleLeft,
         Planted::RefusedNumberUsed,
+        Planted::DoorForBrake,
+        Planted::WalkLeftOut,
+        Planted::RefusedListKept,
+        Planted::EmptyListPlanned,
     ];
 
     /// The error of a number, from 1 on.

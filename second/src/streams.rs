@@ -5,6 +5,7 @@ use std::io::{self, Read, Write};
 use crate::check::WatchedRing;
 use crate::compose::compose;
 use crate::differences;
+use crate::hopper::{self, Train};
 use crate::inspect::Inspector;
 use crate::lines::Lines;
 use crate::log::{noted, plan_fields, Counter, Passed, Stream};
@@ -53,6 +54,11 @@ impl<O: Write, E: Write> Streams<O, E> {
             }
             "show" => self.show(input)?,
             "inspect" => self.inspect(input, planted)?,
+            "hopper" => self.hopper(input, planted)?,
+            "hopper-sheet" => match hopper::read_list(input)? {
+                Ok(list) => self.sheet(hopper::sheet(&list, planted))?,
+                Err(fault) => self.fault(fault)?,
+            },
             "compose" => {
                 if let Err(fault) = compose(input, &mut self.out)? {
                     self.fault(fault)?;
@@ -118,6 +124,17 @@ impl<O: Write, E: Write> Streams<O, E> {
         }
     }
 
+    /// The plan of a wagon list. A line that cannot be read goes to standard error.
+    fn hopper(&mut self, input: impl Read, planted: Planted) -> io::Result<()> {
+        match hopper::read_list(input)? {
+            Ok(list) => {
+                let plan = hopper::plan(&list, planted);
+                self.text(&plan.map_or_else(refused, |plan| text::show_plan(&plan)))
+            }
+            Err(fault) => self.fault(fault),
+        }
+    }
+
     fn shown(&mut self, sheet: Result<Sheet, Refusal>) -> io::Result<Result<(), Refusal>> {
         match sheet {
             Ok(sheet) => self.text(&text::show_sheet(&sheet)).map(Ok),
@@ -170,6 +187,36 @@ impl<O: Write, E: Write> Streams<O, E> {
         }
         self.out.write_all(&end_field())?;
         unread.map_or(Ok(()), |fault| self.fault(fault))
+    }
+
+    /// Couples the train of a wagon list, and answers each change as it is read: with the plan that is
+    /// then in force, or with the number of its refusal.
+    pub fn refit(&mut self, list: &[u8], changes: impl Read, planted: Planted) -> io::Result<()> {
+        let list = match hopper::read_list(list)? {
+            Ok(list) => list,
+            Err(fault) => return self.fault(fault),
+        };
+        let mut train = Train::default();
+        if let Err(refusal) = train.relist(list, planted) {
+            return self.text(&refused(refusal));
+        }
+        let mut lines = Lines::new(changes);
+        while let Some(line) = lines.next_line()? {
+            match hopper::read_change(&line) {
+                Ok(None) => (),
+                Ok(Some(change)) => match train.change(&change, planted) {
+                    Ok(()) => {
+                        self.text(&text::show_plan(train.plan.as_ref().expect("just planned")))?;
+                    }
+                    Err(refusal) => self.text(&refused(refusal))?,
+                },
+                Err(fault) => writeln!(self.out, "{fault}")?,
+            }
+            if lines.must_wait() {
+                self.out.flush()?;
+            }
+        }
+        Ok(())
     }
 
     /// Says what differs in two plan sheets, or which of them is refused.

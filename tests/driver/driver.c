@@ -659,6 +659,96 @@ static void store_case(void)
     put_hex(area, used);
 }
 
+/* ---- trains: `B,R,D/B,R,D/..`, `-` for no wagon */
+static struct olivastrum_wagon wagon(void)
+{
+    struct olivastrum_wagon one;
+    one.boxes = number32();
+    pass(",");
+    one.brake = number32();
+    pass(",");
+    one.door = number32();
+    return one;
+}
+
+/* Past twelve only their count is kept; the places behind are never looked at, so anything may stand there. */
+static void wagons(list_t *list)
+{
+    memset(list, 0xff, sizeof *list);
+    list->n = 0;
+    if (passed("-"))
+        return;
+    do {
+        uint32_t i = list->n++;
+        struct olivastrum_wagon one = wagon();
+        if (i < MOST_WAGONS) {
+            list->boxes[i] = one.boxes;
+            list->brake[i] = one.brake;
+            list->door[i] = one.door;
+        }
+    } while (passed("/"));
+}
+
+static void put_wagons(const list_t *list)
+{
+    if (list->n == 0)
+        put("-");
+    for (uint32_t i = 0; i < list->n && i < MOST_WAGONS; i++) {
+        if (i > 0)
+            put("/");
+        put_number(list->boxes[i]);
+        put_after(',', list->brake[i]);
+        put_after(',', list->door[i]);
+    }
+}
+
+/* The number, or the plan that is then in force; the train is the answer's. */
+static void put_coupled(struct olivastrum_coupled coupled, train_t *train)
+{
+    put_number(coupled.number);
+    *train = coupled.train;
+    for (uint32_t i = 0; coupled.number == 0 && i < train->list.n && i < MOST_WAGONS; i++)
+        put_after(i == 0 ? ' ' : ',', train->plan.s[i]);
+    put("|");
+}
+
+/* The call that stands here, made on the train. */
+static void train_call(train_t *train)
+{
+    if (passed("change ")) {
+        struct olivastrum_station place = {number32()};
+        pass(" ");
+        put_coupled(rewagoning(train, place, wagon()), train);
+    } else if (passed("couple ")) {
+        put_coupled(coupling_one(train, wagon()), train);
+    } else if (passed("uncouple")) {
+        put_coupled(uncoupling_one(train), train);
+    } else if (passed("list ")) {
+        list_t list;
+        wagons(&list);
+        put_coupled(relisting(train, &list), train);
+    } else {
+        /* No call: a train that none made, with any plan. */
+        pass("given ");
+        wagons(&train->list);
+        memset(&train->plan, 0xa5, sizeof train->plan);
+    }
+}
+
+/* `train WAGONS` and TRAINCALLS */
+static void train_case(void)
+{
+    list_t list;
+    train_t train;
+    wagons(&list);
+    put_coupled(coupling(&list), &train);
+    while (passed(";"))
+        train_call(&train);
+    if (!ended())
+        no_case();
+    put_wagons(&train.list);
+}
+
 static void answer(void)
 {
     if (passed("request "))
@@ -687,6 +777,8 @@ static void answer(void)
         inspect_case();
     else if (passed("store "))
         store_case();
+    else if (passed("train "))
+        train_case();
     else
         no_case();
 }

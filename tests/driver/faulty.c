@@ -26,6 +26,13 @@ struct olivastrum_recorder __real_olivastrum_add_mark(struct olivastrum_recorder
                                                       size_t length);
 struct olivastrum_written __real_olivastrum_end_log(struct olivastrum_recorder recorder, uint8_t *out, size_t length);
 struct olivastrum_finding __real_olivastrum_inspect_log(const uint8_t *log, size_t length);
+struct olivastrum_read_request __real_olivastrum_hopper_request(list_t list);
+struct olivastrum_written __real_olivastrum_write_hopper_sheet(list_t list, uint8_t *out, size_t length);
+struct olivastrum_coupled __real_olivastrum_couple_train(list_t list);
+struct olivastrum_coupled __real_olivastrum_change_train(train_t train, list_t list);
+struct olivastrum_coupled __real_olivastrum_change_wagon(train_t train, struct olivastrum_station place, struct olivastrum_wagon wagon);
+struct olivastrum_coupled __real_olivastrum_couple_wagon(train_t train, struct olivastrum_wagon wagon);
+struct olivastrum_coupled __real_olivastrum_uncouple_wagon(train_t train);
 uint8_t __real_olivastrum_empty_store(uint8_t *area, size_t length);
 struct olivastrum_stored_plan __real_olivastrum_store_plan(uint8_t *area, size_t length, const uint8_t *sheet, size_t sheet_length);
 struct olivastrum_found_version __real_olivastrum_find_version(const uint8_t *area, size_t length, uint32_t version);
@@ -318,4 +325,62 @@ struct olivastrum_versions __wrap_olivastrum_versions_in(const uint8_t *area, si
     spoil_area(kept.number, area, length);
     FAULT("listed-refused", kept.number != 0, kept.newest);
     return kept;
+}
+
+/* ---- trains */
+struct olivastrum_read_request __wrap_olivastrum_hopper_request(list_t list)
+{
+    struct olivastrum_read_request read = __real_olivastrum_hopper_request(list);
+    spoil_set(read.number, &read.set);
+    FAULT("request-other", read.number == 0, read.set.c[0]);
+    return read;
+}
+
+struct olivastrum_written __wrap_olivastrum_write_hopper_sheet(list_t list, uint8_t *out, size_t length)
+{
+    struct olivastrum_written written = __real_olivastrum_write_hopper_sheet(list, out, length);
+    spoil_room(&written, out, length);
+    FAULT("sheet-number", 1, written.number);
+    return written;
+}
+
+/* The last wagon of the longest list has its place behind the others; a plan has more places than wagons. */
+static struct olivastrum_coupled spoiled_train(struct olivastrum_coupled coupled)
+{
+    FAULT("train-list", coupled.number == 0 && coupled.train.list.n < MOST_WAGONS, coupled.train.list.door[MOST_WAGONS - 1]);
+    FAULT("train-plan", coupled.number == 0, coupled.train.plan.s[LAST]);
+    return coupled;
+}
+
+static struct olivastrum_coupled spoiled_change(struct olivastrum_coupled coupled)
+{
+    FAULT("train-refused", coupled.number != 0, coupled.train.plan.s[LAST]);
+    return spoiled_train(coupled);
+}
+
+struct olivastrum_coupled __wrap_olivastrum_couple_train(list_t list)
+{
+    struct olivastrum_coupled coupled = __real_olivastrum_couple_train(list);
+    FAULT("coupled-refused", coupled.number != 0, coupled.train.plan.s[LAST]);
+    return spoiled_train(coupled);
+}
+
+struct olivastrum_coupled __wrap_olivastrum_change_train(train_t train, list_t list)
+{
+    return spoiled_change(__real_olivastrum_change_train(train, list));
+}
+
+struct olivastrum_coupled __wrap_olivastrum_change_wagon(train_t train, struct olivastrum_station place, struct olivastrum_wagon wagon)
+{
+    return spoiled_change(__real_olivastrum_change_wagon(train, place, wagon));
+}
+
+struct olivastrum_coupled __wrap_olivastrum_couple_wagon(train_t train, struct olivastrum_wagon wagon)
+{
+    return spoiled_change(__real_olivastrum_couple_wagon(train, wagon));
+}
+
+struct olivastrum_coupled __wrap_olivastrum_uncouple_wagon(train_t train)
+{
+    return spoiled_change(__real_olivastrum_uncouple_wagon(train));
 }

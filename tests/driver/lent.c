@@ -421,3 +421,89 @@ struct olivastrum_versions listing(size_t length)
     must(kept.number == 0 || (kept.oldest == 0 && kept.newest == 0), "not-blank");
     return kept;
 }
+
+/* ---- trains */
+
+/* The request of a train's list and its sheet: the planner's answer to it is the train's plan, and no other. */
+static void of_its_sheet(const list_t *list, uint8_t number, const alloc_t *plan)
+{
+    const uint8_t *sheet;
+    struct olivastrum_read_request request = olivastrum_hopper_request(*list);
+    struct olivastrum_written written = olivastrum_write_hopper_sheet(*list, lend_room(MOST_BYTES), MOST_BYTES);
+    room_kept(written, MOST_BYTES);
+    read_set(request.number, &request.set);
+    must(written.number == request.number, "other-sheet");
+    if (request.number != 0) {
+        must(number == request.number, "other-plan");
+        return;
+    }
+    size_t length = writing_request(&request.set, MOST_BYTES, &sheet).length;
+    struct olivastrum_planned planned = planning(&request.set);
+    must(length == written.length && length == OLIVASTRUM_REQUEST_BYTES(list->n), "other-sheet");
+    must(planned.number == number, "other-plan");
+    must(number != 0 || same(&planned.alloc, plan, sizeof *plan), "other-plan");
+}
+
+/* A refused change changes nothing. */
+static struct olivastrum_coupled train_kept(struct olivastrum_coupled coupled, const train_t *was)
+{
+    must(coupled.number == 0 || same(&coupled.train, was, sizeof *was), "changed");
+    must(coupled.number != 0 || zero_past(coupled.train.list.n, coupled.train.plan.s), "past-n");
+    return coupled;
+}
+
+struct olivastrum_coupled coupling(const list_t *list)
+{
+    struct olivastrum_coupled coupled = olivastrum_couple_train(*list);
+    must(coupled.number == 0 || all_zero(&coupled.train, sizeof coupled.train), "not-blank");
+    must(coupled.number != 0 || same(&coupled.train.list, list, sizeof *list), "changed");
+    train_kept(coupled, &coupled.train);
+    of_its_sheet(list, coupled.number, &coupled.train.plan);
+    return coupled;
+}
+
+struct olivastrum_coupled relisting(const train_t *train, const list_t *list)
+{
+    struct olivastrum_coupled coupled = train_kept(olivastrum_change_train(*train, *list), train);
+    must(coupled.number != 0 || same(&coupled.train.list, list, sizeof *list), "changed");
+    of_its_sheet(list, coupled.number, &coupled.train.plan);
+    return coupled;
+}
+
+/* Just that wagon is changed, and the count is as it must be then. */
+static void one_wagon(const train_t *was, struct olivastrum_coupled coupled, uint64_t place, struct olivastrum_wagon wagon, uint32_t n)
+{
+    list_t list = was->list;
+    if (coupled.number != 0)
+        return;
+    if (place < MOST_WAGONS) {
+        list.boxes[place] = wagon.boxes;
+        list.brake[place] = wagon.brake;
+        list.door[place] = wagon.door;
+    }
+    list.n = n;
+    must(same(&coupled.train.list, &list, sizeof list), "changed");
+    of_its_sheet(&list, coupled.number, &coupled.train.plan);
+}
+
+struct olivastrum_coupled rewagoning(const train_t *train, struct olivastrum_station place, struct olivastrum_wagon wagon)
+{
+    struct olivastrum_coupled coupled = train_kept(olivastrum_change_wagon(*train, place, wagon), train);
+    one_wagon(train, coupled, place.number, wagon, train->list.n);
+    return coupled;
+}
+
+struct olivastrum_coupled coupling_one(const train_t *train, struct olivastrum_wagon wagon)
+{
+    struct olivastrum_coupled coupled = train_kept(olivastrum_couple_wagon(*train, wagon), train);
+    one_wagon(train, coupled, train->list.n, wagon, train->list.n + 1);
+    return coupled;
+}
+
+struct olivastrum_coupled uncoupling_one(const train_t *train)
+{
+    struct olivastrum_wagon none = {0, 0, 0};
+    struct olivastrum_coupled coupled = train_kept(olivastrum_uncouple_wagon(*train), train);
+    one_wagon(train, coupled, MOST_WAGONS, none, train->list.n - 1);
+    return coupled;
+}

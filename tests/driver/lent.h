@@ -8,6 +8,7 @@
 #include "olivastrum.h"
 
 #define MOST OLIVASTRUM_MOST_STATIONS
+#define MOST_WAGONS OLIVASTRUM_MOST_WAGONS
 
 /* The most bytes of a sheet to read and of room to write into. */
 #define MOST_BYTES 65536
@@ -15,6 +16,8 @@
 typedef struct olivastrum_set set_t;
 typedef struct olivastrum_alloc alloc_t;
 typedef struct olivastrum_ring ring_t;
+typedef struct olivastrum_wagon_list list_t;
+typedef struct olivastrum_train train_t;
 
 /* What was seen since the last time this was asked, in a word; 0 if nothing was. */
 const char *seen(void);
@@ -48,6 +51,13 @@ struct olivastrum_recorder beginning_log(const set_t *set, const alloc_t *alloc,
 struct olivastrum_recorder adding_visit(struct olivastrum_recorder recorder, struct olivastrum_visit_record record, size_t room);
 struct olivastrum_recorder adding_mark(struct olivastrum_recorder recorder, struct olivastrum_mark_entry mark, size_t room);
 struct olivastrum_written ending_log(struct olivastrum_recorder recorder, size_t room, const uint8_t **log);
+
+/* Trains: coupled and changed by value. A refused change hands back the train as it was. */
+struct olivastrum_coupled coupling(const list_t *list);
+struct olivastrum_coupled relisting(const train_t *train, const list_t *list);
+struct olivastrum_coupled rewagoning(const train_t *train, struct olivastrum_station place, struct olivastrum_wagon wagon);
+struct olivastrum_coupled coupling_one(const train_t *train, struct olivastrum_wagon wagon);
+struct olivastrum_coupled uncoupling_one(const train_t *train);
 
 /* The longest area that is lent. */
 #define MOST_AREA 65600

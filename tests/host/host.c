@@ -2,7 +2,7 @@
  * A host in C that does the whole job with the worked run of the build definition: it reads a request, plans, writes
  * and reads the plan sheet, opens the ring, hands in messages and visits, and holds each number to the definition's; it
  * writes the log of the run, reads it back and inspects it; and the same of a run in which a station is switched through; it
- * keeps the plan in a store of versions.
+ * keeps the plan in a store of versions, couples a hopper train and changes its wagons.
  * Refused calls must leave every byte of the ring and of the buffers as they were, and any bytes at all in place of a
  * ring must get an answer. The header's structs and constants are held to the Rattle sources (tests/host/run says how).
  * Prints `ok`, or the first line that failed.
@@ -76,8 +76,16 @@ static int layouts(void)
     SAME(FIELDS_VERSIONS_IN, sizeof(struct olivastrum_versions), AT(olivastrum_versions, oldest), AT(olivastrum_versions, newest),
          AT(olivastrum_versions, number));
 
+    SAME(FIELDS_WAGON, sizeof(struct olivastrum_wagon), AT(olivastrum_wagon, boxes), AT(olivastrum_wagon, brake), AT(olivastrum_wagon, door));
+    SAME(FIELDS_WAGON_LIST, sizeof(struct olivastrum_wagon_list), AT(olivastrum_wagon_list, n), AT(olivastrum_wagon_list, boxes),
+         AT(olivastrum_wagon_list, brake), AT(olivastrum_wagon_list, door));
+    SAME(FIELDS_TRAIN, sizeof(struct olivastrum_train), AT(olivastrum_train, list), AT(olivastrum_train, plan));
+    SAME(FIELDS_COUPLED, sizeof(struct olivastrum_coupled), AT(olivastrum_coupled, train), AT(olivastrum_coupled, number));
+
     CHECK(sizeof(struct olivastrum_set) == 5 * 4 + 4 * 128 * 4);
     CHECK(sizeof(struct olivastrum_alloc) == 128 * 4);
+    CHECK(sizeof(struct olivastrum_wagon_list) == 4 + 3 * 12 * 4 && OLIVASTRUM_MOST_WAGONS == 12);
+    CHECK(sizeof(struct olivastrum_train) == sizeof(struct olivastrum_wagon_list) + sizeof(struct olivastrum_alloc));
     CHECK(sizeof(struct olivastrum_ask) == 2 * 4);
     CHECK(sizeof(struct olivastrum_message) == 3 * 8);
     CHECK(sizeof(struct olivastrum_visit_entry) == 5 * 4 && sizeof(struct olivastrum_mark_entry) == 2 * 4);
@@ -877,6 +885,75 @@ static int versions(struct olivastrum_set set, struct olivastrum_alloc alloc)
     return olivastrum_empty_store(area, sizeof area) == 0 && olivastrum_store_plan(area, sizeof area, sheet, sizeof sheet).version == 1;
 }
 
+/* ---- a hopper train: eight full wagons and four without a door unit, 248 of 250 ticks */
+static int refused_train(struct olivastrum_coupled coupled, const struct olivastrum_train *train, uint8_t number)
+{
+    return coupled.number == number && memcmp(&coupled.train, train, sizeof *train) == 0;
+}
+
+static int hopper_sheet(struct olivastrum_wagon_list list)
+{
+    uint8_t sheet[OLIVASTRUM_REQUEST_BYTES(OLIVASTRUM_MOST_WAGONS)], again[sizeof sheet];
+    struct olivastrum_read_request request = olivastrum_hopper_request(list);
+    CHECK(request.number == 0 && request.set.n == 12 && request.set.head.ttrt == 250 && request.set.head.mode == OLIVASTRUM_TIMELY);
+    for (int i = 0; i < 12; i++)
+        CHECK(request.set.w[i] == 1 && request.set.c[i] == (i < 8 ? 40u : 38u) && request.set.d[i] == 500 && request.set.p[i] == 500);
+    CHECK(olivastrum_write_hopper_sheet(list, sheet, sizeof sheet).length == sizeof sheet);
+    CHECK(olivastrum_write_request_sheet(request.set, again, sizeof again).length == sizeof again);
+    CHECK(memcmp(sheet, again, sizeof sheet) == 0);
+    CHECK(olivastrum_write_hopper_sheet(list, again, sizeof again - 1).number == OLIVASTRUM_BUFFER_TOO_SHORT);
+    CHECK(memcmp(sheet, again, sizeof sheet) == 0);
+    return 1;
+}
+
+static int hopper_train(void)
+{
+    struct olivastrum_wagon_list list;
+    memset(&list, 0, sizeof list);
+    list.n = 12;
+    for (int i = 0; i < 12; i++)
+        list.boxes[i] = 8, list.brake[i] = 1, list.door[i] = i < 8;
+    if (!hopper_sheet(list))
+        return 0;
+    struct olivastrum_coupled coupled = olivastrum_couple_train(list);
+    CHECK(coupled.number == 0 && memcmp(&coupled.train.list, &list, sizeof list) == 0);
+    CHECK(coupled.train.plan.s[0] == 20 && coupled.train.plan.s[11] == 19 && coupled.train.plan.s[12] == 0);
+
+    /* two door units more just fit, a third does not */
+    struct olivastrum_wagon full = {8, 1, 1}, bad = {9, 1, 1};
+    struct olivastrum_station place = {8}, none = {12};
+    coupled = olivastrum_change_wagon(coupled.train, place, full);
+    place.number = 9;
+    coupled = olivastrum_change_wagon(coupled.train, place, full);
+    CHECK(coupled.number == 0 && coupled.train.plan.s[9] == 20);
+    struct olivastrum_train train = coupled.train;
+    place.number = 10;
+    CHECK(refused_train(olivastrum_change_wagon(train, place, full), &train, OLIVASTRUM_NO_ALLOCATION));
+    CHECK(refused_train(olivastrum_change_wagon(train, none, full), &train, OLIVASTRUM_NO_SUCH_STATION));
+    CHECK(refused_train(olivastrum_change_wagon(train, none, bad), &train, OLIVASTRUM_OUT_OF_RANGE));
+    CHECK(refused_train(olivastrum_couple_wagon(train, full), &train, OLIVASTRUM_SHEET_WRONG));
+
+    /* the last one off, and a shorter one on; then a list of its own, and none */
+    coupled = olivastrum_couple_wagon(olivastrum_uncouple_wagon(train).train, (struct olivastrum_wagon){7, 1, 1});
+    CHECK(coupled.number == 0 && coupled.train.list.n == 12 && coupled.train.plan.s[11] == 18);
+    list.n = 1;
+    coupled = olivastrum_change_train(coupled.train, list);
+    CHECK(coupled.number == 0 && coupled.train.list.n == 1 && coupled.train.plan.s[0] == 20 && coupled.train.plan.s[1] == 0);
+    train = coupled.train;
+    CHECK(refused_train(olivastrum_uncouple_wagon(train), &train, OLIVASTRUM_SHEET_WRONG));
+    list.n = 0;
+    CHECK(refused_train(olivastrum_change_train(train, list), &train, OLIVASTRUM_SHEET_WRONG));
+    memset(&train, 0, sizeof train);
+    CHECK(refused_train(olivastrum_couple_train(list), &train, OLIVASTRUM_SHEET_WRONG));
+    CHECK(olivastrum_hopper_request(list).number == OLIVASTRUM_SHEET_WRONG);
+
+    /* any bytes in place of a train */
+    memset(&train, 0xff, sizeof train);
+    CHECK(refused_train(olivastrum_change_wagon(train, place, full), &train, OLIVASTRUM_SHEET_WRONG));
+    CHECK(refused_train(olivastrum_uncouple_wagon(train), &train, OLIVASTRUM_SHEET_WRONG));
+    return 1;
+}
+
 int main(void)
 {
     static ring_t ring;
@@ -884,7 +961,7 @@ int main(void)
     struct olivastrum_alloc alloc;
     if (!layouts() || !constants() || !places() || !planning(&set, &alloc) || !opening(&ring, set, alloc))
         return 1;
-    if (!asked_less(ring) || !switched_through(ring) || !worked_run(&ring) || !logs(set, alloc) || !marked_log(set, alloc) || !any_bytes(&ring) || !older_ring() || !uncut_ring() || !earlier_ring() || !stepped_ring() || !versions(set, alloc))
+    if (!asked_less(ring) || !switched_through(ring) || !worked_run(&ring) || !logs(set, alloc) || !marked_log(set, alloc) || !any_bytes(&ring) || !older_ring() || !uncut_ring() || !earlier_ring() || !stepped_ring() || !versions(set, alloc) || !hopper_train())
         return 1;
     puts("ok");
     return 0;

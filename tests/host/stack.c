@@ -2,7 +2,7 @@
  * How much stack each function of the library needs. Each call is made on a stack that is painted before it; how far
  * down the paint is gone is what it needed. It must be at most what the header says, and not much less. Every function
  * is called with what it accepts and with what it refuses, in every mode, with and without frames, at 1 and at 128
- * stations. Prints a line for each function.
+ * stations, and with trains of 0 to 13 wagons that fit, that do not and that are out of range. Prints a line for each function.
  */
 #include <olivastrum.h>
 #include <stdio.h>
@@ -27,6 +27,9 @@ static struct olivastrum_recorder recorder;
 static struct olivastrum_visit_record record;
 static struct olivastrum_station station;
 static struct olivastrum_mark_entry mark_entry;
+static struct olivastrum_wagon_list list;
+static struct olivastrum_train train;
+static struct olivastrum_wagon wagon;
 static uint8_t sheet[OLIVASTRUM_PLAN_BYTES(128) + OLIVASTRUM_MODE_BYTES + OLIVASTRUM_FRAME_BYTES + OLIVASTRUM_VISIT_BYTES + OLIVASTRUM_MARK_BYTES + 1];
 static size_t length;
 /* A store, which fills as plans are stored, and an area that is emptied. */
@@ -138,6 +141,41 @@ static struct olivastrum_versions versions_in(void)
     return olivastrum_versions_in(area, sizeof area);
 }
 
+static struct olivastrum_read_request hopper_request(void)
+{
+    return olivastrum_hopper_request(list);
+}
+
+static struct olivastrum_written write_hopper_sheet(void)
+{
+    return olivastrum_write_hopper_sheet(list, sheet, length);
+}
+
+static struct olivastrum_coupled couple_train(void)
+{
+    return olivastrum_couple_train(list);
+}
+
+static struct olivastrum_coupled change_train(void)
+{
+    return olivastrum_change_train(train, list);
+}
+
+static struct olivastrum_coupled change_wagon(void)
+{
+    return olivastrum_change_wagon(train, station, wagon);
+}
+
+static struct olivastrum_coupled couple_wagon(void)
+{
+    return olivastrum_couple_wagon(train, wagon);
+}
+
+static struct olivastrum_coupled uncouple_wagon(void)
+{
+    return olivastrum_uncouple_wagon(train);
+}
+
 typedef void call(void);
 
 static struct function {
@@ -166,6 +204,13 @@ static struct function {
     {"olivastrum_store_plan", (call *)store_plan, OLIVASTRUM_STACK_STORE_PLAN, 0},
     {"olivastrum_find_version", (call *)find_version, OLIVASTRUM_STACK_FIND_VERSION, 0},
     {"olivastrum_versions_in", (call *)versions_in, OLIVASTRUM_STACK_VERSIONS_IN, 0},
+    {"olivastrum_hopper_request", (call *)hopper_request, OLIVASTRUM_STACK_HOPPER_REQUEST, 0},
+    {"olivastrum_write_hopper_sheet", (call *)write_hopper_sheet, OLIVASTRUM_STACK_WRITE_HOPPER_SHEET, 0},
+    {"olivastrum_couple_train", (call *)couple_train, OLIVASTRUM_STACK_COUPLE_TRAIN, 0},
+    {"olivastrum_change_train", (call *)change_train, OLIVASTRUM_STACK_CHANGE_TRAIN, 0},
+    {"olivastrum_change_wagon", (call *)change_wagon, OLIVASTRUM_STACK_CHANGE_WAGON, 0},
+    {"olivastrum_couple_wagon", (call *)couple_wagon, OLIVASTRUM_STACK_COUPLE_WAGON, 0},
+    {"olivastrum_uncouple_wagon", (call *)uncouple_wagon, OLIVASTRUM_STACK_UNCOUPLE_WAGON, 0},
 };
 
 #define FUNCTIONS (sizeof functions / sizeof *functions)
@@ -272,6 +317,21 @@ static void with_stations(uint32_t mode, uint32_t frame, uint32_t n)
     with_sheets();
 }
 
+/* So many wagons, all alike; a train of the same wagons, and one of them for its first place. */
+static void with_wagons(uint32_t n, uint32_t boxes)
+{
+    list.n = n;
+    for (uint32_t i = 0; i < OLIVASTRUM_MOST_WAGONS; i++) {
+        list.boxes[i] = boxes;
+        list.brake[i] = list.door[i] = 1;
+    }
+    train.list = list;
+    wagon = (struct olivastrum_wagon){boxes, 1, 1};
+    length = sizeof sheet;
+    for (station.number = 0; station.number <= 12; station.number += 12)
+        measure_all();
+}
+
 int main(void)
 {
     int wrong = 0;
@@ -282,6 +342,11 @@ int main(void)
             with_stations(mode, frame, 1);
             with_stations(mode, frame, 128);
         }
+    for (uint32_t n = 0; n <= 13; n++) {
+        with_wagons(n, 7);
+        with_wagons(n, 8);
+        with_wagons(n, 9);
+    }
     for (size_t k = 0; k < FUNCTIONS; k++) {
         struct function *f = &functions[k];
         int holds = f->measured <= f->said && f->said <= f->measured + SLACK;

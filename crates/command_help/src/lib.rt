@@ -51,6 +51,9 @@ With no command it is `plan`. For example:
   olivastrum log four.plan < examples/worked-run.calls > worked.log
   olivastrum inspect < worked.log
   olivastrum diff examples/left.plan examples/came-back.plan
+  olivastrum hopper < examples/hopper-twelve.wagons
+  olivastrum hopper-sheet < examples/hopper-twelve.wagons > twelve.request
+  olivastrum refit examples/hopper-twelve.wagons < examples/hopper-refit.changes
   olivastrum empty-store yard.store
   olivastrum keep yard.store < examples/left.plan
   olivastrum versions yard.store
@@ -67,6 +70,7 @@ fn put_lines(before: bool) -> bool {
         b"The calls are lines `visit FRAMES`, `visit FRAMES LENGTH`, `message STATION LENGTH ARRIVAL`, `mark STATION` and `unmark STATION`.
 A text has, in this order, lines `ttrt TTRT`, `mode M`, `frame F`, `grid G`, `station W C D P` or `station W C D P S`, and behind them `visit STATION START LIMIT SYNC ASYNC` and `mark STATION MARK`, one for each record of a log.
 A mode is 2, FDDI, or 3, the 2002 edition of timely-token; without that line it is the 2003 edition.
+A wagon list has lines `wagon BOXES BRAKE DOOR`; changes are lines `change PLACE BOXES BRAKE DOOR`, `couple BOXES BRAKE DOOR` and `uncouple`.
 README.md and docs/ say what the letters, the numbers of the refusals and the exit statuses mean.
 ",
     )

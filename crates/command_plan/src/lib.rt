@@ -4,19 +4,19 @@ mod planning;
 ghost use mathlib.Core.Path.{_≡_};
 ghost use Rattle.text.specs.Text.{Says};
 ghost use Rattle.sheets.specs.Reading.{readRequest};
-ghost use Rattle.command_plan.specs.PlanText.{planPrinted};
+ghost use Rattle.command_plan.specs.PlanText.{requestText, planPrinted};
 ghost use Rattle.command_plan.specs.PlanSheet.{planningNumber, planOf, WrotePlan};
 use sheets::ReadPlan;
+use sheets::ReadRequest;
 use sheets::Written;
 use text::PAGE_SIZE;
 use text::Said;
 use units::numbers;
 
-// The plan of a request sheet's bytes, with the first refusal of reading and planning.
-fn plan_of(sheet: &[u8]) -> ReadPlan
-    ensures { λ r. ⌜ r ≡ planOf (readRequest (now (sheet .entry))) ⌝ }
+// The plan of a request that was read, with the first refusal of reading and planning.
+fn plan_of(request: ReadRequest) -> ReadPlan
+    ensures { λ r. ⌜ r ≡ planOf request ⌝ }
 {
-    let request = sheets::read_request(sheet);
     let set = request.set;
     let planned = plans::plan(set);
     let alloc = planned.alloc;
@@ -34,9 +34,9 @@ fn plan_of(sheet: &[u8]) -> ReadPlan
     }
 }
 
-// What `plan` prints of a request sheet's bytes, put at the start of the page, and its number.
-pub fn plan_text(sheet: &[u8], page: &mut [u8]) -> Said
-    ensures { λ r. ⌜ Says (planPrinted (now (sheet .entry))) (planningNumber (readRequest (now (sheet .entry)))) (now (page .entry)) (now (page .exit)) r ⌝ }
+// What is printed of a request that was read, its plan or the refusal, put at the start of the page, and its number.
+pub fn request_text(request: ReadRequest, page: &mut [u8]) -> Said
+    ensures { λ r. ⌜ Says (requestText request) (planningNumber request) (now (page .entry)) (now (page .exit)) r ⌝ }
 {
     if page.len() < PAGE_SIZE {
         return Said {
@@ -44,7 +44,7 @@ pub fn plan_text(sheet: &[u8], page: &mut [u8]) -> Said
             number: numbers::BUFFER_TOO_SHORT,
         };
     }
-    let plan = plan_of(sheet);
+    let plan = plan_of(request);
     let number = plan.number;
     if number != numbers::ACCEPTED {
         let length = text::put_refused(page, 0, number);
@@ -56,11 +56,20 @@ pub fn plan_text(sheet: &[u8], page: &mut [u8]) -> Said
     Said { length, number }
 }
 
+// What `plan` prints of a request sheet's bytes, put at the start of the page, and its number.
+pub fn plan_text(sheet: &[u8], page: &mut [u8]) -> Said
+    ensures { λ r. ⌜ Says (planPrinted (now (sheet .entry))) (planningNumber (readRequest (now (sheet .entry)))) (now (page .entry)) (now (page .exit)) r ⌝ }
+{
+    let request = sheets::read_request(sheet);
+    request_text(request, page)
+}
+
 // What `plan-sheet` writes: the plan sheet of a request sheet's bytes, put at the start of the buffer; refused, no byte of it changes.
 pub fn plan_sheet(sheet: &[u8], out: &mut [u8]) -> Written
     ensures { λ r. ⌜ WrotePlan (readRequest (now (sheet .entry))) (now (out .entry)) (now (out .exit)) r ⌝ }
 {
-    let plan = plan_of(sheet);
+    let request = sheets::read_request(sheet);
+    let plan = plan_of(request);
     if plan.number != numbers::ACCEPTED {
         return Written {
             length: 0,

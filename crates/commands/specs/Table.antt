@@ -4,11 +4,11 @@ use mathlib.Core.Path.{_≡_}
 use mathlib.Core.List.{List, [], _∷_}
 use lib.ListN.{getD}
 use Rattle.commands.specs.declared.Command.{Command}
-use Rattle.commands.specs.declared.Command.the-variants.{Plan, PlanSheet, Compose, Show, Run, Log, Inspect, Diff, EmptyStore, Keep, Kept, Versions, Version, Help, Unknown}
+use Rattle.commands.specs.declared.Command.the-variants.{Plan, PlanSheet, Compose, Show, Run, Log, Inspect, Diff, Hopper, HopperSheet, Refit, EmptyStore, Keep, Kept, Versions, Version, Help, Unknown}
 
 -- all of them, in the order of the table
 abbrev pub commands : List Command
-commands = Plan ∷ PlanSheet ∷ Compose ∷ Show ∷ Run ∷ Log ∷ Inspect ∷ Diff ∷ EmptyStore ∷ Keep ∷ Kept ∷ Versions ∷ Version ∷ Help ∷ []
+commands = Plan ∷ PlanSheet ∷ Compose ∷ Show ∷ Run ∷ Log ∷ Inspect ∷ Diff ∷ Hopper ∷ HopperSheet ∷ Refit ∷ EmptyStore ∷ Keep ∷ Kept ∷ Versions ∷ Version ∷ Help ∷ []
 
 -- the command at a place of the table; behind the last of them there is none
 abbrev pub commandAt : ℕ → Command
@@ -24,6 +24,9 @@ wordOf Run = 114 ∷ 117 ∷ 110 ∷ []
 wordOf Log = 108 ∷ 111 ∷ 103 ∷ []
 wordOf Inspect = 105 ∷ 110 ∷ 115 ∷ 112 ∷ 101 ∷ 99 ∷ 116 ∷ []
 wordOf Diff = 100 ∷ 105 ∷ 102 ∷ 102 ∷ []
+wordOf Hopper = 104 ∷ 111 ∷ 112 ∷ 112 ∷ 101 ∷ 114 ∷ []
+wordOf HopperSheet = 104 ∷ 111 ∷ 112 ∷ 112 ∷ 101 ∷ 114 ∷ 45 ∷ 115 ∷ 104 ∷ 101 ∷ 101 ∷ 116 ∷ []
+wordOf Refit = 114 ∷ 101 ∷ 102 ∷ 105 ∷ 116 ∷ []
 wordOf EmptyStore = 101 ∷ 109 ∷ 112 ∷ 116 ∷ 121 ∷ 45 ∷ 115 ∷ 116 ∷ 111 ∷ 114 ∷ 101 ∷ []
 wordOf Keep = 107 ∷ 101 ∷ 101 ∷ 112 ∷ []
 wordOf Kept = 107 ∷ 101 ∷ 112 ∷ 116 ∷ []
@@ -42,6 +45,9 @@ leastOf Run = 1
 leastOf Log = 1
 leastOf Inspect = 0
 leastOf Diff = 2
+leastOf Hopper = 0
+leastOf HopperSheet = 0
+leastOf Refit = 1
 leastOf EmptyStore = 1
 leastOf Keep = 1
 leastOf Kept = 2
@@ -60,6 +66,9 @@ mostOf Run = 1
 mostOf Log = 1
 mostOf Inspect = 0
 mostOf Diff = 2
+mostOf Hopper = 0
+mostOf HopperSheet = 0
+mostOf Refit = 1
 mostOf EmptyStore = 1
 mostOf Keep = 1
 mostOf Kept = 2

@@ -17,6 +17,9 @@ pub enum Command {
     Log,
     Inspect,
     Diff,
+    Hopper,
+    HopperSheet,
+    Refit,
     EmptyStore,
     Keep,
     Kept,
@@ -27,7 +30,7 @@ pub enum Command {
 }
 
 // How many commands there are.
-pub const COUNT: usize = 14;
+pub const COUNT: usize = 17;
 
 // The commands in the order of the table; behind the last of them there is none.
 pub fn command_at(place: usize) -> Command
@@ -42,12 +45,15 @@ pub fn command_at(place: usize) -> Command
         5 => Command::Log,
         6 => Command::Inspect,
         7 => Command::Diff,
-        8 => Command::EmptyStore,
-        9 => Command::Keep,
-        10 => Command::Kept,
-        11 => Command::Versions,
-        12 => Command::Version,
-        13 => Command::Help,
+        8 => Command::Hopper,
+        9 => Command::HopperSheet,
+        10 => Command::Refit,
+        11 => Command::EmptyStore,
+        12 => Command::Keep,
+        13 => Command::Kept,
+        14 => Command::Versions,
+        15 => Command::Version,
+        16 => Command::Help,
         _ => Command::Unknown,
     }
 }
@@ -65,6 +71,9 @@ fn has_word(command: Command, word: &[u8]) -> bool
         Command::Log => words::same_bytes(word, b"log"),
         Command::Inspect => words::same_bytes(word, b"inspect"),
         Command::Diff => words::same_bytes(word, b"diff"),
+        Command::Hopper => words::same_bytes(word, b"hopper"),
+        Command::HopperSheet => words::same_bytes(word, b"hopper-sheet"),
+        Command::Refit => words::same_bytes(word, b"refit"),
         Command::EmptyStore => words::same_bytes(word, b"empty-store"),
         Command::Keep => words::same_bytes(word, b"keep"),
         Command::Kept => words::same_bytes(word, b"kept"),
@@ -94,6 +103,9 @@ fn following(command: Command) -> Range
         Command::Log => Range { least: 1, most: 1 },
         Command::Inspect => Range { least: 0, most: 0 },
         Command::Diff => Range { least: 2, most: 2 },
+        Command::Hopper => Range { least: 0, most: 0 },
+        Command::HopperSheet => Range { least: 0, most: 0 },
+        Command::Refit => Range { least: 1, most: 1 },
         Command::EmptyStore => Range { least: 1, most: 1 },
         Command::Keep => Range { least: 1, most: 1 },
         Command::Kept => Range { least: 2, most: 2 },

@@ -75,7 +75,7 @@ fn all_fit(s: Scan) -> bool
 }
 
 // This word, with this many numbers.
-fn is_line(s: Scan, code: u64, count: usize) -> bool
+pub fn is_line(s: Scan, code: u64, count: usize) -> bool
     ensures { λ r. ⌜ r ≡ isLine s code count ⌝ }
 {
     let readable = !(s.phase == lines::UNREADABLE);

@@ -28,6 +28,10 @@ use Rattle.inspection.proofs.Finding.Laws as Finding
 use Rattle.versions.proofs.StoredPlan.Laws as StoredPlan
 use Rattle.versions.proofs.FoundVersion.Laws as FoundVersion
 use Rattle.versions.proofs.VersionsIn.Laws as VersionsIn
+use Rattle.hopper.proofs.Wagon.Laws as Wagon
+use Rattle.hopper.proofs.WagonList.Laws as WagonList
+use Rattle.hopper.proofs.Train.Laws as Train
+use Rattle.hopper.proofs.Coupled.Laws as Coupled
 use Rattle.lent.proofs.LogEntry.Laws as LogEntry
 
 abbrev place : Option (Ty × ℕ) → ℕ
@@ -111,3 +115,15 @@ found-version = refl
 
 versions-in : layout VersionsIn.mir 3 ≡ 12 ∷ 0 ∷ 4 ∷ 8 ∷ []
 versions-in = refl
+
+wagon : layout Wagon.mir 3 ≡ 12 ∷ 0 ∷ 4 ∷ 8 ∷ []
+wagon = refl
+
+wagon-list : layout WagonList.mir 4 ≡ 148 ∷ 0 ∷ 4 ∷ 52 ∷ 100 ∷ []
+wagon-list = refl
+
+train : layout Train.mir 2 ≡ 660 ∷ 0 ∷ 148 ∷ []
+train = refl
+
+coupled : layout Coupled.mir 2 ≡ 664 ∷ 0 ∷ 660 ∷ []
+coupled = refl

@@ -13,10 +13,17 @@ ghost use Rattle.logs.specs.Reading.{readLog};
 ghost use Rattle.logs.specs.Writing.{Began, Added, AddedMark, EndedLog};
 ghost use Rattle.inspection.specs.Findings.{findingIn};
 ghost use Rattle.versions.specs.Answers.{Emptied, Stored, foundVersion, versionsIn};
+ghost use Rattle.hopper.specs.Wagons.{withMore, withoutLast};
+ghost use Rattle.hopper.specs.Requests.{listRequest, WroteSheet};
+ghost use Rattle.hopper.specs.Trains.{coupled, changedTrain, changedWagon};
 use entries::Entry;
 use entries::MarkEntry;
 use entries::NextEntry;
 use entries::VisitEntry;
+use hopper::Coupled;
+use hopper::Train;
+use hopper::Wagon;
+use hopper::WagonList;
 use inspection::Finding;
 use logs::ReadLog;
 use logs::Recorder;
@@ -273,4 +280,62 @@ pub extern "C" fn olivastrum_versions_in(area: &[u8]) -> VersionsIn
     ensures { λ r. ⌜ r ≡ versionsIn (now (area .entry)) ⌝ }
 {
     versions::versions_in(area)
+}
+
+// ---- the hopper set
+
+// The request of a list of wagons: its set, or a refusal.
+#[no_mangle]
+pub extern "C" fn olivastrum_hopper_request(list: WagonList) -> ReadRequest
+    ensures { λ r. ⌜ r ≡ listRequest list ⌝ }
+{
+    hopper::request_of(list)
+}
+
+// Writes the request sheet of a list of wagons into the first bytes of the lent buffer.
+#[no_mangle]
+pub extern "C" fn olivastrum_write_hopper_sheet(list: WagonList, out: &mut [u8]) -> Written
+    ensures { λ r. ⌜ WroteSheet list (now (out .entry)) (now (out .exit)) r ⌝ }
+{
+    hopper::write_sheet(list, out)
+}
+
+// Couples the wagons of a list: the train with its plan, or a refusal with the blank train.
+#[no_mangle]
+pub extern "C" fn olivastrum_couple_train(list: WagonList) -> Coupled
+    ensures { λ r. ⌜ r ≡ coupled list ⌝ }
+{
+    hopper::couple_train(list)
+}
+
+// The train with another list, or a refusal with the train as it was.
+#[no_mangle]
+pub extern "C" fn olivastrum_change_train(train: Train, list: WagonList) -> Coupled
+    ensures { λ r. ⌜ r ≡ changedTrain train list ⌝ }
+{
+    hopper::change_train(train, list)
+}
+
+// The train with another wagon at a place, or a refusal with the train as it was.
+#[no_mangle]
+pub extern "C" fn olivastrum_change_wagon(train: Train, place: Station, wagon: Wagon) -> Coupled
+    ensures { λ r. ⌜ r ≡ changedWagon train place wagon ⌝ }
+{
+    hopper::change_wagon(train, place, wagon)
+}
+
+// The train with one wagon more at its end, or a refusal with the train as it was.
+#[no_mangle]
+pub extern "C" fn olivastrum_couple_wagon(train: Train, wagon: Wagon) -> Coupled
+    ensures { λ r. ⌜ r ≡ changedTrain train (withMore (train .list) wagon) ⌝ }
+{
+    hopper::couple_wagon(train, wagon)
+}
+
+// The train without its last wagon, or a refusal with the train as it was.
+#[no_mangle]
+pub extern "C" fn olivastrum_uncouple_wagon(train: Train) -> Coupled
+    ensures { λ r. ⌜ r ≡ changedTrain train (withoutLast (train .list)) ⌝ }
+{
+    hopper::uncouple_wagon(train)
 }

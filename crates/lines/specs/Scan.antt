@@ -52,10 +52,10 @@ inPhase s phase = record { values = s .values; word = s .word; count = s .count;
 
 -- ---- one byte more
 
--- a letter of the first word, which has at most seven
+-- a letter of the first word, which has at most eight
 unfoldable pub letterRead : Scan → ℕ → Scan
 letterRead s b =
-    cond (isLetter b && ltb (s .word) (2 ^ 48))
+    cond (isLetter b && ltb (s .word) (2 ^ 56))
     (record { values = s .values; word = s .word * 256 + b; count = s .count; phase = inWord })
     (inPhase s unreadable)
 

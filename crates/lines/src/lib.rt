@@ -74,11 +74,11 @@ fn in_phase(s: Scan, phase: u8) -> Scan
     }
 }
 
-// A letter of the first word, which has at most seven.
+// A letter of the first word, which has at most eight.
 fn letter_read(s: Scan, byte: u8) -> Scan
     ensures { λ r. ⌜ r ≡ letterRead s byte ⌝ }
 {
-    let readable = is_letter(byte) & (s.word < 281_474_976_710_656);
+    let readable = is_letter(byte) & (s.word < 72_057_594_037_927_936);
     if !readable {
         return in_phase(s, UNREADABLE);
     }

@@ -42,6 +42,18 @@ pub fn put_line(to: i32, command: Command) -> bool {
             to,
             b"olivastrum diff OLD NEW           print the differences of two plan sheets, or `same`\n",
         ),
+        Command::Hopper => io::write_all(
+            to,
+            b"olivastrum hopper < LIST          print the plan of a wagon list, or `refused` and a number\n",
+        ),
+        Command::HopperSheet => io::write_all(
+            to,
+            b"olivastrum hopper-sheet < LIST    write the request sheet of a wagon list\n",
+        ),
+        Command::Refit => io::write_all(
+            to,
+            b"olivastrum refit LIST < CHANGES   couple the train of the wagon list in the file LIST, and answer each change with the plan in force\n",
+        ),
         Command::EmptyStore => io::write_all(
             to,
             b"olivastrum empty-store STORE      make the file STORE, a store of plan versions without one\n",

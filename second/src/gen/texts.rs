@@ -178,10 +178,21 @@ pub fn script_text(random: &mut Random, sort: Sort) -> (Plan, Vec<u8>) {
 
 /// The text with blanks, comments and stray lines put in, and now and then a byte changed.
 fn untidy(random: &mut Random, sort: Sort, text: &str) -> Vec<u8> {
+    untidy_with(random, text, &|random, lines, index| put_stray(random, sort, lines, index))
+}
+
+/// What puts a stray line among others, near an index.
+type Stray<'a> = &'a dyn Fn(&mut Random, &mut Vec<String>, usize);
+
+/// The same for any texts, by their own stray lines.
+pub fn untidy_with(random: &mut Random, text: &str, stray: Stray) -> Vec<u8> {
     let mut lines: Vec<String> = text.lines().map(str::to_string).collect();
     for _ in 0..random.between(0, 4) {
+        if lines.is_empty() {
+            lines.push(String::new());
+        }
         let index = random.index(lines.len());
-        put_in(random, sort, &mut lines, index);
+        put_in(random, stray, &mut lines, index);
     }
     let mut bytes = lines.join("\n").into_bytes();
     if !random.once_in(4) {
@@ -194,7 +205,7 @@ fn untidy(random: &mut Random, sort: Sort, text: &str) -> Vec<u8> {
     bytes
 }
 
-fn put_in(random: &mut Random, sort: Sort, lines: &mut Vec<String>, index: usize) {
+fn put_in(random: &mut Random, stray: Stray, lines: &mut Vec<String>, index: usize) {
     match random.between(0, 7) {
         0 => lines.insert(index, String::new()),
         1 => lines.insert(index, " \t# a comment: ttrt 5".to_string()),
@@ -202,25 +213,27 @@ fn put_in(random: &mut Random, sort: Sort, lines: &mut Vec<String>, index: usize
         3 => lines[index] = format!("  {} ", lines[index].replace(' ', "  ")),
         4 => lines[index] = lines[index].replace(' ', "\t") + "\r",
         5 => lines[index] = lines[index].replace(' ', " 00"),
-        6 if sort.marked && random.once_in(2) => {
-            lines.insert(index + 1, random.pick(&STRAY_MARKS).to_string());
-        }
-        6 if sort.grid && random.once_in(2) => {
-            let place = random.pick(&[0, 1, 2, 3, 4, index + 1]).min(lines.len());
-            lines.insert(place, random.pick(&STRAY_GRIDS).to_string());
-        }
-        6 if sort.uncut && random.once_in(2) => {
-            let place = random.pick(&[0, 1, 2, 3, index + 1]).min(lines.len());
-            lines.insert(place, random.pick(&STRAY_FRAMES).to_string());
-        }
-        6 if sort.has_mode() && random.once_in(2) => {
-            let place = random.pick(&[0, 1, 2, index + 1]).min(lines.len());
-            lines.insert(place, random.pick(&STRAY_MODES).to_string());
-        }
-        6 => lines.insert(index + 1, random.pick(&STRAY_LINES).to_string()),
+        6 => stray(random, lines, index),
         _ => drop(lines.remove(index)),
     }
     if lines.is_empty() {
         lines.push(String::new());
     }
+}
+
+/// A stray line of a sort: one of the header's somewhere in the header, any other behind the index.
+fn put_stray(random: &mut Random, sort: Sort, lines: &mut Vec<String>, index: usize) {
+    let (places, strays): (&[usize], &[&str]) = if sort.marked && random.once_in(2) {
+        return lines.insert(index + 1, random.pick(&STRAY_MARKS).to_string());
+    } else if sort.grid && random.once_in(2) {
+        (&[0, 1, 2, 3, 4], &STRAY_GRIDS)
+    } else if sort.uncut && random.once_in(2) {
+        (&[0, 1, 2, 3], &STRAY_FRAMES)
+    } else if sort.has_mode() && random.once_in(2) {
+        (&[0, 1, 2], &STRAY_MODES)
+    } else {
+        return lines.insert(index + 1, random.pick(&STRAY_LINES).to_string());
+    };
+    let place = random.pick(&[places, &[index + 1]].concat()).min(lines.len());
+    lines.insert(place, random.pick(strays).to_string());
 }

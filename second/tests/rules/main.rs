@@ -9,6 +9,7 @@ mod fddi_rings;
 mod fddi_sheets;
 mod grid;
 mod grid_sheets;
+mod hopper;
 mod inspections;
 mod layers;
 mod log_texts;

@@ -83,6 +83,10 @@ fn shown_by(planted: Planted) -> (Kind, &'static [Sort]) {
         | Planted::NewestDropped
         | Planted::HoleLeft
         | Planted::RefusedNumberUsed => (Kind::Versions, &Sort::ALL),
+        Planted::DoorForBrake
+        | Planted::WalkLeftOut
+        | Planted::RefusedListKept
+        | Planted::EmptyListPlanned => (Kind::Trains, &[Sort::TIMELY]),
         _ => (Kind::Runs, TIMELY),
     }
 }
@@ -97,8 +101,11 @@ fn comparing_finds_every_planted_error() {
         Kind::Inspections,
         Kind::Differences,
         Kind::Versions,
+        Kind::Trains,
     ];
-    for (kind, sort) in kinds.map(|kind| Sort::ALL.map(|sort| (kind, sort))).concat() {
+    let every = kinds.map(|kind| Sort::ALL.map(|sort| (kind, sort))).concat();
+    let sorted = |(kind, sort): &(Kind, Sort)| kind.has_sorts() || *sort == Sort::TIMELY;
+    for (kind, sort) in every.into_iter().filter(sorted) {
         let answered = answered(kind, sort);
         for planted in Planted::ALL {
             let elsewhere = kind == Kind::Openings || planted == Planted::MarkedLimitByTimers;
@@ -118,7 +125,7 @@ fn comparing_finds_every_planted_error() {
             assert!(as_expected, "{planted:?}: {found} in {kind:?} of {sort:?}");
         }
     }
-    assert_eq!([0, 46].map(Planted::from_number), [None, None]);
+    assert_eq!([0, 50].map(Planted::from_number), [None, None]);
     assert_eq!(Planted::from_number(20), Some(Planted::FirstStartCompared));
     assert_eq!(Planted::from_number(24), Some(Planted::LogByTheLaterEdition));
     assert_eq!(Planted::from_number(27), Some(Planted::OffGridOutOfRange));
@@ -126,6 +133,8 @@ fn comparing_finds_every_planted_error() {
     assert_eq!(Planted::from_number(38), Some(Planted::FirstStartBoundByMark));
     assert_eq!(Planted::from_number(41), Some(Planted::ServedForClock));
     assert_eq!(Planted::from_number(45), Some(Planted::RefusedNumberUsed));
+    assert_eq!(Planted::from_number(46), Some(Planted::DoorForBrake));
+    assert_eq!(Planted::from_number(49), Some(Planted::EmptyListPlanned));
 }
 
 /// Every promise that the runs with the error break.

@@ -1,39 +1,13 @@
--- `plan_text` is right because it puts the refusal or the plan by the number that it answers.
-use mathlib.Core.Path.{ap}
-use native.Mathlib.Omega.{arith}
-use Rattle.sheets.specs.declared.ReadPlan.{ReadPlan}
-use Rattle.text.specs.TextLaws.{refused-short, says, says-nothing}
-use Rattle.command_plan.proofs.PlanTextLaws.{plan-refused, plan-accepted, plan-few}
+-- `plan_text` is right because it is the text of the request that was read.
+use Rattle.command_plan.proofs.PlanTextLaws.{read-says}
 use borrow.Author.Needs.{needs}
 use Rattle.command_plan.proofs.plan_text.Statement.{statement}
 use Rattle.command_plan.proofs.plan_text.Tie as tie
 
 returns : tie.Need-returns
-returns c = says-nothing (c .if1 .taken)
-
-returns-2 : tie.Need-returns-2
-returns-2 c =
+returns c =
     let called = c .before .before in
-    let refused = called .before .before in
-    let made = refused .before in
-    let plan = made .plan-of .ensures in
-    says (called .put-refused .ensures .put (omega arith) (refused-short _)) (plan-refused _ _ plan (refused .if2 .taken)) (ap (λ (p : ReadPlan). p .number) plan)
-    (made .before .if1 .left) (omega arith)
-
-put-plan-requires : tie.Need-put-plan-requires
-put-plan-requires c κs =
-    let made = c .before .before .before .before in
-    (plan-few _ _ (made .plan-of .ensures), omega arith)
-
-returns-3 : tie.Need-returns-3
-returns-3 c =
-    let called = c .before .before in
-    let accepted = called .before .before .before .before in
-    let made = accepted .before in
-    let plan = made .plan-of .ensures in
-    says (called .put-plan .ensures) (plan-accepted _ _ plan (accepted .if2 .left)) (ap (λ (p : ReadPlan). p .number) plan) (made .before .if1 .left) (omega arith)
+    read-says _ _ _ _ _ (called .before .before .read-request .ensures) (called .request-text .ensures)
 
 pub plan-text-spec : {M : Type 1} → statement M
-plan-text-spec =
-    tie.close
-    (tie.spec returns (λ c κs. search needs) (λ c κs. search needs) (λ c. search needs) returns-2 put-plan-requires (λ c. search needs) returns-3)
+plan-text-spec = tie.close (tie.spec (λ c κs. search needs) (λ c κs. search needs) (λ c. search needs) returns)

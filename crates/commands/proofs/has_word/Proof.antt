@@ -48,6 +48,15 @@ returns-14 c = rw (c .before .before .enum-told14 .given .1) (c .same-bytes14 .e
 returns-15 : tie.Need-returns-15
 returns-15 c = rw (c .before .before .enum-told15 .given .1) (c .same-bytes15 .ensures)
 
+returns-16 : tie.Need-returns-16
+returns-16 c = rw (c .before .before .enum-told16 .given .1) (c .same-bytes16 .ensures)
+
+returns-17 : tie.Need-returns-17
+returns-17 c = rw (c .before .before .enum-told17 .given .1) (c .same-bytes17 .ensures)
+
+returns-18 : tie.Need-returns-18
+returns-18 c = rw (c .before .before .enum-told18 .given .1) (c .same-bytes18 .ensures)
+
 pub has-word-spec : {M : Type 1} → statement M
 has-word-spec =
     tie.close
@@ -67,4 +76,7 @@ has-word-spec =
     (λ c. search needs) (λ c. search needs) (λ c κs. search needs)
     (λ c. search needs) (λ c. search needs) (λ c κs. search needs)
     (λ c. search needs) (λ c. search needs) (λ c κs. search needs)
-    returns returns-2 returns-3 returns-4 returns-5 returns-6 returns-7 returns-8 returns-9 returns-10 returns-11 returns-12 returns-13 returns-14 returns-15)
+    (λ c. search needs) (λ c. search needs) (λ c κs. search needs)
+    (λ c. search needs) (λ c. search needs) (λ c κs. search needs)
+    (λ c. search needs) (λ c. search needs) (λ c κs. search needs)
+    returns returns-2 returns-3 returns-4 returns-5 returns-6 returns-7 returns-8 returns-9 returns-10 returns-11 returns-12 returns-13 returns-14 returns-15 returns-16 returns-17 returns-18)

@@ -1,4 +1,4 @@
--- `letter_read` is right because a word below 2 ^ 48 has room for one letter more.
+-- `letter_read` is right because a word below 2 ^ 56 has room for one letter more.
 use Prim.Native.Nat.{_<_, _^_}
 use mathlib.Core.Path.{_≡_}
 use mathlib.Core.Bool.{true, false, _&&_}
@@ -13,15 +13,15 @@ use Rattle.lines.proofs.letter_read.Tie as tie
 
 readable : (c : tie.Else1)
     → let args = c .before .before .before .args in
-    (isLetter (args .byte) && ltb (args .s .word) (2 ^ 48)) ≡ true
+    (isLetter (args .byte) && ltb (args .s .word) (2 ^ 56)) ≡ true
 readable c = rw (← c .before .before .is-letter .ensures) (not-false _ (c .if1 .left))
 
 unread : (c : tie.Then1)
     → let args = c .before .before .before .args in
-    (isLetter (args .byte) && ltb (args .s .word) (2 ^ 48)) ≡ false
+    (isLetter (args .byte) && ltb (args .s .word) (2 ^ 56)) ≡ false
 unread c = rw (← c .before .before .is-letter .ensures) (not-true _ (c .if1 .taken))
 
-small : (c : tie.Else1) → c .before .before .before .args .s .word < 2 ^ 48
+small : (c : tie.Else1) → c .before .before .before .args .s .word < 2 ^ 56
 small c = ltb-true _ _ (and-true (isLetter (c .before .before .before .args .byte)) _ (readable c) .1)
 
 is-letter-requires : tie.Need-is-letter-requires

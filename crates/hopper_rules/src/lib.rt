@@ -1,0 +1,1 @@
+// What is promised of the hopper set. No code.
