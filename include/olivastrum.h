@@ -7,6 +7,7 @@
  *     set and allocation --olivastrum_begin_log, olivastrum_add_visit, olivastrum_add_mark, olivastrum_end_log--> log bytes
  *     log bytes --olivastrum_read_log, olivastrum_log_entry--> set, allocation, visits and marks
  *     log bytes --olivastrum_inspect_log--> the first record that no run could have given, if there is one
+ *     plan sheet bytes and log bytes --olivastrum_inspect_log_of--> the same of a run of that plan, if the log's plan is that one
  *     wagon list --olivastrum_couple_train--> train, list and allocation --olivastrum_change_wagon, olivastrum_couple_wagon, olivastrum_uncouple_wagon, olivastrum_change_train--> the train, changed
  *     sheet bytes --olivastrum_store_plan--> a numbered version in an area of the host --olivastrum_find_version--> the same bytes
  *
@@ -320,6 +321,20 @@ struct olivastrum_finding {
     uint8_t number;
 };
 
+/* A log against a plan sheet. Where refused is 1 the plan sheet was not read, where it is 2 the log was not, and number says
+ * why; where another is 1 both were read, and the log's plan is another one. Where one of these is not 0 all else but number
+ * is 0, and nothing was inspected. Else it is the log's finding, with how many of its records are visits. The log is
+ * accepted, for the plan of the sheet, where refused, another and rule are all 0; without a visit that shows nothing. */
+struct olivastrum_plan_finding {
+    uint64_t records;
+    uint64_t visits;
+    uint64_t record;
+    uint8_t rule;
+    uint8_t refused;
+    uint8_t number;
+    uint8_t another;
+};
+
 struct olivastrum_planned {
     struct olivastrum_alloc alloc;
     uint8_t number;
@@ -403,6 +418,7 @@ OLIVASTRUM_SIZE(struct olivastrum_mark_entry, 8);
 OLIVASTRUM_SIZE(struct olivastrum_read_log, 2608);
 OLIVASTRUM_SIZE(struct olivastrum_next_entry, 40);
 OLIVASTRUM_SIZE(struct olivastrum_finding, 24);
+OLIVASTRUM_SIZE(struct olivastrum_plan_finding, 32);
 OLIVASTRUM_SIZE(struct olivastrum_stored_plan, 8);
 OLIVASTRUM_SIZE(struct olivastrum_found_version, 24);
 OLIVASTRUM_SIZE(struct olivastrum_versions, 12);
@@ -497,8 +513,14 @@ struct olivastrum_next_entry olivastrum_log_entry(const uint8_t *log, size_t len
  * say, could have given its visits, with any synchronous amount up to S at each visit of an unmarked station and some
  * request in frames; a marked station is visited with limit 0 and sends nothing. Else the first record that breaks a rule,
  * and the first rule that it breaks. Or 1 to 5 or 7, with the rest 0. */
-#define OLIVASTRUM_STACK_INSPECT_LOG 18944
+#define OLIVASTRUM_STACK_INSPECT_LOG 17920
 struct olivastrum_finding olivastrum_inspect_log(const uint8_t *log, size_t length);
+
+/* Inspects a log against a plan sheet, one answer in this order: the refusal of the plan sheet, 1 to 5 or 7; that of the
+ * log; that their plans differ in a number of the header or of a station, or in the stations; or what
+ * olivastrum_inspect_log says of the log. Plan and log may be the same bytes. */
+#define OLIVASTRUM_STACK_INSPECT_LOG_OF 25600
+struct olivastrum_plan_finding olivastrum_inspect_log_of(const uint8_t *plan, size_t plan_length, const uint8_t *log, size_t length);
 
 /* Makes an area a store without a version, whatever it held: the next one stored is version 1. 2 for another length, and
  * no byte is written. Returns the number. */

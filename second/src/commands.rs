@@ -30,6 +30,9 @@ usage: second [--planted K] [COMMAND]
                 second log ring.plan < calls.txt > ring.log
   inspect     a log in, whether a run could have given it, or its first fault, out
                 second inspect < ring.log
+  inspect PLAN
+              the same of a log that is to keep the plan in the file
+                second inspect ring.plan < ring.log
   diff OLD NEW
               two plan sheets in, a line for each difference, or `same`, out
                 second diff left.plan came-back.plan
@@ -159,6 +162,7 @@ fn command(arguments: &[&str], planted: Planted) -> io::Result<bool> {
     match arguments {
         ["run", path] => streams.run(&plan(path)?, input, planted)?,
         ["log", path] => streams.log(&plan(path)?, input, planted)?,
+        ["inspect", path] => streams.inspect_of(&plan(path)?, input, planted)?,
         ["refit", path] => streams.refit(&fs::read(path)?, input, planted)?,
         ["diff", old, new] => streams.diff(&plan(old)?, &plan(new)?, planted)?,
         ["empty-store", path] => make(path, &laid_out(&[]))?,

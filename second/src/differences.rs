@@ -4,6 +4,7 @@
 use std::collections::BTreeMap;
 
 use crate::planted::Planted;
+use crate::rules::Plan;
 use crate::sheet::{read_plan, Sheet};
 use crate::text::{show_sheet, Fault};
 
@@ -28,20 +29,26 @@ pub fn compared(old: &[u8], new: &[u8], planted: Planted) -> String {
             Err(refusal) => return format!("{side} {}\n", Fault::Refused(refusal)),
         }
     }
-    differences(&texts[0], &texts[1], planted)
+    match differences(&texts[0], &texts[1], planted) {
+        lines if lines.is_empty() => "same\n".to_string(),
+        lines => lines,
+    }
 }
 
-/// The lines of two texts of plans, or `same`.
+/// The lines of two plans; none where they are the same.
+pub fn of_plans(old: &Plan, new: &Plan, planted: Planted) -> String {
+    let [old, new] = [old, new].map(|plan| show_sheet(&Sheet::Plan(plan.clone())));
+    differences(&old, &new, planted)
+}
+
+/// The lines of two texts of plans.
 fn differences(old: &str, new: &str, planted: Planted) -> String {
     let mut table = Table::new();
     lay(&mut table, 0, old, planted);
     lay(&mut table, 1, new, planted);
     with_error(&mut table, planted);
     let lines = lines(&table);
-    match lines.is_empty() {
-        true => "same\n".to_string(),
-        false => lines.values().map(|line| format!("{line}\n")).collect(),
-    }
+    lines.values().map(|line| format!("{line}\n")).collect()
 }
 
 /// Puts the numbers of a side's text into the table. What a header does not name is 1.

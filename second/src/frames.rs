@@ -2,7 +2,7 @@
 
 use crate::check::WatchedRing;
 use crate::hopper::{read_wagon, read_wagons, show_wagons, Change, Train, MOST_WAGONS};
-use crate::inspect::inspected;
+use crate::inspect::{inspected, Inspector};
 use crate::log::{noted, Counter, Recorder};
 use crate::notation::{from_hex, joined, number, parse, read_head, show_set, to_hex};
 use crate::planner;
@@ -13,7 +13,7 @@ use crate::rules::{Plan, Refusal, Request, Station};
 use crate::sheet::{read_log, read_plan, read_request, write_plan, write_request};
 use crate::state::{Place, State};
 use crate::store::Area;
-use crate::streams::Streams;
+use crate::streams::{departures, Streams};
 use crate::text::{answer_line, ask, call, Answer, Call};
 
 /// What is answered to a line that is no case.
@@ -58,6 +58,7 @@ fn try_answer(case: &str, planted: Planted) -> Option<String> {
             }
         })),
         "store" => storing(rest, planted),
+        "inspect-of" => inspecting_of(rest, planted),
         "train" => any_train(rest, planted),
         "command" => command(rest, planted),
         _ => None,
@@ -332,6 +333,25 @@ fn on_area(part: &str, area: &mut Area) -> Option<String> {
     Some(said.unwrap_or_else(|refusal| format!("refused {}", refusal.number())))
 }
 
+/// A plan sheet and a log: which side is refused, whether the log has another plan, or what is found.
+fn inspecting_of(rest: &str, planted: Planted) -> Option<String> {
+    let (plan, log) = rest.split_once(';')?;
+    let (plan, log) = (read_plan(&from_hex(plan)?), read_log(&from_hex(log)?));
+    Some(match (plan, log) {
+        (Err(refusal), _) => format!("plan {}", refusal.number()),
+        (_, Err(refusal)) => refusal.number().to_string(),
+        (Ok(plan), Ok((own, entries))) => {
+            let mut inspector = Inspector::new(&own, planted);
+            entries.iter().for_each(|entry| inspector.take(entry));
+            match inspector.finding() {
+                _ if !departures(&plan, &own, planted).is_empty() => "another plan".to_string(),
+                Some(finding) => format!("0 {finding}"),
+                None => format!("0 accepted {} {}", inspector.records(), inspector.visits()),
+            }
+        }
+    })
+}
+
 /// Couples a train, makes every call on it, and shows the answers and the list that is in force, at
 /// most twelve of its wagons. A train whose coupling is refused is blank.
 fn any_train(rest: &str, planted: Planted) -> Option<String> {
@@ -366,7 +386,7 @@ fn train_line(train: &Train, answer: Result<(), Refusal>) -> String {
 }
 
 /// The `command` case: `NAME;HEX`, `run;HEXPLAN;HEX` and the same with `log`, `diff;HEX;HEX`,
-/// `refit;HEX;HEX`, and those of stores.
+/// `inspect;HEX;HEX`, `refit;HEX;HEX`, and those of stores.
 fn command(rest: &str, planted: Planted) -> Option<String> {
     let parts: Vec<&str> = rest.split(';').collect();
     let mut streams = Streams { out: vec![], err: vec![] };
@@ -380,6 +400,9 @@ fn command(rest: &str, planted: Planted) -> Option<String> {
         ["kept", area, number] => streams.kept(read_area(area)?, number, planted).ok()?,
         ["versions", area] => streams.versions(&read_area(area)?).ok()?,
         ["keep", area, plan] => return keeping(read_area(area)?, &from_hex(plan)?, planted),
+        ["inspect", plan, log] => {
+            streams.inspect_of(&from_hex(plan)?, &from_hex(log)?[..], planted).ok()?;
+        }
         ["refit", list, changes] => {
             streams.refit(&from_hex(list)?, &from_hex(changes)?[..], planted).ok()?;
         }

@@ -45,10 +45,12 @@ pub enum Kind {
     ShortTrains,
     Trains,
     Hoppers,
+    Departures,
+    Returns,
 }
 
 impl Kind {
-    pub const ALL: [Kind; 21] = [
+    pub const ALL: [Kind; 23] = [
         Kind::Requests,
         Kind::Plans,
         Kind::Planning,
@@ -70,6 +72,8 @@ impl Kind {
         Kind::ShortTrains,
         Kind::Trains,
         Kind::Hoppers,
+        Kind::Departures,
+        Kind::Returns,
     ];
 
     pub fn name(self) -> &'static str {
@@ -95,6 +99,8 @@ impl Kind {
             Kind::ShortTrains => "short-trains",
             Kind::Trains => "trains",
             Kind::Hoppers => "hoppers",
+            Kind::Departures => "departures",
+            Kind::Returns => "returns",
         }
     }
 
@@ -138,6 +144,8 @@ impl Kind {
             Kind::Differences => vec![format!("command diff;{}", diff_input(random, sort))],
             Kind::Versions => vec![stores::sequence(random, sort)],
             Kind::Keeping => vec![format!("command {}", stores::command(random, sort))],
+            Kind::Departures => vec![format!("inspect-of {}", departure_input(random, sort))],
+            Kind::Returns => vec![format!("command inspect;{}", departure_input(random, sort))],
             Kind::ShortTrains => {
                 let lists = trains::every_short_list();
                 lists.iter().map(|list| trains::train_case(random, list, 1)).collect()
@@ -256,6 +264,7 @@ fn command_case(random: &mut Random, sort: Sort) -> String {
     let of_log = random.once_in(3);
     let input = match name {
         "plan" | "plan-sheet" => to_hex(&sheets::sheet(random, SheetKind::Request, sort)),
+        "inspect" if of_log => departure_input(random, sort),
         "inspect" => to_hex(&logs::to_inspect(random, sort)),
         "show" if of_log => to_hex(&logs::log(random, sort)),
         "show" => to_hex(&sheets::sheet(random, kind, sort)),
@@ -284,6 +293,12 @@ fn run_input(random: &mut Random, sort: Sort) -> String {
 fn diff_input(random: &mut Random, sort: Sort) -> String {
     let (old, new) = pairs::pair(random, sort);
     format!("{};{}", to_hex(&old), to_hex(&new))
+}
+
+/// A plan sheet and a log that is to keep it.
+fn departure_input(random: &mut Random, sort: Sort) -> String {
+    let (plan, log) = pairs::departure(random, sort);
+    format!("{};{}", to_hex(&plan), to_hex(&log))
 }
 
 /// The text of a wagon list; for `refit` that of changes too.

@@ -99,8 +99,17 @@ impl Inspector {
         }
     }
 
+    pub fn plan(&self) -> &Plan {
+        &self.plan
+    }
+
     pub fn records(&self) -> u64 {
         self.records
+    }
+
+    /// The visits among the records that were looked at.
+    pub fn visits(&self) -> u64 {
+        self.visits
     }
 
     /// The first broken rule so far.

@@ -102,10 +102,16 @@ pub enum Planted {
     RefusedListKept,
     /// 49: a list of no wagon is planned.
     EmptyListPlanned,
+    /// 50: a log's own plan is taken for the one that it is inspected against.
+    OwnPlanTaken,
+    /// 51: of a log's plan and the one that it is inspected against S is not compared.
+    AllocationNotCompared,
+    /// 52: a log is accepted though its plan differs in g alone.
+    OtherGridAccepted,
 }
 
 impl Planted {
-    pub const ALL: [Planted; 49] = [
+    pub const ALL: [Planted; 52] = [
         Planted::TimeForNobody,
         Planted::RoundedDown,
         Planted::LimitWithoutUnused,
@@ -155,6 +161,9 @@ impl Planted {
         Planted::WalkLeftOut,
         Planted::RefusedListKept,
         Planted::EmptyListPlanned,
+        Planted::OwnPlanTaken,
+        Planted::AllocationNotCompared,
+        Planted::OtherGridAccepted,
     ];
 
     /// The error of a number, from 1 on.

@@ -53,7 +53,11 @@ impl<O: Write, E: Write> Streams<O, E> {
                 self.sheet(plan.and_then(|plan| write_plan(&plan, PLAN_READ)))?;
             }
             "show" => self.show(input)?,
-            "inspect" => self.inspect(input, planted)?,
+            "inspect" => {
+                let found = inspected(input, planted)?;
+                let text = |inspector: Inspector| finding_text(&inspector);
+                self.text(&found.map_or_else(refused, text))?;
+            }
             "hopper" => self.hopper(input, planted)?,
             "hopper-sheet" => match hopper::read_list(input)? {
                 Ok(list) => self.sheet(hopper::sheet(&list, planted))?,
@@ -99,29 +103,17 @@ impl<O: Write, E: Write> Streams<O, E> {
         }
     }
 
-    /// What is found in a log of any length. The finding is kept until the log is read whole.
-    fn inspect(&mut self, input: impl Read, planted: Planted) -> io::Result<()> {
-        let mut stream = Stream::new(input, LOG_TABLE);
-        let mut inspector: Option<Result<Inspector, Refusal>> = None;
-        loop {
-            let passed = stream.pass()?;
-            let opened = || stream.passage().contents.judged_plan();
-            let opened = || opened().map(|plan| Inspector::new(&plan, planted));
-            match passed {
-                Err(refusal) => return self.text(&refused(refusal)),
-                Ok(Passed::Record(entry)) => {
-                    if let Ok(inspector) = inspector.get_or_insert_with(opened) {
-                        inspector.take(&entry);
-                    }
-                }
-                Ok(Passed::End) => {
-                    return match inspector.unwrap_or_else(opened) {
-                        Ok(inspector) => self.text(&inspected_text(&inspector)),
-                        Err(refusal) => self.text(&refused(refusal)),
-                    }
-                }
-            }
-        }
+    /// What is found in a log of any length that is to keep a plan.
+    pub fn inspect_of(&mut self, plan: &[u8], log: impl Read, planted: Planted) -> io::Result<()> {
+        let found = inspected(log, planted)?;
+        self.text(&match (read_plan(plan), found) {
+            (Err(refusal), _) => format!("plan {}", refused(refusal)),
+            (_, Err(refusal)) => refused(refusal),
+            (Ok(plan), Ok(inspector)) => match departures(&plan, inspector.plan(), planted) {
+                lines if lines.is_empty() => finding_text(&inspector),
+                lines => format!("another plan\n{lines}"),
+            },
+        })
     }
 
     /// The plan of a wagon list. A line that cannot be read goes to standard error.
@@ -242,8 +234,45 @@ impl<O: Write, E: Write> Streams<O, E> {
     }
 }
 
+/// The inspector of a log of any length that was read whole, or why it is no log.
+fn inspected(log: impl Read, planted: Planted) -> io::Result<Result<Inspector, Refusal>> {
+    let mut stream = Stream::new(log, LOG_TABLE);
+    let mut inspector: Option<Result<Inspector, Refusal>> = None;
+    loop {
+        let passed = stream.pass()?;
+        let opened = || stream.passage().contents.judged_plan();
+        let opened = || opened().map(|plan| Inspector::new(&plan, planted));
+        match passed {
+            Err(refusal) => return Ok(Err(refusal)),
+            Ok(Passed::Record(entry)) => {
+                if let Ok(inspector) = inspector.get_or_insert_with(opened) {
+                    inspector.take(&entry);
+                }
+            }
+            Ok(Passed::End) => return Ok(inspector.unwrap_or_else(opened)),
+        }
+    }
+}
+
+/// The lines from the plan that a log is to keep to its own; none where it is that plan.
+pub fn departures(plan: &Plan, own: &Plan, planted: Planted) -> String {
+    let plan = if planted == Planted::OwnPlanTaken { own } else { plan };
+    let lines = differences::of_plans(plan, own, planted);
+    match planted {
+        Planted::AllocationNotCompared => lines
+            .lines()
+            .filter(|line| !line.contains(" S "))
+            .map(|line| line.to_string() + "\n")
+            .collect(),
+        Planted::OtherGridAccepted if lines.starts_with("6 ") && lines.lines().count() == 1 => {
+            String::new()
+        }
+        _ => lines,
+    }
+}
+
 /// What was found, and what was expected there.
-fn inspected_text(inspector: &Inspector) -> String {
+fn finding_text(inspector: &Inspector) -> String {
     match inspector.finding() {
         None => format!("accepted {}\n", inspector.records()),
         Some(finding) => format!("{finding}\n{}\n", finding.words),

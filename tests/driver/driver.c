@@ -530,10 +530,18 @@ static void record_case(void)
     put_hex(log, ended.length);
 }
 
+/* What is found in a log. */
+static void put_rule(uint64_t record, uint8_t rule)
+{
+    static const char *const rules[] = {"", " station", " start", " limit", " synchronous", " asynchronous"};
+    put(" record");
+    put_after(' ', record);
+    put(rule <= 5 ? rules[rule] : " unknown");
+}
+
 /* `inspect HEX` */
 static void inspect_case(void)
 {
-    static const char *const rules[] = {"", " station", " start", " limit", " synchronous", " asynchronous"};
     size_t length = hex(bytes, MOST_BYTES);
     if (!ended())
         no_case();
@@ -545,9 +553,35 @@ static void inspect_case(void)
         put(" accepted");
         put_after(' ', found.records);
     } else {
-        put(" record");
-        put_after(' ', found.record);
-        put(found.rule <= 5 ? rules[found.rule] : " unknown");
+        put_rule(found.record, found.rule);
+    }
+}
+
+/* `inspect-of HEX;HEX` */
+static void inspect_of_case(void)
+{
+    static uint8_t plan[MOST_BYTES];
+    size_t plan_length = hex(plan, MOST_BYTES);
+    pass(";");
+    size_t length = hex(bytes, MOST_BYTES);
+    if (!ended())
+        no_case();
+    struct olivastrum_plan_finding found = inspecting_of(plan, plan_length, bytes, length);
+    if (found.refused == 1)
+        put("plan ");
+    if (found.another != 0) {
+        put("another plan");
+        return;
+    }
+    put_number(found.number);
+    if (found.number != 0)
+        return;
+    if (found.rule == 0) {
+        put(" accepted");
+        put_after(' ', found.records);
+        put_after(' ', found.visits);
+    } else {
+        put_rule(found.record, found.rule);
     }
 }
 
@@ -775,6 +809,8 @@ static void answer(void)
         record_case();
     else if (passed("inspect "))
         inspect_case();
+    else if (passed("inspect-of "))
+        inspect_of_case();
     else if (passed("store "))
         store_case();
     else if (passed("train "))

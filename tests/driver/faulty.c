@@ -26,6 +26,7 @@ struct olivastrum_recorder __real_olivastrum_add_mark(struct olivastrum_recorder
                                                       size_t length);
 struct olivastrum_written __real_olivastrum_end_log(struct olivastrum_recorder recorder, uint8_t *out, size_t length);
 struct olivastrum_finding __real_olivastrum_inspect_log(const uint8_t *log, size_t length);
+struct olivastrum_plan_finding __real_olivastrum_inspect_log_of(const uint8_t *plan, size_t plan_length, const uint8_t *log, size_t length);
 struct olivastrum_read_request __real_olivastrum_hopper_request(list_t list);
 struct olivastrum_written __real_olivastrum_write_hopper_sheet(list_t list, uint8_t *out, size_t length);
 struct olivastrum_coupled __real_olivastrum_couple_train(list_t list);
@@ -281,6 +282,23 @@ struct olivastrum_finding __wrap_olivastrum_inspect_log(const uint8_t *log, size
     FAULT("found-none", found.number == 0 && found.rule == 0, found.record);
     if (is_fault("found-far") && found.rule != 0)
         found.record = found.records + 1;
+    return found;
+}
+
+struct olivastrum_plan_finding __wrap_olivastrum_inspect_log_of(const uint8_t *plan, size_t plan_length, const uint8_t *log, size_t length)
+{
+    struct olivastrum_plan_finding found = __real_olivastrum_inspect_log_of(plan, plan_length, log, length);
+    uint8_t *sheet = (uint8_t *)plan;
+    spoil_sheet(log, length);
+    FAULT("plan-before", 1, sheet[-1]);
+    FAULT("plan-itself", plan_length > 0, sheet[0]);
+    FAULT("plan-behind", 1, sheet[plan_length]);
+    FAULT("held-refused", found.refused != 0, found.records);
+    FAULT("held-another", found.another != 0, found.visits);
+    if (is_fault("held-flag"))
+        found.another += 2;
+    if (is_fault("held-far") && found.rule == 0 && found.refused == 0 && found.another == 0)
+        found.visits = found.records + 1;
     return found;
 }
 

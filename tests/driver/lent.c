@@ -291,6 +291,26 @@ struct olivastrum_finding inspecting(const uint8_t *log, size_t length)
     return found;
 }
 
+static uint8_t beside[GUARD + MOST_BYTES + GUARD];
+
+struct olivastrum_plan_finding inspecting_of(const uint8_t *plan, size_t plan_length, const uint8_t *log, size_t length)
+{
+    memset(beside, 0x5a, sizeof beside);
+    memcpy(beside + GUARD, plan, plan_length);
+    struct olivastrum_plan_finding found = olivastrum_inspect_log_of(beside + GUARD, plan_length, lend_sheet(log, length), length);
+    sheet_unchanged(log, length);
+    must(guard_of(beside, 0x5a) && guard_of(beside + GUARD + plan_length, 0x5a), "touched");
+    must(same(beside + GUARD, plan, plan_length), "touched");
+    must(found.refused <= 2 && found.another <= 1, "flag");
+    must((found.refused == 0) == (found.number == 0), "not-blank");
+    int inspected = found.refused == 0 && found.another == 0;
+    must(inspected || (found.records == 0 && found.visits == 0 && found.record == 0 && found.rule == 0), "not-blank");
+    must(found.refused == 0 || found.another == 0, "not-blank");
+    must((found.record == 0) == (found.rule == 0), "not-blank");
+    must(found.visits <= found.records && found.record <= found.records && found.rule <= 5, "too-long");
+    return found;
+}
+
 /* Nothing is written from `at` on, nor before the room. */
 static void log_kept(uint64_t at, size_t room)
 {

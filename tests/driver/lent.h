@@ -46,6 +46,9 @@ struct olivastrum_next_entry entry_at(size_t length, uint64_t at);
 /* Inspecting a log. */
 struct olivastrum_finding inspecting(const uint8_t *log, size_t length);
 
+/* And inspecting it against a plan sheet, which is lent between guard bytes of its own. */
+struct olivastrum_plan_finding inspecting_of(const uint8_t *plan, size_t plan_length, const uint8_t *log, size_t length);
+
 /* Writing a log into a room between guard bytes, where it stays until the next log is begun. */
 struct olivastrum_recorder beginning_log(const set_t *set, const alloc_t *alloc, uint32_t counter, uint64_t clock, size_t room);
 struct olivastrum_recorder adding_visit(struct olivastrum_recorder recorder, struct olivastrum_visit_record record, size_t room);

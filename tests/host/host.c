@@ -69,6 +69,9 @@ static int layouts(void)
          AT(olivastrum_recorder, counter), AT(olivastrum_recorder, number));
     SAME(FIELDS_FINDING, sizeof(struct olivastrum_finding), AT(olivastrum_finding, records), AT(olivastrum_finding, record),
          AT(olivastrum_finding, rule), AT(olivastrum_finding, number));
+    SAME(FIELDS_PLAN_FINDING, sizeof(struct olivastrum_plan_finding), AT(olivastrum_plan_finding, records), AT(olivastrum_plan_finding, visits),
+         AT(olivastrum_plan_finding, record), AT(olivastrum_plan_finding, rule), AT(olivastrum_plan_finding, refused),
+         AT(olivastrum_plan_finding, number), AT(olivastrum_plan_finding, another));
 
     SAME(FIELDS_STORED_PLAN, sizeof(struct olivastrum_stored_plan), AT(olivastrum_stored_plan, version), AT(olivastrum_stored_plan, number));
     SAME(FIELDS_FOUND_VERSION, sizeof(struct olivastrum_found_version), AT(olivastrum_found_version, place),
@@ -497,6 +500,35 @@ static int inspecting(uint8_t *log)
     return 1;
 }
 
+static int is_plan_finding(struct olivastrum_plan_finding found, uint64_t visits, uint8_t rule, uint8_t refused, uint8_t number, uint8_t another)
+{
+    return found.records == visits && found.visits == visits && found.record == (rule != 0) && found.rule == rule && found.refused == refused &&
+           found.number == number && found.another == another;
+}
+
+/* The log that the ring wrote is accepted with the plan sheet that it was opened from, and not with one in which a station
+ * has one tick more. Which of the two is refused is told, the plan sheet first, and then nothing is inspected. */
+static int inspecting_of(uint8_t *log)
+{
+    const size_t first = OLIVASTRUM_PLAN_BYTES(STATIONS) - 3;
+    uint8_t plan[OLIVASTRUM_PLAN_BYTES(STATIONS)];
+    memcpy(plan, log, first);
+    memcpy(plan + first, log + LOG_BYTES - 3, 3);
+    CHECK(is_plan_finding(olivastrum_inspect_log_of(plan, sizeof plan, log, LOG_BYTES), VISITS, 0, 0, 0, 0));
+    CHECK(is_plan_finding(olivastrum_inspect_log_of(plan, sizeof plan, plan, sizeof plan), 0, 0, 0, 0, 0));
+    log[first + 3] += 1;
+    CHECK(is_plan_finding(olivastrum_inspect_log_of(plan, sizeof plan, log, LOG_BYTES), VISITS, 1, 0, 0, 0));
+    plan[first - 1] += 1;
+    CHECK(is_plan_finding(olivastrum_inspect_log_of(plan, sizeof plan, log, LOG_BYTES), 0, 0, 0, 0, 1));
+    log[first + 3] -= 1;
+    CHECK(is_plan_finding(olivastrum_inspect_log_of(plan, sizeof plan, log, LOG_BYTES), 0, 0, 0, 0, 1));
+    CHECK(is_plan_finding(olivastrum_inspect_log_of(plan, sizeof plan, log, LOG_BYTES - 1), 0, 0, 2, OLIVASTRUM_SHEET_ENDS, 0));
+    plan[first - 1] = 99;
+    CHECK(is_plan_finding(olivastrum_inspect_log_of(plan, sizeof plan, log, LOG_BYTES - 1), 0, 0, 1, OLIVASTRUM_RULE_BROKEN, 0));
+    CHECK(is_plan_finding(olivastrum_inspect_log_of(log, LOG_BYTES, log, LOG_BYTES), 0, 0, 1, OLIVASTRUM_SHEET_WRONG, 0));
+    return 1;
+}
+
 /* With a counter that shows 0 at the opening it is byte for byte the log that the program writes of the same calls. */
 static const uint8_t worked_log[] = {
 #include "worked_log.h"
@@ -507,7 +539,7 @@ static int logs(struct olivastrum_set set, struct olivastrum_alloc alloc)
     uint8_t log[LOG_BYTES];
     CHECK(recording(set, alloc, 0, log));
     CHECK(sizeof worked_log == LOG_BYTES && memcmp(log, worked_log, LOG_BYTES) == 0);
-    return recording(set, alloc, COUNTER, log) && read_back(&set, &alloc, log) && inspecting(log);
+    return recording(set, alloc, COUNTER, log) && read_back(&set, &alloc, log) && inspecting_of(log) && inspecting(log);
 }
 
 /* ---- the log of a run in which station 1 is switched through for a visit: a mark, two visits, a mark */

@@ -34,6 +34,9 @@ static uint8_t sheet[OLIVASTRUM_PLAN_BYTES(128) + OLIVASTRUM_MODE_BYTES + OLIVAS
 static size_t length;
 /* A store, which fills as plans are stored, and an area that is emptied. */
 static uint8_t area[OLIVASTRUM_STORE_BYTES], emptied[OLIVASTRUM_STORE_BYTES];
+/* the plan sheet that a log is held to */
+static uint8_t plan_sheet[OLIVASTRUM_PLAN_BYTES(128) + OLIVASTRUM_MODE_BYTES + OLIVASTRUM_FRAME_BYTES];
+static size_t plan_length;
 
 /* ---- the calls: what is passed by value is copied to the stack, and the answer goes where `answer` is */
 static struct olivastrum_read_request read_request(void)
@@ -121,6 +124,11 @@ static struct olivastrum_finding inspect_log(void)
     return olivastrum_inspect_log(sheet, length);
 }
 
+static struct olivastrum_plan_finding inspect_log_of(void)
+{
+    return olivastrum_inspect_log_of(plan_sheet, plan_length, sheet, length);
+}
+
 static uint8_t empty_store(void)
 {
     return olivastrum_empty_store(emptied, sizeof emptied);
@@ -200,6 +208,7 @@ static struct function {
     {"olivastrum_read_log", (call *)read_log, OLIVASTRUM_STACK_READ_LOG, 0},
     {"olivastrum_log_entry", (call *)log_entry, OLIVASTRUM_STACK_LOG_ENTRY, 0},
     {"olivastrum_inspect_log", (call *)inspect_log, OLIVASTRUM_STACK_INSPECT_LOG, 0},
+    {"olivastrum_inspect_log_of", (call *)inspect_log_of, OLIVASTRUM_STACK_INSPECT_LOG_OF, 0},
     {"olivastrum_empty_store", (call *)empty_store, OLIVASTRUM_STACK_EMPTY_STORE, 0},
     {"olivastrum_store_plan", (call *)store_plan, OLIVASTRUM_STACK_STORE_PLAN, 0},
     {"olivastrum_find_version", (call *)find_version, OLIVASTRUM_STACK_FIND_VERSION, 0},
@@ -267,6 +276,7 @@ static struct olivastrum_set stations(uint32_t mode, uint32_t frame, uint32_t n)
 /* A log of a mark and a visit, a plan sheet or a request sheet; all writers and all readers get each of them. */
 static void with_sheets(void)
 {
+    plan_length = olivastrum_write_plan_sheet(set, alloc, plan_sheet, sizeof plan_sheet).length;
     recorder = olivastrum_begin_log(set, alloc, 4294967295u, 7, sheet, sizeof sheet);
     recorder = olivastrum_add_mark(recorder, mark_entry, sheet, sizeof sheet);
     recorder = olivastrum_add_visit(recorder, record, sheet, sizeof sheet);

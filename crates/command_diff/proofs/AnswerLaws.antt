@@ -1,12 +1,17 @@
 -- What is handed back in each of the cases, for the proof of `diff_text`. No rule stands here.
-use Prim.Native.Nat.{ℕ, zero, suc, _≤_, _<_}
+use Prim.Native.Nat.{ℕ, zero, suc, _+_, _-_, _≤_, _<_}
 use mathlib.Core.Path.{_≡_, refl, sym, ap, subst, _∙_}
-use mathlib.Core.Bool.{true, false}
+use mathlib.Core.Bool.{true, false, _&&_, true≢false}
 use mathlib.Core.List.{List, [], _∷_}
 use mathlib.Core.Logic.{_≢_}
 use native.Mathlib.Omega.{arith}
-use borrow.Author.Tests.{eq-eqb, ne-eqb, le-leb, lt-leb}
+use borrow.Author.Tests.{eq-eqb, ne-eqb, leb-true, le-leb, lt-leb}
+use lib.Dec.{leb}
 use lib.ListN.{length}
+use Rattle.units.specs.Numbers.{mostStations}
+use Rattle.units.specs.JudgingLaws.{and-true, true-and}
+use Rattle.sets.specs.declared.Set.{Set}
+use Rattle.plans.specs.declared.Alloc.{Alloc}
 use Rattle.fields.specs.Rows.{laid}
 use Rattle.fields.specs.RowLaws.{laid-none}
 use Rattle.sheets.specs.Reading.{readPlan}
@@ -14,9 +19,9 @@ use Rattle.sheets.specs.ReadLaws.{read-few}
 use Rattle.sheets.specs.declared.ReadPlan.{ReadPlan}
 use Rattle.text.specs.Text.{line, pageSize, PutShort}
 use Rattle.text.specs.TextLaws.{printed, not-printed}
-use Rattle.differences.specs.Differences.{Difference, differences}
+use Rattle.differences.specs.Differences.{Difference, differences, isNone}
 use Rattle.command_diff.specs.declared.Diffed.{Diffed}
-use Rattle.command_diff.specs.DiffText.{oldWord, newWord, sameWord, linesOf, diffText, sideRefused, sideOr, comparedText, isNone, DiffedOn}
+use Rattle.command_diff.specs.DiffText.{oldWord, newWord, sameWord, linesOf, diffText, sideRefused, sideOr, comparedText, linesSize, LinesPut, DiffedOn}
 use Rattle.command_diff.proofs.LineLaws.{none-told}
 
 -- ---- a side that is refused, or not
@@ -41,6 +46,42 @@ text-some (d ∷ ds) n = (refl, refl)
 no-lines : linesOf [] ≡ []
 unfolding linesOf
 no-lines = refl
+
+-- ---- lines from a place on
+
+pub lines-fit : (n m : ℕ) → (leb n mostStations && leb m mostStations) ≡ true → (n ≤ mostStations) × (m ≤ mostStations)
+lines-fit n m e =
+    let few = and-true (leb n mostStations) (leb m mostStations) e in
+    (leb-true n mostStations (few .0), leb-true m mostStations (few .1))
+
+module _ {t : Set} {a : Alloc} {u : Set} {b : Alloc} {before : List ℕ} {place : ℕ} where
+  -- nothing is put where one of the three is missing
+  lines-none : ¬ ((t .n ≤ mostStations) × (u .n ≤ mostStations) × (place + linesSize ≤ length before)) → LinesPut t a u b before place before place
+  lines-none missing =
+      record {
+        put = λ few many room. absurd (missing (few, many, room));
+        old-many = λ h. (refl, refl);
+        new-many = λ h. (refl, refl);
+        full = λ h. (refl, refl);
+        reach = omega arith;
+      }
+
+  pub lines-many : (leb (t .n) mostStations && leb (u .n) mostStations) ≡ false → LinesPut t a u b before place before place
+  lines-many e = lines-none (λ all. absurd (true≢false (sym (true-and _ _ (le-leb (t .n) mostStations (all .0)) (le-leb (u .n) mostStations (all .1))) ∙ e)))
+
+  pub lines-full : length before - place < linesSize → LinesPut t a u b before place before place
+  lines-full h = lines-none (λ all. absurd (omega (arith, all .2)))
+
+  pub lines-put : {after : List ℕ} {r : ℕ}
+      → (leb (t .n) mostStations && leb (u .n) mostStations) ≡ true → place + linesSize ≤ length before → PutShort linesSize before place (linesOf (differences t a u b)) after r → LinesPut t a u b before place after r
+  lines-put e room p =
+      record {
+        put = λ few many room. p;
+        old-many = λ h. absurd (omega (arith, lines-fit (t .n) (u .n) e .0));
+        new-many = λ h. absurd (omega (arith, lines-fit (t .n) (u .n) e .1));
+        full = λ h. absurd (omega arith);
+        reach = omega (arith, p .put .next, p .short);
+      }
 
 -- ---- the cases
 
@@ -69,7 +110,7 @@ module _ {p q P Q : ReadPlan} {before : List ℕ} (e : p ≡ P) (f : q ≡ Q) (l
           same = rw (le-leb pageSize (length before) large, eq-eqb (p .number) 0 a, ne-eqb (q .number) 0 n) refl;
         })
 
-    module _ (b : q .number ≡ 0) {middle : List ℕ} {k : ℕ} (lines : PutShort 60_000 before 0 (linesOf (differences (p .set) (p .alloc) (q .set) (q .alloc))) middle k) where
+    module _ (b : q .number ≡ 0) {middle : List ℕ} {k : ℕ} (lines : PutShort linesSize before 0 (linesOf (differences (p .set) (p .alloc) (q .set) (q .alloc))) middle k) where
       abbrev ds : List Difference
       ds = differences (p .set) (p .alloc) (q .set) (q .alloc)
 

@@ -8,11 +8,11 @@ use native.Mathlib.Numerals.{add-one}
 use native.Mathlib.Omega.{arith}
 use borrow.Author.Tests.{eq-eqb, ne-eqb}
 use lib.ListN.{length}
-use Rattle.text.specs.Text.{space, newline, decimalOf, lineOn, line, refusedLine, pageSize}
+use Rattle.text.specs.Text.{space, newline, decimalOf, lineOn, line, refusedLine}
 use Rattle.text.specs.TextLaws.{line-first, line-next, line-end}
 use Rattle.differences.specs.Differences.{Difference, inHeader, inStation, oneSided, changed, gathered, headerChanged, headersChanged}
 use Rattle.command_diff.proofs.BackLaws.{line-some}
-use Rattle.command_diff.specs.DiffText.{letterWord, newWord, oldWord, sideWord, fiveWords, wordsOf, lineOf, linesOf, sideRefused}
+use Rattle.command_diff.specs.DiffText.{letterWord, newWord, oldWord, sideWord, fiveWords, wordsOf, lineOf, linesOf, linesSize, sideRefused}
 
 -- ---- lists put together
 
@@ -98,15 +98,15 @@ old-refused n = refl
 
 -- ---- how much is put, of plans with n and m stations: the lines of the header, of the stations that both have, and of those that one has more
 
-pub record Sizes (n m come gone size : ℕ) : Type 0 where
+pub record Sizes (place n m come gone size : ℕ) : Type 0 where
   pub shared : n - gone ≡ min n m
-  pub shared-fit : 0 + 252 + 415 * (n - gone) ≤ size
-  pub come-fit : 0 + (252 + 415 * (n - gone)) + 146 * come ≤ size
-  pub gone-fit : 0 + (252 + 415 * (n - gone) + 146 * come) + 146 * gone ≤ size
-  pub all-fit : 252 + 415 * (n - gone) + 146 * come + 146 * gone ≤ 60_000
+  pub shared-fit : place + 252 + 415 * (n - gone) ≤ size
+  pub come-fit : place + (252 + 415 * (n - gone)) + 146 * come ≤ size
+  pub gone-fit : place + (252 + 415 * (n - gone) + 146 * come) + 146 * gone ≤ size
+  pub all-fit : 252 + 415 * (n - gone) + 146 * come + 146 * gone ≤ linesSize
 
-pub sizes : (n m come gone size : ℕ) → n ≤ 128 → m ≤ 128 → come ≡ m - n → gone ≡ n - m → pageSize ≤ size → Sizes n m come gone size
-sizes n m come gone size few many more less large =
+pub sizes : (place n m come gone size : ℕ) → n ≤ 128 → m ≤ 128 → come ≡ m - n → gone ≡ n - m → place + linesSize ≤ size → Sizes place n m come gone size
+sizes place n m come gone size few many more less large =
     let most : 415 * (n - gone) + 146 * come + 146 * gone ≤ 415 * 128 = omega arith in
     record { shared = omega arith; shared-fit = omega arith; come-fit = omega arith; gone-fit = omega arith; all-fit = omega arith }
 

@@ -1,5 +1,5 @@
 -- Everything that `specs/Promised.antt` lists, proved.
-use Prim.Native.Nat.{ℕ, zero, suc, _^_, _≤_, _<_}
+use Prim.Native.Nat.{ℕ, zero, suc, _+_, _^_, _≤_, _<_}
 use mathlib.Core.Path.{_≡_, refl, sym, ap, subst, _∙_}
 use mathlib.Core.Bool.{Bool, true, false, false≢true}
 use mathlib.Core.List.{List, [], _∷_, _++_}
@@ -9,6 +9,7 @@ use borrow.Author.Tests.{eqb-true, eqb-false, ltb-true, ne-eqb, lt-leb, le-leb, 
 use lib.Dec.{eqb}
 use lib.ListN.{length, take, drop, getD, length-append}
 use lib.Seq.{take-at}
+use Rattle.units.specs.Numbers.{mostStations}
 use Rattle.units.specs.SmallLaws.{below-or-not}
 use Rattle.units.specs.JudgingLaws.{true-or-false, and-true}
 use Rattle.sets.specs.Rules.{HeadInRange}
@@ -27,8 +28,9 @@ use Rattle.sheet_rules.proofs.Promised as sheet-rules
 use Rattle.text.specs.Text.{decimalWithin, lineOn, line, pageSize, pageWith, lengthOn, Printed}
 use Rattle.differences.specs.Views.{nthOf, headerOf, numberOf, viewOf, SamePlan}
 use Rattle.differences.specs.Differences.{Difference, inHeader, inStation, oneSided, alone, Differs, In}
+use Rattle.differences.proofs.NoneLaws.{is-none, none-is}
 use Rattle.differences.proofs.Promised as difference-rules
-use Rattle.command_diff.specs.DiffText.{letterWord, sideWord, oldWord, newWord, sameWord, wordsOf, lineOf, linesOf, diffText, sideRefused, diffPrinted, isNone, isSame, DiffedOn}
+use Rattle.command_diff.specs.DiffText.{letterWord, sideWord, oldWord, newWord, sameWord, wordsOf, lineOf, linesOf, diffText, linesSize, LinesPut, sideRefused, diffPrinted, isSame, DiffedOn}
 use Rattle.command_diff.specs.declared.Diffed.{Diffed}
 use Rattle.command_diff.specs.Promised.{Writable, AllWritable, planIn, differencesIn, ListsIn, BothPlans, SaysSame, Promised}
 use Rattle.command_diff.proofs.BackLaws.{same-alone, text-tells}
@@ -175,15 +177,6 @@ module _ (old new : List ℕ) (a : readPlan old .number ≡ 0) (b : readPlan new
 
 -- ---- `same`, told and printed
 
-is-none : (ds : List Difference) → isNone ds ≡ true → ds ≡ []
-unfolding isNone
-is-none [] e = refl
-is-none (d ∷ ds) e = absurd (false≢true e)
-
-none-is : (ds : List Difference) → ds ≡ [] → isNone ds ≡ true
-unfolding isNone
-none-is ds e = rw e refl
-
 old-not-same : (n : ℕ) → sideRefused oldWord n ≡ line (sameWord ∷ []) → ⊥
 unfolding line lineOn
 old-not-same n e = omega (arith, ap (λ (z : List ℕ). getD z 0 0) e)
@@ -296,6 +289,27 @@ alone-line = refl
 enough-read : (old new : List ℕ) (n m : ℕ) → planRead ≤ n → planRead ≤ m → diffPrinted (take n old) (take m new) ≡ diffPrinted old new
 enough-read old new n m l k = rw (sheet-rules.promised .plan-read n l old, sheet-rules.promised .plan-read m k new) refl
 
+-- ---- lines from a place on are decided
+
+module _ (t : Set) (a : Alloc) (u : Set) (b : Alloc) (before : List ℕ) (place : ℕ) (after after' : List ℕ) (r r' : ℕ) where
+  lines-decided : LinesPut t a u b before place after r → LinesPut t a u b before place after' r' → (after ≡ after') × (r ≡ r')
+  lines-decided p q =
+      ⊎-elim (λ (x : mostStations < t .n). both (p .old-many x) (q .old-many x))
+      (λ (few : t .n ≤ mostStations).
+      ⊎-elim (λ (x : mostStations < u .n). both (p .new-many x) (q .new-many x))
+      (λ (many : u .n ≤ mostStations).
+      ⊎-elim (λ (x : length before < place + linesSize). both (p .full x) (q .full x))
+      (λ (room : place + linesSize ≤ length before).
+      let v = p .put few many room .put in
+      let w = q .put few many room .put in
+      (v .page ∙ sym (w .page), v .next ∙ sym (w .next)))
+      (below-or-not (length before) (place + linesSize)))
+      (below-or-not mostStations (u .n)))
+      (below-or-not mostStations (t .n))
+    where
+      both : (after ≡ before) × (r ≡ place) → (after' ≡ before) × (r' ≡ place) → (after ≡ after') × (r ≡ r')
+      both x y = (x .0 ∙ sym (y .0), x .1 ∙ sym (y .1))
+
 pub promised : Promised
 promised =
     record {
@@ -316,5 +330,6 @@ promised =
       same-files = same-files;
       same-bytes = same-bytes;
       same-told = same-told;
+      lines-decided = lines-decided;
       enough-read = enough-read;
     }

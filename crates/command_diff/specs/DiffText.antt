@@ -1,14 +1,17 @@
 -- What `diff` prints of two plan sheets (02, No. 9): a line for each difference, each with its place, old and new; `same` where there is none; or which side is refused and the number.
-use Prim.Native.Nat.{ℕ, zero, suc}
+use Prim.Native.Nat.{ℕ, zero, suc, _+_, _≤_, _<_}
 use mathlib.Core.Path.{_≡_}
 use mathlib.Core.Bool.{Bool, true, false, _&&_}
 use mathlib.Core.List.{List, [], _∷_, _++_}
 use lib.Dec.{eqb, leb}
 use lib.ListN.{length}
+use Rattle.units.specs.Numbers.{mostStations}
+use Rattle.sets.specs.declared.Set.{Set}
+use Rattle.plans.specs.declared.Alloc.{Alloc}
 use Rattle.sheets.specs.Reading.{readPlan}
 use Rattle.sheets.specs.declared.ReadPlan.{ReadPlan}
-use Rattle.text.specs.Text.{decimalOf, line, refusedWord, pageSize, Printed}
-use Rattle.differences.specs.Differences.{Difference, inHeader, inStation, oneSided, differences}
+use Rattle.text.specs.Text.{decimalOf, line, refusedWord, pageSize, PutShort, Printed}
+use Rattle.differences.specs.Differences.{Difference, inHeader, inStation, oneSided, differences, isNone}
 use Rattle.command_diff.specs.declared.Diffed.{Diffed}
 
 -- ---- words
@@ -56,6 +59,19 @@ unfoldable pub linesOf : List Difference → List ℕ
 linesOf [] = []
 linesOf (d ∷ ds) = lineOf d ++ linesOf ds
 
+-- how many bytes the lines of any two plans have at most
+abbrev pub linesSize : ℕ
+linesSize = 60_000
+
+-- the lines of two plans were put into a page from the place on, if they have as many stations as there are and the page has room; else it is as it was, and r is the place itself
+pub record LinesPut (t : Set) (a : Alloc) (u : Set) (b : Alloc) (before : List ℕ) (place : ℕ) (after : List ℕ) (r : ℕ) : Type 0 where
+  pub put : t .n ≤ mostStations → u .n ≤ mostStations → place + linesSize ≤ length before → PutShort linesSize before place (linesOf (differences t a u b)) after r
+  pub old-many : mostStations < t .n → (after ≡ before) × (r ≡ place)
+  pub new-many : mostStations < u .n → (after ≡ before) × (r ≡ place)
+  pub full : length before < place + linesSize → (after ≡ before) × (r ≡ place)
+  -- how far the place moves at most, for whoever puts more behind it
+  pub reach : r ≤ place + linesSize
+
 -- the lines, or `same` where nothing differs
 unfoldable pub diffText : List Difference → List ℕ
 diffText [] = line (sameWord ∷ [])
@@ -81,10 +97,6 @@ abbrev pub diffPrinted : List ℕ → List ℕ → List ℕ
 diffPrinted old new = comparedText (readPlan old) (readPlan new)
 
 -- ---- when it is `same`
-
-unfoldable pub isNone : List Difference → Bool
-isNone [] = true
-isNone (d ∷ ds) = false
 
 -- both sheets are read, and nothing differs
 abbrev pub isSame : ReadPlan → ReadPlan → Bool

@@ -6,6 +6,8 @@ use mathlib.Core.List.{List, [], _∷_}
 use mathlib.Core.Logic.{_≢_, _↔_}
 use lib.ListN.{take}
 use Rattle.fields.specs.Bytes.{AllBytes}
+use Rattle.sets.specs.declared.Set.{Set}
+use Rattle.plans.specs.declared.Alloc.{Alloc}
 use Rattle.sheets.specs.Layout.{planRead}
 use Rattle.sheets.specs.Reading.{readPlan}
 use Rattle.sheet_rules.specs.Promised.{There}
@@ -14,7 +16,7 @@ use Rattle.differences.specs.Views.{View, viewOf, SamePlan}
 use Rattle.differences.specs.Differences.{Difference, inHeader, inStation, oneSided, differences, Differs, In}
 use Rattle.differences.specs.Promised.{Lists}
 use Rattle.command_diff.specs.declared.Diffed.{Diffed}
-use Rattle.command_diff.specs.DiffText.{oldWord, newWord, sameWord, lineOf, diffText, diffPrinted, DiffedOn}
+use Rattle.command_diff.specs.DiffText.{oldWord, newWord, sameWord, lineOf, diffText, diffPrinted, LinesPut, DiffedOn}
 
 -- each of its numbers is below 2 ^ 64, and the letter is one of five
 abbrev pub Writable : Difference → Type 0
@@ -109,5 +111,8 @@ pub record Promised : Type 0 where
   -- what is handed back tells `same`, by which the status goes, exactly where it is printed, whatever the page
   pub same-told : (old new before after : List ℕ) (r : Diffed) → DiffedOn (readPlan old) (readPlan new) before after r
       → (r .same ≡ true) ↔ SaysSame (take (r .length) after)
+  -- wherever the lines are put, and whether or not there is room for them, the contract leaves no second page and no second answer
+  pub lines-decided : (t : Set) (a : Alloc) (u : Set) (b : Alloc) (before : List ℕ) (place : ℕ) (after after' : List ℕ) (r r' : ℕ)
+      → LinesPut t a u b before place after r → LinesPut t a u b before place after' r' → (after ≡ after') × (r ≡ r')
   -- the first 3,357 bytes of each file, or more, are enough: what is printed is what is printed of all the bytes
   pub enough-read : (old new : List ℕ) (n m : ℕ) → planRead ≤ n → planRead ≤ m → diffPrinted (take n old) (take m new) ≡ diffPrinted old new

@@ -3,12 +3,14 @@ mod putting;
 
 ghost use Rattle.sheets.specs.Reading.{readPlan};
 ghost use Rattle.text.specs.Text.{PutShort};
-ghost use Rattle.command_diff.specs.DiffText.{oldWord, newWord, sameWord, sideRefused, DiffedOn};
+ghost use Rattle.command_diff.specs.DiffText.{oldWord, newWord, sameWord, sideRefused, LinesPut, DiffedOn};
 ghost use Prim.Native.Nat.{_≤_};
 ghost use lib.ListN.{length};
 ghost use mathlib.Core.Bool.{cond};
 ghost use mathlib.Core.List.{[], _∷_};
 ghost use Rattle.text.specs.Text.{line, pageSize};
+use plans::Alloc;
+use sets::Set;
 use text::PAGE_SIZE;
 use units::numbers;
 
@@ -17,6 +19,23 @@ use units::numbers;
 pub struct Diffed {
     pub length: usize,
     pub same: bool,
+}
+
+// How many bytes of a page the lines of any two plans need at most.
+pub const LINES_SIZE: usize = 60_000;
+
+// The lines of the differences of two plans, put from this place on. A page that has no room for the longest, and a plan of more stations than there are, get nothing.
+pub fn put_lines(page: &mut [u8], at: usize, t: Set, a: Alloc, u: Set, b: Alloc) -> usize
+    ensures { λ r. ⌜ LinesPut t a u b (now (page .entry)) at (now (page .exit)) r ⌝ }
+{
+    let few = (t.n <= numbers::MOST_STATIONS) & (u.n <= numbers::MOST_STATIONS);
+    if !few {
+        return at;
+    }
+    if putting::beyond(page.len(), at) < LINES_SIZE {
+        return at;
+    }
+    putting::put_differences(page, at, t, a, u, b)
 }
 
 // `old refused N` or `new refused N`.
@@ -71,7 +90,7 @@ pub fn diff_text(old: &[u8], new: &[u8], page: &mut [u8]) -> Diffed
     let a = before.alloc;
     let u = after.set;
     let b = after.alloc;
-    let length = putting::put_differences(page, t, a, u, b);
+    let length = putting::put_differences(page, 0, t, a, u, b);
     if length == 0 {
         let said = put_same(page);
         return Diffed {

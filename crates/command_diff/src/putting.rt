@@ -4,10 +4,10 @@ ghost use mathlib.Core.List.{_∷_};
 ghost use Prim.Native.Nat.{_+_, _-_, _*_, _≤_, _<_};
 ghost use lib.ListN.{length};
 ghost use Rattle.units.specs.Places.{at as placeAt};
-ghost use Rattle.text.specs.Text.{PutShort, lineOn, space, pageSize};
+ghost use Rattle.text.specs.Text.{PutShort, lineOn, space};
 ghost use Rattle.differences.specs.Views.{headerOf, numberOf};
 ghost use Rattle.differences.specs.Differences.{inHeader, inStation, changed, gathered, headersChanged, stationChanged, alone, aloneFrom, differences};
-ghost use Rattle.command_diff.specs.DiffText.{letterWord, sideWord, fiveWords, lineOf, linesOf};
+ghost use Rattle.command_diff.specs.DiffText.{letterWord, sideWord, fiveWords, lineOf, linesOf, linesSize};
 use plans::Alloc;
 use sets::Head;
 use sets::Set;
@@ -29,11 +29,11 @@ fn put_header(page: &mut [u8], at: usize, tag: u64, old: u32, new: u32) -> usize
 }
 
 // Tags 1, 4, 5 and 6.
-fn put_headers(page: &mut [u8], h: Head, k: Head) -> usize
-    requires { ⌜ 252 ≤ length (now page) ⌝ }
-    ensures { λ r. ⌜ PutShort 252 (now (page .entry)) 0 (linesOf (headersChanged (headerOf h) (headerOf k))) (now (page .exit)) r ⌝ }
+fn put_headers(page: &mut [u8], at: usize, h: Head, k: Head) -> usize
+    requires { ⌜ at + 252 ≤ length (now page) ⌝ }
+    ensures { λ r. ⌜ PutShort 252 (now (page .entry)) at (linesOf (headersChanged (headerOf h) (headerOf k))) (now (page .exit)) r ⌝ }
 {
-    let rotation = put_header(page, 0, 1, h.ttrt, k.ttrt);
+    let rotation = put_header(page, at, 1, h.ttrt, k.ttrt);
     let mode = put_header(page, rotation, 4, h.mode, k.mode);
     let frame = put_header(page, mode, 5, h.frame, k.frame);
     put_header(page, frame, 6, h.grid, k.grid)
@@ -172,8 +172,8 @@ fn put_alones(
 
 // ---- all of it
 
-// How many stations one plan has more than the other.
-fn beyond(n: usize, m: usize) -> usize
+// By how much one number is above another, which it need not be.
+pub(crate) fn beyond(n: usize, m: usize) -> usize
     ensures { λ r. ⌜ r ≡ n - m ⌝ }
 {
     if n < m {
@@ -183,16 +183,23 @@ fn beyond(n: usize, m: usize) -> usize
 }
 
 // All differences of two plans.
-pub(crate) fn put_differences(page: &mut [u8], t: Set, a: Alloc, u: Set, b: Alloc) -> usize
-    requires { ⌜ ((t .n ≤ 128) × (u .n ≤ 128)) × (pageSize ≤ length (now page)) ⌝ }
-    ensures { λ r. ⌜ PutShort 60_000 (now (page .entry)) 0 (linesOf (differences t a u b)) (now (page .exit)) r ⌝ }
+pub(crate) fn put_differences(
+    page: &mut [u8],
+    at: usize,
+    t: Set,
+    a: Alloc,
+    u: Set,
+    b: Alloc,
+) -> usize
+    requires { ⌜ ((t .n ≤ 128) × (u .n ≤ 128)) × (at + linesSize ≤ length (now page)) ⌝ }
+    ensures { λ r. ⌜ PutShort linesSize (now (page .entry)) at (linesOf (differences t a u b)) (now (page .exit)) r ⌝ }
 {
     let n = units::places(t.n);
     let m = units::places(u.n);
     let come = beyond(m, n);
     let gone = beyond(n, m);
     let shared = n - gone;
-    let headed = put_headers(page, t.head, u.head);
+    let headed = put_headers(page, at, t.head, u.head);
     let changed = put_stations(page, headed, t, a, u, b, shared);
     let coming = put_alones(page, changed, true, u, b, n, come);
     put_alones(page, coming, false, t, a, m, gone)

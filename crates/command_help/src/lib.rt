@@ -50,6 +50,7 @@ With no command it is `plan`. For example:
   olivastrum run four.plan < examples/worked-run.calls
   olivastrum log four.plan < examples/worked-run.calls > worked.log
   olivastrum inspect < worked.log
+  olivastrum inspect four.plan < worked.log
   olivastrum diff examples/left.plan examples/came-back.plan
   olivastrum hopper < examples/hopper-twelve.wagons
   olivastrum hopper-sheet < examples/hopper-twelve.wagons > twelve.request

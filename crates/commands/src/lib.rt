@@ -101,7 +101,7 @@ fn following(command: Command) -> Range
         Command::Show => Range { least: 0, most: 0 },
         Command::Run => Range { least: 1, most: 1 },
         Command::Log => Range { least: 1, most: 1 },
-        Command::Inspect => Range { least: 0, most: 0 },
+        Command::Inspect => Range { least: 0, most: 1 },
         Command::Diff => Range { least: 2, most: 2 },
         Command::Hopper => Range { least: 0, most: 0 },
         Command::HopperSheet => Range { least: 0, most: 0 },

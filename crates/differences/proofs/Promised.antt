@@ -5,18 +5,20 @@ use mathlib.Core.Bool.{Bool, true, false, cond}
 use mathlib.Core.List.{List, []}
 use mathlib.Core.Logic.{_≢_, ⊎-elim, _↔_}
 use native.Mathlib.Omega.{arith}
-use borrow.Author.Tests.{eqb-true, eqb-false}
-use lib.Dec.{eqb}
-use Rattle.units.specs.JudgingLaws.{true-or-false}
+use borrow.Author.Tests.{eqb-true, eqb-false, le-leb}
+use lib.Dec.{eqb, leb}
+use Rattle.units.specs.JudgingLaws.{true-or-false, and-true, true-and}
+use Rattle.units.specs.Numbers.{mostStations}
 use Rattle.sets.specs.declared.Set.{Set}
 use Rattle.plans.specs.declared.Alloc.{Alloc}
 use Rattle.differences.specs.Views.{View, viewOf, SamePlan}
-use Rattle.differences.specs.Differences.{Difference, inHeader, inStation, oneSided, alone, differences, applyAll, Differs, In}
+use Rattle.differences.specs.Differences.{Difference, inHeader, inStation, oneSided, alone, differences, isNone, isSamePlan, applyAll, Differs, In}
 use Rattle.differences.specs.Promised.{Lists, Promised}
 use Rattle.differences.proofs.Lists.{same-lists}
 use Rattle.differences.proofs.Applying.{Place, atHeader, atStation, atNumber, bit, value, bit-same, Compared, own, Right, untouched, touched}
 use Rattle.differences.proofs.Listing.{listed-differs, differs-listed, listed-rising}
 use Rattle.differences.proofs.SameLaws.{same-plan}
+use Rattle.differences.proofs.NoneLaws.{is-none, none-is, none-count}
 
 -- ---- the difference that stands for a place
 
@@ -128,6 +130,18 @@ module _ (t : Set) (a : Alloc) (u : Set) (b : Alloc) where
     λ same. sym (one-list [] few many (record { gives = nothing same; differs = λ d i. absurd i; rising = tt })),
   )
 
+  -- what is answered of two plans
+
+  same-told : t .n ≤ 128 → (isSamePlan t a u b ≡ true) ↔ SamePlan (viewOf t a) (viewOf u b)
+  same-told few = (
+    λ e.
+        let none = and-true (leb (t .n) mostStations) (isNone (differences t a u b)) e .1 in
+        none-listed few (omega (arith, few, none-count t a u b none)) .0 (is-none (differences t a u b) none),
+    λ same.
+        let many : u .n ≤ 128 = omega (arith, few, same-plan t a u b .0 same .0 .count) in
+        true-and _ _ (le-leb (t .n) mostStations few) (none-is (differences t a u b) (none-listed few many .1 same)),
+  )
+
 pub promised : Promised
 promised =
     record {
@@ -135,5 +149,6 @@ promised =
       one-list = one-list;
       all-listed = λ t a u b d few many D. differs-listed t a u b d D;
       none-listed = none-listed;
+      same-told = same-told;
       same-plan = same-plan;
     }

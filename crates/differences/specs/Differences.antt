@@ -4,7 +4,8 @@ use mathlib.Core.Path.{_≡_}
 use mathlib.Core.Bool.{Bool, true, false, cond, _&&_}
 use mathlib.Core.List.{List, [], _∷_, _++_}
 use mathlib.Core.Logic.{_⊎_, _≢_}
-use lib.Dec.{eqb}
+use lib.Dec.{eqb, leb}
+use Rattle.units.specs.Numbers.{mostStations}
 use Rattle.sets.specs.declared.Set.{Set}
 use Rattle.plans.specs.declared.Alloc.{Alloc}
 use Rattle.differences.specs.Views.{View, HeaderTag, nthOf, viewOf}
@@ -57,6 +58,15 @@ listed n m v w =
 -- the differences of the old plan, t and a, and the new plan, u and b
 abbrev pub differences : Set → Alloc → Set → Alloc → List Difference
 differences t a u b = listed (t .n) (u .n) (viewOf t a) (viewOf u b)
+
+-- nothing is listed
+unfoldable pub isNone : List Difference → Bool
+isNone [] = true
+isNone (d ∷ ds) = false
+
+-- the plans do not differ; more stations than a plan can have are the same as none
+abbrev pub isSamePlan : Set → Alloc → Set → Alloc → Bool
+isSamePlan t a u b = leb (t .n) mostStations && isNone (differences t a u b)
 
 -- ---- what it is to apply them
 

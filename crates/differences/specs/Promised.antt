@@ -1,6 +1,7 @@
 -- What is promised of the differences of two plans (02, No. 9); `proofs/Promised.antt` proves it.
 use Prim.Native.Nat.{ℕ, _≤_, _<_}
 use mathlib.Core.Path.{_≡_}
+use mathlib.Core.Bool.{true}
 use mathlib.Core.List.{List, []}
 use mathlib.Core.Logic.{_↔_}
 use Rattle.units.specs.Places.{at}
@@ -8,7 +9,7 @@ use Rattle.sets.specs.Rules.{SameSet}
 use Rattle.sets.specs.declared.Set.{Set}
 use Rattle.plans.specs.declared.Alloc.{Alloc}
 use Rattle.differences.specs.Views.{viewOf, SamePlan}
-use Rattle.differences.specs.Differences.{Difference, differences, applyAll, Differs, In, Rising}
+use Rattle.differences.specs.Differences.{Difference, differences, isSamePlan, applyAll, Differs, In, Rising}
 
 -- a list of differences of two plans
 pub record Lists (t : Set) (a : Alloc) (u : Set) (b : Alloc) (ds : List Difference) : Type 0 where
@@ -28,6 +29,8 @@ pub record Promised : Type 0 where
   pub all-listed : (t : Set) (a : Alloc) (u : Set) (b : Alloc) (d : Difference) → t .n ≤ 128 → u .n ≤ 128 → Differs (viewOf t a) (viewOf u b) d → In d (differences t a u b)
   -- equal plans and only they give none
   pub none-listed : (t : Set) (a : Alloc) (u : Set) (b : Alloc) → t .n ≤ 128 → u .n ≤ 128 → (differences t a u b ≡ []) ↔ SamePlan (viewOf t a) (viewOf u b)
+  -- so what is answered of two plans tells whether they are the same
+  pub same-told : (t : Set) (a : Alloc) (u : Set) (b : Alloc) → t .n ≤ 128 → (isSamePlan t a u b ≡ true) ↔ SamePlan (viewOf t a) (viewOf u b)
   -- and equal plans are those with the same set and the same S, over the first N stations
   pub same-plan : (t : Set) (a : Alloc) (u : Set) (b : Alloc)
       → SamePlan (viewOf t a) (viewOf u b) ↔ (SameSet t u × ((i : ℕ) → i < t .n → at (a .s) i ≡ at (b .s) i))

@@ -39,7 +39,7 @@ module _ (r : Ring) where
   set-with (Visit v) = refl
   set-with (Mark m) = ap (λ (q : Ring). q .set) (switched-messages r (m .station) (m .mark) .1)
 
-  alloc-with : (e : Entry) → ringWith r e .alloc ≡ r .alloc
+  pub alloc-with : (e : Entry) → ringWith r e .alloc ≡ r .alloc
   unfolding moved
   alloc-with (Visit v) = refl
   alloc-with (Mark m) = ap (λ (q : Ring). q .alloc) (switched-messages r (m .station) (m .mark) .1)
@@ -51,7 +51,7 @@ module _ (r : Ring) where
   visits-switched : (i on : ℕ) → switched r i on .visits ≡ r .visits
   visits-switched i on = ap (λ (q : Ring). q .visits) (switched-messages r i on .1)
 
-  clock-switched : (i on : ℕ) → switched r i on .clock ≡ r .clock
+  pub clock-switched : (i on : ℕ) → switched r i on .clock ≡ r .clock
   clock-switched i on = ap (λ (q : Ring). q .clock) (switched-messages r i on .1)
 
 pub ring-none : (r : Ring) → ringAfter r [] ≡ r

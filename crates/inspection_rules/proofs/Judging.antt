@@ -82,7 +82,7 @@ module _ (limit longest amount : ℕ) where
 -- an amount fits exactly if some request sends it
 pub asked-decides : (r : Ring) → Reached r → (amount : ℕ) → Decides (framesFit (limit r) (r .set .head .frame) amount) (Asked r amount)
 asked-decides r K amount =
-    let frame = given-none (r .set) (r .alloc) .0 (K .judged) .1 .0 .0 .header .frame in (
+    let frame = given-none (r .set) (r .alloc) .0 (K .goes .judged) .1 .0 .0 .header .frame in (
       λ h.
           let w = fits-sent (limit r) (r .set .head .frame) amount (frame .0) h in
           let short = frames-within (limit r) (w .0) (w .1 .1 .0) in

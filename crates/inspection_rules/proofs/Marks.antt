@@ -72,8 +72,8 @@ marks-from counter i inside r (Visit v ∷ es) mark K g was small =
     marks-from counter i inside (moved r (v .synchronous) (v .asynchronous)) es mark (reached-with counter r (Visit v) K (g .0)) (g .1) was small
 marks-from counter i inside r (Mark m ∷ es) mark K g was small =
     marks-from counter i inside (switched r (m .station) (m .mark)) es (cond (eqb (m .station) i) (m .mark) mark) (reached-with counter r (Mark m) K (g .0)) (g .1)
-    (switched-mark i mark inside r (K .shaped) was small (m .station) (m .mark) (g .0 .1))
-    (small-mark i mark inside r (K .shaped) was small (m .station) (m .mark) (g .0 .1))
+    (switched-mark i mark inside r (K .goes .shaped) was small (m .station) (m .mark) (g .0 .1))
+    (small-mark i mark inside r (K .goes .shaped) was small (m .station) (m .mark) (g .0 .1))
 
 module _ (t : Set) (a : Alloc) (before : List Entry) where
   abbrev now : Ring
@@ -86,7 +86,7 @@ module _ (t : Set) (a : Alloc) (before : List Entry) where
 
     -- the station that has the token
     token-mark : at (now .mark) (now .token) ≡ markAfter (now .token) before
-    token-mark = marks-after (now .token) (omega (arith, reaches t a h (g .0) before (g .1) .token, ap (λ (x : Set). x .n) (set-is t a h before)))
+    token-mark = marks-after (now .token) (omega (arith, reaches t a h (g .0) before (g .1) .goes .course .token, ap (λ (x : Set). x .n) (set-is t a h before)))
 
     pub judged-in : markAfter (now .token) before ≡ 0 → (limit now ≡ timersOffer now) × (mostSent now ≡ share now (now .token))
     judged-in z = (limit-unmarked now (token-mark ∙ z), most-unmarked now (token-mark ∙ z))

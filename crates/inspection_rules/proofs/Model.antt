@@ -265,7 +265,7 @@ module _ (counter : ℕ) (r : Ring) (K : Reached r) where
       let short = passes-short counter r K (tells counter v) C in
       let small : Small v =
       record {
-        station = omega (arith, K .token, plan r K .few);
+        station = omega (arith, K .goes .course .token, plan r K .few);
         limit = omega (arith, limit-small r K, plan r K .rotation .1);
         synchronous = omega arith;
         asynchronous = omega arith;

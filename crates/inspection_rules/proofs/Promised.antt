@@ -105,7 +105,7 @@ beyond-n t a before e behind h g above =
     }
   where
     outside : (e : Entry) → t .n ≤ stationOf e → ¬ Rule t a before e 1
-    outside (Visit v) above is = absurd (omega (arith, above, is, reaches t a h (g .0) before (g .1) .token, ap (λ (x : Set). x .n) (set-is t a h before)))
+    outside (Visit v) above is = absurd (omega (arith, above, is, reaches t a h (g .0) before (g .1) .goes .course .token, ap (λ (x : Set). x .n) (set-is t a h before)))
     outside (Mark m) above is = absurd (omega (arith, above, is .0, ap (λ (x : Set). x .n) (set-is t a h before)))
 
 neither : (t : Set) (a : Alloc) (before : List Entry) (m : MarkEntry) (behind : List Entry) → judgedPlan t a ≡ 0 → Gives t a before → 2 ≤ m .mark

@@ -1,39 +1,45 @@
--- What every ring keeps that records could lead to, whatever its clock: its timers stay small, so that differences on a 32-bit counter tell them.
-use Prim.Native.Nat.{ℕ, zero, suc, _+_, _-_, _*_, _≤_, _<_}
-use mathlib.Core.Path.{_≡_, refl, ap, _∙_}
-use mathlib.Core.List.{List}
+-- What every ring keeps that records could lead to, whatever its clock: all that `promises` keeps of a run's ring without its clock and its messages. A visit of a log gives the facts on which that stands (`promises/specs/Facts.antt`), and a mark leaves the timing alone.
+-- So its timers stay small, and differences on a 32-bit counter tell them.
+use Prim.Native.Nat.{ℕ, zero, suc, _+_, _-_, _≤_, _<_}
+use mathlib.Core.Path.{_≡_, refl, _∙_}
+use mathlib.Core.List.{List, [], _∷_}
 use mathlib.Core.Logic.{_≢_, ⊎-elim}
 use native.Mathlib.Omega.{arith}
 use lib.ListN.{length, set, length-set}
 use lib.Seq.{getD-set-same, getD-set-other}
-use Rattle.units.specs.Places.{at, sumBelow, raise}
-use Rattle.units.specs.PlaceLaws.{zero-at, sum-part, sum-same, sum-split, raise-inside, raise-length}
-use Rattle.units.specs.SmallLaws.{below-or-not}
+use Rattle.units.specs.Places.{at, raise}
+use Rattle.units.specs.PlaceLaws.{zero-at, sum-part, raise-inside, raise-length}
 use Rattle.sets.specs.Judged.{zeros}
 use Rattle.sets.specs.declared.Set.{Set}
 use Rattle.plans.specs.Planned.{judgedPlan}
 use Rattle.plans.specs.declared.Alloc.{Alloc}
 use Rattle.entries.specs.declared.VisitEntry.{VisitEntry}
-use Rattle.timers.specs.Kept.{TokenRule, Visit, Kept}
+use Rattle.timers.specs.Kept.{Visit}
 use Rattle.timers.proofs.Promised.{promised as timers-promised}
-use Rattle.rings.specs.State.{count, ttrt, overrun, following, share, unusedAt, Marked, Unmarked, Shaped, timersOf, Messages, withMessages, withCourse, noMessages}
-use Rattle.rings.specs.Timers.{Fddi, timerOf, hasRun, timersOffer, limit, lead, rise, timersAfter, timelyAfter}
-use Rattle.rings.specs.TimerLaws.{fddi-or-not, marked-or-not, limit-within, offer-timely, after-timely}
+use Rattle.rings.specs.State.{count, ttrt, overrun, share, unusedAt, Marked, Unmarked, Shaped, timersOf, Messages, withMessages, withCourse, noMessages}
+use Rattle.rings.specs.Timers.{Fddi, hasRun, timersOffer, limit, lead, rise, timersAfter, timelyAfter}
+use Rattle.rings.specs.TimerLaws.{fddi-or-not, marked-or-not, lead-within, limit-within, limit-marked, limit-unmarked, offer-timely, after-timely}
 use Rattle.rings.specs.Opening.{openedRing}
 use Rattle.rings.specs.Sound.{Sound}
-use Rattle.rings.specs.Steps.{moved}
+use Rattle.rings.specs.Steps.{syncStart, moved, recordOf}
 use Rattle.rings.specs.RingLaws.{most-within}
 use Rattle.rings.specs.Marking.{switchedThrough, switchedIn}
 use Rattle.rings.specs.MarkLaws.{ring-marked, ring-unmarked}
 use Rattle.rings.specs.FrameLaws.{frames-within, frames-none}
 use Rattle.rings.specs.declared.Ring.{Ring}
+use Rattle.rings.specs.declared.VisitRecord.{VisitRecord}
 use Rattle.rings.proofs.ShapeLaws.{messages-shaped, course-shaped, moved-shaped}
-use Rattle.rings.proofs.StationLaws.{offer-ran, ran-here, ran-there, moved-below, moved-long, opened-ran, opened-below}
+use Rattle.rings.proofs.StationLaws.{offer-ran, ran-here, ran-there, moved-below, moved-long}
 use Rattle.ring_rules.proofs.OpenedLaws.{fresh}
-use Rattle.promises.specs.Facts.{timerPlan}
-use Rattle.promises.proofs.Sums.{sum-changed}
-use Rattle.promises.proofs.Course.{Plan, following-is, same-or-not}
-use Rattle.promises.proofs.Opening.{plan-of}
+use Rattle.promises.specs.History.{Each}
+use Rattle.promises.specs.Facts.{timing, timerPlan, VisitCourse, VisitTimers, VisitLaps}
+use Rattle.promises.specs.Valid.{InTurn}
+use Rattle.promises.proofs.Sums.{sum-lacking}
+use Rattle.promises.proofs.Course.{Plan, Course, course-kept}
+use Rattle.promises.proofs.Timing.{Timed, timed-kept}
+use Rattle.promises.proofs.Laps.{Lapped, late-small, lapped-kept}
+use Rattle.promises.proofs.Steps.{room-left}
+use Rattle.promises.proofs.Opening.{plan-of, opened-course, opened-timed, opened-lapped}
 use Rattle.inspection_rules.specs.Gives.{CouldVisit, switched}
 
 -- no visit takes longer
@@ -42,24 +48,19 @@ longest = 2_000_000
 
 -- ---- what is kept
 
--- of a timely-token ring: u is what the stations left unused, and since a station's last visit there were at most N others
-pub record Early (r : Ring) : Type 0 where
-  pub unused : r .unused ≡ sumBelow (count r) (unusedAt r)
-  pub past : (i : ℕ) → i < r .token → at (r .trt) i + longest * i ≤ longest * r .token
-  pub coming : (i : ℕ) → r .token ≤ i → i < count r → at (r .trt) i + longest * i ≤ longest * r .token + longest * count r
-
--- of an FDDI ring: the stations' numbers are as `timers` keeps them
-pub record Lapped (r : Ring) : Type 0 where
-  pub below : (i : ℕ) → i < count r → at (r .trt) i < ttrt r
-  pub kept : Kept (timerPlan (r .set) (r .alloc)) (hasRun (r .set) (timersOf r)) (r .token)
-
-pub record Reached (r : Ring) : Type 0 where
+-- ring r, behind the visits h, the latest first
+pub record Goes (r : Ring) (h : List VisitRecord) : Type 0 where
   pub judged : judgedPlan (r .set) (r .alloc) ≡ 0
-  pub token : r .token < count r
   pub shaped : Shaped r
-  pub sents : (i : ℕ) → i < count r → at (r .sent) i ≤ share r i
-  pub timely : ¬ Fddi (r .set) → Early r
-  pub fddi : Fddi (r .set) → Lapped r
+  pub course : Course (r .set) (r .alloc) (timing r) h
+  pub turns : Each (InTurn (r .set)) h
+  pub timely : ¬ Fddi (r .set) → Timed (r .set) (r .alloc) (timing r) h
+  pub fddi : Fddi (r .set) → Lapped (r .set) (r .alloc) (timing r) h
+
+-- behind some visits
+pub record Reached (r : Ring) : Type 0 where
+  pub visits : List VisitRecord
+  pub goes : Goes r visits
 
 -- ---- the timers do not look at the clock, the visits or the messages: the ring without these is a sound one
 
@@ -68,36 +69,31 @@ still r = withMessages noMessages (withCourse (record { sent = r .sent; last = z
 
 module _ (r : Ring) (K : Reached r) where
   pub plan : Plan (r .set) (r .alloc)
-  plan = plan-of (r .set) (r .alloc) (K .judged)
-
-  token-rule : TokenRule (timerPlan (r .set) (r .alloc))
-  token-rule = omega (arith, plan .token)
+  plan = plan-of (r .set) (r .alloc) (K .goes .judged)
 
   -- S and w of a station, and F − 1, are together within TTRT
   pub allotted : (i : ℕ) → i < count r → share r i + at (r .set .w) i + overrun r ≤ ttrt r
   allotted i l = omega (arith, plan .token, sum-part (count r) (at (r .alloc .s)) i l, sum-part (count r) (at (r .set .w)) i l)
 
   still-shaped : Shaped (still r)
-  still-shaped = messages-shaped _ (course-shaped r (K .shaped) _ (K .shaped .sent) refl) _ refl refl refl refl
+  still-shaped = messages-shaped _ (course-shaped r (K .goes .shaped) _ (K .goes .shaped .sent) refl) _ refl refl refl refl
 
   still-sound : Fddi (r .set) → Sound (still r)
   still-sound e =
-      let L = K .fddi e in
+      let L = K .goes .fddi e in
       record {
-        plan = K .judged;
-        token = K .token;
+        plan = K .goes .judged;
+        token = K .goes .course .token;
         timers =
             record {
               timely = λ n. absurd (n e);
               fddi = λ _.
                   record {
                     timers = L .below;
-                    lates = λ i l.
-                        let now = timerOf (timersOf r) i in
-                        omega (arith, timers-promised .counts (timerPlan (r .set) (r .alloc)) (hasRun (r .set) (timersOf r)) (r .token) i now token-rule (plan .walk) (L .kept) (K .token) l refl);
+                    lates = λ i l. omega (arith, late-small (r .set) (r .alloc) (timing r) (K .visits) plan L i l);
                   };
             };
-        sents = K .sents;
+        sents = K .goes .course .sents;
         rests = λ i l. omega (arith, zero-at i);
         arrivals = λ i l. omega (arith, zero-at i);
         clock = omega arith;
@@ -126,6 +122,10 @@ module _ (n p x y : ℕ) (xs : List ℕ) (few : n ≤ length xs) where
 
 -- ---- one visit more
 
+-- the record that the ring's own visit of these amounts would have
+abbrev pub made : Ring → VisitEntry → VisitRecord
+made r v = recordOf r (v .synchronous) (v .asynchronous)
+
 module _ (counter : ℕ) (r : Ring) (K : Reached r) (v : VisitEntry) (C : CouldVisit counter r v) where
   abbrev pub next : Ring
   next = moved r (v .synchronous) (v .asynchronous)
@@ -149,31 +149,42 @@ module _ (counter : ℕ) (r : Ring) (K : Reached r) (v : VisitEntry) (C : CouldV
   sync-within = omega (arith, C .synchronous, most-within r)
 
   pub passes-short : passes ≤ longest
-  passes-short = omega (arith, async-within, limit-small r K, sync-within, allotted r K (r .token) (K .token), plan r K .rotation .1)
-
-  pub token-next : next .token ≡ following (count r) (r .token)
-  unfolding moved
-  token-next = refl
-
-  token-below : next .token < count r
-  token-below =
-      ⊎-elim (λ (b : (r .token + 1 < count r) × (following (count r) (r .token) ≡ r .token + 1)). omega (arith, token-next, b .0, b .1))
-      (λ (b : (r .token + 1 ≡ count r) × (following (count r) (r .token) ≡ 0)). omega (arith, token-next, b .1, K .token))
-      (following-is (count r) (r .token) (K .token))
+  passes-short = omega (arith, async-within, limit-small r K, sync-within, allotted r K (r .token) (K .goes .course .token), plan r K .rotation .1)
 
   sent-here : at (next .sent) (r .token) ≡ v .synchronous
   unfolding moved
-  sent-here = getD-set-same (r .sent) (r .token) (v .synchronous) 0 (omega (arith, few, K .token, K .shaped .sent))
+  sent-here = getD-set-same (r .sent) (r .token) (v .synchronous) 0 (omega (arith, few, K .goes .course .token, K .goes .shaped .sent))
 
   sent-there : (i : ℕ) → i ≢ r .token → at (next .sent) i ≡ at (r .sent) i
   unfolding moved
   sent-there i d = getD-set-other (r .sent) (r .token) i (v .synchronous) 0 d
 
-  sents-next : (i : ℕ) → i < count r → at (next .sent) i ≤ share r i
-  sents-next i l =
-      ⊎-elim (λ (b : i ≡ r .token). rw b (omega (arith, sent-here, sync-within)))
-      (λ (b : i ≢ r .token). omega (arith, sent-there i b, K .sents i l))
-      (same-or-not i (r .token))
+  -- when the synchronous part started
+  last-here : at (next .last) (r .token) ≡ syncStart r (v .asynchronous)
+  unfolding moved
+  last-here = getD-set-same (r .last) (r .token) (syncStart r (v .asynchronous)) 0 (omega (arith, few, K .goes .course .token, K .goes .shaped .last))
+
+  last-there : (i : ℕ) → i ≢ r .token → at (next .last) i ≡ at (r .last) i
+  unfolding moved
+  last-there i d = getD-set-other (r .last) (r .token) i (syncStart r (v .asynchronous)) 0 d
+
+  pub visit-course : VisitCourse (r .set) (r .alloc) (timing r) (timing next) (made r v)
+  unfolding moved recordOf
+  visit-course =
+      record {
+        station = refl;
+        start = refl;
+        set = refl;
+        alloc = refl;
+        within = sync-within;
+        sent-here = sent-here;
+        sent-there = sent-there;
+        clock = refl;
+        last-here = last-here;
+        last-there = last-there;
+        token = refl;
+        visits = refl;
+      }
 
   -- ---- a timely-token ring
 
@@ -181,56 +192,32 @@ module _ (counter : ℕ) (r : Ring) (K : Reached r) (v : VisitEntry) (C : CouldV
     -- TRT went to 0 when the synchronous part started
     pub early-here : at (next .trt) (r .token) ≡ passes - lead (r .set) (v .asynchronous)
     unfolding moved timelyAfter
-    early-here = rw (after-timely r n (v .synchronous) (v .asynchronous)) (raised-here (count r) (r .token) passes _ (r .trt) (omega (arith, few, K .shaped .trt)) (K .token))
+    early-here = rw (after-timely r n (v .synchronous) (v .asynchronous)) (raised-here (count r) (r .token) passes _ (r .trt) (omega (arith, few, K .goes .shaped .trt)) (K .goes .course .token))
 
     pub early-there : (i : ℕ) → i < count r → i ≢ r .token → at (next .trt) i ≡ at (r .trt) i + passes
     unfolding moved timelyAfter
-    early-there i l d = rw (after-timely r n (v .synchronous) (v .asynchronous)) (raised-there (count r) (r .token) passes _ (r .trt) (omega (arith, few, K .shaped .trt)) i l d)
+    early-there i l d = rw (after-timely r n (v .synchronous) (v .asynchronous)) (raised-there (count r) (r .token) passes _ (r .trt) (omega (arith, few, K .goes .shaped .trt)) i l d)
 
     pub early-unused : next .unused ≡ r .unused - unusedAt r (r .token) + (share r (r .token) - v .synchronous)
     unfolding moved timelyAfter
     early-unused = rw (after-timely r n (v .synchronous) (v .asynchronous)) refl
 
-    -- the sum of S − s has changed by this station's alone
-    unused-next : next .unused ≡ sumBelow (count r) (λ i. share r i - at (next .sent) i)
-    unused-next =
-        let f = unusedAt r in
-        let g : ℕ → ℕ = λ i. share r i - at (next .sent) i in
-        let p = r .token in
-        let here : at (next .sent) p ≡ v .synchronous = sent-here in
-        let changed : sumBelow (count r) g + f p ≡ sumBelow (count r) f + g p =
-        sum-changed (count r) p f g (K .token) (λ i d. ap (λ (x : ℕ). share r i - x) (sent-there i d)) in
-        let own : f p ≤ sumBelow (count r) f = sum-part (count r) f p (K .token) in
-        omega (arith, early-unused, K .timely n .unused, ap (λ (x : ℕ). share r p - x) here)
+    -- u is not less than what this station left unused
+    unused-here : unusedAt r (r .token) ≤ r .unused
+    unused-here =
+        let all = sum-lacking (count r) (at (r .sent)) (at (r .alloc .s)) (K .goes .course .sents) in
+        omega (arith, all, K .goes .timely n .unused, sum-part (count r) (unusedAt r) (r .token) (K .goes .course .token))
 
-    -- a station up to the token's, whose timer the token has now passed
-    passed-next : (i : ℕ) → i ≤ r .token → at (next .trt) i + longest * i ≤ longest * (r .token + 1)
-    passed-next i l =
-        ⊎-elim (λ (b : i < r .token). omega (arith, early-there i (omega (arith, K .token)) (omega arith), K .timely n .past i b, passes-short))
-        (λ (b : r .token ≤ i). let q : i ≡ r .token = omega arith in rw q (omega (arith, early-here, passes-short)))
-        (below-or-not i (r .token))
-
-    coming-next : (i : ℕ) → r .token < i → i < count r → at (next .trt) i + longest * i ≤ longest * (r .token + 1) + longest * count r
-    coming-next i l b = omega (arith, early-there i b (omega arith), K .timely n .coming i (omega arith) b, passes-short)
-
-    early-next : Early next
-    unfolding moved
-    early-next =
-        ⊎-elim (λ (b : (r .token + 1 < count r) × (following (count r) (r .token) ≡ r .token + 1)).
-        let on : next .token ≡ r .token + 1 = token-next ∙ b .1 in
+    pub visit-timers : VisitTimers (r .set) (timing r) (timing next) (made r v)
+    unfolding recordOf
+    visit-timers =
         record {
-          unused = unused-next;
-          past = λ i l. rw on (passed-next i (omega arith));
-          coming = λ i l k. rw on (coming-next i (omega arith) k);
-        })
-        (λ (b : (r .token + 1 ≡ count r) × (following (count r) (r .token) ≡ 0)).
-        let on : next .token ≡ 0 = token-next ∙ b .1 in
-        record {
-          unused = unused-next;
-          past = λ i l. absurd (omega arith);
-          coming = λ i l k. omega (arith, on, passed-next i (omega arith), b .0);
-        })
-        (following-is (count r) (r .token) (K .token))
+          timer = refl;
+          room = room-left (ttrt r) (overrun r) (r .unused) (at (r .trt) (r .token)) (at (r .mark) (r .token)) (limit r) (v .asynchronous) (λ off. limit-unmarked r off ∙ offer-timely r n) (limit-marked r) async-within async-shut;
+          unused = omega (arith, early-unused, unused-here, K .goes .course .sents (r .token) (K .goes .course .token), sync-within);
+          trt-here = omega (arith, early-here, lead-within (r .set) (v .asynchronous));
+          trt-there = early-there;
+        }
 
   -- ---- an FDDI ring
 
@@ -260,21 +247,9 @@ module _ (counter : ℕ) (r : Ring) (K : Reached r) (v : VisitEntry) (C : CouldV
           there = lapped-there;
         }
 
-    lapped-next : Lapped next
-    unfolding moved
-    lapped-next =
-        let plan = timerPlan (r .set) (r .alloc) in
-        let was = hasRun (r .set) (timersOf r) in
-        let is = hasRun (r .set) (timersOf next) in
-        record {
-          below = lapped-below;
-          kept =
-              ⊎-elim (λ (b : (r .token + 1 < count r) × (following (count r) (r .token) ≡ r .token + 1)).
-              rw (b .1) (timers-promised .next plan was is (r .token) passes (token-rule r K) (K .fddi f .kept) visit (b .0)))
-              (λ (b : (r .token + 1 ≡ count r) × (following (count r) (r .token) ≡ 0)).
-              rw (b .1) (timers-promised .round plan was is (r .token) passes (token-rule r K) (K .fddi f .kept) visit (b .0)))
-              (following-is (count r) (r .token) (K .token));
-        }
+    pub visit-laps : VisitLaps (r .set) (r .alloc) (timing r) (timing next) (made r v)
+    unfolding moved recordOf
+    visit-laps = record { moves = visit; below = lapped-below }
 
     lapped-long : (length (next .trt) ≡ 128) × (length (next .late) ≡ 128)
     unfolding moved timersAfter timelyAfter
@@ -284,77 +259,78 @@ module _ (counter : ℕ) (r : Ring) (K : Reached r) (v : VisitEntry) (C : CouldV
   unfolding moved timelyAfter
   timers-long =
       ⊎-elim lapped-long
-      (λ n. rw (after-timely r n (v .synchronous) (v .asynchronous)) (length-set (raise (count r) passes (r .trt)) _ _ ∙ (raise-length (count r) _ (r .trt) ∙ K .shaped .trt), K .shaped .late))
+      (λ n. rw (after-timely r n (v .synchronous) (v .asynchronous)) (length-set (raise (count r) passes (r .trt)) _ _ ∙ (raise-length (count r) _ (r .trt) ∙ K .goes .shaped .trt), K .goes .shaped .late))
       (fddi-or-not (r .set))
 
-  pub reached-next : Reached next
+  shaped-next : Shaped next
   unfolding moved
-  reached-next =
-      record {
-        judged = K .judged;
-        token = token-below;
-        shaped = moved-shaped r (K .shaped) _ _ (timers-long .0) (timers-long .1);
-        sents = sents-next;
-        timely = early-next;
-        fddi = lapped-next;
-      }
+  shaped-next = moved-shaped r (K .goes .shaped) _ _ (timers-long .0) (timers-long .1)
+
+-- it keeps all of it
+pub goes-visit : (counter : ℕ) (r : Ring) (h : List VisitRecord) (G : Goes r h) (v : VisitEntry) (C : CouldVisit counter r v) → Goes (moved r (v .synchronous) (v .asynchronous)) (made r v ∷ h)
+unfolding moved
+goes-visit counter r h G v C =
+    let K : Reached r = record { visits = h; goes = G } in
+    let t = r .set in
+    let a = r .alloc in
+    let q = moved r (v .synchronous) (v .asynchronous) in
+    let w = made r v in
+    let P = plan r K in
+    let F = visit-course counter r K v C in
+    record {
+      judged = G .judged;
+      shaped = shaped-next counter r K v C;
+      course = course-kept t a (timing r) (timing q) w h P (G .course) F;
+      turns = (record { station = rw (F .station) (G .course .token); turn = F .station ∙ G .course .turn }, G .turns);
+      timely = λ n. timed-kept t a (timing r) (timing q) w h P (G .timely n) F (visit-timers counter r K v C n);
+      fddi = λ f. lapped-kept t a (timing r) (timing q) w h P (G .fddi f) F (visit-laps counter r K v C f);
+    }
+
+pub reached-next : (counter : ℕ) (r : Ring) (K : Reached r) (v : VisitEntry) → CouldVisit counter r v → Reached (moved r (v .synchronous) (v .asynchronous))
+reached-next counter r K v C = record { visits = made r v ∷ K .visits; goes = goes-visit counter r (K .visits) (K .goes) v C }
 
 -- ---- one mark more: nothing of this goes by the messages or the marks
 
-module _ (r : Ring) (K : Reached r) where
-  reached-messages : (m : Messages) → length (m .rest) ≡ 128 → length (m .arrival) ≡ 128 → length (m .had) ≡ 128 → length (m .mark) ≡ 128 → Reached (withMessages m r)
-  reached-messages m rest arrival had mark =
+module _ (r : Ring) (h : List VisitRecord) (G : Goes r h) where
+  goes-messages : (m : Messages) → length (m .rest) ≡ 128 → length (m .arrival) ≡ 128 → length (m .had) ≡ 128 → length (m .mark) ≡ 128 → Goes (withMessages m r) h
+  goes-messages m rest arrival had mark =
       record {
-        judged = K .judged;
-        token = K .token;
-        shaped = messages-shaped r (K .shaped) m rest arrival had mark;
-        sents = K .sents;
-        timely = λ n. let E = K .timely n in record { unused = E .unused; past = E .past; coming = E .coming };
-        fddi = λ f. let L = K .fddi f in record { below = L .below; kept = L .kept };
+        judged = G .judged;
+        shaped = messages-shaped r (G .shaped) m rest arrival had mark;
+        course = G .course;
+        turns = G .turns;
+        timely = G .timely;
+        fddi = G .fddi;
       }
 
-  pub reached-switched : (i on : ℕ) → Reached (switched r i on)
+  pub goes-switched : (i on : ℕ) → Goes (switched r i on) h
   unfolding switched switchedIn switchedThrough
-  reached-switched i zero = reached-messages _ (K .shaped .rest) (K .shaped .arrival) (K .shaped .had) (length-set (r .mark) i 0 ∙ K .shaped .mark)
-  reached-switched i (suc k) =
-      ⊎-elim (λ (m : Marked r i). rw (ring-marked r i m) K)
+  goes-switched i zero = goes-messages _ (G .shaped .rest) (G .shaped .arrival) (G .shaped .had) (length-set (r .mark) i 0 ∙ G .shaped .mark)
+  goes-switched i (suc k) =
+      ⊎-elim (λ (m : Marked r i). rw (ring-marked r i m) G)
       (λ (u : Unmarked r i).
       rw (ring-unmarked r i u)
-      (reached-messages _ (length-set (r .rest) i 0 ∙ K .shaped .rest) (K .shaped .arrival) (K .shaped .had) (length-set (r .mark) i 1 ∙ K .shaped .mark)))
+      (goes-messages _ (length-set (r .rest) i 0 ∙ G .shaped .rest) (G .shaped .arrival) (G .shaped .had) (length-set (r .mark) i 1 ∙ G .shaped .mark)))
       (marked-or-not r i)
+
+pub reached-switched : (r : Ring) → Reached r → (i on : ℕ) → Reached (switched r i on)
+reached-switched r K i on = record { visits = K .visits; goes = goes-switched r (K .visits) (K .goes) i on }
 
 -- ---- the opened ring
 
 module _ (t : Set) (a : Alloc) (h : judgedPlan t a ≡ 0) where
-  P : Plan t a
-  P = plan-of t a h
-
-  opened-early : ¬ Fddi t → Early (openedRing t a)
+  pub goes-opened : Goes (openedRing t a) []
   unfolding openedRing
-  opened-early n =
-      let F = fresh t a h in
+  goes-opened =
+      let P = plan-of t a h in
       record {
-        unused = F .unused ∙ sum-same (t .n) (at (a .s)) (λ i. at (a .s) i - at zeros i) (λ i l. omega (arith, zero-at i));
-        past = λ i l. absurd (omega arith);
-        coming = λ i l k. omega (arith, F .trts n i k, sum-split (t .n) (at (t .w)) i (omega arith), P .token, P .rotation .1);
-      }
-
-  opened-lapped : Fddi t → Lapped (openedRing t a)
-  unfolding openedRing
-  opened-lapped e =
-      record {
-        below = opened-below t a h e;
-        kept = timers-promised .opened (timerPlan t a) (hasRun t (timersOf (openedRing t a))) (omega (arith, P .token)) (opened-ran t a h e);
+        judged = h;
+        shaped = fresh t a h .shaped;
+        course = opened-course t a P;
+        turns = tt;
+        timely = opened-timed t a P;
+        fddi = opened-lapped t a P;
       }
 
   pub reached-opened : Reached (openedRing t a)
-  unfolding openedRing
-  reached-opened =
-      record {
-        judged = h;
-        token = P .some;
-        shaped = fresh t a h .shaped;
-        sents = λ i l. omega (arith, zero-at i);
-        timely = opened-early;
-        fddi = opened-lapped;
-      }
+  reached-opened = record { visits = []; goes = goes-opened }

@@ -10,7 +10,7 @@ use lib.Dec.{ltb, eqb}
 use lib.ListN.{length, set, length-set}
 use lib.Seq.{getD-set-same, getD-set-other}
 use Rattle.units.specs.Places.{at, sumBelow}
-use Rattle.units.specs.PlaceLaws.{sum-split, sum-mono, fill-inside, fill-length}
+use Rattle.units.specs.PlaceLaws.{sum-split, fill-inside, fill-length}
 use Rattle.units.specs.SmallLaws.{below-or-not}
 use Rattle.sets.specs.Rules.{tau}
 use Rattle.sets.specs.Judged.{zeros}
@@ -20,8 +20,7 @@ use Rattle.plans.specs.Planned.{judgedPlan}
 use Rattle.plans.specs.declared.Alloc.{Alloc}
 use Rattle.entries.specs.declared.VisitEntry.{VisitEntry}
 use Rattle.entries.specs.declared.MarkEntry.{MarkEntry}
-use Rattle.timers.proofs.Promised.{promised as timers-promised}
-use Rattle.rings.specs.State.{count, ttrt, unusedAt, Marked, Unmarked, isMarked, timersOf, Messages, messagesOf, withMessages}
+use Rattle.rings.specs.State.{count, ttrt, Marked, Unmarked, isMarked, timersOf, Messages, messagesOf, withMessages}
 use Rattle.rings.specs.Timers.{Fddi, hasRun, timersOffer, limit, lead, rise}
 use Rattle.rings.specs.TimerLaws.{fddi-or-not, fddi-true, fddi-false, marked-true, marked-or-not, offer-timely, lead-within}
 use Rattle.rings.specs.Opening.{openedRing}
@@ -31,8 +30,10 @@ use Rattle.rings.specs.MarkLaws.{ring-marked, ring-unmarked}
 use Rattle.rings.specs.declared.Ring.{Ring}
 use Rattle.rings.proofs.StationLaws.{opened-ran}
 use Rattle.ring_rules.proofs.OpenedLaws.{fresh}
-use Rattle.promises.specs.Facts.{timerPlan}
+use Rattle.promises.specs.Facts.{timing}
 use Rattle.promises.proofs.Course.{Plan, same-or-not}
+use Rattle.promises.proofs.Timing.{never-late}
+use Rattle.promises.proofs.Laps.{run-small as lapped-small}
 use Rattle.promises.proofs.Opening.{plan-of}
 use Rattle.inspection.specs.Counter.{ticksLater, ticksBetween}
 use Rattle.inspection.specs.Opening.{passingTimes, begun}
@@ -103,25 +104,20 @@ module _ (r : Ring) (K : Reached r) where
   pub run-small : (i : ℕ) → i < count r → runOf r i < 2 ^ 32
   run-small i l =
       ⊎-elim (λ (e : Fddi (r .set)).
-      let L = K .fddi e in
-      let first = timers-promised .first (timerPlan (r .set) (r .alloc)) (hasRun (r .set) (timersOf r)) (r .token) (L .kept) (K .token) i l in
-      let most = timers-promised .arrival (timerPlan (r .set) (r .alloc)) (hasRun (r .set) (timersOf r)) (r .token) (L .kept) (K .token) in
-      omega (arith, run-fddi r e i, plan r K .token, plan r K .rotation .1))
+      omega (arith, run-fddi r e i, lapped-small (r .set) (r .alloc) (timing r) (K .visits) (plan r K) (K .goes .fddi e) i l, plan r K .token, plan r K .rotation .1))
       (λ (n : ¬ Fddi (r .set)).
-      let E = K .timely n in
-      ⊎-elim (λ (b : i < r .token). omega (arith, run-timely r n i, E .past i b, K .token, plan r K .few))
-      (λ (b : r .token ≤ i). omega (arith, run-timely r n i, E .coming i b l, K .token, plan r K .few))
-      (below-or-not i (r .token)))
+      let T = K .goes .timely n in
+      omega (arith, run-timely r n i, never-late (r .set) (r .alloc) (timing r) (K .visits) T i l, T .course .sents i l, plan r K .rotation .1))
       (fddi-or-not (r .set))
 
   module _ (counter : ℕ) (s : Inspection) (S : Stands counter r s) where
     pub place-is : place s ≡ r .token
-    place-is = omega (arith, S .token, K .token, plan r K .few)
+    place-is = omega (arith, S .token, K .goes .course .token, plan r K .few)
 
     pub run-is : ticksBetween (at (s .base) (place s)) (s .course .clock) ≡ runOf r (r .token)
     run-is =
         rw place-is
-        (between-is (at (s .base) (r .token)) (runOf r (r .token)) (s .course .clock) (S .small (r .token) (K .token)) (run-small (r .token) (K .token)) (S .base (r .token) (K .token)))
+        (between-is (at (s .base) (r .token)) (runOf r (r .token)) (s .course .clock) (S .small (r .token) (K .goes .course .token)) (run-small (r .token) (K .goes .course .token)) (S .base (r .token) (K .goes .course .token)))
 
     -- what the timers offer
     offer-is : limitWith (r .set .head) (s .course .unused) (ticksBetween (at (s .base) (place s)) (s .course .clock)) ≡ timersOffer r
@@ -135,7 +131,7 @@ module _ (r : Ring) (K : Reached r) where
     -- what is allowed unless the station is marked
     allowed-is : (x y : ℕ) → x ≡ y → unlessMarked (at (s .mark) (place s)) x ≡ cond (isMarked r (r .token)) 0 y
     unfolding unlessMarked
-    allowed-is x y e = rw (place-is, S .marks (r .token) (K .token), e) refl
+    allowed-is x y e = rw (place-is, S .marks (r .token) (K .goes .course .token), e) refl
 
     pub limit-is : unlessMarked (at (s .mark) (place s)) (limitWith (r .set .head) (s .course .unused) (ticksBetween (at (s .base) (place s)) (s .course .clock))) ≡ limit r
     unfolding limit
@@ -186,18 +182,18 @@ module _ (r : Ring) (K : Reached r) where
 
       base-here : at (visitedOn s (r .set) (r .alloc) v .base) (r .token) ≡ moment
       unfolding visitedOn
-      base-here = rw place-is (getD-set-same (s .base) (r .token) _ 0 (omega (arith, S .long, K .token, plan r K .few)))
+      base-here = rw place-is (getD-set-same (s .base) (r .token) _ 0 (omega (arith, S .long, K .goes .course .token, plan r K .few)))
 
       -- the token's station: its timer is at 0 when the synchronous part starts, or has lost TTRT
       based : (moment + runOf after (r .token)) % 2 ^ 32 ≡ ticksLater (s .course .clock) ticks
       unfolding moved baseWith
       based =
           let p = r .token in
-          let was = S .base p (K .token) in
+          let was = S .base p (K .goes .course .token) in
           ⊎-elim (λ (f : Fddi (r .set)).
           let run = run-fddi r f p in
           let goes : runOf after p ≡ runOf r p - ttrt r + ticks = run-fddi after f p ∙ lapped-here counter r K v C f ∙ ap (λ (x : ℕ). x - ttrt r + ticks) (sym run) in
-          let told : ticksBetween (at (s .base) p) (s .course .clock) ≡ runOf r p = between-is (at (s .base) p) (runOf r p) (s .course .clock) (S .small p (K .token)) (run-small p (K .token)) was in
+          let told : ticksBetween (at (s .base) p) (s .course .clock) ≡ runOf r p = between-is (at (s .base) p) (runOf r p) (s .course .clock) (S .small p (K .goes .course .token)) (run-small p (K .goes .course .token)) was in
           rw (fddi-true (r .set) f, told)
           (⊎-elim (λ (l : runOf r p < ttrt r). rw (lt-leb (ttrt r) (runOf r p) l) (omega (arith, goes)))
           (λ (l : ttrt r ≤ runOf r p). rw (le-leb (ttrt r) (runOf r p) l, goes) (moved-base (at (s .base) p) (runOf r p) (s .course .clock) (ttrt r) ticks l was))
@@ -239,9 +235,8 @@ module _ (r : Ring) (K : Reached r) where
       unused-small : ¬ Fddi (r .set) → after .unused < 2 ^ 32
       unfolding moved
       unused-small n =
-          let is = N .timely n .unused in
-          let less = sum-mono (count r) (unusedAt after) (at (r .alloc .s)) (λ i l. omega arith) in
-          omega (arith, plan r K .token, plan r K .rotation .1)
+          let T = N .goes .timely n in
+          omega (arith, T .unused, plan r K .token, plan r K .rotation .1)
 
       unused-next : ¬ Fddi (r .set) → visitedOn s (r .set) (r .alloc) v .course .unused ≡ after .unused
       unfolding visitedOn
@@ -300,7 +295,7 @@ module _ (r : Ring) (K : Reached r) where
       -- the same mark is stored in the ring
       stored : (x : ℕ) → ltb 0 (markOf (m .mark)) ≡ ltb 0 x → (j : ℕ) → j < count r → ltb 0 (at (switchedOn s m .mark) j) ≡ ltb 0 (at (set (r .mark) (m .station) x) j)
       stored x is j l =
-          ⊎-elim (λ (q : j ≡ m .station). rw (q, mark-here, getD-set-same (r .mark) (m .station) x 0 (omega (arith, K .shaped .mark, M .0, plan r K .few))) is)
+          ⊎-elim (λ (q : j ≡ m .station). rw (q, mark-here, getD-set-same (r .mark) (m .station) x 0 (omega (arith, K .goes .shaped .mark, M .0, plan r K .few))) is)
           (λ (d : j ≢ m .station). rw (mark-there j d, getD-set-other (r .mark) (m .station) j x 0 d) (S .marks j l))
           (same-or-not j (m .station))
 

@@ -32,6 +32,7 @@ use Rattle.hopper.proofs.Wagon.Laws as Wagon
 use Rattle.hopper.proofs.WagonList.Laws as WagonList
 use Rattle.hopper.proofs.Train.Laws as Train
 use Rattle.hopper.proofs.Coupled.Laws as Coupled
+use Rattle.plan_inspections.proofs.PlanFinding.Laws as PlanFinding
 use Rattle.lent.proofs.LogEntry.Laws as LogEntry
 
 abbrev place : Option (Ty × ℕ) → ℕ
@@ -127,3 +128,6 @@ train = refl
 
 coupled : layout Coupled.mir 2 ≡ 664 ∷ 0 ∷ 660 ∷ []
 coupled = refl
+
+plan-finding : layout PlanFinding.mir 7 ≡ 32 ∷ 0 ∷ 8 ∷ 16 ∷ 24 ∷ 25 ∷ 26 ∷ 27 ∷ []
+plan-finding = refl

@@ -12,6 +12,7 @@ ghost use Rattle.lent.specs.Told.{toldOf, told};
 ghost use Rattle.logs.specs.Reading.{readLog};
 ghost use Rattle.logs.specs.Writing.{Began, Added, AddedMark, EndedLog};
 ghost use Rattle.inspection.specs.Findings.{findingIn};
+ghost use Rattle.plan_inspections.specs.PlanFindings.{planFinding};
 ghost use Rattle.versions.specs.Answers.{Emptied, Stored, foundVersion, versionsIn};
 ghost use Rattle.hopper.specs.Wagons.{withMore, withoutLast};
 ghost use Rattle.hopper.specs.Requests.{listRequest, WroteSheet};
@@ -27,6 +28,7 @@ use hopper::WagonList;
 use inspection::Finding;
 use logs::ReadLog;
 use logs::Recorder;
+use plan_inspections::PlanFinding;
 use plans::Alloc;
 use plans::Planned;
 use rings::Ask;
@@ -248,6 +250,14 @@ pub extern "C" fn olivastrum_inspect_log(log: &[u8]) -> Finding
     ensures { λ r. ⌜ r ≡ findingIn (now (log .entry)) ⌝ }
 {
     inspection::inspect_log(log)
+}
+
+// Inspects a log on the lent bytes against a plan sheet: which of the two is refused, whether the log's plan is another one, or its finding.
+#[no_mangle]
+pub extern "C" fn olivastrum_inspect_log_of(plan: &[u8], log: &[u8]) -> PlanFinding
+    ensures { λ r. ⌜ r ≡ planFinding (now (plan .entry)) (now (log .entry)) ⌝ }
+{
+    plan_inspections::inspect_log_of(plan, log)
 }
 
 // Makes the lent area a store without a version.

@@ -1,13 +1,15 @@
--- The promises hold because what `log` writes is the log of a run of the model, such a log is accepted, and pieces of it are inspected as the whole is.
+-- The promises hold because what `log` writes is the log of a run of the model, such a log is accepted, and pieces of it are inspected as the whole is. So pieces of an accepted log show what the whole shows.
 use Prim.Native.Nat.{ℕ, _^_, _<_}
 use mathlib.Core.Path.{_≡_, refl, sym, ap, subst, _∙_}
 use mathlib.Core.Bool.{true}
 use mathlib.Core.List.{List, [], _∷_, reverse}
 use lib.ListN.{length, length-map, length-reverse}
 use Rattle.plans.specs.Planned.{judgedPlan}
+use Rattle.fields.specs.Bytes.{AllBytes}
 use Rattle.sheets.specs.Reading.{readPlan}
 use Rattle.sheets.specs.ReadLaws.{then-none}
 use Rattle.logs.specs.Layout.{logOf}
+use Rattle.logs.specs.Reading.{readLog, entriesIn}
 use Rattle.promises.specs.Run.{eventsOf}
 use Rattle.promises.proofs.Promised as runs
 use Rattle.log_rules.specs.Recorded.{says, toldIn, entriesOf}
@@ -19,6 +21,8 @@ use Rattle.pieces.specs.Pieces.{readOver, handedOver}
 use Rattle.inspection.specs.Findings.{findingIn}
 use Rattle.inspection.specs.declared.Finding.{Finding}
 use Rattle.inspection_rules.proofs.Promised as inspections
+use Rattle.accepted_log_rules.specs.Shows.{Shows}
+use Rattle.accepted_log_rules.proofs.Promised as logs
 use Rattle.piece_inspections.specs.Inspecting.{lookedAll, inspectOver, inspectStart}
 use Rattle.piece_inspections.specs.declared.Inspecting.{Inspecting}
 use Rattle.piece_inspections.proofs.Promised as in-pieces
@@ -37,7 +41,7 @@ unfolding joined inspectPieces
 kept-joined k [] = sym (kept-none k)
 kept-joined k (piece ∷ pieces) = kept-joined (inspectOver k piece) pieces ∙ sym (in-pieces.promised .pieces k piece (joined pieces))
 
-kept-whole : (bs first : List ℕ) (pieces : List (List ℕ)) → ComesIn bs first pieces → inspectPieces (inspectStart first) pieces ≡ inspectStart bs
+pub kept-whole : (bs first : List ℕ) (pieces : List (List ℕ)) → ComesIn bs first pieces → inspectPieces (inspectStart first) pieces ≡ inspectStart bs
 kept-whole bs first pieces comes =
     kept-joined (inspectStart first) pieces ∙ in-pieces.promised .first-piece first (joined pieces) (comes .1) ∙ ap (λ (all : List ℕ). inspectStart all) (sym (comes .0))
 
@@ -82,10 +86,19 @@ module _ (sheet text : List ℕ) (opens : openedRun (readPlan sheet) .number ≡
       texts.promised .accepted (written sheet text) no-number (subst (λ (n : ℕ). n < 2 ^ 64) (sym all-counted) few) no-rule
       ∙ ap (λ (n : ℕ). acceptedLine n) all-counted
 
+-- ---- what an accepted log shows
+
+shown : (bs first : List ℕ) (pieces : List (List ℕ)) → AllBytes bs → length bs < 2 ^ 64 → ComesIn bs first pieces → isAccepted (inspectPieces (inspectStart first) pieces) ≡ true
+    → Shows (readLog bs .set) (readLog bs .alloc) (entriesIn bs)
+shown bs first pieces bytes short comes ends =
+    let found = texts.promised .status bs .0 (sym (ap (λ (k : Inspecting). isAccepted k) (kept-whole bs first pieces comes)) ∙ ends) in
+    logs.promised .log-shows bs bytes short (found .0) (found .1)
+
 pub promised : Promised
 promised =
     record {
       accepted = accepted;
       status = λ sheet text first pieces opens comes. ap (λ (k : Inspecting). isAccepted k) (kept-whole (written sheet text) first pieces comes) ∙ ends-with-0 sheet text opens;
       printed = λ sheet text first pieces opens comes few. ap (λ (k : Inspecting). findingText k) (kept-whole (written sheet text) first pieces comes) ∙ said sheet text opens few;
+      shows = shown;
     }

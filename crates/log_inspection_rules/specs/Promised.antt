@@ -1,16 +1,19 @@
--- What is promised of a log that `log` writes when `inspect` reads it; `proofs/Promised.antt` proves it.
+-- What is promised of a log that `log` writes when `inspect` reads it, and of any log that `inspect` accepts; `proofs/Promised.antt` proves it.
 use Prim.Native.Nat.{ℕ, _^_, _<_}
 use mathlib.Core.Path.{_≡_}
 use mathlib.Core.Bool.{true}
 use mathlib.Core.List.{List, [], _∷_, _++_}
 use lib.ListN.{length}
+use Rattle.fields.specs.Bytes.{AllBytes}
 use Rattle.sheets.specs.Reading.{readPlan}
+use Rattle.logs.specs.Reading.{readLog, entriesIn}
 use Rattle.calls.specs.Runs.{openedRun}
 use Rattle.recorded_logs.specs.Promised.{written, entriesFor}
 use Rattle.inspection.specs.Findings.{findingIn}
 use Rattle.piece_inspections.specs.Inspecting.{inspectOver, inspectStart}
 use Rattle.piece_inspections.specs.Promised.{Enough}
 use Rattle.piece_inspections.specs.declared.Inspecting.{Inspecting}
+use Rattle.accepted_log_rules.specs.Shows.{Shows}
 use Rattle.finding_texts.specs.FindingText.{acceptedLine, findingText, isAccepted}
 
 -- the bytes of these pieces, one behind another
@@ -37,3 +40,6 @@ pub record Promised : Type 0 where
   -- and prints `accepted` and the number of their records, fewer than 2 ^ 64
   pub printed : (sheet text first : List ℕ) (pieces : List (List ℕ)) → openedRun (readPlan sheet) .number ≡ 0 → ComesIn (written sheet text) first pieces
       → length (entriesFor sheet text) < 2 ^ 64 → findingText (inspectPieces (inspectStart first) pieces) ≡ acceptedLine (length (entriesFor sheet text))
+  -- of any maker's log, in whatever pieces its bytes come: where the program ends with 0, its records show what those of an accepted log show, of its own plan. `AllBytes` and the length hold of any slice that is lent
+  pub shows : (bs head : List ℕ) (rest : List (List ℕ)) → AllBytes bs → length bs < 2 ^ 64 → ComesIn bs head rest → isAccepted (inspectPieces (inspectStart head) rest) ≡ true
+      → Shows (readLog bs .set) (readLog bs .alloc) (entriesIn bs)

@@ -1,9 +1,11 @@
-// `inspect`: whether a run could have given the records of the log on standard input, or its first fault.
+// `inspect`: whether a run could have given the records of the log on standard input, or its first fault; `inspect PLAN`: whether its plan is the one in PLAN, too.
+use crate::loading;
 use commands::status;
 use libc::STDIN_FILENO;
 use piece_inspections::Inspecting;
 use streams::ending;
 use streams::reading;
+use streams::words;
 
 // The log behind one reading, whether the input goes on, and whether reading failed.
 struct Looked {
@@ -54,33 +56,74 @@ fn look_on(inspecting: Inspecting) -> Looked {
     }
 }
 
+// The whole log. The first 3,400 bytes are enough for every plan: what they say of it is what the whole log says.
+fn look() -> Looked {
+    let mut head: [u8; pieces::FIRST_SIZE] = [0; pieces::FIRST_SIZE];
+    let filled = reading::fill(STDIN_FILENO, &mut head);
+    let read = filled.length;
+    let begun = piece_inspections::inspect_start(&head[..read]);
+    if filled.failed {
+        ending::unread_input();
+    }
+    if read < pieces::FIRST_SIZE {
+        return Looked {
+            inspecting: begun,
+            more: false,
+            failed: filled.failed,
+        };
+    }
+    look_on(begun)
+}
+
+// Says what is on the page; the status is 0 exactly where the log is accepted.
+fn say(page: &[u8], accepted: bool) -> u8 {
+    if accepted {
+        return ending::answer(page, status::DONE);
+    }
+    ending::answer(page, status::REFUSED)
+}
+
 // Says what was found.
 fn finish(inspecting: Inspecting) -> u8 {
     let mut page = io::large_buffer();
     let found = finding_texts::put_finding(inspecting, &mut page);
     let length = found.length;
-    if found.accepted {
-        return ending::answer(&page[..length], status::DONE);
-    }
-    ending::answer(&page[..length], status::REFUSED)
+    say(&page[..length], found.accepted)
 }
 
-// The first 3,400 bytes are enough for every plan: what they say of it is what the whole log says.
-pub(crate) fn inspect() -> u8 {
-    let mut head: [u8; pieces::FIRST_SIZE] = [0; pieces::FIRST_SIZE];
-    let filled = reading::fill(STDIN_FILENO, &mut head);
-    if filled.failed {
-        return ending::unread_input();
-    }
-    let read = filled.length;
-    let begun = piece_inspections::inspect_start(&head[..read]);
-    if read < pieces::FIRST_SIZE {
-        return finish(begun);
-    }
-    let all = look_on(begun);
-    if all.failed {
+// Says what the log is against the plan sheet in a file.
+fn finish_against(plan: &[u8], inspecting: Inspecting) -> u8 {
+    let mut page = io::large_buffer();
+    let found = command_inspect::inspect_text(plan, inspecting, &mut page);
+    let length = found.length;
+    say(&page[..length], found.accepted)
+}
+
+// The plan sheet is read first: of its file one byte more than the longest plan, which tells that a byte follows it.
+fn inspect_against(word: usize) -> u8 {
+    let mut sheet: [u8; sheets::PLAN_READ] = [0; sheets::PLAN_READ];
+    let plan = loading::load(b"inspect: ", word, &mut sheet);
+    if plan.failed {
         return status::FAILED;
     }
-    let behind = all.inspecting;
-    finish(behind)
+    let length = plan.length;
+    let looked = look();
+    if looked.failed {
+        return status::FAILED;
+    }
+    let all = looked.inspecting;
+    finish_against(&sheet[..length], all)
+}
+
+// With a path at this place the log is held to the plan there, else to its own.
+pub(crate) fn inspect(word: usize) -> u8 {
+    if words::is_given(word) {
+        return inspect_against(word);
+    }
+    let looked = look();
+    if looked.failed {
+        return status::FAILED;
+    }
+    let all = looked.inspecting;
+    finish(all)
 }

@@ -2,6 +2,7 @@
 mod composing;
 mod diffing;
 mod inspecting;
+mod loading;
 mod logging;
 mod planned;
 mod running;
@@ -20,7 +21,7 @@ fn obey(first: usize, second: usize, third: usize) -> u8 {
         Command::Show => showing::show(),
         Command::Run => planned::obey(false, second),
         Command::Log => planned::obey(true, second),
-        Command::Inspect => inspecting::inspect(),
+        Command::Inspect => inspecting::inspect(second),
         Command::Diff => diffing::diff(second, third),
         Command::Help => command_help::print(),
         Command::Unknown => status::FAILED,

@@ -126,7 +126,7 @@ module _ (t : Set) (a : Alloc) (P : Plan t a) (K : Run → Type 0) (S : Steady t
         no-unmark-8 = λ calls p e. rules .mark-eight (ringOf t a calls) p .0 (sym (rules .unmark-number (ringOf t a calls) p) ∙ e) (sound-sentences (ringOf t a calls) (kept calls .sound));
         goes = λ calls. goes-exactly t a (runOf t a calls) (kept calls);
         counted = λ calls. kept calls .course .counted;
-        bounded = λ calls. omega (arith, kept calls .course .counted, kept calls .course .bounded);
+        bounded = λ calls. omega (arith, kept calls .course .counted, kept calls .range .bounded);
         last-start = λ calls. last-is t a (runOf t a calls) (kept calls);
         no-start = λ calls. last-is-not t a (runOf t a calls) (kept calls);
         last-message = λ calls i _. message-is t a (runOf t a calls) (kept calls) i;

@@ -1,4 +1,5 @@
 -- What every visit keeps, whatever its timers are: the plan stays, the stations come in turn, s is within S, the count and the starts are those of the records, and the clock walks with every rotation.
+-- Nothing of it asks where the clock stands: it holds of a ring that runs on past the last start too. What the clock's top ends is `InRange`.
 use Prim.Native.Nat.{ℕ, zero, suc, _+_, _*_, _≤_, _<_}
 use mathlib.Core.Path.{_≡_, sym, ap, _∙_}
 use mathlib.Core.Bool.{Bool, true, false}
@@ -65,10 +66,13 @@ pub record Course (t : Set) (a : Alloc) (r : Timing) (h : List VisitRecord) : Ty
   pub turn : r .token ≡ due (t .n) h
   pub counted : r .visits ≡ length h
   pub rounds : (k : ℕ) × Rounds t r k
-  pub bounded : r .visits ≤ mostStations * (mostClock + 1)
-  pub clock : r .clock ≤ mostClock + 2 * t .head .ttrt
   pub sents : (i : ℕ) → i < t .n → at (r .sent) i ≤ at (a .s) i
   pub arrived : (i : ℕ) → i < t .n → Arrived t r h i
+
+-- the clock and the count of a ring whose visits all started by the clock's top
+pub record InRange (t : Set) (r : Timing) : Type 0 where
+  pub bounded : r .visits ≤ mostStations * (mostClock + 1)
+  pub clock : r .clock ≤ mostClock + 2 * t .head .ttrt
 
 -- ---- the station after
 
@@ -194,9 +198,12 @@ module _ (t : Set) (a : Alloc) (r q : Timing) (v : VisitRecord) (h : List VisitR
       (C .arrived i l))
       (same-or-not i (r .token))
 
-  pub course-kept : rises t v ≤ 2 * t .head .ttrt → r .clock ≤ mostClock → Course t a q (v ∷ h)
+  pub range-kept : rises t v ≤ 2 * t .head .ttrt → r .clock ≤ mostClock → InRange t q
+  range-kept short early = record { bounded = bounded-kept early; clock = omega (arith, F .clock) }
+
+  pub course-kept : Course t a q (v ∷ h)
   unfolding due
-  course-kept short early =
+  course-kept =
       record {
         set = F .set;
         alloc = F .alloc;
@@ -204,8 +211,6 @@ module _ (t : Set) (a : Alloc) (r q : Timing) (v : VisitRecord) (h : List VisitR
         turn = F .token ∙ ap (following (t .n)) (sym (F .station));
         counted = F .visits ∙ add-one (r .visits) ∙ ap suc (C .counted);
         rounds = rounds-kept;
-        bounded = bounded-kept early;
-        clock = omega (arith, F .clock);
         sents = sents-kept;
         arrived = arrived-kept;
       }

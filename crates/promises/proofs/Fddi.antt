@@ -20,10 +20,10 @@ use Rattle.promises.specs.Valid.{Apart, FirstWithin, NeverLate, FddiKept
 use Rattle.promises.proofs.Lists.{each-of}
 use Rattle.promises.proofs.Course.{Plan}
 use Rattle.promises.proofs.Laps.{Lapped, latest-within, late-small, rise-small, lapped-kept, first-within}
-use Rattle.promises.proofs.Steps.{visit-early, visit-laps, mark-switching, unmark-switching}
-use Rattle.promises.proofs.Opening.{opened-places, opened-lapped, opened-stored, opened-told, opened-passed, opened-clear, opened-mark}
+use Rattle.promises.proofs.Steps.{visit-laps, mark-switching, unmark-switching}
+use Rattle.promises.proofs.Opening.{opened-places, opened-range, opened-lapped, opened-stored, opened-told, opened-passed, opened-clear, opened-mark}
 use Rattle.promises.proofs.Soundness.{is-sound, lapped-sound}
-use Rattle.promises.proofs.Runs.{Kept, made, movedRun, heldRun, markedRun, unmarkedRun, kept-marked, kept-unmarked, course-facts, next-stored, kept-moved, message-facts, kept-held, Steady, steady-run}
+use Rattle.promises.proofs.Runs.{Kept, made, movedRun, heldRun, markedRun, unmarkedRun, kept-marked, kept-unmarked, course-facts, next-stored, next-range, kept-moved, message-facts, kept-held, Steady, steady-run}
 
 -- TTRT + the sum of S + (F − 1)
 abbrev most : Set → Alloc → ℕ
@@ -58,11 +58,12 @@ module _ (t : Set) (a : Alloc) (P : Plan t a) (s : Run) (K : Older t a s) where
       let r = timing (s .ring) in
       let q = timing (movedRun s ask .ring) in
       let C = course-facts t a P s (K .common) ask go in
-      let lapped = lapped-kept t a r q (made s ask) (records s) P (K .lapped) C (lap-facts ask go) (visit-early (s .ring) (K .common .places) ask go) in
+      let lapped = lapped-kept t a r q (made s ask) (records s) P (K .lapped) C (lap-facts ask go) in
+      let short = rise-small t a r q (made s ask) (records s) P (K .lapped) C (lap-facts ask go) in
       let timers = lapped-sound t a (movedRun s ask .ring) (records (movedRun s ask)) P lapped in
-      let sound = is-sound t a (movedRun s ask .ring) (records (movedRun s ask)) P (lapped .course) timers (next-stored t a P s (K .common) ask go) in
+      let sound = is-sound t a (movedRun s ask .ring) (records (movedRun s ask)) P (lapped .course) (next-range t a P s (K .common) ask go short) timers (next-stored t a P s (K .common) ask go) in
       record {
-        common = kept-moved t a P s (K .common) ask go (rise-small t a r q (made s ask) (records s) P (K .lapped) C (lap-facts ask go)) sound;
+        common = kept-moved t a P s (K .common) ask go short sound;
         lapped = lapped;
         apart = (made-apart ask go, K .apart);
         first = (made-first ask go, K .first);
@@ -102,6 +103,7 @@ older-opened t a P e =
           record {
             places = opened-places t a P;
             course = lapped .course;
+            range = opened-range t a P;
             stored = opened-stored t a P;
             told = opened-told t a P;
             passed = opened-passed t a P;
@@ -111,7 +113,7 @@ older-opened t a P e =
             marks-told = tt;
             turns = tt;
             shares = tt;
-            sound = is-sound t a (opened t a .ring) (records (opened t a)) P (lapped .course) timers (opened-stored t a P);
+            sound = is-sound t a (opened t a .ring) (records (opened t a)) P (lapped .course) (opened-range t a P) timers (opened-stored t a P);
           };
       lapped = lapped;
       apart = tt;

@@ -5,7 +5,6 @@ use mathlib.Core.List.{List, _∷_}
 use mathlib.Core.Logic.{_≢_, ⊎-elim}
 use mathlib.Core.Option.{none, some}
 use native.Mathlib.Omega.{arith}
-use Rattle.units.specs.Numbers.{mostClock}
 use Rattle.units.specs.Places.{at}
 use Rattle.units.specs.PlaceLaws.{sum-part}
 use Rattle.sets.specs.declared.Set.{Set}
@@ -101,11 +100,11 @@ module _ (t : Set) (a : Alloc) (r q : Timing) (v : VisitRecord) (h : List VisitR
       omega (arith, F .moves .there i l b, C .clock, T .silent i l (sym (latest-other t a r q v h P (T .course) C i b) ∙ e)))
       (same-or-not i (r .token))
 
-  pub lapped-kept : r .clock ≤ mostClock → Lapped t a q (v ∷ h)
-  lapped-kept early =
+  pub lapped-kept : Lapped t a q (v ∷ h)
+  lapped-kept =
       record {
         mode = T .mode;
-        course = course-kept t a r q v h P (T .course) C rise-small early;
+        course = course-kept t a r q v h P (T .course) C;
         below = F .below;
         kept = kept-next;
         silent = silent-next;

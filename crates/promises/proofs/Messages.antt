@@ -5,22 +5,20 @@ use mathlib.Core.List.{List}
 use mathlib.Core.Logic.{_⊎_, inl, inr, _≢_, ⊎-elim}
 use native.Mathlib.Omega.{arith}
 use Rattle.units.specs.Places.{at}
-use Rattle.units.specs.PlaceLaws.{sum-part, sum-mono}
+use Rattle.units.specs.PlaceLaws.{sum-part}
 use Rattle.units.specs.SmallLaws.{below-or-not}
 use Rattle.sets.specs.declared.Set.{Set}
 use Rattle.plans.specs.Rules.{leastTime}
 use Rattle.plans.specs.declared.Alloc.{Alloc}
 use Rattle.rings.specs.Timers.{lead}
-use Rattle.rings.specs.TimerLaws.{lead-within}
 use Rattle.rings.specs.declared.Ring.{Ring}
 use Rattle.rings.specs.declared.Message.{Message}
 use Rattle.rings.specs.declared.VisitRecord.{VisitRecord}
 use Rattle.promises.specs.History.{syncStartOf}
 use Rattle.promises.specs.Facts.{Timing, timing, VisitCourse, VisitTimers, VisitMessages, Sending, Silent, Completing, Accepting, Switching, rises}
-use Rattle.promises.proofs.Sums.{sum-between}
 use Rattle.promises.proofs.Course.{Plan, Unvisited, Since, same-or-not}
 use Rattle.promises.proofs.Deadlines.{InTime, in-time, ended-in-time, served-in-time, fresh-in-time, later-in-time}
-use Rattle.promises.proofs.Timing.{Timed, token-timer, never-late, room}
+use Rattle.promises.proofs.Timing.{Timed, never-late, not-late-here}
 
 -- the deadline of the message that station i holds, or held last
 abbrev pub deadlineAt : Set → Ring → ℕ → ℕ
@@ -94,17 +92,9 @@ module _ (t : Set) (a : Alloc) (r q : Ring) (v : VisitRecord) (h : List VisitRec
       }))
       M
 
-  -- where the synchronous part starts the token is not late either: what came before it left room for u
-  not-late-here : NotLate t a r h P T (r .token) (lead t (v .asynchronous .0))
-  not-late-here =
-      let token = T .course .token in
-      let mine = sum-between (t .n) (r .token) (at (r .sent)) (at (a .s)) token (λ j m. T .course .sents j m) in
-      let before = sum-mono (r .token) (at (r .sent)) (at (a .s)) (λ j m. T .course .sents j (omega arith)) in
-      omega (arith, T .unused, lead-within t (v .asynchronous .0), room t a (timing r) (timing q) v h P T C F, token-timer t a (timing r) h T)
-
   -- so what it holds can then be sent by its deadline
   begun-in-time : Waiting t a r (r .token) → r .clock + lead t (v .asynchronous .0) + at (r .rest) (r .token) ≤ deadlineAt t r (r .token)
-  begun-in-time w = still-in-time t a r h P T (r .token) (lead t (v .asynchronous .0)) (T .course .token) not-late-here w
+  begun-in-time w = still-in-time t a r h P T (r .token) (lead t (v .asynchronous .0)) (T .course .token) (not-late-here t a (timing r) (timing q) v h P T C F) w
 
   -- the station that is visited sends nothing: it holds none, since one that it held would have arrived
   silent-kept : at (r .arrival) (r .token) ≤ r .clock → Silent r (syncStartOf t v) v → Idle t q (r .token) ⊎ Waiting t a q (r .token)
@@ -121,7 +111,7 @@ module _ (t : Set) (a : Alloc) (r q : Ring) (v : VisitRecord) (h : List VisitRec
       let parts : at (q .rest) (r .token) + at (a .s) (r .token) ≡ at (r .rest) (r .token) = omega (arith, G .rest-here) in
       let now : r .clock + lead t (v .asynchronous .0) + at (q .trt) (r .token) ≡ q .clock = omega (arith, C .clock, F .trt-here) in
       let share = share-small t a r h P T (r .token) (T .course .token) in
-      let next = rw now at (served-in-time share (s .held) (lead t (v .asynchronous .0)) (at (q .trt) (r .token)) (at (q .rest) (r .token)) not-late-here parts (w .intime)) in
+      let next = rw now at (served-in-time share (s .held) (lead t (v .asynchronous .0)) (at (q .trt) (r .token)) (at (q .rest) (r .token)) (not-late-here t a (timing r) (timing q) v h P T C F) parts (w .intime)) in
       inr
       (record {
         held = omega (arith, G .rest-here);

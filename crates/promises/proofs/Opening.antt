@@ -22,7 +22,7 @@ use Rattle.rings.specs.Opening.{openedRing}
 use Rattle.promises.specs.History.{asyncOf, latest, due}
 use Rattle.promises.specs.Facts.{timing, timerPlan}
 use Rattle.promises.proofs.Windows.{own}
-use Rattle.promises.proofs.Course.{Plan, Course}
+use Rattle.promises.proofs.Course.{Plan, Course, InRange}
 use Rattle.promises.proofs.Arrivals.{Passed}
 use Rattle.promises.proofs.Stores.{Stored, Told}
 use Rattle.promises.proofs.Timing.{Timed}
@@ -75,11 +75,13 @@ module _ (t : Set) (a : Alloc) (P : Plan t a) where
         turn = refl;
         counted = refl;
         rounds = (0, record { visits = omega arith; walked = omega (arith, sum-none (at (t .w))) });
-        bounded = omega arith;
-        clock = omega arith;
         sents = λ i l. omega (arith, zero-at i);
         arrived = λ i l. inl (record { latest = refl; early = omega arith; nothing = zero-at i });
       }
+
+  pub opened-range : InRange t (timing (openedRing t a))
+  unfolding openedRing
+  opened-range = record { bounded = omega arith; clock = omega arith }
 
   pub opened-timed : ¬ Fddi t → Timed t a (timing (openedRing t a)) []
   unfolding openedRing latest

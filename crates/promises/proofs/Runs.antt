@@ -25,7 +25,7 @@ use Rattle.promises.specs.Run.{Call, visit, message, mark, unmark, Event
 use Rattle.promises.specs.History.{syncStartOf, Each, EachVisit, markIn, MarksTold}
 use Rattle.promises.specs.Facts.{timing, VisitCourse, VisitMessages, Completing, Accepting, Switching, Remarking, rises}
 use Rattle.promises.specs.Valid.{InTurn, ShareKept, WalkedThrough}
-use Rattle.promises.proofs.Course.{Plan, Course, course-kept, same-or-not}
+use Rattle.promises.proofs.Course.{Plan, Course, InRange, range-kept, course-kept, same-or-not}
 use Rattle.promises.proofs.Lists.{mark-small}
 use Rattle.promises.proofs.Stores.{Stored, Latest, Never, Told, stored-kept, told-kept, stored-taken, told-taken}
 use Rattle.promises.proofs.Arrivals.{Passed, passed-moved, passed-same, passed-taken}
@@ -80,6 +80,7 @@ unmarkedRun s p = record { ring = unmarked (s .ring) p .ring; events = anUnmarki
 pub record Kept (t : Set) (a : Alloc) (s : Run) : Type 0 where
   pub places : Shaped (s .ring)
   pub course : Course t a (timing (s .ring)) (records s)
+  pub range : InRange t (timing (s .ring))
   pub stored : (i : ℕ) → i < t .n → Stored t (s .ring) i
   pub told : (i : ℕ) → Told (s .ring) (messages s) i
   pub passed : Passed t (s .ring) (records s) (messages s)
@@ -106,6 +107,10 @@ module _ (t : Set) (a : Alloc) (P : Plan t a) (s : Run) (K : Kept t a s) where
   pub next-stored : (ask : Ask) → visitNumber (s .ring) ask ≡ 0 → (i : ℕ) → i < t .n → Stored t (movedRun s ask .ring) i
   next-stored ask go = stored-kept t a (s .ring) (movedRun s ask .ring) (made s ask) (message-parts ask go) (K .stored)
 
+  pub next-range : (ask : Ask) → visitNumber (s .ring) ask ≡ 0 → rises t (made s ask) ≤ 2 * t .head .ttrt → InRange t (timing (movedRun s ask .ring))
+  next-range ask go short =
+      range-kept t a (timing (s .ring)) (timing (movedRun s ask .ring)) (made s ask) (records s) P (K .course) (course-facts ask go) short (visit-early (s .ring) (K .places) ask go)
+
   next-clear : (ask : Ask) → visitNumber (s .ring) ask ≡ 0 → (i : ℕ) → 0 < at (movedRun s ask .ring .rest) i → Unmarked (movedRun s ask .ring) i
   next-clear ask go i h =
       let G = message-parts ask go in
@@ -120,7 +125,8 @@ module _ (t : Set) (a : Alloc) (P : Plan t a) (s : Run) (K : Kept t a s) where
       let F = course-facts ask go in
       record {
         places = next-places ask go;
-        course = course-kept t a (timing (s .ring)) (timing (movedRun s ask .ring)) (made s ask) (records s) P (K .course) F short (visit-early (s .ring) (K .places) ask go);
+        course = course-kept t a (timing (s .ring)) (timing (movedRun s ask .ring)) (made s ask) (records s) P (K .course) F;
+        range = next-range ask go short;
         stored = next-stored ask go;
         told = λ i. told-kept t a (s .ring) (movedRun s ask .ring) (made s ask) (message-parts ask go) (messages s) i (K .told i);
         passed = passed-moved t a (s .ring) (movedRun s ask .ring) (made s ask) (records s) (messages s) (omega (arith, K .course .rounds .1 .visits)) F (message-parts ask go) (K .passed);
@@ -150,6 +156,7 @@ module _ (t : Set) (a : Alloc) (P : Plan t a) (s : Run) (K : Kept t a s) where
       record {
         places = holding-places (s .ring) (K .places) m e;
         course = rw (A .timing-same) (K .course);
+        range = rw (A .timing-same) (K .range);
         stored = stored-taken t (s .ring) (holding (s .ring) m) m A (K .stored);
         told = λ i. told-taken t (s .ring) (holding (s .ring) m) m A (messages s) i (K .told i);
         passed = passed-taken t (s .ring) (holding (s .ring) m) m (records s) (messages s) A (K .passed);
@@ -184,6 +191,7 @@ module _ (t : Set) (a : Alloc) (P : Plan t a) (s : Run) (K : Kept t a s) where
         record {
           places = W .shaped;
           course = rw (same, W .timing-same) (K .course);
+          range = rw (W .timing-same) (K .range);
           stored = switched-stored;
           told = rw told switched-told;
           passed = rw (same, told) (passed-same t (s .ring) q (records s) (messages s) (W .timing-same) (K .passed) (rw (W .arrival) (K .passed .arrived)));

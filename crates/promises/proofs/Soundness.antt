@@ -14,7 +14,7 @@ use Rattle.rings.specs.declared.Ring.{Ring}
 use Rattle.rings.specs.declared.VisitRecord.{VisitRecord}
 use Rattle.promises.specs.Facts.{timing}
 use Rattle.promises.proofs.Sums.{sum-lacking}
-use Rattle.promises.proofs.Course.{Plan, Course}
+use Rattle.promises.proofs.Course.{Plan, Course, InRange}
 use Rattle.promises.proofs.Stores.{Stored}
 use Rattle.promises.proofs.Timing.{Timed, never-late}
 use Rattle.promises.proofs.Laps.{Lapped, late-small}
@@ -47,8 +47,8 @@ module _ (t : Set) (a : Alloc) (r : Ring) (h : List VisitRecord) (P : Plan t a) 
 
   -- ---- all of it
 
-  pub is-sound : Course t a (timing r) h → TimersSound r → ((i : ℕ) → i < t .n → Stored t r i) → isSound r ≡ true
-  is-sound C timers K =
+  pub is-sound : Course t a (timing r) h → InRange t (timing r) → TimersSound r → ((i : ℕ) → i < t .n → Stored t r i) → isSound r ≡ true
+  is-sound C range timers K =
       sound-tests r
       (record {
         plan = rw (C .set, C .alloc) (P .judged);
@@ -57,6 +57,6 @@ module _ (t : Set) (a : Alloc) (r : Ring) (h : List VisitRecord) (P : Plan t a) 
         sents = rw (C .set, C .alloc) (C .sents);
         rests = rw (C .set) (λ i l. K i l .small);
         arrivals = rw (C .set) (λ i l. K i l .range);
-        clock = omega (arith, C .clock, P .rotation .1);
-        visits = omega (arith, C .bounded);
+        clock = omega (arith, range .clock, P .rotation .1);
+        visits = omega (arith, range .bounded);
       })

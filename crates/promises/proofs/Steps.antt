@@ -38,6 +38,16 @@ use Rattle.promises.specs.Valid.{WalkedThrough}
 use Rattle.promises.specs.Facts.{timing, VisitCourse, VisitTimers, VisitOffer, VisitLaps, VisitMessages, VisitFacts, Sending, Silent, Completing, Leaving, Accepting, Switching, Remarking, TakingBack, MarkFacts, UnmarkFacts}
 use Rattle.promises.proofs.Course.{ToNext, ToFirst, following-is, same-or-not}
 
+-- ---- the offer leaves room: where something is sent, it is within what TTRT leaves beside u and TRT
+
+pub room-left : (ttrt f unused trt mark limit async : ℕ) → (mark ≡ 0 → limit ≡ ttrt - f - unused - trt) → (0 < mark → limit ≡ 0) → async ≤ limit + f → (limit ≡ 0 → async ≡ 0)
+    → unused + trt ≤ ttrt → async + unused + trt ≤ ttrt
+room-left ttrt f unused trt mark limit async offered marked within shut fits =
+    ⊎-elim (λ (on : 0 < mark). omega (arith, shut (marked on)))
+    (λ (off : mark ≤ 0).
+    ⊎-elim (λ (some : 0 < limit). omega (arith, offered (omega arith))) (λ (none : limit ≤ 0). omega (arith, shut (omega arith))) (below-or-not 0 limit))
+    (below-or-not 0 mark)
+
 -- ---- a visit, of the ring's own plan
 
 module _ (r : Ring) (L : Shaped r) (ask : Ask) (go : visitNumber r ask ≡ 0) where
@@ -87,24 +97,14 @@ module _ (r : Ring) (L : Shaped r) (ask : Ask) (go : visitNumber r ask ≡ 0) wh
         visits = M .visits;
       }
 
-  -- where something is sent, it is within what TTRT leaves beside u and TRT
-  room : ¬ Fddi (r .set) → r .unused + at (r .trt) (r .token) ≤ ttrt r → made .asynchronous .0 + r .unused + at (r .trt) (r .token) ≤ ttrt r
-  room n fits =
-      let A = does .amounts in
-      ⊎-elim (λ (on : Marked r (r .token)). omega (arith, A .marked-async on))
-      (λ (off : Unmarked r (r .token)).
-      ⊎-elim (λ (some : 0 < made .limit .0). omega (arith, A .limit off n, A .within))
-      (λ (none : made .limit .0 ≤ 0). omega (arith, A .shut (omega arith)))
-      (below-or-not 0 (made .limit .0)))
-      (marked-or-not r (r .token))
-
   own-timers : ¬ Fddi (r .set) → VisitTimers (r .set) (timing r) (timing next) made
   unfolding recordOf
   own-timers n =
       let M = does .moved .timely n in
+      let A = does .amounts in
       record {
         timer = does .trt;
-        room = room n;
+        room = room-left (ttrt r) (overrun r) (r .unused) (at (r .trt) (r .token)) (at (r .mark) (r .token)) (made .limit .0) (made .asynchronous .0) (λ off. A .limit off n) (A .marked-limit) (A .within) (A .shut);
         unused = M .unused;
         trt-here = M .trt-here;
         trt-there = M .trt-there;

@@ -1,5 +1,5 @@
 -- What every run of a timely-token ring, of both editions, keeps beside what every run keeps: the timers are the gaps, the limit is exact, and no message is late.
-use Prim.Native.Nat.{ℕ, _+_, _-_, _≤_, _<_}
+use Prim.Native.Nat.{ℕ, _+_, _*_, _-_, _≤_, _<_}
 use mathlib.Core.Path.{_≡_, refl, sym, ap, _∙_}
 use mathlib.Core.List.{List}
 use mathlib.Core.Logic.{⊎-elim}
@@ -25,16 +25,16 @@ use Rattle.rings.specs.declared.Message.{Message}
 use Rattle.rings.specs.declared.VisitRecord.{VisitRecord}
 use Rattle.promises.specs.Run.{Call, Event, Run, opened, runOf, recordsIn, records}
 use Rattle.promises.specs.History.{asyncOf, overrunOf, syncStartOf, latestOf, Each, EachVisit}
-use Rattle.promises.specs.Facts.{timing, VisitCourse, VisitTimers, VisitOffer, VisitMessages, Completing, Leaving, Switching}
+use Rattle.promises.specs.Facts.{timing, VisitCourse, VisitTimers, VisitOffer, VisitMessages, Completing, Leaving, Switching, rises}
 use Rattle.promises.specs.Valid.{InTurn, Apart, TimerIsGap, ExactLimit, WindowKept, AnyTick, TickLimit, NoneLate}
 use Rattle.promises.proofs.Windows.{lookBack, async-moves}
 use Rattle.promises.proofs.Course.{Plan}
 use Rattle.promises.proofs.Timing.{Timed, token-timer, never-late, latest-within, rise-small, timed-kept, room}
 use Rattle.promises.proofs.Messages.{Messaged, deadlineAt, messaged-kept, messaged-taken, messaged-switched, completed-in-time}
-use Rattle.promises.proofs.Steps.{visit-early, visit-timers, visit-offer, mark-switching, unmark-switching}
-use Rattle.promises.proofs.Opening.{opened-places, opened-timed, opened-stored, opened-told, opened-passed, opened-clear, opened-mark, opened-messaged}
+use Rattle.promises.proofs.Steps.{visit-timers, visit-offer, mark-switching, unmark-switching}
+use Rattle.promises.proofs.Opening.{opened-places, opened-range, opened-timed, opened-stored, opened-told, opened-passed, opened-clear, opened-mark, opened-messaged}
 use Rattle.promises.proofs.Soundness.{timed-sound, is-sound}
-use Rattle.promises.proofs.Runs.{Kept, made, movedRun, heldRun, markedRun, unmarkedRun, course-facts, message-parts, next-stored, kept-moved, message-facts, kept-held, kept-marked, kept-unmarked, Steady, steady-run}
+use Rattle.promises.proofs.Runs.{Kept, made, movedRun, heldRun, markedRun, unmarkedRun, course-facts, message-parts, next-stored, next-range, kept-moved, message-facts, kept-held, kept-marked, kept-unmarked, Steady, steady-run}
 
 -- what is left of TTRT does not depend on the order in which the rest is taken off
 taken-off : (a b c d : ℕ) → a - b - c - d ≡ a - (b + c + d)
@@ -157,10 +157,11 @@ module _ (t : Set) (a : Alloc) (P : Plan t a) (s : Run) (K : Timely t a s) where
       let G = message-parts t a P s (K .common) ask go in
       let O = visit-offer r (K .common .places) ask go t a (K .common .course .set) (K .common .course .alloc) (K .timed .mode) in
       let token = K .common .course .token in
-      let timed = timed-kept t a (timing r) (timing q) v (records s) P (K .timed) C F (visit-early r (K .common .places) ask go) in
-      let sound = is-sound t a q (records (movedRun s ask)) P (timed .course) (timed-sound t a q (records (movedRun s ask)) P timed) (next-stored t a P s (K .common) ask go) in
+      let timed = timed-kept t a (timing r) (timing q) v (records s) P (K .timed) C F in
+      let short : rises t v ≤ 2 * t .head .ttrt = omega (arith, rise-small t a (timing r) (timing q) v (records s) P (K .timed) C F) in
+      let sound = is-sound t a q (records (movedRun s ask)) P (timed .course) (next-range t a P s (K .common) ask go short) (timed-sound t a q (records (movedRun s ask)) P timed) (next-stored t a P s (K .common) ask go) in
       record {
-        common = kept-moved t a P s (K .common) ask go (omega (arith, rise-small t a (timing r) (timing q) v (records s) P (K .timed) C F)) sound;
+        common = kept-moved t a P s (K .common) ask go short sound;
         timed = timed;
         messaged = messaged-kept t a r q v (records s) P (K .timed) C F G (K .common .passed .arrived (r .token)) (K .messaged);
         each = (visit-made t a r q v (records s) P (K .timed) C F G (K .messaged (r .token) token) (K .common .turns) (at (r .mark) (r .token)) O, K .each);
@@ -208,6 +209,7 @@ timely-opened t a P mode =
           record {
             places = opened-places t a P;
             course = timed .course;
+            range = opened-range t a P;
             stored = opened-stored t a P;
             told = opened-told t a P;
             passed = opened-passed t a P;
@@ -217,7 +219,7 @@ timely-opened t a P mode =
             marks-told = tt;
             turns = tt;
             shares = tt;
-            sound = is-sound t a (opened t a .ring) (records (opened t a)) P (timed .course) (timed-sound t a (opened t a .ring) (records (opened t a)) P timed) (opened-stored t a P);
+            sound = is-sound t a (opened t a .ring) (records (opened t a)) P (timed .course) (opened-range t a P) (timed-sound t a (opened t a .ring) (records (opened t a)) P timed) (opened-stored t a P);
           };
       timed = timed;
       messaged = opened-messaged t a P;

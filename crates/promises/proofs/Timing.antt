@@ -6,7 +6,6 @@ use mathlib.Core.List.{List, _∷_}
 use mathlib.Core.Logic.{inl, inr, _≢_, ⊎-elim}
 use mathlib.Core.Option.{none, some}
 use native.Mathlib.Omega.{arith}
-use Rattle.units.specs.Numbers.{mostClock}
 use Rattle.units.specs.Places.{at, sumBelow}
 use Rattle.units.specs.PlaceLaws.{sum-step, sum-none, sum-part, sum-mono}
 use Rattle.units.specs.SmallLaws.{below-or-not}
@@ -14,6 +13,7 @@ use Rattle.sets.specs.Rules.{tau}
 use Rattle.sets.specs.declared.Set.{Set}
 use Rattle.plans.specs.declared.Alloc.{Alloc}
 use Rattle.rings.specs.Timers.{Fddi, lead, silentTrt}
+use Rattle.rings.specs.TimerLaws.{lead-within}
 use Rattle.rings.specs.declared.VisitRecord.{VisitRecord}
 use Rattle.promises.specs.History.{asyncOf, syncStartOf, latestOf, Each}
 use Rattle.promises.specs.Facts.{Timing, VisitCourse, VisitTimers, rises}
@@ -105,6 +105,14 @@ module _ (t : Set) (a : Alloc) (r q : Timing) (v : VisitRecord) (h : List VisitR
       let window = async-grows (lookBack t) (t .n) h (omega arith) in
       omega (arith, token-timer t a r h T, T .window, F .room (omega (arith, token-timer t a r h T, T .window)))
 
+  -- where the synchronous part starts the token is not late either: what came before it left room for u
+  pub not-late-here : at (r .trt) (r .token) + lead t (v .asynchronous .0) + at (a .s) (r .token) ≤ t .head .ttrt + at (r .sent) (r .token)
+  not-late-here =
+      let token = T .course .token in
+      let mine = sum-between (t .n) (r .token) (at (r .sent)) (at (a .s)) token (λ j m. T .course .sents j m) in
+      let before = sum-mono (r .token) (at (r .sent)) (at (a .s)) (λ j m. T .course .sents j (omega arith)) in
+      omega (arith, T .unused, lead-within t (v .asynchronous .0), room, token-timer t a r h T)
+
   -- a visit takes at most TTRT
   pub rise-small : rises t v ≤ t .head .ttrt
   rise-small = omega (arith, room, walk, C .within, sum-part (t .n) (at (a .s)) (r .token) (T .course .token), sum-part (t .n) (at (t .w)) (r .token) (T .course .token))
@@ -180,11 +188,11 @@ module _ (t : Set) (a : Alloc) (r q : Timing) (v : VisitRecord) (h : List VisitR
       (same-or-not i (r .token))
 
   -- what is left once the token's place is known
-  kept-with : ((i : ℕ) → i < q .token → PassedTimer t q (v ∷ h) i) → ((i : ℕ) → i < t .n → q .token ≤ i → ComingTimer t q (v ∷ h) i) → r .clock ≤ mostClock → Timed t a q (v ∷ h)
-  kept-with passed coming early =
+  kept-with : ((i : ℕ) → i < q .token → PassedTimer t q (v ∷ h) i) → ((i : ℕ) → i < t .n → q .token ≤ i → ComingTimer t q (v ∷ h) i) → Timed t a q (v ∷ h)
+  kept-with passed coming =
       record {
         mode = T .mode;
-        course = course-kept t a r q v h P (T .course) C (omega (arith, rise-small)) early;
+        course = course-kept t a r q v h P (T .course) C;
         unused = omega (arith, F .unused, T .unused, sent-changed (t .n) (T .course .token));
         passed = passed;
         coming = coming;
@@ -193,7 +201,7 @@ module _ (t : Set) (a : Alloc) (r q : Timing) (v : VisitRecord) (h : List VisitR
         since = since-kept;
       }
 
-  pub timed-kept : r .clock ≤ mostClock → Timed t a q (v ∷ h)
+  pub timed-kept : Timed t a q (v ∷ h)
   timed-kept =
       ⊎-elim (λ (b : ToNext (t .n) (r .token)).
       let e : q .token ≡ r .token + 1 = C .token ∙ b .1 in

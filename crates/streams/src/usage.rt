@@ -36,7 +36,7 @@ pub fn put_line(to: i32, command: Command) -> bool {
         ),
         Command::Inspect => io::write_all(
             to,
-            b"olivastrum inspect < LOG          say whether a run could have given the log's records, or the first that breaks a rule\n",
+            b"olivastrum inspect [PLAN] < LOG   say whether a run could have given the log's records, or the first that breaks a rule; with the plan sheet in the file PLAN, first what differs from that plan\n",
         ),
         Command::Diff => io::write_all(
             to,

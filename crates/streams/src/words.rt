@@ -32,6 +32,11 @@ fn given_from(first: usize) -> usize {
     count - first
 }
 
+// Whether there is a word at this place.
+pub fn is_given(place: usize) -> bool {
+    given_from(place) > 0
+}
+
 // The command that the words from this one on ask for. Where they ask for none, it is said why, and the answer is `Unknown`.
 pub fn command(first: usize) -> Command {
     let given = given_from(first);

@@ -1,12 +1,12 @@
 //! Pairs of plan sheets, to be laid side by side: twice the same plan, related ones, and any two; now
-//! and then one of them is refused, or is no plan.
+//! and then one of them is refused, or is no plan. And a log with the plan that it is to keep.
 
 use super::random::Random;
 use super::sheets::{self, SheetKind};
 use super::sort::Sort;
 use super::{logs, sets};
 use crate::rules::{Plan, Station, MOST_GAP, MOST_STATIONS};
-use crate::sheet::fields;
+use crate::sheet::{fields, read_log};
 
 /// How often a change is tried until the plan is sound with it.
 const TRIES: usize = 8;
@@ -47,6 +47,51 @@ fn handed_in(random: &mut Random, sort: Sort, sheet: Vec<u8>) -> Vec<u8> {
         3 => sheets::sheet(random, SheetKind::Request, sort),
         4 => logs::log(random, sort),
         _ => sheet,
+    }
+}
+
+/// A plan sheet and a log that is to keep it: most often the log's own plan, or that with a number of
+/// its header or of a station changed; now and then any other, and no plan.
+pub fn departure(random: &mut Random, sort: Sort) -> (Vec<u8>, Vec<u8>) {
+    let log = logs::to_inspect(random, sort);
+    let own = match read_log(&log) {
+        Ok((plan, _)) => plan,
+        Err(_) => sets::sound_plan(random, sort),
+    };
+    let plan = match random.between(0, 9) {
+        0..=3 => own,
+        4 => with_more(random, &own),
+        5 => with_other_grid(random, &own),
+        6 => sets::sound_plan(random, sort),
+        _ => changed(random, &own),
+    };
+    let sheet = fields(&plan.request, &plan.allocation).concat();
+    (handed_in(random, sort, sheet), log)
+}
+
+/// The plan with another S of a station, if there is room.
+fn with_more(random: &mut Random, plan: &Plan) -> Plan {
+    let mut other = plan.clone();
+    let index = random.index(plan.allocation.len());
+    other.allocation[index] += plan.request.head.grid;
+    if other.judge().is_ok() {
+        return other;
+    }
+    changed(random, plan)
+}
+
+/// The plan with another g that its S are multiples of, if there is one.
+fn with_other_grid(random: &mut Random, plan: &Plan) -> Plan {
+    let grids = (1..=1_000).filter(|&grid| grid != plan.request.head.grid);
+    let with = |grid: u32| {
+        let mut other = plan.clone();
+        other.request.head.grid = grid;
+        other
+    };
+    let sound: Vec<Plan> = grids.map(with).filter(|plan| plan.judge().is_ok()).take(8).collect();
+    match sound.is_empty() {
+        true => changed(random, plan),
+        false => random.pick(&sound),
     }
 }
 

@@ -2,6 +2,7 @@
 
 mod allocations;
 mod cases;
+mod departures;
 mod differences;
 mod earlier;
 mod fddi_plans;

@@ -87,6 +87,9 @@ fn shown_by(planted: Planted) -> (Kind, &'static [Sort]) {
         | Planted::WalkLeftOut
         | Planted::RefusedListKept
         | Planted::EmptyListPlanned => (Kind::Trains, &[Sort::TIMELY]),
+        Planted::OwnPlanTaken | Planted::AllocationNotCompared | Planted::OtherGridAccepted => {
+            (Kind::Departures, &Sort::ALL)
+        }
         _ => (Kind::Runs, TIMELY),
     }
 }
@@ -102,16 +105,19 @@ fn comparing_finds_every_planted_error() {
         Kind::Differences,
         Kind::Versions,
         Kind::Trains,
+        Kind::Departures,
     ];
     let every = kinds.map(|kind| Sort::ALL.map(|sort| (kind, sort))).concat();
     let sorted = |(kind, sort): &(Kind, Sort)| kind.has_sorts() || *sort == Sort::TIMELY;
     for (kind, sort) in every.into_iter().filter(sorted) {
         let answered = answered(kind, sort);
         for planted in Planted::ALL {
-            let elsewhere = kind == Kind::Openings || planted == Planted::MarkedLimitByTimers;
+            let elsewhere = [Kind::Openings, Kind::Departures].contains(&kind)
+                || planted == Planted::MarkedLimitByTimers;
             if elsewhere && shown_by(planted).0 != kind {
                 // An error in the ring may show in the one that is opened, too, and the limits of
-                // marked visits in logs.
+                // marked visits in logs; errors in the inspection and in `diff` show in logs beside
+                // their plans.
                 continue;
             }
             let differs = |(case, right): &&(String, String)| answer(case, planted) != *right;
@@ -125,7 +131,7 @@ fn comparing_finds_every_planted_error() {
             assert!(as_expected, "{planted:?}: {found} in {kind:?} of {sort:?}");
         }
     }
-    assert_eq!([0, 50].map(Planted::from_number), [None, None]);
+    assert_eq!([0, 53].map(Planted::from_number), [None, None]);
     assert_eq!(Planted::from_number(20), Some(Planted::FirstStartCompared));
     assert_eq!(Planted::from_number(24), Some(Planted::LogByTheLaterEdition));
     assert_eq!(Planted::from_number(27), Some(Planted::OffGridOutOfRange));
@@ -135,6 +141,7 @@ fn comparing_finds_every_planted_error() {
     assert_eq!(Planted::from_number(45), Some(Planted::RefusedNumberUsed));
     assert_eq!(Planted::from_number(46), Some(Planted::DoorForBrake));
     assert_eq!(Planted::from_number(49), Some(Planted::EmptyListPlanned));
+    assert_eq!(Planted::from_number(52), Some(Planted::OtherGridAccepted));
 }
 
 /// Every promise that the runs with the error break.

@@ -1,5 +1,6 @@
 -- `diff_text` is right because it puts the refusal of the first side that is refused, or the lines, or `same` where no line was put.
 use mathlib.Core.Path.{refl}
+use native.Mathlib.Omega.{arith}
 use Rattle.command_diff.proofs.AnswerLaws.{few-read, diffed-nothing, diffed-old, diffed-new, diffed-same, diffed-lines}
 use borrow.Author.Needs.{needs}
 use Rattle.command_diff.proofs.diff_text.Statement.{statement}
@@ -28,7 +29,7 @@ put-differences-requires : tie.Need-put-differences-requires
 put-differences-requires c κs =
     let after = c .before .before .before .before .before .before .before in
     let before = after .before .before .before in
-    ((few-read _ _ (before .read-plan .ensures), few-read _ _ (after .read-plan2 .ensures)), before .before .if1 .left)
+    ((few-read _ _ (before .read-plan .ensures), few-read _ _ (after .read-plan2 .ensures)), omega (arith, before .before .if1 .left))
 
 returns-4 : tie.Need-returns-4
 returns-4 c =

@@ -1,0 +1,2 @@
+-- What is promised of `inspect PLAN`, proved.
+pub mod Promised
