@@ -19,20 +19,24 @@
  * length says, or at a whole ring, aligned for uint64_t. While a call runs nothing else reads or writes what is
  * lent to be written (a ring, an `out` buffer, an area), and what is lent to be written overlaps nothing else that the call
  * is lent: a sheet that is stored does not stand in the area. Nothing more: every bit pattern of a set, an allocation, a
- * message, an ask, a ring, a station, a recorder, a visit's record and a mark's entry is a value, and gets its answer.
+ * message, an ask, a ring, a station, a recorder, a visit's record, a mark's entry, a wagon, a wagon list and a train is a
+ * value, and gets its answer.
  *
  * Refusals. `number` is 0 for accepted, or the refusal; the numbers are below, and within one call the lowest
  * that applies is given (1, 2 and 3: the first fault from the left of the sheet), but that 15 is given before 12, though
- * it is higher: handing in asks 8, 9, 10, 11, 15, 12; and that an area which is no store is 2 before its sheet is looked
- * at, so before the sheet's 1. A refused call changes nothing: not a byte of a lent ring, not a byte of a lent buffer.
- * What it returns beside `number` is blank, every number in it 0; olivastrum_add_visit and olivastrum_add_mark alone hand
- * back the recorder as it was, so that the log can be ended. On a ring it stores the same bytes again, so a refused call
- * too is one that writes: a ring that two threads share is locked for it. An inspected log is accepted only if its rule is
- * 0 too.
+ * it is higher: handing in asks 8, 9, 10, 11, 15, 12; that an area which is no store is 2 before its sheet is looked at, so
+ * before the sheet's 1; that a plan sheet is refused before the log that is held to it; and that of a train that no call
+ * made a place is 9 before the planner's 6. A refused call changes nothing: not a byte of a lent ring, not a byte of a lent
+ * buffer. What it returns beside `number` is blank, every number in it 0, but that olivastrum_inspect_log_of says in
+ * `refused` which side it is; olivastrum_add_visit and olivastrum_add_mark hand back the recorder as it was, so that the log
+ * can be ended; olivastrum_change_train, olivastrum_change_wagon, olivastrum_couple_wagon and olivastrum_uncouple_wagon hand
+ * back the train as it was. On a ring a refused call stores the same bytes again, so it too is one that writes: a ring that
+ * two threads share is locked for it. An inspected log is accepted only if its rule is 0 too, and of
+ * olivastrum_inspect_log_of only if `another` is 0 as well.
  *
  * Padding. olivastrum_set, olivastrum_alloc, olivastrum_ask, olivastrum_message, olivastrum_ring, olivastrum_recorder,
- * olivastrum_visit_entry, olivastrum_mark_entry and olivastrum_next_entry have none, so two rings can be compared by their
- * bytes. In the others the bytes between and after what is named say nothing.
+ * olivastrum_visit_entry, olivastrum_mark_entry, olivastrum_next_entry, olivastrum_wagon, olivastrum_wagon_list and
+ * olivastrum_train have none, so two rings can be compared by their bytes. In the others the bytes between and after what is named say nothing.
  *
  * A recorder, with a ring that was just opened and buffers of its own:
  *
@@ -74,9 +78,9 @@
 
 /* The version of the header and the library, as `./olivastrum version` prints it. */
 #define OLIVASTRUM_VERSION_MAJOR 0
-#define OLIVASTRUM_VERSION_MINOR 13
-#define OLIVASTRUM_VERSION_PATCH 0
-#define OLIVASTRUM_VERSION "0.13.0"
+#define OLIVASTRUM_VERSION_MINOR 15
+#define OLIVASTRUM_VERSION_PATCH 1
+#define OLIVASTRUM_VERSION "0.15.1"
 
 #ifdef __cplusplus
 extern "C" {
@@ -86,7 +90,7 @@ extern "C" {
 enum {
     OLIVASTRUM_ACCEPTED = 0,
     OLIVASTRUM_SHEET_ENDS = 1,        /* the sheet ends inside a field, or before the end field */
-    OLIVASTRUM_SHEET_WRONG = 2,       /* wrong tag, wrong length, wrong count of stations or allocations */
+    OLIVASTRUM_SHEET_WRONG = 2,       /* wrong tag, wrong length, wrong count of stations or allocations; or the area is no store */
     OLIVASTRUM_SHEET_GOES_ON = 3,     /* a byte follows the end field */
     OLIVASTRUM_OUT_OF_RANGE = 4,      /* w, C, D, P, TTRT, F, g or S outside its range, or a mode that is not 1, 2 or 3;
                                          on a sheet or in a text a mode that is named and is not 2 or 3, or
@@ -535,16 +539,14 @@ uint8_t olivastrum_empty_store(uint8_t *area, size_t length);
 struct olivastrum_stored_plan olivastrum_store_plan(uint8_t *area, size_t length, const uint8_t *sheet, size_t sheet_length);
 
 /* Where the plan sheet of a version stands in the area: the bytes that were stored. 2 where the area is no store, then 17
- * where that version was dropped or never given. */
+ * where that version was dropped or never given. The place holds until the area is written again: storing moves what is
+ * kept. */
 #define OLIVASTRUM_STACK_FIND_VERSION 17408
 struct olivastrum_found_version olivastrum_find_version(const uint8_t *area, size_t length, uint32_t version);
 
 /* Which versions an area keeps, or 2 where it is no store. */
 #define OLIVASTRUM_STACK_VERSIONS_IN 17408
 struct olivastrum_versions olivastrum_versions_in(const uint8_t *area, size_t length);
-
-/* The most that a call of any of them needs. */
-#define OLIVASTRUM_STACK_MOST 36864
 
 /* The request of a wagon list: its set, or 2 or 4 with the blank set. */
 #define OLIVASTRUM_STACK_HOPPER_REQUEST 4608
@@ -560,7 +562,8 @@ struct olivastrum_written olivastrum_write_hopper_sheet(struct olivastrum_wagon_
 #define OLIVASTRUM_STACK_COUPLE_TRAIN 10752
 struct olivastrum_coupled olivastrum_couple_train(struct olivastrum_wagon_list list);
 
-/* Another list for a train, of which only the refused answer makes use: 2, 4 or 6 hand it back as it was. */
+/* A train with another list. The train that is handed in is not looked at; where the list is refused with 2, 4 or 6 it is
+ * handed back as it was. */
 #define OLIVASTRUM_STACK_CHANGE_TRAIN 11776
 struct olivastrum_coupled olivastrum_change_train(struct olivastrum_train train, struct olivastrum_wagon_list list);
 
@@ -573,9 +576,13 @@ struct olivastrum_coupled olivastrum_change_wagon(struct olivastrum_train train,
 #define OLIVASTRUM_STACK_COUPLE_WAGON 11776
 struct olivastrum_coupled olivastrum_couple_wagon(struct olivastrum_train train, struct olivastrum_wagon wagon);
 
-/* The last wagon off a train; 2, 4 or 6 hand it back as it was. The last one of all is 2. */
+/* The last wagon off a train; 2, 4 or 6 hand it back as it was, 4 and 6 only of a train that no call made. A train's only
+ * wagon stays: 2. */
 #define OLIVASTRUM_STACK_UNCOUPLE_WAGON 11776
 struct olivastrum_coupled olivastrum_uncouple_wagon(struct olivastrum_train train);
+
+/* The most that a call of any of them needs. */
+#define OLIVASTRUM_STACK_MOST 36864
 
 #ifdef __cplusplus
 }

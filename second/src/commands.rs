@@ -76,28 +76,53 @@ fn answers(cases: impl Read, planted: Planted, out: &mut impl Write) -> io::Resu
     Ok(())
 }
 
-/// Makes a file that is not there yet, whole.
-fn make(path: &str, bytes: &[u8]) -> io::Result<()> {
-    let mut file = File::create_new(path)?;
-    file.write_all(bytes)?;
-    file.sync_all()
+/// The file beside a store, which is the lock: who has made it may replace the store.
+fn lock(path: &str) -> io::Result<(String, File)> {
+    if fs::symlink_metadata(path).is_ok_and(|found| found.is_symlink()) {
+        return Err(io::Error::other(format!("{path} is a link")));
+    }
+    let beside = format!("{path}.new");
+    let file = File::create_new(&beside)?;
+    Ok((beside, file))
 }
 
-/// Keeps a plan in the store of a file, which is replaced as a whole; the file beside it is the lock.
-fn keep(path: &str, plan: &[u8], planted: Planted) -> io::Result<Result<u32, Refusal>> {
-    let beside = format!("{path}.new");
-    make(&beside, &[])?;
-    let mut area = Area::new(at_most(File::open(path)?, AREA + 1)?, planted);
-    let stored = area.store(plan);
-    if stored.is_err() {
+/// The store of a file is replaced as a whole by the bytes that are made of it; without any, or where that fails, the
+/// file beside it is taken away again.
+fn replace<T>(
+    path: &str,
+    make: impl FnOnce() -> io::Result<(T, Option<Vec<u8>>)>,
+) -> io::Result<T> {
+    let (beside, mut file) = lock(path)?;
+    let replaced = make().and_then(|(answer, bytes)| {
+        if let Some(bytes) = &bytes {
+            file.write_all(bytes)?;
+            file.sync_all()?;
+            fs::rename(&beside, path)?;
+        }
+        Ok((answer, bytes.is_some()))
+    });
+    if !matches!(replaced, Ok((_, true))) {
         fs::remove_file(&beside)?;
-        return Ok(stored);
     }
-    let mut file = File::create(&beside)?;
-    file.write_all(&area.bytes)?;
-    file.sync_all()?;
-    fs::rename(&beside, path)?;
-    Ok(stored)
+    Ok(replaced?.0)
+}
+
+/// Makes the empty store in a file that is not there yet.
+fn empty_store(path: &str) -> io::Result<()> {
+    replace(path, || match fs::symlink_metadata(path) {
+        Ok(_) => Err(io::Error::from(io::ErrorKind::AlreadyExists)),
+        Err(error) if error.kind() == io::ErrorKind::NotFound => Ok(((), Some(laid_out(&[])))),
+        Err(error) => Err(error),
+    })
+}
+
+/// Keeps a plan in the store of a file; a refused one leaves the file as it is.
+fn keep(path: &str, plan: &[u8], planted: Planted) -> io::Result<Result<u32, Refusal>> {
+    replace(path, || {
+        let mut area = Area::new(at_most(File::open(path)?, AREA + 1)?, planted);
+        let stored = area.store(plan);
+        Ok((stored, stored.is_ok().then_some(area.bytes)))
+    })
 }
 
 fn generate(arguments: &[&str]) -> io::Result<bool> {
@@ -165,7 +190,7 @@ fn command(arguments: &[&str], planted: Planted) -> io::Result<bool> {
         ["inspect", path] => streams.inspect_of(&plan(path)?, input, planted)?,
         ["refit", path] => streams.refit(&fs::read(path)?, input, planted)?,
         ["diff", old, new] => streams.diff(&plan(old)?, &plan(new)?, planted)?,
-        ["empty-store", path] => make(path, &laid_out(&[]))?,
+        ["empty-store", path] => empty_store(path)?,
         ["keep", path] => streams.keep(keep(path, &at_most(input, PLAN_READ)?, planted)?)?,
         ["kept", path, word] if whole(word) => streams.kept(area(path)?, word, planted)?,
         ["versions", path] => streams.versions(&area(path)?)?,

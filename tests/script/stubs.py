@@ -28,8 +28,8 @@ PROGRAMS = sorted({row[3] for row in ROWS})
 
 
 def words_of(row):
-    """Words that ask for the command of a row."""
-    return [row[0], *(f"word {place}" for place in range(int(row[1])))]
+    """Words that ask for the command of a row; a file of such a name is not there and cannot be made."""
+    return [row[0], *(f"no such folder/word {place}" for place in range(int(row[1])))]
 
 
 RT = r"""#!/bin/sh

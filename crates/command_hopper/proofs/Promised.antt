@@ -14,8 +14,8 @@ use Rattle.hopper.specs.declared.WagonList.{WagonList}
 use Rattle.hopper.specs.declared.Train.{Train}
 use Rattle.hopper.proofs.WagonLaws.{list-fits}
 use Rattle.hopper.proofs.RequestLaws.{request-given, request-refused, plan-given, plan-refused}
-use Rattle.hopper_rules.specs.Changes.{newWagon, oneMore, lastOff, answerTo, PlanInForce}
-use Rattle.hopper_rules.proofs.ChangeLaws.{kept-by}
+use Rattle.hopper_rules.specs.Changes.{Change, newWagon, oneMore, lastOff, answerTo, after, PlanInForce}
+use Rattle.hopper_rules.proofs.ChangeLaws.{kept-by, refused-stays}
 use Rattle.hopper_rules.proofs.SheetLaws.{read-back}
 use Rattle.hopper_rules.proofs.AnswerLaws.{same-or-not}
 use Rattle.sheets.specs.Reading.{thenNumber}
@@ -27,12 +27,13 @@ use Rattle.lines.specs.declared.Scan.{Scan}
 use Rattle.command_plan.specs.PlanText.{planLines, requestText, planPrinted}
 use Rattle.command_plan.specs.PlanSheet.{planningNumber}
 use Rattle.command_hopper.specs.Lists.{isWagon, wagonIn, onNextLine, firstUnread, lineListed, listOn, listOver, listIn}
-use Rattle.command_hopper.specs.Refits.{isChange, isCouple, isUncouple, lineChanged, lineRefit, refitOn, refitOver, hopperText, hopperNumber, answeredText}
-use Rattle.command_hopper.specs.Promised.{Promised, twoWagons, twoListed}
+use Rattle.command_hopper.specs.Refits.{isChange, isCouple, isUncouple, toldOf, lineChanged, lineRefit, refitFrom, refitOn, refitOver, hopperText, hopperNumber, answeredText}
+use Rattle.command_hopper.specs.Promised.{Promised, twoWagons, twoListed, threeChanges, threeAsked}
+use Rattle.command_hopper.specs.declared.Change.the-variants.{Answered}
 use Rattle.command_hopper.specs.declared.Changed.{Changed}
 use Rattle.command_hopper.specs.declared.Listing.{Listing}
 use Rattle.command_hopper.specs.declared.Refit.{Refit}
-use Rattle.command_hopper.proofs.LineLaws.{first-kept}
+use Rattle.command_hopper.proofs.LineLaws.{listed-unread as unread-line, first-none, first-kept}
 use Rattle.command_hopper.proofs.TextLaws.{list-append, refit-append, said-append}
 
 -- ---- what is printed of a list
@@ -73,19 +74,29 @@ text-in-force t h =
 
 -- ---- the train behind a line, and behind a text
 
-chosen : (a b c d : Bool) (v w x y z : Changed) → PlanInForce (v .train) → PlanInForce (w .train) → PlanInForce (x .train) → PlanInForce (y .train) → PlanInForce (z .train)
-    → PlanInForce (cond a v (cond b w (cond c x (cond d y z))) .train)
-chosen true b c d v w x y z hv hw hx hy hz = hv
-chosen false true c d v w x y z hv hw hx hy hz = hw
-chosen false false true d v w x y z hv hw hx hy hz = hx
-chosen false false false true v w x y z hv hw hx hy hz = hy
-chosen false false false false v w x y z hv hw hx hy hz = hz
+chosen : (P : Changed → Type 0) (a b c d : Bool) (v w x y z : Changed) → P v → P w → P x → P y → P z
+    → P (cond a v (cond b w (cond c x (cond d y z))))
+chosen P true b c d v w x y z hv hw hx hy hz = hv
+chosen P false true c d v w x y z hv hw hx hy hz = hw
+chosen P false false true d v w x y z hv hw hx hy hz = hx
+chosen P false false false true v w x y z hv hw hx hy hz = hy
+chosen P false false false false v w x y z hv hw hx hy hz = hz
 
 line-kept : (t : Train) (s : Scan) → PlanInForce t → PlanInForce (lineChanged t s .train)
 unfolding lineChanged answerTo
 line-kept t s h =
-    chosen (isEmptyLine s) (isChange s) (isCouple s) (isUncouple s) _ _ _ _ _ h
+    chosen (λ (c : Changed). PlanInForce (c .train)) (isEmptyLine s) (isChange s) (isCouple s) (isUncouple s) _ _ _ _ _ h
     (kept-by t (newWagon (record { 0 = at (s .values) 0 }) (wagonIn s 1)) h) (kept-by t (oneMore (wagonIn s 0)) h) (kept-by t lastOff h) h
+
+-- an answer that is no 0 comes with the train as it was
+told-refused : (t : Train) (c : Change) → toldOf (answerTo t c) .change ≢ Answered 0 → answerTo t c .train ≡ t
+told-refused t c n = refused-stays t c (λ e. n (ap Answered e))
+
+line-refused : (t : Train) (s : Scan) → lineChanged t s .change ≢ Answered 0 → lineChanged t s .train ≡ t
+unfolding lineChanged answerTo
+line-refused t s =
+    chosen (λ (c : Changed). c .change ≢ Answered 0 → c .train ≡ t) (isEmptyLine s) (isChange s) (isCouple s) (isUncouple s) _ _ _ _ _ (λ n. refl)
+    (told-refused t (newWagon (record { 0 = at (s .values) 0 }) (wagonIn s 1))) (told-refused t (oneMore (wagonIn s 0))) (told-refused t lastOff) (λ n. refl)
 
 either : (a : Bool) (v w : Refit) → PlanInForce (v .train) → PlanInForce (w .train) → PlanInForce (cond a v w .train)
 either true v w hv hw = hv
@@ -123,11 +134,18 @@ stays-unread u (b ∷ bs) h =
     let one = byte-unread u b h in
     stays-unread (listOn u b) bs (λ e. h (sym one ∙ e)) ∙ one
 
--- ---- the example, computed
+named : (u : Listing) → u .unread ≡ 0 → isEmptyLine (u .scan) ≡ false → isWagon (u .scan) ≡ false → lineListed u .unread ≡ u .line
+named u none e w = sym (first-none u none ∙ ap (λ (v : Listing). v .unread) (unread-line u e w))
+
+-- ---- the examples, computed
 
 two-read : (listIn twoWagons .list ≡ twoListed) × (listIn twoWagons .unread ≡ 0)
 unfolding listOver listOn lineListed stepped characterRead letterRead numberBegun digitRead withMore withWagon
 two-read = (refl, refl)
+
+three-asked : (t : Train) → refitOver (refitFrom t) threeChanges .train ≡ after t threeAsked
+unfolding refitOver refitOn lineChanged stepped characterRead letterRead numberBegun digitRead after answerTo
+three-asked t = refl
 
 pub promised : Promised
 promised =
@@ -138,10 +156,13 @@ promised =
       list-plan = text-planned;
       in-force = text-in-force;
       refused-change = λ t number h. text-refused number _ h;
+      refused-line = line-refused;
       kept = text-kept;
       list-pieces = list-append;
       refit-pieces = refit-append;
       said-pieces = said-append;
       first-unread = stays-unread;
+      named-unread = named;
       two-wagons = two-read;
+      three-changes = three-asked;
     }

@@ -13,10 +13,10 @@ use Rattle.text.specs.TextLaws.{text-accepted, text-refused}
 use Rattle.versions.specs.declared.FoundVersion.{FoundVersion}
 use Rattle.versions.specs.declared.VersionsIn.{VersionsIn}
 use Rattle.versions.specs.Answers.{foundVersion, versionsIn}
+use Rattle.versions.proofs.AnswerLaws.{found-inside}
 use Rattle.command_versions.specs.VersionWord.{versionAsked}
 use Rattle.command_versions.specs.VersionsText.{lineIn, countFrom, countOf, versionLines, versionsPrinted}
 use Rattle.command_versions.specs.Kept.{keptWith, KeptAt}
-use Rattle.command_versions.proofs.FoundLaws.{found-inside}
 
 -- ---- a version that is asked for
 

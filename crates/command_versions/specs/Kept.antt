@@ -13,11 +13,11 @@ unfoldable pub keptWith : ℕ → FoundVersion → KeptPlan
 keptWith zero found = record { from = found .place; end = found .place + found .length; number = 0 }
 keptWith (suc k) found = record { from = 0; end = 0; number = suc k }
 
-abbrev pub keptIn : List ℕ → List ℕ → KeptPlan
-keptIn bs word = keptWith (foundVersion bs (versionAsked word) .number) (foundVersion bs (versionAsked word))
+abbrev pub keptPlan : List ℕ → List ℕ → KeptPlan
+keptPlan bs word = keptWith (foundVersion bs (versionAsked word) .number) (foundVersion bs (versionAsked word))
 
 -- the answer, whose bytes lie inside the store, for whoever writes them
 pub record KeptAt (bs word : List ℕ) (r : KeptPlan) : Type 0 where
-  pub answer : r ≡ keptIn bs word
+  pub answer : r ≡ keptPlan bs word
   pub order : r .from ≤ r .end
   pub inside : r .end ≤ length bs

@@ -1,4 +1,4 @@
--- DESIGN, "plan versions": `versions` prints a line for each kept version, oldest first: its number, and the first line of its plan.
+-- 02, No. 12: `versions` prints a line for each kept version, oldest first: its number, and the first line of its plan.
 use Prim.Native.Nat.{ℕ, _+_, _-_}
 use mathlib.Core.Bool.{cond}
 use mathlib.Core.List.{List, _∷_, _++_}

@@ -64,7 +64,7 @@ unfoldable pub isNone : List Difference → Bool
 isNone [] = true
 isNone (d ∷ ds) = false
 
--- the plans do not differ; more stations than a plan can have are the same as none
+-- the plans do not differ; a plan with more stations than there can be is the same as no plan, not even as itself
 abbrev pub isSamePlan : Set → Alloc → Set → Alloc → Bool
 isSamePlan t a u b = leb (t .n) mostStations && isNone (differences t a u b)
 

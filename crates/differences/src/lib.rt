@@ -47,7 +47,7 @@ fn same_stations(t: Set, a: Alloc, u: Set, b: Alloc, n: usize) -> bool
     all
 }
 
-// Two plans do not differ. More stations than a plan can have are the same as none.
+// Two plans do not differ. A plan with more stations than there can be is the same as no plan, not even as itself.
 pub fn same_plan(t: Set, a: Alloc, u: Set, b: Alloc) -> bool
     ensures { λ r. ⌜ r ≡ isSamePlan t a u b ⌝ }
 {

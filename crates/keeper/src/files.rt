@@ -25,6 +25,14 @@ pub(crate) fn fail_closed() -> u8 {
     status::FAILED
 }
 
+// A path with a sentence behind it.
+pub(crate) fn fail_saying(path: &[u8], sentence: &[u8]) -> u8 {
+    io::write_all(STDERR_FILENO, b"olivastrum: ");
+    io::write_all(STDERR_FILENO, path);
+    io::write_all(STDERR_FILENO, sentence);
+    status::FAILED
+}
+
 // A path that leaves no room for what stands behind it.
 pub(crate) fn fail_long() -> u8 {
     io::write_all(
@@ -92,27 +100,22 @@ fn folder_length(path: &[u8]) -> usize
     end
 }
 
-// Waits until the names in the open folder have reached the device.
-fn sync_open(folder: i32, path: &[u8]) -> bool {
-    if folder < 0 {
-        fail(path);
-        return false;
-    }
-    let synced = libc::fsync(folder) == 0;
-    if !synced {
-        fail(path);
-    }
-    libc::close(folder);
-    synced
-}
-
-// Waits until the names in the folder of this path have reached the device; where that fails, says why.
-pub(crate) fn sync_folder(path: &[u8]) -> bool {
+// Opens the folder of this path.
+pub(crate) fn open_folder(path: &[u8]) -> i32 {
     let length = folder_length(path);
     if length == 0 {
-        return sync_open(os::open_read(b"."), b".");
+        return os::open_read(b".");
     }
-    sync_open(os::open_read(&path[..length]), &path[..length])
+    os::open_read(&path[..length])
+}
+
+// Names the folder of this path, and what the system says of it.
+pub(crate) fn fail_folder(path: &[u8]) -> u8 {
+    let length = folder_length(path);
+    if length == 0 {
+        return fail(b".");
+    }
+    fail(&path[..length])
 }
 
 // So many of the bytes, or all of them if they are fewer.

@@ -1,58 +1,11 @@
-// `keep STORE`: the plan sheet on standard input becomes the next version of the store in a file. The file is replaced as a whole or not at all: a new one, `STORE.new`, is written beside it and takes its name. That one is also the lock: where it stands, no other keeper goes on.
+// `keep STORE`: the plan sheet on standard input becomes the next version of the store in a file.
 use crate::files;
+use crate::replacing;
 use commands::status;
-use libc::PATH_MAX;
-use libc::STDERR_FILENO;
 use libc::STDIN_FILENO;
 use streams::ending;
 use streams::reading;
 use versions::StoredPlan;
-
-// The longest path that has room for `.new` behind it.
-const LONGEST: usize = PATH_MAX - 4;
-
-// The path of the file beside a store, in the first bytes; of no byte where it is too long.
-struct NewPath {
-    bytes: [u8; PATH_MAX],
-    length: usize,
-}
-
-// The bytes of a path, and `.new` behind them.
-fn beside(path: &[u8]) -> NewPath {
-    let mut bytes = io::buffer();
-    let end = path.len();
-    if end > LONGEST {
-        return NewPath { bytes, length: 0 };
-    }
-    let mut i: usize = 0;
-    while i < end {
-        bytes[i] = path[i];
-        i += 1;
-    }
-    bytes[end] = b'.';
-    bytes[end + 1] = b'n';
-    bytes[end + 2] = b'e';
-    bytes[end + 3] = b'w';
-    NewPath {
-        bytes,
-        length: end + 4,
-    }
-}
-
-// The file beside the store cannot be made: it is named, and where it stands already it is said what to do.
-fn not_made(new: &[u8]) -> u8 {
-    let stands = os::errno() == libc::EEXIST;
-    files::fail(new);
-    if stands {
-        io::write_all(
-            STDERR_FILENO,
-            b"olivastrum: another keeper is at work, or one was stopped: remove ",
-        );
-        io::write_all(STDERR_FILENO, new);
-        io::write_all(STDERR_FILENO, b" once no keeper runs\n");
-    }
-    status::FAILED
-}
 
 // Says what storing answered.
 fn say(stored: StoredPlan) -> u8 {
@@ -62,65 +15,39 @@ fn say(stored: StoredPlan) -> u8 {
     ending::answer(&page[..length], status::status_of(said.number))
 }
 
-// The new file takes the store's name, and the folder is synced; only then is the version said.
-fn replace(path: &[u8], new: &[u8], stored: StoredPlan) -> u8 {
-    if os::rename(new, path) != 0 {
-        files::fail(new);
-        os::unlink(new);
-        return status::FAILED;
-    }
-    if !files::sync_folder(path) {
-        return status::FAILED;
-    }
-    say(stored)
-}
-
-// The new file is taken away again; why was said.
-fn give_up(new: &[u8]) -> u8 {
-    os::unlink(new);
-    status::FAILED
-}
-
-// Stores the plan in the bytes of the store, and those go into the new file.
-fn write_new(path: &[u8], new: &[u8], file: i32, area: &mut [u8], sheet: &[u8]) -> u8 {
+// Stores the plan in the bytes of the store, and those replace the file; only then is the version said.
+fn store(path: &[u8], new: &[u8], file: i32, area: &mut [u8], sheet: &[u8]) -> u8 {
     let stored = versions::store_plan(area, sheet);
     if stored.number != 0 {
         os::unlink(new);
         return say(stored);
     }
-    if !files::write_through(file, area) {
-        files::fail(new);
-        return give_up(new);
+    let status = replacing::replace(path, new, file, area);
+    if status != status::DONE {
+        return status;
     }
-    replace(path, new, stored)
+    say(stored)
 }
 
 // The new file stands, and no other keeper goes on: the store is read and replaced.
 fn hold(path: &[u8], new: &[u8], file: i32, sheet: &[u8]) -> u8 {
-    if file <= STDERR_FILENO {
-        os::unlink(new);
-        return files::fail_closed();
-    }
     let mut area: [u8; files::STORE_READ] = [0; files::STORE_READ];
     let filled = files::load(path, &mut area);
     if filled.failed {
-        return give_up(new);
+        return replacing::give_up(new);
     }
     let length = filled.length;
-    write_new(path, new, file, &mut area[..length], sheet)
+    store(path, new, file, &mut area[..length], sheet)
 }
 
 // Keeps the plan in the store of this path.
 fn keep_in(path: &[u8], sheet: &[u8]) -> u8 {
-    let new = beside(path);
+    let new = replacing::beside(path);
     let bytes = new.bytes;
     let length = files::at_most(&bytes, new.length);
-    if length == 0 {
-        return files::fail_long();
-    }
-    let file = os::create(&bytes[..length]);
+    let file = replacing::lock(path, &bytes[..length]);
     if file < 0 {
-        return not_made(&bytes[..length]);
+        return status::FAILED;
     }
     let status = hold(path, &bytes[..length], file, sheet);
     libc::close(file);

@@ -3,6 +3,7 @@ mod asking;
 mod files;
 mod keeping;
 mod making;
+mod replacing;
 
 use commands::Command;
 use commands::status;

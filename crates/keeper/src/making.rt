@@ -1,44 +1,33 @@
 // `empty-store STORE`: the file is made, a store without a version; one that is there already is not touched.
 use crate::files;
+use crate::replacing;
 use commands::status;
-use libc::STDERR_FILENO;
 
-// Takes the file away again, and fails.
-fn undo(path: &[u8]) -> u8 {
-    files::fail(path);
-    os::unlink(path);
-    status::FAILED
-}
-
-// Writes the empty store into the new file.
-fn fill(file: i32, path: &[u8]) -> u8 {
+// The new file stands, and no other keeper goes on: where nothing has the store's name, the empty store takes it.
+fn hold(path: &[u8], new: &[u8], file: i32) -> u8 {
+    if !replacing::is_free(path) {
+        return replacing::give_up(new);
+    }
     let mut area = io::large_buffer();
     versions::empty_store(&mut area);
-    if !files::write_through(file, &area) {
-        return undo(path);
-    }
-    if !files::sync_folder(path) {
-        return status::FAILED;
-    }
-    status::DONE
+    replacing::replace(path, new, file, &area)
 }
 
-// Makes the file of this path.
+// Makes the store of this path.
 fn make(path: &[u8]) -> u8 {
-    let file = os::create(path);
+    let new = replacing::beside(path);
+    let bytes = new.bytes;
+    let length = files::at_most(&bytes, new.length);
+    let file = replacing::lock(path, &bytes[..length]);
     if file < 0 {
-        return files::fail(path);
+        return status::FAILED;
     }
-    if file <= STDERR_FILENO {
-        os::unlink(path);
-        return files::fail_closed();
-    }
-    let status = fill(file, path);
+    let status = hold(path, &bytes[..length], file);
     libc::close(file);
     status
 }
 
-// Makes the file whose path is the word at this place.
+// Makes the store whose path is the word at this place.
 pub(crate) fn empty_store(word: usize) -> u8 {
     let mut path = io::buffer();
     let length = os::arg(word, &mut path);

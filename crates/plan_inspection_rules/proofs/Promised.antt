@@ -33,6 +33,8 @@ use Rattle.inspection_rules.specs.Broken.{FirstBroken}
 use Rattle.inspection_rules.specs.Promised.{Recorded}
 use Rattle.inspection_rules.proofs.Logs.{found-there, log-plan, log-recorded}
 use Rattle.inspection_rules.proofs.Promised as inspections
+use Rattle.accepted_log_rules.specs.Shows.{Shows}
+use Rattle.accepted_log_rules.proofs.Promised as accepted-logs
 use Rattle.text.specs.Text.{line, lineOn, decimalOf, decimalWithin, refusedWord, refusedLine, pageSize, Printed}
 use Rattle.differences.specs.Differences.{Difference, differences, isSamePlan}
 use Rattle.differences.proofs.Promised as difference-rules
@@ -330,6 +332,11 @@ module _ (plan log first : List ℕ) (pieces : List (List ℕ)) (comes : ComesIn
       let both = accepted plan log bytes short in
       ((λ e. both .0 (sym is ∙ e), λ kept. is ∙ both .1 kept), on .printed)
 
+-- ---- what the records show
+
+kept-shows : (plan log : List ℕ) → Kept plan log → Shows (readPlan plan .set) (readPlan plan .alloc) (entriesIn log)
+kept-shows plan log kept = accepted-logs.promised .shown _ _ _ (judged plan log (kept .read)) (kept .gives)
+
 pub promised : Promised
 promised =
     record {
@@ -342,6 +349,7 @@ promised =
       refused-worded = refused-worded;
       accepted = accepted;
       said = λ plan log bytes short kept. said plan log (kept .read) bytes short (kept .same) (kept .gives);
+      shows = kept-shows;
       broken = λ plan log bytes short z. broken plan log z bytes short;
       pieces = as-whole;
       told = λ plan log first pieces before after r bytes short comes answered large. told plan log first pieces comes bytes short answered large;

@@ -12,6 +12,7 @@ use Rattle.logs.specs.Reading.{readLog, entriesIn}
 use Rattle.inspection.specs.Findings.{findingIn}
 use Rattle.inspection_rules.specs.Gives.{Gives}
 use Rattle.inspection_rules.specs.Broken.{FirstBroken}
+use Rattle.accepted_log_rules.specs.Shows.{Shows}
 use Rattle.text.specs.Text.{line, decimalOf, refusedWord, refusedLine, pageSize, Printed}
 use Rattle.differences.specs.Views.{viewOf, SamePlan}
 use Rattle.differences.specs.Differences.{Difference, differences}
@@ -86,6 +87,8 @@ pub record Promised : Type 0 where
   pub accepted : (plan log : List ℕ) → AllBytes log → length log < 2 ^ 64 → (isAnswered (readPlan plan) (inspectStart log) ≡ true) ↔ Kept plan log
   -- and then `accepted` is printed, with the number of the records
   pub said : (plan log : List ℕ) → AllBytes log → length log < 2 ^ 64 → Kept plan log → printedOf plan log ≡ acceptedLine (length (entriesIn log))
+  -- and its records then show, of the plan in PLAN, what those of an accepted log show
+  pub shows : (plan log : List ℕ) → Kept plan log → Shows (readPlan plan .set) (readPlan plan .alloc) (entriesIn log)
   -- where only the records are at fault, the first that breaks a rule is named, with that rule of a run of the plan in PLAN
   pub broken : (plan log : List ℕ) → AllBytes log → length log < 2 ^ 64 → BothRead plan log → SamePlans plan log → ¬ Kept plan log
       → Names log (printedOf plan log) × FirstBroken (readPlan plan .set) (readPlan plan .alloc) (entriesIn log) (findingIn log .«record») (findingIn log .rule)

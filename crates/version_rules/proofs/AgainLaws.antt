@@ -1,9 +1,9 @@
 -- What is read is laid out again: the fields that are read stand one behind the other, then the end and zeros, and these are all the bytes.
 use Prim.Native.Nat.{ℕ, zero, suc, _+_, _-_, _≤_, _<_}
 use mathlib.Core.Path.{_≡_, refl, sym, ap, _∙_}
-use mathlib.Core.Bool.{Bool, true, false, _&&_, _||_}
+use mathlib.Core.Bool.{true, _&&_}
 use mathlib.Core.List.{List, [], _∷_, _++_}
-use mathlib.Core.Logic.{_⊎_, inl, inr, ⊎-elim}
+use mathlib.Core.Logic.{inl, inr, ⊎-elim}
 use native.Mathlib.Numerals.{add-one}
 use native.Mathlib.Omega.{arith}
 use borrow.Author.Tests.{leb-true, eqb-true}
@@ -23,7 +23,7 @@ use Rattle.sheets.specs.Reading.{readPlan}
 use Rattle.sheets.specs.Layout.{endBytes}
 use Rattle.versions.specs.Layout.{storeSize, mostKept, Kept, count, fieldOf, numberOf, sheetOf, zeroBytes, filledUp, storeOf}
 use Rattle.versions.specs.Area.{sheetAt, isPlan, placeOf, beforeIn, keptAt, countIn, endIn, zerosFrom, endsAt, isStore}
-use Rattle.versions.proofs.AreaLaws.{leading-most, kept-here, sheet-length, place-none, place-next, newest-small, StoreHere, store-here}
+use Rattle.versions.proofs.AreaLaws.{or-some, leading-most, kept-here, sheet-length, place-none, place-next, newest-small, StoreHere, store-here}
 use Rattle.versions.proofs.StoringLaws.{zeros-long, zeros-are}
 use Rattle.version_rules.specs.Keeping.{Allowed, sheetsUpTo, keptIn}
 use Rattle.version_rules.proofs.FieldLaws.{version-length, version-bytes}
@@ -50,10 +50,6 @@ is-read : (sheet : List ℕ) → isPlan sheet ≡ true → readPlan sheet .numbe
 unfolding isPlan
 is-read sheet h = eqb-true _ _ h
 
-or-cases : (a b : Bool) → (a || b) ≡ true → (a ≡ true) ⊎ (b ≡ true)
-or-cases true b h = inl refl
-or-cases false b h = inr h
-
 module _ (bs : List ℕ) (bytes : AllBytes bs) (store : isStore bs ≡ true) where
   abbrev v : Kept
   v = keptIn bs
@@ -75,7 +71,7 @@ module _ (bs : List ℕ) (bytes : AllBytes bs) (store : isStore bs ≡ true) whe
         few = omega (arith, kept-count, few);
         none-missing =
             ⊎-elim (λ (e : eqb (beforeIn bs) 0 ≡ true). inl (eqb-true _ _ e)) (λ (e : eqb (countIn bs) mostKept ≡ true). inr (kept-count ∙ eqb-true _ _ e))
-            (or-cases (eqb (beforeIn bs) 0) (eqb (countIn bs) mostKept) (here .none-missing));
+            (or-some (eqb (beforeIn bs) 0) (eqb (countIn bs) mostKept) (here .none-missing));
         numbered = omega (arith, kept-count, newest-small bs bytes (omega (arith, here .long)));
         plans = λ k l.
             let b : k < countIn bs = omega (arith, kept-count) in

@@ -1,18 +1,19 @@
 -- Finding: each number exactly when its line holds, and the bytes that are found.
 use Prim.Native.Nat.{ℕ, zero, suc, _+_, _-_, _≤_, _<_}
-use mathlib.Core.Path.{_≡_, refl, sym, _∙_}
+use mathlib.Core.Path.{_≡_, refl, sym, ap, _∙_}
 use mathlib.Core.Bool.{true, false}
 use mathlib.Core.List.{List, []}
 use mathlib.Core.Logic.{_↔_, ⊎-elim}
 use native.Mathlib.Omega.{arith}
 use borrow.Author.Tests.{lt-ltb, le-leb, ltb-true, leb-true}
 use lib.Dec.{leb, ltb}
-use lib.ListN.{getD}
+use lib.ListN.{length, getD}
 use Rattle.units.specs.JudgingLaws.{held, failed, true-and, and-true, true-or-false}
 use Rattle.sheets.specs.ReadLaws.{then-rest, then-keeps}
-use Rattle.versions.specs.Layout.{count}
-use Rattle.versions.specs.Area.{beforeIn, countIn, newestIn, isStore, areaNumber}
+use Rattle.versions.specs.Layout.{mostKept, count}
+use Rattle.versions.specs.Area.{placeOf, beforeIn, countIn, newestIn, isStore, areaNumber}
 use Rattle.versions.specs.Answers.{isKept, findNumber, foundPlace, foundWith, foundVersion}
+use Rattle.versions.proofs.AreaLaws.{kept-here, sheet-length}
 use Rattle.version_rules.specs.Keeping.{Among, keptIn, Finds}
 use Rattle.version_rules.proofs.AgainLaws.{sheets-count, sheet-read}
 
@@ -91,5 +92,6 @@ finds bs store k l =
     let place : beforeIn bs + k + 1 - beforeIn bs - 1 ≡ k = omega arith in
     record {
       found = number-found bs (beforeIn bs + k + 1) ∙ zero;
+      long = rw (zero, place) (sym (ap length (sheet-read bs (countIn bs) k b) ∙ sheet-length bs (placeOf bs k) (kept-here bs mostKept k b .field)));
       bytes = rw (zero, place) (sym (sheet-read bs (countIn bs) k b));
     }

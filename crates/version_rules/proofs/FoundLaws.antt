@@ -1,7 +1,7 @@
--- What is found after storing: the plan just stored, and 17 for ever where a version was dropped.
+-- What is found after storing: a plan while fewer than sixteen are newer, and 17 for ever where a version was dropped.
 use Prim.Native.Nat.{ℕ, _+_, _-_, _≤_, _<_}
 use mathlib.Core.Path.{_≡_, refl, sym, ap, _∙_}
-use mathlib.Core.Bool.{Bool, true, false, _&&_}
+use mathlib.Core.Bool.{true, false}
 use mathlib.Core.List.{List, [], _∷_, _++_}
 use mathlib.Core.Logic.{_≢_, ⊎-elim}
 use native.Mathlib.Omega.{arith}
@@ -15,14 +15,15 @@ use Rattle.fields.proofs.HeaderLaws.{same-or-not}
 use Rattle.versions.specs.Layout.{mostKept, Kept, count, numberOf, sheetOf, storeOf}
 use Rattle.versions.specs.Area.{beforeIn, newestIn, isStore}
 use Rattle.versions.specs.Answers.{isFull, isKept, storeNumber, storedArea, foundVersion}
-use Rattle.version_rules.specs.Keeping.{Allowed, withPlan, keptIn, Finds}
-use Rattle.version_rules.specs.Runs.{afterStores}
+use Rattle.versions.proofs.AreaLaws.{and-first}
+use Rattle.version_rules.specs.Keeping.{newest, Allowed, withPlan, keptIn, Finds}
+use Rattle.version_rules.specs.Runs.{afterStores, given}
 use Rattle.version_rules.proofs.BackLaws.{begun, laid-store, kept-back}
 use Rattle.version_rules.proofs.AgainLaws.{kept-count}
 use Rattle.version_rules.proofs.StoredLaws.{plan-fewer, plan-sixteen}
 use Rattle.version_rules.proofs.FindLaws.{number-found, not-kept, kept-among, kept-found, finds}
-use Rattle.version_rules.proofs.NumberLaws.{store-zero, next-newest}
-use Rattle.version_rules.proofs.RunLaws.{allowed, zero-laid, stored, stored-allowed, run-leaves}
+use Rattle.version_rules.proofs.NumberLaws.{store-zero, next-allowed, next-newest, given-same, given-next}
+use Rattle.version_rules.proofs.RunLaws.{after-none, after-same, after-next, allowed, zero-laid, stored, stored-allowed, run-leaves}
 
 same-finds : {area area′ : List ℕ} {n n′ : ℕ} {s s′ : List ℕ} → area ≡ area′ → n ≡ n′ → s ≡ s′ → Finds area n s → Finds area′ n′ s′
 same-finds p q r f = rw (← p, ← q, ← r) f
@@ -50,9 +51,6 @@ some-kept v sheet =
     ⊎-elim (λ (e : count v ≡ mostKept). omega (arith, ap count (plan-sixteen v sheet e), length-append (drop 1 (v .sheets)) (sheet ∷ [])))
     (λ (o : count v ≢ mostKept). omega (arith, ap count (plan-fewer v sheet o), length-append (v .sheets) (sheet ∷ [])))
     (same-or-not (count v) mostKept)
-
-and-first : (a b : Bool) → a ≡ false → (a && b) ≡ false
-and-first a b e = rw e refl
 
 -- where a version that stays stands then
 pub record Stays (v : Kept) (sheet : List ℕ) (k : ℕ) : Type 0 where
@@ -87,6 +85,33 @@ stays-fewer v sheet k l o =
       plan = ap (λ (x : Kept). sheetOf x k) is ∙ List·getD-append (v .sheets) (sheet ∷ []) [] k l;
     }
 
+-- a version that is not the oldest of sixteen stays
+stays : (v : Kept) (sheet : List ℕ) (k : ℕ) → k < count v → (count v ≡ mostKept → 1 ≤ k) → Stays v sheet k
+stays v sheet k l some =
+    ⊎-elim (λ (e : count v ≡ mostKept). stays-sixteen v sheet k l e (some e)) (λ (o : count v ≢ mostKept). stays-fewer v sheet k l o) (same-or-not (count v) mostKept)
+
+-- whatever is stored later, a version is found while at most fifteen are newer
+found-on : (v : Kept) → Allowed v → (k : ℕ) → k < count v → (later : List (List ℕ)) → count v + length (given (storeOf v) later) ≤ k + mostKept
+    → Finds (afterStores (storeOf v) later) (numberOf v k) (sheetOf v k)
+found-on v a k l [] few = same-finds (sym (after-none (storeOf v))) refl refl (finds-laid v a k l)
+found-on v a k l (sheet ∷ later) few =
+    ⊎-elim (λ (z : storeNumber (storeOf v) sheet ≡ 0).
+    let one = ap length (given-next v a sheet z later) in
+    let more = next-newest v a sheet z in
+    let there = stays v sheet k l (λ e. omega (arith, one)) in
+    let newer : count (withPlan v sheet) + length (given (storeOf (withPlan v sheet)) later) ≤ there .place + mostKept = omega (arith, one, more, there .numbered) in
+    same-finds (sym (after-next v a sheet z later)) (there .numbered) (there .plan) (found-on (withPlan v sheet) (next-allowed v a sheet z) (there .place) (there .kept) later newer))
+    (λ (o : storeNumber (storeOf v) sheet ≢ 0).
+    same-finds (sym (after-same (storeOf v) sheet later o)) refl refl (found-on v a k l later (omega (arith, ap length (given-same (storeOf v) sheet later o)))))
+    (same-or-not (storeNumber (storeOf v) sheet) 0)
+
+-- a number before the oldest is 17
+gone : (v : Kept) → Allowed v → (version : ℕ) → version ≤ v .before → foundVersion (storeOf v) version .number ≡ 17
+gone v a version l =
+    let low : version ≤ beforeIn (storeOf v) = omega (arith, begun v a) in
+    let none : isKept (storeOf v) version ≡ false = and-first (ltb (beforeIn (storeOf v)) version) (leb version (newestIn (storeOf v))) (le-ltb _ _ low) in
+    number-found (storeOf v) version ∙ not-kept (storeOf v) version (laid-store v a) none
+
 module _ (bs sheet : List ℕ) (bytes : AllBytes bs) (z : storeNumber bs sheet ≡ 0) where
   abbrev w : Kept
   w = withPlan (keptIn bs) sheet
@@ -94,27 +119,42 @@ module _ (bs sheet : List ℕ) (bytes : AllBytes bs) (z : storeNumber bs sheet �
   is-store : isStore bs ≡ true
   is-store = store-zero bs sheet .0 z .0
 
+  -- what is kept then, its newest number, and that of its last plan
+  newest-then : newest (withPlan (keptIn bs) sheet) ≡ newestIn bs + 1
+  newest-then = omega (arith, kept-count bs bytes is-store, next-newest (keptIn bs) (allowed bs sheet bytes z) sheet (zero-laid bs sheet bytes z))
+
+  last-number : numberOf (withPlan (keptIn bs) sheet) (count (withPlan (keptIn bs) sheet) - 1) ≡ newestIn bs + 1
+  last-number = omega (arith, some-kept (keptIn bs) sheet, newest-then)
+
+  -- the same, after later plans
+  later-same : (later : List (List ℕ)) → afterStores (storedArea bs sheet) later ≡ afterStores (storeOf w) later
+  later-same later = ap (λ (b : List ℕ). afterStores b later) (stored bs sheet bytes z)
+
+  later-given : (later : List (List ℕ)) → length (given (storedArea bs sheet) later) ≡ length (given (storeOf w) later)
+  later-given later = ap (λ (b : List ℕ). length (given b later)) (stored bs sheet bytes z)
+
   pub just-stored : Finds (storedArea bs sheet) (newestIn bs + 1) sheet
   just-stored =
+      same-finds (sym (stored bs sheet bytes z)) last-number (last-kept (keptIn bs) sheet) (finds-laid w (stored-allowed bs sheet bytes z) (count w - 1) (omega (arith, some-kept (keptIn bs) sheet)))
+
+  pub while-newest : (later : List (List ℕ)) → length (given (storedArea bs sheet) later) < mostKept → Finds (afterStores (storedArea bs sheet) later) (newestIn bs + 1) sheet
+  while-newest later few =
       let some = some-kept (keptIn bs) sheet in
-      let size = kept-count bs bytes is-store in
-      let number : numberOf (withPlan (keptIn bs) sheet) (count (withPlan (keptIn bs) sheet) - 1) ≡ newestIn bs + 1 =
-      omega (arith, next-newest (keptIn bs) (allowed bs sheet bytes z) sheet (zero-laid bs sheet bytes z)) in
-      same-finds (sym (stored bs sheet bytes z)) number (last-kept (keptIn bs) sheet) (finds-laid w (stored-allowed bs sheet bytes z) (count w - 1) (omega arith))
+      same-finds (sym (later-same later)) last-number (last-kept (keptIn bs) sheet)
+      (found-on w (stored-allowed bs sheet bytes z) (count w - 1) (omega arith) later (omega (arith, later-given later)))
+
+  pub no-longer : (later : List (List ℕ)) → mostKept ≤ length (given (storedArea bs sheet) later) → foundVersion (afterStores (storedArea bs sheet) later) (newestIn bs + 1) .number ≡ 17
+  no-longer later many =
+      let left = run-leaves w (stored-allowed bs sheet bytes z) later in
+      let old : newestIn bs + 1 ≤ left .kept .before = omega (arith, left .risen, left .allowed .few, newest-then, later-given later) in
+      ap (λ (b : List ℕ). foundVersion b (newestIn bs + 1) .number) (later-same later ∙ left .laid) ∙ gone (left .kept) (left .allowed) (newestIn bs + 1) old
 
   pub dropped : isFull bs ≡ true → (later : List (List ℕ)) → foundVersion (afterStores (storedArea bs sheet) later) (beforeIn bs + 1) .number ≡ 17
   dropped full later =
       let left = run-leaves w (stored-allowed bs sheet bytes z) later in
-      let area : afterStores (storedArea bs sheet) later ≡ storeOf (left .kept) = ap (λ (b : List ℕ). afterStores b later) (stored bs sheet bytes z) ∙ left .laid in
       let all : count (keptIn bs) ≡ mostKept = kept-count bs bytes is-store ∙ eqb-true _ _ full in
       let before : withPlan (keptIn bs) sheet .before ≡ beforeIn bs + 1 = ap (λ (x : Kept). x .before) (plan-sixteen (keptIn bs) sheet all) in
-      let later-than = left .later in
-      let low : beforeIn bs + 1 ≤ beforeIn (storeOf (left .kept)) = omega (arith, begun (left .kept) (left .allowed)) in
-      let none : isKept (storeOf (left .kept)) (beforeIn bs + 1) ≡ false =
-      and-first (ltb (beforeIn (storeOf (left .kept))) (beforeIn bs + 1)) (leb (beforeIn bs + 1) (newestIn (storeOf (left .kept)))) (le-ltb _ _ low) in
-      ap (λ (b : List ℕ). foundVersion b (beforeIn bs + 1) .number) area
-      ∙ number-found (storeOf (left .kept)) (beforeIn bs + 1)
-      ∙ not-kept (storeOf (left .kept)) (beforeIn bs + 1) (laid-store (left .kept) (left .allowed)) none
+      ap (λ (b : List ℕ). foundVersion b (beforeIn bs + 1) .number) (later-same later ∙ left .laid) ∙ gone (left .kept) (left .allowed) (beforeIn bs + 1) (omega (arith, left .begun))
 
   pub others : (version : ℕ) (plan : List ℕ) → Finds bs version plan → (isFull bs ≡ true → version ≢ beforeIn bs + 1) → Finds (storedArea bs sheet) version plan
   others version plan f stay =
@@ -126,10 +166,8 @@ module _ (bs sheet : List ℕ) (bytes : AllBytes bs) (z : storeNumber bs sheet �
       let same : sheetOf (keptIn bs) k ≡ plan =
       sym (finds bs is-store k l .bytes) ∙ ap (λ (n : ℕ). take (foundVersion bs n .length) (drop (foundVersion bs n .place) bs)) (sym e) ∙ f .bytes in
       let there : Stays (keptIn bs) sheet k =
-      ⊎-elim (λ (all : count (keptIn bs) ≡ mostKept).
+      stays (keptIn bs) sheet k l
+      (λ all.
       let full : isFull bs ≡ true = eq-eqb _ _ (sym size ∙ all) in
-      let some : 1 ≤ k = ⊎-elim (λ (b : k < 1). absurd (stay full (omega arith))) (λ (b : 1 ≤ k). b) (below-or-not k 1) in
-      stays-sixteen (keptIn bs) sheet k l all some)
-      (λ (o : count (keptIn bs) ≢ mostKept). stays-fewer (keptIn bs) sheet k l o)
-      (same-or-not (count (keptIn bs)) mostKept) in
+      ⊎-elim (λ (b : k < 1). absurd (stay full (omega arith))) (λ (b : 1 ≤ k). b) (below-or-not k 1)) in
       same-finds (sym (stored bs sheet bytes z)) (there .numbered ∙ sym e) (there .plan ∙ same) (finds-laid w (stored-allowed bs sheet bytes z) (there .place) (there .kept))

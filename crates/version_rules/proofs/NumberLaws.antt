@@ -98,13 +98,17 @@ pub given-same : (bs sheet : List ℕ) (sheets : List (List ℕ)) → storeNumbe
 unfolding given
 given-same bs sheet sheets o = rw (ne-eqb (storeNumber bs sheet) 0 o) (ap (λ (b : List ℕ). given b sheets) (store-refused bs sheet o .0))
 
+-- the same of a store that is laid out
+pub given-next : (v : Kept) → Allowed v → (sheet : List ℕ) → storeNumber (storeOf v) sheet ≡ 0 → (sheets : List (List ℕ))
+    → given (storeOf v) (sheet ∷ sheets) ≡ (newestIn (storeOf v) + 1) ∷ given (storeOf (withPlan v sheet)) sheets
+given-next v a sheet z sheets = given-more (storeOf v) sheet sheets z ∙ ap (λ (b : List ℕ). (newestIn (storeOf v) + 1) ∷ given b sheets) (next-area v a sheet z)
+
 -- the i-th number that is given is the newest and i + 1
-rising-laid : (v : Kept) → Allowed v → (sheets : List (List ℕ)) (i : ℕ) → i < length (given (storeOf v) sheets) → at (given (storeOf v) sheets) i ≡ newest v + 1 + i
+pub rising-laid : (v : Kept) → Allowed v → (sheets : List (List ℕ)) (i : ℕ) → i < length (given (storeOf v) sheets) → at (given (storeOf v) sheets) i ≡ newest v + 1 + i
 rising-laid v a [] i l = absurd (omega (arith, ap length (given-none (storeOf v))))
 rising-laid v a (sheet ∷ sheets) i l =
     ⊎-elim (λ (z : storeNumber (storeOf v) sheet ≡ 0).
-    let next : given (storeOf v) (sheet ∷ sheets) ≡ (newestIn (storeOf v) + 1) ∷ given (storeOf (withPlan v sheet)) sheets =
-    given-more (storeOf v) sheet sheets z ∙ ap (λ (b : List ℕ). (newestIn (storeOf v) + 1) ∷ given b sheets) (next-area v a sheet z) in
+    let next = given-next v a sheet z sheets in
     ap (λ (xs : List ℕ). at xs i) next ∙ go z (λ j b. rising-laid (withPlan v sheet) (next-allowed v a sheet z) sheets j b) i (omega (arith, ap length next)))
     (λ (o : storeNumber (storeOf v) sheet ≢ 0).
     let same = given-same (storeOf v) sheet sheets o in

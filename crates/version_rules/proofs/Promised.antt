@@ -8,6 +8,7 @@ use native.Mathlib.Omega.{arith}
 use borrow.Author.Tests.{eq-eqb, ne-eqb}
 use lib.ListN.{length, length-append}
 use lib.Seq.{drop-at}
+use Rattle.units.specs.Places.{at}
 use Rattle.units.specs.JudgingLaws.{held, failed, not-given, true-or-false}
 use Rattle.fields.specs.Bytes.{bytesOf, AllBytes}
 use Rattle.fields.specs.declared.Passed.{Passed}
@@ -26,15 +27,17 @@ use Rattle.versions.specs.Layout.{storeSize, lastVersion, versionStart, version
 use Rattle.versions.specs.Area.{countIn, newestIn, isStore, areaNumber}
 use Rattle.versions.specs.Answers.{isLong, emptyNumber, emptiedArea, storeNumber, storedAnswer, findNumber, foundPlace, foundWith, foundVersion, versionsWith, versionsIn}
 use Rattle.versions.proofs.AreaLaws.{newest-small, store-here}
-use Rattle.version_rules.specs.Keeping.{nothing, newest, Allowed, keptIn}
+use Rattle.versions.proofs.AnswerLaws.{found-inside}
+use Rattle.version_rules.specs.Keeping.{nothing, newest, Allowed, withPlan, keptIn}
+use Rattle.version_rules.specs.Runs.{given}
 use Rattle.version_rules.specs.Promised.{FieldOf, Promised}
 use Rattle.version_rules.proofs.FieldLaws.{version-length, field-reads}
 use Rattle.version_rules.proofs.BackLaws.{store-long, laid-store, kept-back}
 use Rattle.version_rules.proofs.AgainLaws.{sheets-count, kept-allowed, kept-again}
 use Rattle.version_rules.proofs.FindLaws.{find-two, find-seventeen, finds}
-use Rattle.version_rules.proofs.NumberLaws.{store-zero, store-two, store-sheet, store-used, one-more, store-refused, newest-laid, rising, never-twice}
-use Rattle.version_rules.proofs.RunLaws.{used-up, stored, newest-is, stays-store}
-use Rattle.version_rules.proofs.FoundLaws.{just-stored, others, dropped}
+use Rattle.version_rules.proofs.NumberLaws.{store-zero, store-two, store-sheet, store-used, one-more, store-refused, newest-laid, rising-laid, rising, never-twice}
+use Rattle.version_rules.proofs.RunLaws.{used-up, stored, stored-allowed, newest-is, stays-store}
+use Rattle.version_rules.proofs.FoundLaws.{just-stored, while-newest, no-longer, others, dropped}
 use Rattle.version_rules.proofs.LastLaws.{none, newest-kept, reached}
 
 field : (number : ℕ) (sheet : List ℕ) → number < 2 ^ 32 → length sheet ≤ 65_531 → FieldOf number sheet (versionBytes number sheet)
@@ -124,6 +127,11 @@ empty-refused bs o = let e : isLong bs ≡ false = ne-eqb _ _ o in (failed _ _ _
 empty-is-store : isStore emptyStore ≡ true
 empty-is-store = ap isStore (sym none) ∙ laid-store nothing nothing-allowed
 
+from-one : (sheets : List (List ℕ)) (i : ℕ) → i < length (given emptyStore sheets) → at (given emptyStore sheets) i ≡ 1 + i
+from-one sheets i l =
+    let some : i < length (given (storeOf nothing) sheets) = rw none l in
+    rw none at (rising-laid nothing nothing-allowed sheets i some) ∙ omega arith
+
 empty-newest : newestIn emptyStore ≡ 0
 empty-newest = ap newestIn (sym none) ∙ newest-laid nothing nothing-allowed
 
@@ -147,19 +155,26 @@ promised =
       exactly = exactly;
       reached = reached;
       newest-kept = newest-kept;
+      newest-in = λ bs. omega (arith, sheets-count bs (countIn bs));
       stored = stored;
+      kept-after = λ bs sheet bytes z. ap keptIn (stored bs sheet bytes z) ∙ kept-back (withPlan (keptIn bs) sheet) (stored-allowed bs sheet bytes z);
       stays-store = stays-store;
       one-more = one-more;
       newest-is = newest-is;
       just-stored = just-stored;
+      while-newest = while-newest;
+      no-longer = no-longer;
       others = others;
       dropped = dropped;
       rising = rising;
+      from-one = from-one;
       never-twice = never-twice;
       find-two = find-two;
       find-seventeen = find-seventeen;
       finds = finds;
       find-refused = find-refused;
+      find-inside = found-inside;
+      find-zero = λ bs e. find-seventeen bs 0 .1 (e, λ m. omega (arith, m .1 .1));
       versions-two = versions-two;
       versions-none = versions-none;
       versions-some = versions-some;
@@ -167,7 +182,7 @@ promised =
       store-sheet = store-sheet;
       eighteen = eighteen;
       store-zero = store-zero;
-      used-up = λ bs e n later. used-up bs n later;
+      used-up = used-up;
       store-refused = store-refused;
       empty-refused = empty-refused;
       emptied = emptied;

@@ -58,4 +58,5 @@ keptIn bs = record { before = beforeIn bs; sheets = sheetsUpTo bs (countIn bs) }
 -- the version is found, and these are the bytes that stand where it is said to stand
 pub record Finds (area : List ℕ) (version : ℕ) (sheet : List ℕ) : Type 0 where
   pub found : foundVersion area version .number ≡ 0
+  pub long : foundVersion area version .length ≡ length sheet
   pub bytes : take (foundVersion area version .length) (drop (foundVersion area version .place) area) ≡ sheet

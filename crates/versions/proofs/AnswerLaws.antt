@@ -1,26 +1,27 @@
 -- The laws of the answers.
 use Prim.Native.Nat.{ℕ, zero, suc, _+_, _-_, _≤_, _<_}
 use mathlib.Core.Path.{_≡_, refl, sym, ap, _∙_}
-use mathlib.Core.Bool.{Bool, true, false, _&&_, _||_, true≢false}
+use mathlib.Core.Bool.{true, false, _||_}
 use mathlib.Core.List.{List, _++_}
-use mathlib.Core.Logic.{_⊎_, inl, inr, _≢_, ⊎-elim}
+use mathlib.Core.Logic.{_≢_, ⊎-elim}
 use native.Mathlib.Omega.{arith}
 use borrow.Author.Tests.{leb-true, leb-false, ltb-true, ltb-false, eq-eqb, ne-eqb, le-leb, lt-leb, le-ltb, lt-ltb}
 use lib.Dec.{leb, ltb}
 use lib.ListN.{length}
-use Rattle.units.specs.JudgingLaws.{held, failed, passed, true-or-false, true-and}
+use Rattle.units.specs.Numbers.{noVersion, accepted}
+use Rattle.units.specs.JudgingLaws.{held, failed, passed, true-or-false, true-and, and-true}
 use Rattle.fields.specs.Bytes.{AllBytes}
 use Rattle.fields.specs.Fields.{sizeAt}
 use Rattle.fields.specs.Rows.{laid}
 use Rattle.sheets.specs.Layout.{endBytes}
 use Rattle.sheets.specs.Reading.{readPlan}
-use Rattle.sheets.specs.ReadLaws.{then-rest, then-keeps}
+use Rattle.sheets.specs.ReadLaws.{then-rest, then-keeps, then-none}
 use Rattle.versions.specs.Layout.{storeSize, mostKept, lastVersion, versionBytes, emptyStore}
 use Rattle.versions.specs.Area.{placeOf, beforeIn, keptAt, countIn, endIn, newestIn, isStore, areaNumber}
 use Rattle.versions.specs.Answers.{holdingWith, Judged, isLong, emptiedArea, Emptied, isFull, nextPlace, movedDown, withRoom, withVersion, storeNumber, storeAnswer, areaAfter, Stored, isKept, findNumber, foundPlace, foundWith, foundVersion, versionsWith, versionsIn}
 use Rattle.versions.specs.Bounds.{StoreHolds, RoomMade}
 use Rattle.versions.specs.declared.Holding.{Holding}
-use Rattle.versions.proofs.AreaLaws.{leading-most, newest-small, places-short, places-rise, place-none, place-next, kept-here, FieldHere, ends-inside, store-here}
+use Rattle.versions.proofs.AreaLaws.{and-first, and-second, or-none, or-some, leading-most, newest-small, places-short, places-rise, place-none, place-next, kept-here, FieldHere, ends-inside, store-here}
 
 -- ---- judging
 
@@ -49,21 +50,6 @@ unfolding foundWith
 found-not bs a zero o = absurd (o refl)
 found-not bs a (suc k) o = refl
 
-or-none : (a b : Bool) → (a || b) ≡ false → (a ≡ false) × (b ≡ false)
-or-none true b h = absurd (true≢false h)
-or-none false b h = (refl, h)
-
-or-some : (a b : Bool) → (a || b) ≡ true → (a ≡ true) ⊎ (b ≡ true)
-or-some true b h = inl refl
-or-some false b h = inr h
-
-and-first : (a b : Bool) → a ≡ false → (a && b) ≡ false
-and-first a b e = rw e refl
-
-and-second : (a b : Bool) → b ≡ false → (a && b) ≡ false
-and-second true b e = e
-and-second false b e = refl
-
 not-kept : (bs : List ℕ) (version : ℕ) → (leb version (beforeIn bs) || ltb (newestIn bs) version) ≡ true → isKept bs version ≡ false
 not-kept bs version t =
     let low = ltb (beforeIn bs) version in
@@ -71,6 +57,21 @@ not-kept bs version t =
     ⊎-elim (λ (e : leb version (beforeIn bs) ≡ true). and-first low high (le-ltb (beforeIn bs) version (leb-true version (beforeIn bs) e)))
     (λ (e : ltb (newestIn bs) version ≡ true). and-second low high (lt-leb version (newestIn bs) (ltb-true (newestIn bs) version e)))
     (or-some (leb version (beforeIn bs)) (ltb (newestIn bs) version) t)
+
+found-in : (bs : List ℕ) (version k : ℕ) → findNumber bs version ≡ k → foundWith k bs (foundPlace bs version) .place + foundWith k bs (foundPlace bs version) .length ≤ length bs
+unfolding foundWith
+found-in bs version zero e =
+    let kept = passed (isKept bs version) noVersion accepted (omega arith) (then-none _ _ e .1) .0 in
+    let both = and-true (ltb (beforeIn bs) version) _ kept in
+    let above : beforeIn bs < version = ltb-true _ _ (both .0) in
+    let below : version ≤ newestIn bs = leb-true _ _ (both .1) in
+    let field = kept-here bs mostKept (version - beforeIn bs - 1) (omega arith) .field in
+    omega (arith, field .inside, field .some)
+found-in bs version (suc k) e = omega arith
+
+-- the bytes that are found lie inside the area, whatever it is
+pub found-inside : (bs : List ℕ) (version : ℕ) → foundVersion bs version .place + foundVersion bs version .length ≤ length bs
+found-inside bs version = found-in bs version (findNumber bs version) refl
 
 -- what a judgement says to whoever asked for it
 pub record Holds (bs : List ℕ) (r : Holding) : Type 0 where

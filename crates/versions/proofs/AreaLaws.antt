@@ -23,11 +23,24 @@ use Rattle.versions.specs.Area.{versionFits, sheetAt, isPlan, versionSta
 use Rattle.versions.specs.Bounds.{walkedTo, TurnOf}
 use Rattle.versions.specs.declared.VersionsWalked.{VersionsWalked}
 
--- ---- tests that lead
+-- ---- two tests
 
-and-no : (a b : Bool) → b ≡ false → (a && b) ≡ false
-and-no true b e = e
-and-no false b e = refl
+pub and-first : (a b : Bool) → a ≡ false → (a && b) ≡ false
+and-first a b e = rw e refl
+
+pub and-second : (a b : Bool) → b ≡ false → (a && b) ≡ false
+and-second true b e = e
+and-second false b e = refl
+
+pub or-none : (a b : Bool) → (a || b) ≡ false → (a ≡ false) × (b ≡ false)
+or-none true b h = absurd (true≢false h)
+or-none false b h = (refl, h)
+
+pub or-some : (a b : Bool) → (a || b) ≡ true → (a ≡ true) ⊎ (b ≡ true)
+or-some true b h = inl refl
+or-some false b h = inr h
+
+-- ---- tests that lead
 
 module _ (f : ℕ → Bool) where
   pub leading-none : leading 0 f ≡ 0
@@ -46,7 +59,7 @@ module _ (f : ℕ → Bool) where
 
   pub leading-fails : (n : ℕ) → f n ≡ false → leading (n + 1) f ≡ leading n f
   unfolding leading
-  leading-fails n h = rw (add-one, and-no (eqb (leading n f) n) (f n) h) refl
+  leading-fails n h = rw (add-one, and-second (eqb (leading n f) n) (f n) h) refl
 
   -- what a step says
   step-cases : (n : ℕ) → ((leading n f ≡ n) × ((f n ≡ true) × (leading (suc n) f ≡ suc n))) ⊎ (leading (suc n) f ≡ leading n f)

@@ -82,7 +82,8 @@ fn put_start(out: &mut [u8], at: usize, n: usize)
     ensures { λ _. ⌜ now (out .exit) ≡ laid (now (out .entry)) at (versionStart n) ⌝ }
 {
     let size = n + 4;
-    let high = size / 256 % 256;
+    let whole = size / 256;
+    let high = whole % 256;
     let low = size % 256;
     out[at] = VERSION_TAG;
     out[at + 1] = high as u8;

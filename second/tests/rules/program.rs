@@ -3,6 +3,8 @@
 use std::env::temp_dir;
 use std::fs;
 use std::io::{Read, Write};
+use std::os::unix::fs::symlink;
+use std::path::Path;
 use std::process::{Command, Output, Stdio};
 
 use crate::{worked_plan, worked_request};
@@ -187,6 +189,32 @@ fn versions_in_a_file() {
     assert_eq!(said(&["keep", &store], &plan_sheet()), "refused 2\n");
     fs::remove_file(&store).expect("the file is there");
     assert!(!second(&["versions", &store], b"").status.success());
+}
+
+#[test]
+fn a_store_behind_a_lock_or_a_link() {
+    let store = file("locked.store", b"");
+    let (beside, link) = (format!("{store}.new"), format!("{store}.link"));
+    fs::remove_file(&store).expect("the file is there");
+    fs::write(&beside, b"").expect("a place for files");
+    assert!(!second(&["empty-store", &store], b"").status.success());
+    assert!(!Path::new(&store).exists());
+    fs::remove_file(&beside).expect("the file is there");
+    symlink(&store, &link).expect("a place for links");
+    for there in [false, true] {
+        for words in [["empty-store", &link], ["keep", &link]] {
+            assert!(!second(&words, &plan_sheet()).status.success());
+            assert_eq!(Path::new(&store).exists(), there);
+        }
+        if !there {
+            assert!(!second(&["keep", &store], &plan_sheet()).status.success());
+            assert_eq!(said(&["empty-store", &store], b""), "");
+        }
+        assert!(!Path::new(&beside).exists());
+    }
+    assert_eq!(said(&["versions", &link], b""), "");
+    fs::remove_file(&link).expect("the link is there");
+    fs::remove_file(&store).expect("the file is there");
 }
 
 #[test]
