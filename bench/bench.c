@@ -68,7 +68,7 @@ static int same_sheets(uint32_t n, uint32_t mode, uint32_t frame)
 {
     static uint8_t sheet[MOST_PLAN_BYTES + 1];
     set_t set = stations(n, mode, frame);
-    size_t length = olivastrum_write_plan_sheet(set, olivastrum_plan_set(set).alloc, sheet, sizeof sheet).length;
+    size_t length = olivastrum_write_plan_sheet(set, shares_of(&set), sheet, sizeof sheet).length;
     SAME(length == OLIVASTRUM_PLAN_BYTES(n) + (mode != OLIVASTRUM_TIMELY ? OLIVASTRUM_MODE_BYTES : 0) + (frame > 1 ? OLIVASTRUM_FRAME_BYTES : 0));
     for (uint8_t number = 0; number <= 4; number++) {
         const uint8_t modes[OLIVASTRUM_MODE_BYTES] = {4, 0, 1, number};
@@ -122,7 +122,7 @@ static int same_plan(set_t set, alloc_t alloc)
 static int same_plans(uint32_t n, uint32_t mode, uint32_t frame)
 {
     set_t set = stations(n, mode, frame);
-    alloc_t alloc = olivastrum_plan_set(set).alloc;
+    alloc_t alloc = shares_of(&set);
     if (!same_plan(set, alloc))
         return 0;
     for (int k = 0; k < 2000; k++) {
@@ -161,7 +161,7 @@ static int same_older(uint32_t n)
             set.head.frame = 1 + random_number() % 1000;
         if (random_number() % 2)
             set.head.grid = 1 + random_number() % 1000;
-        alloc_t share = olivastrum_plan_set(set).alloc;
+        alloc_t share = shares_of(&set);
         if (!same_plan(set, share))
             return 0;
         share.s[random_number() % n] += random_number() % 2 ? 1 : (uint32_t)-1;
@@ -174,7 +174,7 @@ static int same_older(uint32_t n)
         walk.head.ttrt += walk.w[i];
         walk.c[i] = 0;
     }
-    return same_plan(walk, olivastrum_plan_set(walk).alloc);
+    return same_plan(walk, shares_of(&walk));
 }
 
 static int same_visit(ring_t *proved, ring_t *plain, struct olivastrum_ask ask)
@@ -245,7 +245,8 @@ static struct olivastrum_ask any_ask(uint32_t frame)
 static int same_runs(uint32_t n, uint32_t mode, uint32_t frame)
 {
     set_t set = stations(n, mode, frame);
-    ring_t proved = olivastrum_open_ring(set, olivastrum_plan_set(set).alloc).ring, plain = proved;
+    alloc_t alloc = shares_of(&set);
+    ring_t proved = ring_of(&set, &alloc), plain = proved;
     for (int k = 0; k < 5000; k++) {
         struct olivastrum_ask ask = any_ask(frame);
         if (!same_hand_in(&proved, &plain, any_message(&proved)) || !same_visit(&proved, &plain, ask))
@@ -461,14 +462,8 @@ static const struct job {
 
 #define JOBS (sizeof jobs / sizeof *jobs)
 
-/* The same calls on an FDDI set. */
-static const struct job older[] = {
-    {"planning, FDDI", plan_proved, plan_plain, "1.5"},
-    {"opening, FDDI", open_proved, open_plain, "1.5"},
-    {"a lent visit, FDDI", visit_proved, visit_plain, "2.5"},
-};
-
-#define OLDER (sizeof older / sizeof *older)
+/* On an FDDI set, which is run on, and neither planned nor opened. */
+static const struct job older = {"a lent visit, FDDI", visit_proved, visit_plain, "2.5"};
 
 /* On a set whose frames are not cut. */
 static const struct job uncut = {"a lent visit, frames", visit_proved, visit_plain, "2.5"};
@@ -486,8 +481,8 @@ static struct work work;
 static void prepare(set_t set)
 {
     work.set = set;
-    work.alloc = olivastrum_plan_set(work.set).alloc;
-    work.opened = olivastrum_open_ring(work.set, work.alloc).ring;
+    work.alloc = shares_of(&work.set);
+    work.opened = ring_of(&work.set, &work.alloc);
     work.length = olivastrum_write_plan_sheet(work.set, work.alloc, work.sheet, sizeof work.sheet).length;
 }
 
@@ -535,13 +530,13 @@ static int none_refused(void)
     return work.refused == 0;
 }
 
-/* Planning, opening and a lent visit at 128 stations, by how many rotations a deadline has. */
+/* Planning, opening and a lent visit at 128 stations, by how many rotations a deadline has; of FDDI a lent visit. */
 static int show_rotations(const struct job *first)
 {
     static const uint32_t whole[] = {2, 10, 1000};
     for (uint32_t mode = OLIVASTRUM_TIMELY; mode <= OLIVASTRUM_FDDI; mode++) {
         printf("\nD / TTRT%-17s proved ns   plain C ns   ratio (quartiles)\n", mode == OLIVASTRUM_FDDI ? ", FDDI" : "");
-        for (const struct job *job = first; job < first + 3; job++)
+        for (const struct job *job = mode == OLIVASTRUM_FDDI ? first + 2 : first; job < first + 3; job++)
             for (size_t k = 0; k < sizeof whole / sizeof *whole; k++) {
                 prepare(rotations(whole[k], mode));
                 struct measured m = measure(job);
@@ -554,13 +549,13 @@ static int show_rotations(const struct job *first)
     return 1;
 }
 
-/* Opening and a lent visit at 128 stations, in each mode, without a grid and on one. */
+/* Opening and a lent visit at 128 stations, in each mode, without a grid and on one; of FDDI a lent visit. */
 static int show_grids(const struct job *first)
 {
     static const uint32_t grids[] = {1, 8};
     printf("\nmode, grid               proved ns   plain C ns   ratio (quartiles)\n");
     for (uint32_t mode = OLIVASTRUM_TIMELY; mode <= OLIVASTRUM_EARLIER; mode++)
-        for (const struct job *job = first; job < first + 2; job++)
+        for (const struct job *job = mode == OLIVASTRUM_FDDI ? first + 1 : first; job < first + 2; job++)
             for (size_t k = 0; k < sizeof grids / sizeof *grids; k++) {
                 set_t set = stations(OLIVASTRUM_MOST_STATIONS, mode, 1);
                 set.head.grid = grids[k];
@@ -578,7 +573,7 @@ int main(void)
 {
     static const uint32_t counts[] = {8, 16, 32, 64, 128};
     enum { COUNTS = sizeof counts / sizeof *counts, LAST = COUNTS - 1 };
-    static struct measured all[JOBS][COUNTS], fddi[OLDER];
+    static struct measured all[JOBS][COUNTS];
 
     if (!agree())
         return 1;
@@ -589,8 +584,7 @@ int main(void)
             all[j][k] = measure(&jobs[j]);
     }
     prepare(stations(counts[LAST], OLIVASTRUM_FDDI, 1));
-    for (size_t j = 0; j < OLDER; j++)
-        fddi[j] = measure(&older[j]);
+    struct measured fddi = measure(&older);
     prepare(stations(counts[LAST], OLIVASTRUM_TIMELY, FRAME));
     struct measured frames = measure(&uncut);
     prepare(stations(counts[LAST], OLIVASTRUM_EARLIER, 1));
@@ -601,8 +595,7 @@ int main(void)
     printf("\n128 stations          proved ns   plain C ns   ratio (quartiles)     aim\n");
     for (size_t j = 0; j < JOBS; j++)
         show(jobs[j].name, all[j][LAST], jobs[j].aim);
-    for (size_t j = 0; j < OLDER; j++)
-        show(older[j].name, fddi[j], older[j].aim);
+    show(older.name, fddi, older.aim);
     show(uncut.name, frames, uncut.aim);
     show(earlier.name, first, earlier.aim);
     printf("\nproved ns at N =    ");

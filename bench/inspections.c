@@ -278,8 +278,8 @@ static int same_changed(size_t first, size_t length, uint32_t n)
 /* Writes the log of a run in which each station sends what it likes: the last of these many visits. */
 static size_t written(struct olivastrum_set set, uint32_t frames)
 {
-    struct olivastrum_alloc alloc = olivastrum_plan_set(set).alloc;
-    struct olivastrum_ring ring = olivastrum_open_ring(set, alloc).ring;
+    struct olivastrum_alloc alloc = shares_of(&set);
+    struct olivastrum_ring ring = ring_of(&set, &alloc);
     struct olivastrum_recorder recorder = olivastrum_begin_log(set, alloc, random_number(), 0, log_bytes, sizeof log_bytes);
     for (uint32_t k = 0; k < VISITS; k++) {
         struct olivastrum_message message = {{ring.token}, {1 + random_number() % set.c[ring.token]}, {ring.clock}};

@@ -160,7 +160,8 @@ static int shares_on_the_grid(const alloc_t *alloc, uint32_t grid, uint32_t n)
     return 1;
 }
 
-static uint8_t judge_plan(const set_t *set, const alloc_t *alloc)
+/* 2, 4, 5 and 7; opening has 16 behind 5. */
+static uint8_t judge_given(const set_t *set, const alloc_t *alloc, int opening)
 {
     if (!count_fits(set))
         return OLIVASTRUM_SHEET_WRONG;
@@ -169,12 +170,19 @@ static uint8_t judge_plan(const set_t *set, const alloc_t *alloc)
     uint32_t tau = sum(set->w, set->n);
     if (tau < 1 || tau > set->head.ttrt)
         return OLIVASTRUM_WALK_TIME;
+    if (opening && set->head.mode == OLIVASTRUM_FDDI)
+        return OLIVASTRUM_RETIRED;
     uint32_t taken = sum(alloc->s, set->n) + tau + set->head.frame - 1;
     if (!shares_on_the_grid(alloc, set->head.grid, set->n))
         return OLIVASTRUM_RULE_BROKEN;
     if (taken > set->head.ttrt || !deadlines_fit(set, alloc, taken))
         return OLIVASTRUM_RULE_BROKEN;
     return OLIVASTRUM_ACCEPTED;
+}
+
+static uint8_t judge_plan(const set_t *set, const alloc_t *alloc)
+{
+    return judge_given(set, alloc, 0);
 }
 
 /* ---- sheets */
@@ -340,59 +348,17 @@ static int timely_plan(const set_t *set, alloc_t *alloc)
     return all <= set->head.ttrt;
 }
 
-/* FDDI: the smallest S of a station of which q are at least `more`, or q − 1 at least c. */
-static uint32_t raised(uint32_t q, uint32_t c, uint32_t more)
-{
-    uint32_t s = rounded_up(more, q);
-    return (q - 1) * s >= c ? rounded_up(c, q - 1) : s;
-}
-
-/* FDDI: up from zeros, each station raised whose rule does not hold at the present sum, until the sum stays. An S is
- * never stored above TTRT, so q·S is at most D and 32 bits hold everything. */
-int plain_climb(const set_t *set, alloc_t *alloc, struct plain_climbed *took)
-{
-    uint32_t q[OLIVASTRUM_MOST_STATIONS], rest[OLIVASTRUM_MOST_STATIONS];
-    uint32_t ttrt = set->head.ttrt, lost = sum(set->w, set->n) + set->head.frame - 1;
-    if (lost > ttrt)
-        return 0;
-    for (uint32_t i = 0; i < set->n; i++) {
-        q[i] = quotient(set->d[i], ttrt);
-        rest[i] = set->d[i] - q[i] * ttrt;
-    }
-    for (uint32_t all = 0;;) {
-        uint32_t next = 0;
-        took->rounds++;
-        for (uint32_t i = 0; i < set->n; i++) {
-            uint32_t c = set->c[i], s = alloc->s[i];
-            uint32_t more = c + room(lost + all, rest[i]);
-            if (room(q[i], 1) * s < c && q[i] * s < more) {
-                if (q[i] == 0 || (q[i] == 1 && c <= s))
-                    return 0;
-                took->raised++;
-                s = on_the_grid(set->head.grid, raised(q[i], c, more));
-                if (s > ttrt)
-                    return 0;
-                alloc->s[i] = s;
-            }
-            next += s;
-        }
-        if (next > ttrt - lost)
-            return 0;
-        if (next == all)
-            return 1;
-        all = next;
-    }
-}
-
 void plain_plan(const set_t *set, struct olivastrum_planned *answer)
 {
     memset(answer, 0, sizeof *answer);
     answer->number = judge(set);
     if (answer->number != OLIVASTRUM_ACCEPTED)
         return;
-    struct plain_climbed took = {0, 0};
-    int found = set->head.mode == OLIVASTRUM_FDDI ? plain_climb(set, &answer->alloc, &took) : timely_plan(set, &answer->alloc);
-    if (!found) {
+    if (set->head.mode == OLIVASTRUM_FDDI) {
+        answer->number = OLIVASTRUM_RETIRED;
+        return;
+    }
+    if (!timely_plan(set, &answer->alloc)) {
         memset(answer, 0, sizeof *answer);
         answer->number = OLIVASTRUM_NO_ALLOCATION;
     }
@@ -415,7 +381,7 @@ static void run_on(ring_t *ring, uint32_t rise)
 void plain_open(const set_t *set, const alloc_t *alloc, struct olivastrum_opened *answer)
 {
     memset(answer, 0, sizeof *answer);
-    answer->number = judge_plan(set, alloc);
+    answer->number = judge_given(set, alloc, 1);
     if (answer->number != OLIVASTRUM_ACCEPTED)
         return;
     ring_t *ring = &answer->ring;
@@ -427,8 +393,6 @@ void plain_open(const set_t *set, const alloc_t *alloc, struct olivastrum_opened
         ring->trt[i] = walk;
     }
     ring->unused = sum(alloc->s, set->n);
-    if (set->head.mode == OLIVASTRUM_FDDI)
-        run_on(ring, 0);
 }
 
 static int sound(const ring_t *ring)

@@ -16,13 +16,4 @@ uint8_t plain_hand_in(struct olivastrum_ring *ring, const struct olivastrum_mess
 void plain_mark(struct olivastrum_ring *ring, uint64_t station, struct olivastrum_mark_answer *answer);
 uint8_t plain_unmark(struct olivastrum_ring *ring, uint64_t station);
 
-/* What a climb to FDDI's least vector took: rounds over the stations, and how often a station was raised, each time by a
- * quotient, or two. */
-struct plain_climbed {
-    unsigned long rounds, raised;
-};
-
-/* FDDI's least vector of a set that the judgement accepts, up from the zeros of `alloc`; 0 where there is none. */
-int plain_climb(const struct olivastrum_set *set, struct olivastrum_alloc *alloc, struct plain_climbed *took);
-
 #endif

@@ -13,6 +13,13 @@ struct olivastrum_set stations(uint32_t n, uint32_t mode, uint32_t frame);
 /* 128 stations whose deadlines are q whole rotations and a part of one, for any mode. */
 struct olivastrum_set rotations(uint32_t q, uint32_t mode);
 
+/* S at each station as the library plans it. FDDI is planned no more: there the least vector that meets its rules, and zeros
+ * where there is none. */
+struct olivastrum_alloc shares_of(const struct olivastrum_set *set);
+
+/* The ring as the library opens it. FDDI is opened no more: there the ring that opening used to give. */
+struct olivastrum_ring ring_of(const struct olivastrum_set *set, const struct olivastrum_alloc *alloc);
+
 /* A random FDDI set of n stations. Its deadlines ask at most for `load` hundredths of the room that the token rule leaves, so
  * up to 100 there is a plan; but for sets, one in eight, in which a deadline is shorter than two rotations. */
 struct olivastrum_set random_fddi(uint32_t n, uint32_t load);

@@ -36,7 +36,8 @@ static void hand_in(void)
 static void show(const char *name, struct olivastrum_set set, void (*call)(void))
 {
     double turns[TURNS];
-    struct olivastrum_ring opened = olivastrum_open_ring(set, olivastrum_plan_set(set).alloc).ring;
+    struct olivastrum_alloc alloc = shares_of(&set);
+    struct olivastrum_ring opened = ring_of(&set, &alloc);
     for (int k = 0; k < TURNS; k++) {
         ring = opened;
         double from = processor_ns();

@@ -24,13 +24,14 @@
  *
  * Refusals. `number` is 0 for accepted, or the refusal; the numbers are below, and within one call the lowest
  * that applies is given (1, 2 and 3: the first fault from the left of the sheet), but that 15 is given before 12, though
- * it is higher: handing in asks 8, 9, 10, 11, 15, 12; that an area which is no store is 2 before its sheet is looked at, so
- * before the sheet's 1; that a plan sheet is refused before the log that is held to it; and that of a train that no call
- * made a place is 9 before the planner's 6. A refused call changes nothing: not a byte of a lent ring, not a byte of a lent
- * buffer. What it returns beside `number` is blank, every number in it 0, but that olivastrum_inspect_log_of says in
- * `refused` which side it is; olivastrum_add_visit and olivastrum_add_mark hand back the recorder as it was, so that the log
- * can be ended; olivastrum_change_train, olivastrum_change_wagon, olivastrum_couple_wagon and olivastrum_uncouple_wagon hand
- * back the train as it was. On a ring a refused call stores the same bytes again, so it too is one that writes: a ring that
+ * it is higher: handing in asks 8, 9, 10, 11, 15, 12; that 16 is given before 6 and 7: planning asks 2, 4, 5, 16, 6, and
+ * opening 2, 4, 5, 16, 7; that an area which is no store is 2 before its sheet is looked at, so before the sheet's 1; that
+ * a plan sheet is refused before the log that is held to it; and that of a train that no call made a place is 9 before the
+ * planner's 6. A refused call changes nothing: not a byte of a lent ring, not a byte of a lent buffer. What it returns
+ * beside `number` is blank, every number in it 0, but that olivastrum_inspect_log_of says in `refused` which side it is;
+ * olivastrum_add_visit and olivastrum_add_mark hand back the recorder as it was, so that the log can be ended;
+ * olivastrum_change_train, olivastrum_change_wagon, olivastrum_couple_wagon and olivastrum_uncouple_wagon hand back the
+ * train as it was. On a ring a refused call stores the same bytes again, so it too is one that writes: a ring that
  * two threads share is locked for it. An inspected log is accepted only if its rule is 0 too, and of
  * olivastrum_inspect_log_of only if `another` is 0 as well.
  *
@@ -80,7 +81,7 @@
 #define OLIVASTRUM_VERSION_MAJOR 0
 #define OLIVASTRUM_VERSION_MINOR 15
 #define OLIVASTRUM_VERSION_PATCH 1
-#define OLIVASTRUM_VERSION "0.15.1"
+#define OLIVASTRUM_VERSION "0.16.0"
 
 #ifdef __cplusplus
 extern "C" {
@@ -106,6 +107,7 @@ enum {
     OLIVASTRUM_CLOCK_TOO_HIGH = 13,   /* visit: the clock is above 1,000,000,000,000 */
     OLIVASTRUM_BUFFER_TOO_SHORT = 14, /* the output buffer is too short for the sheet, or for a log's next record and its end */
     OLIVASTRUM_NOT_ARRIVED = 15,      /* the message's arrival is later than the ring's clock; given before 12 */
+    OLIVASTRUM_RETIRED = 16,          /* planning or opening: mode 2, FDDI, is retired; given before 6 and 7 */
     OLIVASTRUM_NO_VERSION = 17,       /* no such version: it was dropped, or never given */
     OLIVASTRUM_VERSIONS_USED = 18     /* storing: the version numbers are used up */
 };
@@ -113,7 +115,10 @@ enum {
 /* The most stations that a ring has, and so the places of each array. Places from N on are never looked at. */
 #define OLIVASTRUM_MOST_STATIONS 128
 
-/* The modes of a ring: timely-token, FDDI, and the 2002 edition of timely-token, which sends asynchronous traffic first. */
+/* The modes of a ring: timely-token, FDDI, and the 2002 edition of timely-token, which sends asynchronous traffic first.
+ * FDDI is retired: olivastrum_plan_set and olivastrum_open_ring answer 16 to a set of mode 2, and no other function does.
+ * Its sheets, plans, logs and stored versions are read, written, stored and inspected as before, a log also against its
+ * plan sheet, and an FDDI ring that is open runs on: 16 makes no ring unsound and no log wrong. */
 #define OLIVASTRUM_TIMELY 1u
 #define OLIVASTRUM_FDDI 2u
 #define OLIVASTRUM_EARLIER 3u
@@ -451,13 +456,15 @@ struct olivastrum_written olivastrum_write_request_sheet(struct olivastrum_set s
 #define OLIVASTRUM_STACK_WRITE_PLAN_SHEET 18944
 struct olivastrum_written olivastrum_write_plan_sheet(struct olivastrum_set set, struct olivastrum_alloc alloc, uint8_t *out, size_t length);
 
-/* Plans a set: the least vector of multiples of g, no other that meets the rules has less at any station; or 2, 4, 5 or 6.
- * 6 is given exactly if no such allocation exists. With mode 2 the plan meets FDDI's rules and promises no deadline. */
-#define OLIVASTRUM_STACK_PLAN_SET 10240
+/* Plans a set: the least vector of multiples of g, no other that meets the rules has less at any station; or 2, 4, 5, 16
+ * or 6. 16 is given to every set of mode 2 that 2, 4 and 5 do not apply to; of the others 6 exactly if no such allocation
+ * exists. */
+#define OLIVASTRUM_STACK_PLAN_SET 5632
 struct olivastrum_planned olivastrum_plan_set(struct olivastrum_set set);
 
-/* Opens a ring: clock 0, the token at station 0, nothing held, no station marked; or 2, 4, 5 or 7 with the blank ring. */
-#define OLIVASTRUM_STACK_OPEN_RING 15360
+/* Opens a ring: clock 0, the token at station 0, nothing held, no station marked; or 2, 4, 5, 16 or 7 with the blank ring.
+ * 16 is given to every set of mode 2 that 2, 4 and 5 do not apply to, whether its allocation keeps the rules or not. */
+#define OLIVASTRUM_STACK_OPEN_RING 14336
 struct olivastrum_opened olivastrum_open_ring(struct olivastrum_set set, struct olivastrum_alloc alloc);
 
 /* A visit at the station that has the token, with frames asked for. The ring is changed where it stands; 8, 10 or 13
@@ -559,26 +566,26 @@ struct olivastrum_written olivastrum_write_hopper_sheet(struct olivastrum_wagon_
 
 /* Couples the wagons of a list: the train with its plan, which is what olivastrum_plan_set answers to the list's request; or
  * 2, 4 or 6 with the blank train. */
-#define OLIVASTRUM_STACK_COUPLE_TRAIN 10752
+#define OLIVASTRUM_STACK_COUPLE_TRAIN 6144
 struct olivastrum_coupled olivastrum_couple_train(struct olivastrum_wagon_list list);
 
 /* A train with another list. The train that is handed in is not looked at; where the list is refused with 2, 4 or 6 it is
  * handed back as it was. */
-#define OLIVASTRUM_STACK_CHANGE_TRAIN 11776
+#define OLIVASTRUM_STACK_CHANGE_TRAIN 7168
 struct olivastrum_coupled olivastrum_change_train(struct olivastrum_train train, struct olivastrum_wagon_list list);
 
 /* Another wagon at a place of a train, counted from 0; 2, 4, 9 or 6 hand the train back as it was. 2 and 4 are of the list
  * with that wagon, and 4 of the wagon itself, which comes before 9. */
-#define OLIVASTRUM_STACK_CHANGE_WAGON 12288
+#define OLIVASTRUM_STACK_CHANGE_WAGON 7680
 struct olivastrum_coupled olivastrum_change_wagon(struct olivastrum_train train, struct olivastrum_station place, struct olivastrum_wagon wagon);
 
 /* One wagon more at the end of a train; 2, 4 or 6 hand it back as it was. A thirteenth is 2. */
-#define OLIVASTRUM_STACK_COUPLE_WAGON 11776
+#define OLIVASTRUM_STACK_COUPLE_WAGON 7168
 struct olivastrum_coupled olivastrum_couple_wagon(struct olivastrum_train train, struct olivastrum_wagon wagon);
 
 /* The last wagon off a train; 2, 4 or 6 hand it back as it was, 4 and 6 only of a train that no call made. A train's only
  * wagon stays: 2. */
-#define OLIVASTRUM_STACK_UNCOUPLE_WAGON 11776
+#define OLIVASTRUM_STACK_UNCOUPLE_WAGON 7168
 struct olivastrum_coupled olivastrum_uncouple_wagon(struct olivastrum_train train);
 
 /* The most that a call of any of them needs. */

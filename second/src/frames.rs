@@ -2,7 +2,7 @@
 
 use crate::check::WatchedRing;
 use crate::hopper::{read_wagon, read_wagons, show_wagons, Change, Train, MOST_WAGONS};
-use crate::inspect::{inspected, Inspector};
+use crate::inspect::{inspected, judge_to_inspect, Inspector};
 use crate::log::{noted, Counter, Recorder};
 use crate::notation::{from_hex, joined, number, parse, read_head, show_set, to_hex};
 use crate::planner;
@@ -10,7 +10,8 @@ use crate::planted::Planted;
 use crate::ring::Ring;
 use crate::rules::{Entry, MarkEntry, VisitEntry, MOST_STATIONS};
 use crate::rules::{Plan, Refusal, Request, Station};
-use crate::sheet::{read_log, read_plan, read_request, write_plan, write_request};
+use crate::sheet::{read_log, read_plan, read_plan_with, read_request};
+use crate::sheet::{write_plan, write_request};
 use crate::state::{Place, State};
 use crate::store::Area;
 use crate::streams::{departures, Streams};
@@ -39,24 +40,30 @@ fn try_answer(case: &str, planted: Planted) -> Option<String> {
     let (kind, rest) = case.split_once(' ')?;
     match kind {
         "request" => Some(line(read_request(&from_hex(rest)?), |set| counted(&set, &[]))),
-        "plan" => Some(line(read_plan(&from_hex(rest)?), |p| counted(&p.request, &p.allocation))),
+        "plan" => {
+            let plan = read_plan_with(&from_hex(rest)?, planted);
+            Some(line(plan, |plan| counted(&plan.request, &plan.allocation)))
+        }
         "planning" => planning(rest, planted),
         "write-request" => writing_request(rest),
         "write-plan" => writing_plan(rest),
         "open" => opening(rest, planted),
         "run" => running(rest, planted, |answers, _| answers.join("|")),
-        "ring" => running(rest, planted, |_, ring| show_ring(ring)),
+        "ring" => running(rest, planted, |_, ring| ring.show()),
         "state" => any_state(rest, planted),
         "log" => {
             Some(line(read_log(&from_hex(rest)?), |(plan, entries)| show_log(&plan, &entries)))
         }
-        "record" => recording(rest, planted),
-        "inspect" => Some(line(read_log(&from_hex(rest)?), |(plan, entries)| {
-            match inspected(&plan, &entries, planted) {
-                (records, None) => format!("accepted {records}"),
-                (_, Some(finding)) => finding.to_string(),
-            }
-        })),
+        "record" => recording(rest, planted, false),
+        "record-on" => recording(rest, planted, true),
+        "inspect" => {
+            Some(line(log_to_inspect(rest, planted)?, |(plan, entries)| {
+                match inspected(&plan, &entries, planted) {
+                    (records, None) => format!("accepted {records}"),
+                    (_, Some(finding)) => finding.to_string(),
+                }
+            }))
+        }
         "store" => storing(rest, planted),
         "inspect-of" => inspecting_of(rest, planted),
         "train" => any_train(rest, planted),
@@ -128,20 +135,70 @@ fn read_station(part: &str) -> Option<Station> {
     Some(Station { walk, longest, deadline, gap })
 }
 
+/// A ring with calls on it: on its time line, where it is one that an opening gives or used to give,
+/// and else the numbers that it stores.
+enum AnyRing {
+    Watched(WatchedRing),
+    Stored(State),
+}
+
+impl AnyRing {
+    /// A ring of any numbers.
+    fn of(state: State, planted: Planted) -> AnyRing {
+        if planted.is_of_states() || !state.is_opened() {
+            return AnyRing::Stored(state);
+        }
+        let ring = Ring::opened(&state.plan, planted).expect("judged");
+        AnyRing::Watched(WatchedRing::new(ring, planted))
+    }
+
+    fn plan(&self) -> &Plan {
+        match self {
+            AnyRing::Watched(ring) => ring.ring().plan(),
+            AnyRing::Stored(state) => &state.plan,
+        }
+    }
+
+    fn answer(&mut self, call: &Call, planted: Planted) -> Result<Answer, Refusal> {
+        match self {
+            AnyRing::Watched(ring) => ring.answer(call),
+            AnyRing::Stored(state) => state.answer_with(call, planted),
+        }
+    }
+
+    fn show(&self) -> String {
+        match self {
+            AnyRing::Watched(ring) => show_ring(ring.ring()),
+            AnyRing::Stored(state) => show_state(state),
+        }
+    }
+}
+
+/// The ring of a plan sheet, opened; the number is the sheet's, or the opening's.
+fn opened(sheet: &str, planted: Planted) -> Option<Result<AnyRing, Refusal>> {
+    let opened = read_plan(&from_hex(sheet)?).and_then(|plan| Ring::open(&plan, planted));
+    Some(opened.map(|ring| AnyRing::Watched(WatchedRing::new(ring, planted))))
+}
+
+/// How many of the parts are numbers: those behind them are calls.
+fn numbers(parts: &[&str]) -> usize {
+    let is_call = |part: &&str| !part.starts_with(|first: char| first.is_ascii_digit());
+    parts.iter().position(is_call).unwrap_or(parts.len())
+}
+
 /// Opens the ring, makes every call, and shows the answers or the ring after them.
 fn running(
     rest: &str,
     planted: Planted,
-    show: impl FnOnce(Vec<String>, &Ring) -> String,
+    show: impl FnOnce(Vec<String>, &AnyRing) -> String,
 ) -> Option<String> {
     let mut parts = rest.split(';');
-    let plan = read_plan(&from_hex(parts.next()?)?);
+    let opened = opened(parts.next()?, planted)?;
     let steps = read_steps(parts)?;
-    let opened = plan.and_then(|plan| Ring::open(&plan, planted));
-    let answered = |ring: Ring| {
-        let mut ring = WatchedRing::new(ring, planted);
-        let answers = steps.iter().map(|step| step.answer(|call| ring.answer(call))).collect();
-        show(answers, ring.ring())
+    let answered = |mut ring: AnyRing| {
+        let answer = |step: &Step| step.answer(|call| ring.answer(call, planted));
+        let answers = steps.iter().map(answer).collect();
+        show(answers, &ring)
     };
     Some(line(opened, answered))
 }
@@ -160,36 +217,46 @@ fn show_log(plan: &Plan, entries: &[Entry]) -> String {
     parts.join("|")
 }
 
-/// Opens the ring, begins a log, makes every call and adds every record, until one does not fit.
-fn recording(rest: &str, planted: Planted) -> Option<String> {
-    let mut parts = rest.split(';');
-    let room = parse(parts.next()?)?;
-    let (shown, at) = parts.next()?.split_once(',')?;
+/// Begins a log of a ring that is opened, or of one that is there (`record-on`), makes every call and
+/// adds every record, until one does not fit.
+fn recording(rest: &str, planted: Planted, given: bool) -> Option<String> {
+    let parts: Vec<&str> = rest.split(';').collect();
+    let [room, counter, ring @ ..] = &parts[..] else {
+        return None;
+    };
+    let (shown, at) = counter.split_once(',')?;
     let counter = Counter { shown: parse(shown)?, at: parse(at)? };
-    let plan = read_plan(&from_hex(parts.next()?)?);
-    let steps = read_steps(parts)?;
-    let begun = plan.and_then(|plan| {
-        let ring = WatchedRing::new(Ring::open(&plan, planted)?, planted);
-        Ok((ring, Recorder::begin(&plan, room)?))
+    let (ring, calls) = match given {
+        true => {
+            let (numbers, calls) = ring.split_at(numbers(ring));
+            (Ok(AnyRing::of(State::read(numbers)?, planted)), calls)
+        }
+        false => (opened(ring.first()?, planted)?, &ring[1..]),
+    };
+    let (room, steps) = (parse(room)?, read_steps(calls.iter().copied())?);
+    let begun = ring.and_then(|ring| {
+        let recorder = Recorder::begin(ring.plan(), room)?;
+        Ok((ring, recorder))
     });
     let (mut ring, mut recorder) = match begun {
         Ok(begun) => begun,
         Err(refusal) => return Some(refusal.number().to_string()),
     };
-    let added = add_records(&mut ring, &mut recorder, counter, &steps);
+    let make = |call: &Call| ring.answer(call, planted);
+    let added = add_records(make, &mut recorder, counter, &steps);
     let number = added.map_or_else(Refusal::number, |()| 0);
     Some(format!("{number} {}", to_hex(&recorder.end())))
 }
 
 fn add_records(
-    ring: &mut WatchedRing,
+    mut make: impl FnMut(&Call) -> Result<Answer, Refusal>,
     recorder: &mut Recorder,
     counter: Counter,
     steps: &[Step],
 ) -> Result<(), Refusal> {
     for step in steps {
         for _ in 0..step.times {
-            let answer = ring.answer(&step.call);
+            let answer = make(&step.call);
             if let Some(entry) = noted(&step.call, &answer, counter) {
                 recorder.add(&entry)?;
             }
@@ -201,18 +268,32 @@ fn add_records(
     Ok(())
 }
 
-/// Makes every call on a state; shows the answers, and then the state.
+/// Makes every call on a state; shows the answers, and then the state. A state that an opening gives,
+/// or used to give, is followed twice, on the ring's time line too.
 fn any_state(rest: &str, planted: Planted) -> Option<String> {
     let parts: Vec<&str> = rest.split(';').collect();
-    let is_call = |part: &&str| !part.starts_with(|first: char| first.is_ascii_digit());
-    let calls = parts.iter().position(is_call).unwrap_or(parts.len());
-    let mut state = State::read(&parts[..calls])?;
-    let mut shown = vec![];
-    for step in read_steps(parts[calls..].iter().copied())? {
-        shown.push(step.answer(|call| state.answer_with(call, planted)));
+    let (numbers, calls) = parts.split_at(numbers(&parts));
+    let state = State::read(numbers)?;
+    let steps = read_steps(calls.iter().copied())?;
+    let shown = |mut ring: AnyRing| {
+        let answer = |step: &Step| step.answer(|call| ring.answer(call, planted));
+        let answers: Vec<String> = steps.iter().map(answer).collect();
+        [answers, vec![ring.show()]].concat().join("|")
+    };
+    let said = shown(AnyRing::of(state.clone(), planted));
+    if planted == Planted::Nothing {
+        assert_eq!(said, shown(AnyRing::Stored(state)), "both models agree");
     }
-    shown.push(show_state(&state));
-    Some(shown.join("|"))
+    Some(said)
+}
+
+/// A log, or its number.
+type Log = Result<(Plan, Vec<Entry>), Refusal>;
+
+/// A log to inspect.
+fn log_to_inspect(log: &str, planted: Planted) -> Option<Log> {
+    let log = read_log(&from_hex(log)?);
+    Some(log.and_then(|(plan, entries)| judge_to_inspect(&plan, planted).map(|()| (plan, entries))))
 }
 
 /// A call, made one or more times until it is refused; the last answer counts.
@@ -336,7 +417,7 @@ fn on_area(part: &str, area: &mut Area) -> Option<String> {
 /// A plan sheet and a log: which side is refused, whether the log has another plan, or what is found.
 fn inspecting_of(rest: &str, planted: Planted) -> Option<String> {
     let (plan, log) = rest.split_once(';')?;
-    let (plan, log) = (read_plan(&from_hex(plan)?), read_log(&from_hex(log)?));
+    let (plan, log) = (read_plan(&from_hex(plan)?), log_to_inspect(log, planted)?);
     Some(match (plan, log) {
         (Err(refusal), _) => format!("plan {}", refusal.number()),
         (_, Err(refusal)) => refusal.number().to_string(),

@@ -15,6 +15,7 @@ pub mod trains;
 use std::io::{Result, Write};
 
 use crate::notation::{show_set, to_hex};
+use crate::rules::{Mode, Plan};
 use crate::sheet::fields;
 use crate::state::State;
 use crate::text::Call;
@@ -47,10 +48,11 @@ pub enum Kind {
     Hoppers,
     Departures,
     Returns,
+    Orders,
 }
 
 impl Kind {
-    pub const ALL: [Kind; 23] = [
+    pub const ALL: [Kind; 24] = [
         Kind::Requests,
         Kind::Plans,
         Kind::Planning,
@@ -74,6 +76,7 @@ impl Kind {
         Kind::Hoppers,
         Kind::Departures,
         Kind::Returns,
+        Kind::Orders,
     ];
 
     pub fn name(self) -> &'static str {
@@ -101,6 +104,7 @@ impl Kind {
             Kind::Hoppers => "hoppers",
             Kind::Departures => "departures",
             Kind::Returns => "returns",
+            Kind::Orders => "orders",
         }
     }
 
@@ -128,13 +132,14 @@ impl Kind {
             Kind::Plans => vec![sheet_case(random, SheetKind::Plan, sort)],
             Kind::Planning => vec![planning_case(random, sort)],
             Kind::Writing => vec![writing_case(random, sort)],
-            Kind::Runs => vec![run_case(random, "run", sort)],
-            Kind::Rings => vec![run_case(random, "ring", sort)],
+            Kind::Runs => vec![run_case(random, sort)],
+            Kind::Rings => vec![ring_case(random, sort)],
             Kind::Late => vec![late_case(random, sort)],
             Kind::States => vec![state_case(states::state_with_calls(random, sort))],
             Kind::Steps => vec![state_case(states::sound_with_calls(random, sort))],
             Kind::Edges => edge_cases(random, sort),
             Kind::Openings => vec![opening_case(random, sort)],
+            Kind::Orders => vec![order_case(random, sort)],
             Kind::Commands => vec![command_case(random, sort)],
             Kind::Logs => vec![format!("log {}", to_hex(&logs::log(random, sort)))],
             Kind::Records => vec![record_case(random, sort)],
@@ -206,10 +211,35 @@ fn writing_case(random: &mut Random, sort: Sort) -> String {
     format!("{kind} {room};{}", show_set(&plan.request, allocation))
 }
 
-fn run_case(random: &mut Random, kind: &str, sort: Sort) -> String {
+fn run_case(random: &mut Random, sort: Sort) -> String {
     let (plan, calls) = calls::script(random, sort);
-    let sheet = fields(&plan.request, &plan.allocation).concat();
-    format!("{kind} {}{}", to_hex(&sheet), framed_calls(&calls))
+    begun("run", &plan) + &framed_calls(&calls)
+}
+
+/// A run whose ring is asked for. An FDDI ring is handed in when half of the calls are made.
+fn ring_case(random: &mut Random, sort: Sort) -> String {
+    let (plan, calls) = calls::script(random, sort);
+    if !sort.is_fddi() {
+        return begun("ring", &plan) + &framed_calls(&calls);
+    }
+    let (before, after) = calls.split_at(calls.len() / 2);
+    let mut state = State::opened(&plan);
+    // A refused call leaves the ring as it was.
+    before.iter().for_each(|call| {
+        let _ = state.answer(call);
+    });
+    state_case((state, after.to_vec()))
+}
+
+/// What a run begins with: the plan sheet that is opened; of FDDI, which is not opened any more, the
+/// state that an opening used to give.
+fn begun(kind: &str, plan: &Plan) -> String {
+    match plan.request.mode() {
+        Mode::Timely | Mode::Earlier => {
+            format!("{kind} {}", to_hex(&fields(&plan.request, &plan.allocation).concat()))
+        }
+        Mode::Fddi => format!("state {}", State::opened(plan).show()),
+    }
 }
 
 fn framed_calls(calls: &[Call]) -> String {
@@ -218,13 +248,12 @@ fn framed_calls(calls: &[Call]) -> String {
 
 fn late_case(random: &mut Random, sort: Sort) -> String {
     let (plan, [asking, silent], calls) = calls::late_script(random, sort);
-    let sheet = to_hex(&fields(&plan.request, &plan.allocation).concat());
     let visits = |(count, ask): (u64, u32)| match count {
         0 => String::new(),
         _ => format!(";visits {count} {ask}"),
     };
     let visits = visits((asking, 1)) + &visits((silent, 0));
-    format!("run {sheet}{visits}{}", framed_calls(&calls))
+    format!("{}{visits}{}", begun("run", &plan), framed_calls(&calls))
 }
 
 fn state_case((state, calls): (State, Vec<Call>)) -> String {
@@ -234,6 +263,22 @@ fn state_case((state, calls): (State, Vec<Call>)) -> String {
 fn opening_case(random: &mut Random, sort: Sort) -> String {
     let plan = sets::any_plan(random, sort);
     format!("open {}", show_set(&plan.request, &plan.allocation))
+}
+
+/// Sets and plans that break several rules at once: which number is given. An FDDI plan that breaks
+/// only one is read as well: its rule is not asked for in an opening any more.
+fn order_case(random: &mut Random, sort: Sort) -> String {
+    if sort.is_fddi() && random.once_in(3) {
+        let plan = sets::pushed_plan(random, sort);
+        return format!("plan {}", to_hex(&fields(&plan.request, &plan.allocation).concat()));
+    }
+    let plan = sets::broken_plan(random, sort);
+    let Plan { request, allocation } = &plan;
+    match random.between(0, 4) {
+        0 | 1 => format!("planning {}", show_set(request, &[])),
+        2 | 3 => format!("open {}", show_set(request, allocation)),
+        _ => format!("run {};visit 1", to_hex(&fields(request, allocation).concat())),
+    }
 }
 
 fn edge_cases(random: &mut Random, sort: Sort) -> Vec<String> {
@@ -313,11 +358,13 @@ fn hopper_input(random: &mut Random, name: &str) -> String {
 /// A run to record, into room enough, or too short for the plan, for some visit or for the end.
 fn record_case(random: &mut Random, sort: Sort) -> String {
     let (plan, calls) = calls::script(random, sort);
-    let sheet = match random.once_in(8) {
-        true => sheets::sheet(random, SheetKind::Plan, sort),
-        false => fields(&plan.request, &plan.allocation).concat(),
+    let own = || fields(&plan.request, &plan.allocation).concat();
+    let (kind, ring) = match random.once_in(8) {
+        true => ("record", to_hex(&sheets::sheet(random, SheetKind::Plan, sort))),
+        false if sort.is_fddi() => ("record-on", State::opened(&plan).show()),
+        false => ("record", to_hex(&own())),
     };
     let room = logs::room(random, &plan, &calls);
     let (shown, at) = logs::counter(random);
-    format!("record {room};{shown},{at};{}{}", to_hex(&sheet), framed_calls(&calls))
+    format!("{kind} {room};{shown},{at};{ring}{}", framed_calls(&calls))
 }

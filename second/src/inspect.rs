@@ -7,7 +7,14 @@ use std::ops::ControlFlow;
 
 use crate::planted::Planted;
 use crate::ring::Ticks;
-use crate::rules::{Ask, Entry, MarkEntry, Mode, Plan, VisitEntry};
+use crate::rules::{require, Ask, Entry, MarkEntry, Mode, Plan, Refusal, VisitEntry};
+
+/// A log's plan was judged when it was read, and nothing more is asked of it; but a planted error
+/// refuses that of an FDDI ring.
+pub fn judge_to_inspect(plan: &Plan, planted: Planted) -> Result<(), Refusal> {
+    let retired = planted == Planted::LogRetired && plan.request.mode() == Mode::Fddi;
+    require(!retired, Refusal::Retired)
+}
 
 /// The rules of a record, in the order in which they are looked at.
 #[derive(Clone, Copy, Debug, PartialEq, Eq, PartialOrd, Ord, Hash)]

@@ -2,14 +2,26 @@
 
 use crate::planted::Planted;
 use crate::raising::raised;
-use crate::rules::{least_time, require, rotations, Head, Mode, Plan, Refusal, Request, Station};
+use crate::rules::{in_service, least_time, require, rotations};
+use crate::rules::{Head, Mode, Plan, Refusal, Request, Station};
 
-/// The plan with the smallest S at each station, or number 2, 4, 5 or 6.
+/// The plan with the smallest S at each station, or number 2, 4, 5, 16 or 6.
 pub fn plan(request: &Request, planted: Planted) -> Result<Plan, Refusal> {
+    in_service(request.judge(), &request.head, planted)?;
+    least(request, planted)
+}
+
+/// The least plan of a set of any mode, of FDDI too, or number 2, 4, 5 or 6. No command gives it of
+/// FDDI, and no case asks for it: cases are made by it.
+pub fn least_plan(request: &Request) -> Result<Plan, Refusal> {
     request.judge()?;
+    least(request, Planted::Nothing)
+}
+
+fn least(request: &Request, planted: Planted) -> Result<Plan, Refusal> {
     let allocation = match request.mode() {
         Mode::Timely | Mode::Earlier => each_smallest(request, planted),
-        Mode::Fddi => raised(request, planted)?,
+        Mode::Fddi => raised(request)?,
     };
     let plan = Plan { request: request.clone(), allocation };
     require(plan.token_in_time() || passed(&plan, planted), Refusal::NoAllocation)?;

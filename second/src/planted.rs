@@ -24,9 +24,9 @@ pub enum Planted {
     TimerResetWhenLate,
     /// 10: FDDI's holding time is the timer after the synchronous part.
     HoldingAfterSending,
-    /// 11: X of an FDDI station without the other stations' S.
+    /// 11: X of a given FDDI plan's station without the other stations' S.
     OthersLeftOut,
-    /// 12: X of an FDDI station with q·S in the place of (q − 1)·S.
+    /// 12: X of a given FDDI plan's station with q·S in the place of (q − 1)·S.
     OneVisitTooMany,
     /// 13: a frame is cut at the limit.
     FrameCut,
@@ -54,8 +54,8 @@ pub enum Planted {
     LogByTheLaterEdition,
     /// 25: the smallest S rounded down to the grid.
     DownToTheGrid,
-    /// 26: FDDI's least vector without the grid.
-    ClimbOffTheGrid,
+    /// 26: a given FDDI plan whose S are off the grid is taken.
+    FddiOffTheGrid,
     /// 27: a given S off the grid is refused with 4 in the place of 7.
     OffGridOutOfRange,
     /// 28: of two plans a field of the header, g, is not compared.
@@ -108,10 +108,20 @@ pub enum Planted {
     AllocationNotCompared,
     /// 52: a log is accepted though its plan differs in g alone.
     OtherGridAccepted,
+    /// 53: of a set that runs FDDI 16 is given before 5.
+    RetiredBeforeWalkSum,
+    /// 54: an opening gives 7 to an FDDI plan that breaks a rule.
+    RetiredAfterRules,
+    /// 55: 16 for the 2002 edition too.
+    EarlierRetired,
+    /// 56: an FDDI ring that is open is unsound.
+    OpenRingUnsound,
+    /// 57: an FDDI log is refused with 16.
+    LogRetired,
 }
 
 impl Planted {
-    pub const ALL: [Planted; 52] = [
+    pub const ALL: [Planted; 57] = [
         Planted::TimeForNobody,
         Planted::RoundedDown,
         Planted::LimitWithoutUnused,
@@ -137,7 +147,7 @@ impl Planted {
         Planted::LimitAfterSending,
         Planted::LogByTheLaterEdition,
         Planted::DownToTheGrid,
-        Planted::ClimbOffTheGrid,
+        Planted::FddiOffTheGrid,
         Planted::OffGridOutOfRange,
         Planted::GridNotCompared,
         Planted::NewBeforeOld,
@@ -164,7 +174,17 @@ impl Planted {
         Planted::OwnPlanTaken,
         Planted::AllocationNotCompared,
         Planted::OtherGridAccepted,
+        Planted::RetiredBeforeWalkSum,
+        Planted::RetiredAfterRules,
+        Planted::EarlierRetired,
+        Planted::OpenRingUnsound,
+        Planted::LogRetired,
     ];
+
+    /// Whether the error is one of states, and a ring on its time line does not have it.
+    pub fn is_of_states(self) -> bool {
+        [Planted::ServedAhead, Planted::LookedAtFirst, Planted::OpenRingUnsound].contains(&self)
+    }
 
     /// The error of a number, from 1 on.
     pub fn from_number(number: usize) -> Option<Planted> {

@@ -1,4 +1,5 @@
-//! FDDI's least allocation by raising. Every S begins at 0. A station whose deadline rule fails
+//! FDDI's least allocation by raising, for the making of cases: FDDI sets are not planned any more,
+//! but plans of them are read, judged and run. Every S begins at 0. A station whose deadline rule fails
 //! against what the others have now is raised to the smallest multiple of the grid that meets it; nobody is ever
 //! lowered. What others have only takes from a station, so no S rises above that of any vector that
 //! meets the rules. The search is by halving on the rule itself.
@@ -6,12 +7,11 @@
 use std::cmp::Reverse;
 use std::collections::BinaryHeap;
 
-use crate::planted::Planted;
 use crate::rules::{fddi_least_time, require, Refusal, Request};
 
 /// The least S at each station of a judged set, or number 6.
-pub fn raised(request: &Request, planted: Planted) -> Result<Vec<u32>, Refusal> {
-    let mut raising = Raising::new(request, planted)?;
+pub fn raised(request: &Request) -> Result<Vec<u32>, Refusal> {
+    let mut raising = Raising::new(request)?;
     while let Some(index) = raising.next_failing() {
         raising.raise(index)?;
     }
@@ -20,7 +20,6 @@ pub fn raised(request: &Request, planted: Planted) -> Result<Vec<u32>, Refusal> 
 
 struct Raising<'a> {
     request: &'a Request,
-    planted: Planted,
     /// τ + F − 1.
     lost: u64,
     /// g.
@@ -34,18 +33,13 @@ struct Raising<'a> {
 }
 
 impl Raising<'_> {
-    fn new(request: &Request, planted: Planted) -> Result<Raising<'_>, Refusal> {
+    fn new(request: &Request) -> Result<Raising<'_>, Refusal> {
         let lost = request.lost();
-        let counted = match planted {
-            Planted::OverrunLeftOut => request.walk_sum(),
-            _ => lost,
-        };
-        let room = u64::from(request.head.ttrt).checked_sub(counted);
+        let room = u64::from(request.head.ttrt).checked_sub(lost);
         let mut raising = Raising {
             request,
-            planted,
             lost,
-            step: if planted == Planted::ClimbOffTheGrid { 1 } else { request.head.grid.into() },
+            step: request.head.grid.into(),
             most: room.ok_or(Refusal::NoAllocation)?,
             allocation: vec![0; request.stations.len()],
             sum: 0,
@@ -59,12 +53,7 @@ impl Raising<'_> {
     fn meets(&self, index: usize, s: u64, others: u64) -> bool {
         let station = &self.request.stations[index];
         let (ttrt, deadline) = (self.request.head.ttrt, station.deadline);
-        let others = if self.planted == Planted::OthersLeftOut { 0 } else { others };
-        let mut least = fddi_least_time(ttrt, deadline, s, self.lost + others);
-        if self.planted == Planted::OneVisitTooMany && deadline >= ttrt {
-            least += s;
-        }
-        least >= u64::from(station.longest)
+        fddi_least_time(ttrt, deadline, s, self.lost + others) >= u64::from(station.longest)
     }
 
     /// A station whose rule fails now.

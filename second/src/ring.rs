@@ -6,7 +6,7 @@
 //! is switched through holds nothing, and its visits are those of an idle one that is offered nothing.
 
 use crate::planted::Planted;
-use crate::rules::{require, Ask, Mode, Plan, Refusal, Station, LAST_TIME};
+use crate::rules::{in_service, require, Ask, Mode, Plan, Refusal, Station, LAST_TIME};
 
 /// A time, or a length of time.
 pub type Ticks = i64;
@@ -95,8 +95,19 @@ fn misnamed(plan: &Plan, refusal: Refusal, planted: Planted) -> Refusal {
 }
 
 impl Ring {
-    /// The ring at the end of the silent rotation, or number 2, 4, 5 or 7.
+    /// The ring at the end of the silent rotation, or number 2, 4, 5, 16 or 7.
     pub fn open(plan: &Plan, planted: Planted) -> Result<Ring, Refusal> {
+        let judged = match planted {
+            Planted::RetiredAfterRules => plan.judge(),
+            _ => plan.judge_numbers(),
+        };
+        in_service(judged, &plan.request.head, planted)?;
+        Ring::opened(plan, planted)
+    }
+
+    /// The ring that an opening gives, and of an FDDI plan gave until these were retired; or number
+    /// 2, 4, 5 or 7.
+    pub fn opened(plan: &Plan, planted: Planted) -> Result<Ring, Refusal> {
         plan.judge().map_err(|refusal| misnamed(plan, refusal, planted))?;
         Ok(Ring {
             plan: plan.clone(),

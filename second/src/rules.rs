@@ -1,7 +1,10 @@
-//! The numbers allowed, the refusal numbers, and the judgement of a set and of an allocation.
+//! The numbers allowed, the refusal numbers, and the judgement of a set and of an allocation; and
+//! which sets are no longer planned and opened.
 
 use std::fmt;
 use std::ops::RangeInclusive;
+
+use crate::planted::Planted;
 
 pub const MOST_STATIONS: usize = 128;
 pub const TTRT: RangeInclusive<u32> = 1..=1_000_000;
@@ -69,6 +72,7 @@ pub enum Refusal {
     ClockPast = 13,
     NoRoom = 14,
     NotArrived = 15,
+    Retired = 16,
     NoSuchVersion = 17,
     NumbersUsedUp = 18,
 }
@@ -262,12 +266,29 @@ impl Plan {
 
     /// Numbers 2, 4, 5 and 7, in this order.
     pub fn judge(&self) -> Result<(), Refusal> {
+        self.judge_with(Planted::Nothing)
+    }
+
+    /// The same with an error planted in number 7 of an FDDI plan.
+    pub fn judge_with(&self, planted: Planted) -> Result<(), Refusal> {
+        self.judge_numbers()?;
+        self.judge_rules(planted)
+    }
+
+    /// Numbers 2, 4 and 5, of the set and of S.
+    pub fn judge_numbers(&self) -> Result<(), Refusal> {
         let counts = self.allocation.len() == self.request.stations.len();
         require(counts && self.request.count_allowed(), Refusal::WrongField)?;
         let in_range = self.allocation.iter().all(|s| ALLOCATION.contains(s));
         require(in_range && self.request.in_range(), Refusal::OutOfRange)?;
-        require(self.request.walk_sum_allowed(), Refusal::WalkSum)?;
-        let rules = self.token_in_time() && self.meets_deadlines() && self.on_grid();
+        require(self.request.walk_sum_allowed(), Refusal::WalkSum)
+    }
+
+    /// Number 7, of a plan whose numbers were judged.
+    pub fn judge_rules(&self, planted: Planted) -> Result<(), Refusal> {
+        let off_grid = planted == Planted::FddiOffTheGrid && self.request.mode() == Mode::Fddi;
+        let on_grid = self.on_grid() || off_grid;
+        let rules = self.token_in_time() && self.meets_deadlines(planted) && on_grid;
         require(rules, Refusal::RuleBroken)
     }
 
@@ -276,20 +297,27 @@ impl Plan {
         self.allocation.iter().all(|s| s % self.request.head.grid == 0)
     }
 
-    fn meets_deadlines(&self) -> bool {
-        let stations = self.request.stations.iter().enumerate();
-        stations.into_iter().all(|(index, it)| self.least_time(index) >= u64::from(it.longest))
+    fn meets_deadlines(&self, planted: Planted) -> bool {
+        let mut stations = self.request.stations.iter().enumerate();
+        stations.all(|(index, it)| self.least_time(index, planted) >= u64::from(it.longest))
     }
 
     /// X of a station, in the mode of a judged set.
-    fn least_time(&self, index: usize) -> u64 {
+    fn least_time(&self, index: usize, planted: Planted) -> u64 {
         let (ttrt, deadline) = (self.request.head.ttrt, self.request.stations[index].deadline);
         let s = u64::from(self.allocation[index]);
         match self.request.mode() {
             Mode::Timely | Mode::Earlier => least_time(ttrt, deadline, s),
             Mode::Fddi => {
-                let others = self.allocated() - s;
-                fddi_least_time(ttrt, deadline, s, self.request.lost() + others)
+                let others = match planted {
+                    Planted::OthersLeftOut => 0,
+                    _ => self.allocated() - s,
+                };
+                let least = fddi_least_time(ttrt, deadline, s, self.request.lost() + others);
+                match planted {
+                    Planted::OneVisitTooMany if deadline >= ttrt => least + s,
+                    _ => least,
+                }
             }
         }
     }
@@ -315,6 +343,25 @@ pub fn fddi_least_time(ttrt: u32, deadline: u32, s: u64, before: u64) -> u64 {
     match whole {
         0 => 0,
         _ => (whole - 1) * s + rest.saturating_sub(before).min(s),
+    }
+}
+
+/// Number 16 of a set that runs FDDI, where it is to be planned or opened: behind what was judged
+/// of its numbers, 2, 4 or 5.
+pub fn in_service(
+    judged: Result<(), Refusal>,
+    head: &Head,
+    planted: Planted,
+) -> Result<(), Refusal> {
+    let retired = match Mode::of(head.mode) {
+        Some(Mode::Fddi) => true,
+        Some(Mode::Earlier) => planted == Planted::EarlierRetired,
+        _ => false,
+    };
+    match (judged, planted) {
+        (Err(Refusal::WalkSum), Planted::RetiredBeforeWalkSum) if retired => Err(Refusal::Retired),
+        (Ok(()), _) => require(!retired, Refusal::Retired),
+        _ => judged,
     }
 }
 

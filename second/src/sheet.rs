@@ -1,6 +1,7 @@
 //! Request and plan sheets and logs: a reader driven by a table of the fields allowed at each
 //! place, and a writer.
 
+use crate::planted::Planted;
 use crate::rules::MOST_STATIONS;
 use crate::rules::{header_number, require, Entry, MarkEntry, VisitEntry};
 use crate::rules::{Head, Plan, Refusal, Request, Station};
@@ -78,8 +79,12 @@ impl Contents {
 
     /// The plan before any record, judged.
     pub fn judged_plan(&self) -> Result<Plan, Refusal> {
+        self.judged_plan_with(Planted::Nothing)
+    }
+
+    fn judged_plan_with(&self, planted: Planted) -> Result<Plan, Refusal> {
         let plan = self.plan();
-        plan.judge()?;
+        plan.judge_with(planted)?;
         Ok(plan)
     }
 
@@ -349,7 +354,12 @@ pub fn read_request(sheet: &[u8]) -> Result<Request, Refusal> {
 
 /// The plan of a plan sheet, or number 1 to 5 or 7.
 pub fn read_plan(sheet: &[u8]) -> Result<Plan, Refusal> {
-    contents(sheet, PLAN_TABLE)?.judged_plan()
+    read_plan_with(sheet, Planted::Nothing)
+}
+
+/// The same with an error planted in the judgement of the plan.
+pub fn read_plan_with(sheet: &[u8], planted: Planted) -> Result<Plan, Refusal> {
+    contents(sheet, PLAN_TABLE)?.judged_plan_with(planted)
 }
 
 /// The plan of a log and its records, or number 1 to 5 or 7.

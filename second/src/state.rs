@@ -5,7 +5,7 @@
 use crate::notation::{number, read_head, show_head};
 use crate::planted::Planted;
 use crate::ring::{Completed, Held, Message, StationNumber, Ticks, Visit};
-use crate::rules::{require, Ask, Mode, Plan, Refusal, Request, Station};
+use crate::rules::{require, Ask, Head, Mode, Plan, Refusal, Request, Station};
 use crate::rules::{LAST_CLOCK, LAST_TIME, MOST_LATE, VISITS_END};
 use crate::text::{Answer, Call};
 
@@ -61,6 +61,33 @@ pub struct State {
 }
 
 impl State {
+    /// The state that an opening gives to a plan that was judged, and gave to an FDDI plan until
+    /// these were retired. A timer that starts at TTRT becomes 0 with a late count of 1 there.
+    pub fn opened(plan: &Plan) -> State {
+        let Head { ttrt, .. } = plan.request.head;
+        let stations = &plan.request.stations;
+        let place = |index: usize| {
+            let trt = stations[index..].iter().map(|station| station.walk).sum();
+            match plan.request.mode() {
+                Mode::Fddi if trt == ttrt => Place { late: 1, ..Place::default() },
+                _ => Place { trt, ..Place::default() },
+            }
+        };
+        State {
+            clock: 0,
+            token: 0,
+            visits: 0,
+            unused: plan.allocated(),
+            plan: plan.clone(),
+            places: (0..stations.len()).map(place).collect(),
+        }
+    }
+
+    /// Whether it is such a state.
+    pub fn is_opened(&self) -> bool {
+        self.plan.judge().is_ok() && *self == State::opened(&self.plan)
+    }
+
     fn unsound(&self) -> bool {
         self.plan.judge().is_err()
             || self.token as usize >= self.places.len()
@@ -104,8 +131,10 @@ impl State {
     }
 
     /// The answer with an error planted. Only those are, of a message that is looked at, which no ring
-    /// from an opening shows: what it holds has arrived.
+    /// from an opening shows: what it holds has arrived; and that of an open FDDI ring.
     pub fn answer_with(&mut self, call: &Call, planted: Planted) -> Result<Answer, Refusal> {
+        let fddi = Mode::of(self.plan.request.head.mode) == Some(Mode::Fddi);
+        require(!(fddi && planted == Planted::OpenRingUnsound), Refusal::Unsound)?;
         match call {
             Call::Visit(ask) => self.visit_with(*ask, planted).map(Answer::Visited),
             Call::HandIn(message) => self.hand_in(message).map(|()| Answer::Taken),

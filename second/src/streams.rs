@@ -6,7 +6,7 @@ use crate::check::WatchedRing;
 use crate::compose::compose;
 use crate::differences;
 use crate::hopper::{self, Train};
-use crate::inspect::Inspector;
+use crate::inspect::{judge_to_inspect, Inspector};
 use crate::lines::Lines;
 use crate::log::{noted, plan_fields, Counter, Passed, Stream};
 use crate::planner;
@@ -240,8 +240,10 @@ fn inspected(log: impl Read, planted: Planted) -> io::Result<Result<Inspector, R
     let mut inspector: Option<Result<Inspector, Refusal>> = None;
     loop {
         let passed = stream.pass()?;
-        let opened = || stream.passage().contents.judged_plan();
-        let opened = || opened().map(|plan| Inspector::new(&plan, planted));
+        let opened = || {
+            let plan = stream.passage().contents.judged_plan()?;
+            judge_to_inspect(&plan, planted).map(|()| Inspector::new(&plan, planted))
+        };
         match passed {
             Err(refusal) => return Ok(Err(refusal)),
             Ok(Passed::Record(entry)) => {

@@ -281,16 +281,11 @@ static void write_case(int with_shares)
 
 /* ---- the cases of sets and rings */
 
-/* A*, seen at the first visit on a ring opened with the plan: its limit, from which FDDI takes no S. */
-static uint64_t spare(const struct plan *plan, ring_t *ring)
+/* A*, seen at the first visit on a ring opened with the plan: its limit. */
+static uint64_t spare(ring_t *ring)
 {
     struct olivastrum_ask nothing = {0, 1};
-    uint64_t left = visiting(ring, 1, nothing).record.limit.ticks;
-    if (plan->set.head.mode != OLIVASTRUM_FDDI)
-        return left;
-    for (uint32_t i = 0; i < plan->set.n; i++)
-        left -= plan->alloc.s[i];
-    return left;
+    return visiting(ring, 1, nothing).record.limit.ticks;
 }
 
 /* `planning SET` */
@@ -308,7 +303,7 @@ static void planning_case(void)
         put(" !not-opened");
         return;
     }
-    put_after(' ', spare(&plan, &opened.ring));
+    put_after(' ', spare(&opened.ring));
     for (uint32_t i = 0; i < plan.set.n; i++)
         put_after(i == 0 ? ' ' : ',', plan.alloc.s[i]);
 }
@@ -502,10 +497,12 @@ static struct olivastrum_recorder recorded(ring_t *ring, struct olivastrum_recor
     return recorder;
 }
 
-/* `record ROOM;COUNTER,CLOCK;HEX` and CALLS */
-static void record_case(void)
+/* `record ROOM;COUNTER,CLOCK;HEX` and CALLS, of a ring that is opened; `record-on ROOM;COUNTER,CLOCK;STATE` and CALLS, of
+ * one that is there. */
+static void record_case(int given)
 {
     const uint8_t *log;
+    struct olivastrum_opened opened;
     uint64_t room = number();
     pass(";");
     uint32_t counter = number32();
@@ -514,7 +511,12 @@ static void record_case(void)
     pass(";");
     if (room > MOST_BYTES)
         room = MOST_BYTES;
-    struct olivastrum_opened opened = opened_sheet();
+    if (given) {
+        any_ring(&opened.ring);
+        opened.number = 0;
+    } else {
+        opened = opened_sheet();
+    }
     if (opened.number != 0) {
         put_number(opened.number);
         return;
@@ -806,7 +808,9 @@ static void answer(void)
     else if (passed("log "))
         log_case();
     else if (passed("record "))
-        record_case();
+        record_case(0);
+    else if (passed("record-on "))
+        record_case(1);
     else if (passed("inspect "))
         inspect_case();
     else if (passed("inspect-of "))

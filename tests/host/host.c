@@ -692,7 +692,8 @@ static int any_bytes(const ring_t *sound)
     return 1;
 }
 
-/* ---- an older ring: two stations of w 50 and TTRT 100, so that the first timer opens at TTRT, late at once */
+/* ---- an older ring: two stations of w 50 and TTRT 100, so that the first timer began at TTRT, late at once. It is neither planned
+ * nor opened any more; one that is open runs on. */
 static int older_ring(void)
 {
     struct olivastrum_set set;
@@ -706,11 +707,20 @@ static int older_ring(void)
     struct olivastrum_read_request read = olivastrum_read_request_sheet(sheet, sizeof sheet);
     CHECK(read.number == 0 && memcmp(&read.set, &set, sizeof set) == 0);
     struct olivastrum_planned planned = olivastrum_plan_set(set);
-    CHECK(planned.number == 0 && all_zero(&planned.alloc, sizeof planned.alloc));
-    struct olivastrum_opened opened = olivastrum_open_ring(set, planned.alloc);
-    CHECK(opened.number == 0);
-    ring_t ring = opened.ring;
-    CHECK(ring.trt[0] == 0 && ring.late[0] == 1 && ring.trt[1] == 50 && ring.late[1] == 0);
+    CHECK(planned.number == OLIVASTRUM_RETIRED && all_zero(&planned.alloc, sizeof planned.alloc));
+    struct olivastrum_alloc alloc = planned.alloc;
+    struct olivastrum_opened opened = olivastrum_open_ring(set, alloc);
+    CHECK(opened.number == OLIVASTRUM_RETIRED && all_zero(&opened.ring, sizeof opened.ring));
+    /* before 7, behind the range of S */
+    alloc.s[1] = 1;
+    CHECK(olivastrum_open_ring(set, alloc).number == OLIVASTRUM_RETIRED);
+    alloc.s[1] = 1000001;
+    CHECK(olivastrum_open_ring(set, alloc).number == OLIVASTRUM_OUT_OF_RANGE);
+
+    /* the state that its opening gave */
+    ring_t ring;
+    memset(&ring, 0, sizeof ring);
+    ring.set = set, ring.late[0] = 1, ring.trt[1] = 50;
 
     /* late: nothing is offered, the count falls and the timer runs on */
     struct olivastrum_visit_answer answer = olivastrum_visit(&ring, ticks(1000));

@@ -297,12 +297,28 @@ static void with_sheets(void)
     measure_all();
 }
 
+/* S that keep FDDI's rules, and the ring that an opening with them used to give. */
+static void was_open(void)
+{
+    uint32_t walk = 0;
+    memset(&ring, 0, sizeof ring);
+    for (uint32_t i = set.n; i-- > 0;) {
+        walk += set.w[i];
+        alloc.s[i] = 300;
+        ring.trt[i] = walk;
+        ring.unused += alloc.s[i];
+    }
+    ring.set = set;
+    ring.alloc = alloc;
+}
+
 static void with_stations(uint32_t mode, uint32_t frame, uint32_t n)
 {
     set = stations(mode, frame, n);
     ask = (struct olivastrum_ask){100000, frame}; /* frames run past the limit, which an inspection looks into */
     alloc = olivastrum_plan_set(set).alloc;
     ring = olivastrum_open_ring(set, alloc).ring;
+    if (mode == OLIVASTRUM_FDDI) was_open(); /* neither planned nor opened any more */
     message = (struct olivastrum_message){{0}, {300}, {0}};
     station.number = 0;
     mark_entry = (struct olivastrum_mark_entry){0, 0};

@@ -1,4 +1,4 @@
--- What is promised of an accepted log, of any maker's recorder and of any length; `proofs/Promised.antt` proves it. The plan is any that would not be refused on opening.
+-- What is promised of an accepted log, of any maker's recorder and of any length; `proofs/Promised.antt` proves it. The plan is any that is judged 0, in every mode.
 use Prim.Native.Nat.{ℕ, _^_, _<_}
 use mathlib.Core.Path.{_≡_}
 use mathlib.Core.List.{List}

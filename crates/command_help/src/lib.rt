@@ -30,7 +30,7 @@ fn put_commands(before: bool) -> bool {
 fn put_head() -> bool {
     more(
         true,
-        b"olivastrum: plans timely-token rings of both editions and FDDI rings, runs them one visit at a time, and inspects their logs
+        b"olivastrum: plans timely-token rings of both editions, runs them one visit at a time, and inspects their logs and those of FDDI rings
 
 ",
     )
@@ -70,7 +70,7 @@ fn put_lines(before: bool) -> bool {
         before,
         b"The calls are lines `visit FRAMES`, `visit FRAMES LENGTH`, `message STATION LENGTH ARRIVAL`, `mark STATION` and `unmark STATION`.
 A text has, in this order, lines `ttrt TTRT`, `mode M`, `frame F`, `grid G`, `station W C D P` or `station W C D P S`, and behind them `visit STATION START LIMIT SYNC ASYNC` and `mark STATION MARK`, one for each record of a log.
-A mode is 2, FDDI, or 3, the 2002 edition of timely-token; without that line it is the 2003 edition.
+A mode is 3, the 2002 edition of timely-token, or 2, FDDI, which is retired: it is still read, compared, kept and inspected, but `plan`, `plan-sheet`, `run` and `log` refuse it with 16. Without that line it is the 2003 edition.
 A wagon list has lines `wagon BOXES BRAKE DOOR`; changes are lines `change PLACE BOXES BRAKE DOOR`, `couple BOXES BRAKE DOOR` and `uncouple`.
 README.md and docs/ say what the letters, the numbers of the refusals and the exit statuses mean.
 ",

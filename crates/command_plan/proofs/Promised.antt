@@ -10,7 +10,7 @@ use Rattle.sets.specs.Rules.{tau, headInRange, stationInRange}
 use Rattle.sets.specs.Judged.{judgedThen, zeros}
 use Rattle.sets.specs.declared.Set.{Set}
 use Rattle.plans.specs.Rules.{timeAt, spareTime}
-use Rattle.plans.specs.Planned.{planned, smallestWith, answered, leastAlloc}
+use Rattle.plans.specs.Planned.{planned, smallestWith, answered}
 use Rattle.plans.specs.declared.Alloc.{Alloc}
 use Rattle.fields.specs.Rows.{rows}
 use Rattle.fields.specs.Bytes.{shortAt, numberAt, bodyAt}
@@ -91,7 +91,7 @@ unfolding workedSet readSheet readAnswer thenNumber scanned scanFrom stopsAt sto
 worked-read = refl
 
 worked-planned : planned workedSet ≡ record { alloc = record { s = fill 4 (λ i. 20) zeros }; number = 0 }
-unfolding workedSet answered leastAlloc timeAt smallestWith orElse fill judgedThen allHold allBelow sumBelow headInRange stationInRange
+unfolding workedSet answered timeAt smallestWith orElse fill judgedThen allHold allBelow sumBelow headInRange stationInRange
 worked-planned = refl
 
 worked-lines : planLines workedSet (record { s = fill 4 (λ i. 20) zeros }) ≡ workedText

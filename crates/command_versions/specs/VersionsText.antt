@@ -25,7 +25,7 @@ sheetIn bs version = take (foundVersion bs version .length) (drop (foundVersion 
 abbrev pub planIn : List ℕ → ℕ → ReadPlan
 planIn bs version = readPlan (sheetIn bs version)
 
--- a version's line: its number, and the first line that `plan` prints of such a plan
+-- a version's line: its number, and the first line that `plan` prints of such a plan, of an FDDI plan as it printed it
 abbrev pub lineWords : ℕ → ℕ → ℕ → ℕ → ℕ → List ℕ
 lineWords version n ttrt τ spare = decimalOf version ++ (space ∷ planLine n ttrt τ spare)
 

@@ -1,5 +1,4 @@
-// FDDI plans: X over the whole vector, the test of a given vector, and the least vector that meets the rules.
-mod climb;
+// FDDI's rules: X over the whole vector, and the test of a given vector. Nothing is planned by them any more.
 mod shares;
 
 ghost use mathlib.Core.Path.{_≡_};
@@ -7,9 +6,8 @@ ghost use Prim.Native.Nat.{_≤_};
 ghost use Rattle.units.specs.Places.{at};
 ghost use Rattle.units.specs.Vectors.{deadlinesKept, rulesKept};
 ghost use Rattle.fddi.specs.Rules.{leastTime, termsOf, tokenFits};
-ghost use Rattle.fddi.specs.Climb.{none, leastPlan};
 
-// What a plan is made for: TTRT, what no station may plan with (τ and F − 1), the grid, and C and D at each station. Only the first N places are ever looked at.
+// What a plan is judged by: TTRT, what no station may plan with (τ and F − 1), the grid, and C and D at each station. Only the first N places are ever looked at.
 pub struct Load {
     pub n: u32,
     pub ttrt: u32,
@@ -17,12 +15,6 @@ pub struct Load {
     pub lost: u64,
     pub c: [u32; 128],
     pub d: [u32; 128],
-}
-
-// Planning's answer: the least vector, or none with zeros.
-pub struct Found {
-    pub s: [u32; 128],
-    pub found: bool,
 }
 
 // X, the least synchronous time in any interval D, where `away` ticks of a rotation are not the station's own.
@@ -74,39 +66,4 @@ pub fn meets_rules(l: Load, s: [u32; 128]) -> bool
         return false;
     }
     deadlines_fit(l, s) & quotients::all_on_grid(l.grid, l.n, s)
-}
-
-// There is no such vector: zeros.
-fn none() -> Found
-    ensures { λ r. ⌜ r ≡ none ⌝ }
-{
-    Found {
-        s: [0; 128],
-        found: false,
-    }
-}
-
-// The least vector that meets the rules, or none. Each round raises the stations whose rule does not hold any more, until the vector stays.
-pub fn least_plan(l: Load) -> Found
-    ensures { λ r. ⌜ r ≡ leastPlan l ⌝ }
-{
-    let ttrt = units::wide(l.ttrt);
-    let mut s: [u32; 128] = [0; 128];
-    if !token_fits(l, s) {
-        return none();
-    }
-    let away = l.lost;
-    let q = climb::rotations(l);
-    let mut sum: u64 = 0;
-    loop {
-        let next = climb::round(l, q, sum + away, s);
-        if ttrt < next.sum + away {
-            return none();
-        }
-        if next.sum == sum {
-            return Found { s, found: true };
-        }
-        sum = next.sum;
-        s = next.s;
-    }
 }

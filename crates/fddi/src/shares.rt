@@ -1,4 +1,4 @@
-// The whole quotients of FDDI planning. Nothing divides.
+// The whole quotient of X. Nothing divides.
 ghost use Rattle.fddi.specs.Bounds.{Whole};
 
 // a / b rounded down, by shifting and subtracting; 0 at b = 0.

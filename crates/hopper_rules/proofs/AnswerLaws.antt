@@ -12,6 +12,7 @@ use Rattle.sets.specs.Judged.{judged}
 use Rattle.sets.specs.declared.Set.{Set}
 use Rattle.sets.proofs.Promised.{promised as of-sets}
 use Rattle.plans.specs.Planned.{planned, blankAlloc}
+use Rattle.plans.specs.Rules.{Retired}
 use Rattle.plans.specs.Answer.{AllocationExists}
 use Rattle.plans.specs.declared.Planned.{Planned}
 use Rattle.plans.proofs.Promised.{promised as of-plans}
@@ -54,15 +55,15 @@ list-only l =
     (same-or-not (judgedList l) 2))
     (same-or-not (judgedList l) 0)
 
--- ---- the planner on a set that it has nothing against
+-- ---- the planner on a set that it has nothing against, of a mode that is in use
 
-module _ (t : Set) (none : judged t ≡ 0) where
+module _ (t : Set) (none : judged t ≡ 0) (used : ¬ Retired t) where
   plan-numbers : (k : ℕ) → k ≢ 0 → k ≢ 6 → planned t .number ≢ k
   plan-numbers k n₀ n₆ e =
       let all = of-sets .none t .0 none in
       let fits = of-plans .one-answer t (planned t) .1 refl in
-      let no : ¬ AllocationExists t = λ exists. n₀ (sym e ∙ fits .plan (all .0) (all .1 .0) (all .1 .1) exists .accepted) in
-      n₆ (sym e ∙ ap (λ (p : Planned). p .number) (fits .six (all .0) (all .1 .0) (all .1 .1) no))
+      let no : ¬ AllocationExists t = λ exists. n₀ (sym e ∙ fits .plan (all .0) (all .1 .0) (all .1 .1) used exists .accepted) in
+      n₆ (sym e ∙ ap (λ (p : Planned). p .number) (fits .six (all .0) (all .1 .0) (all .1 .1) used no))
 
   pub plan-only : (planned t .number ≡ 0) ⊎ (planned t .number ≡ 6)
   plan-only =
@@ -71,8 +72,8 @@ module _ (t : Set) (none : judged t ≡ 0) where
 
   pub plan-six : (planned t .number ≡ 6) ↔ ¬ AllocationExists t
   plan-six = (
-    λ e exists. of-plans .six t .0 e .1 (exists .0) (exists .1),
-    λ no. of-plans .six t .1 (none, λ s meets. no (s, meets)),
+    λ e exists. of-plans .six t .0 e .1 .1 (exists .0) (exists .1),
+    λ no. of-plans .six t .1 (none, (used, λ s meets. no (s, meets))),
   )
 
 -- ---- the answer for a list
@@ -86,10 +87,14 @@ number-planned l h = ap (λ (p : Planned). p .number) (plan-given l h)
 fits-set : (l : WagonList) → judgedList l ≡ 0 → judged (setOf l) ≡ 0
 fits-set l h = judged-none l (list-fits l .0 h)
 
+-- the set of a list has mode 1
+pub in-use : (l : WagonList) → ¬ Retired (setOf l)
+in-use l e = absurd (omega (arith, e))
+
 -- a refusal that the planner never gives here is the list's own
 pub own-number : (l : WagonList) (k : ℕ) → k ≢ 0 → k ≢ 6 → (listPlanned l .number ≡ k) ↔ (judgedList l ≡ k)
 own-number l k n₀ n₆ = (
-  λ e. ⊎-elim (λ z. absurd (plan-numbers (setOf l) (fits-set l z) k n₀ n₆ (sym (number-planned l z) ∙ e))) (λ n. sym (number-refused l n) ∙ e) (same-or-not (judgedList l) 0),
+  λ e. ⊎-elim (λ z. absurd (plan-numbers (setOf l) (fits-set l z) (in-use l) k n₀ n₆ (sym (number-planned l z) ∙ e))) (λ n. sym (number-refused l n) ∙ e) (same-or-not (judgedList l) 0),
   λ e. number-refused l (λ z. n₀ (sym e ∙ z)) ∙ e,
 )
 
@@ -115,13 +120,13 @@ answer-none l = planner-number l 0 (omega arith) (omega arith)
 pub answer-six : (l : WagonList) → (listPlanned l .number ≡ 6) ↔ (ListFits l × ¬ AllocationExists (setOf l))
 answer-six l =
     let both = planner-number l 6 (omega arith) (omega arith) in (
-      λ e. let h = both .0 e in (h .0, plan-six (setOf l) (judged-none l (h .0)) .0 (h .1)),
-      λ h. both .1 (h .0, plan-six (setOf l) (judged-none l (h .0)) .1 (h .1)),
+      λ e. let h = both .0 e in (h .0, plan-six (setOf l) (judged-none l (h .0)) (in-use l) .0 (h .1)),
+      λ h. both .1 (h .0, plan-six (setOf l) (judged-none l (h .0)) (in-use l) .1 (h .1)),
     )
 
 pub answer-only : (l : WagonList) → (listPlanned l .number ≡ 0) ⊎ (listPlanned l .number ≡ 2) ⊎ (listPlanned l .number ≡ 4) ⊎ (listPlanned l .number ≡ 6)
 answer-only l =
-    ⊎-elim (λ z. ⊎-elim (λ e. inl (number-planned l z ∙ e)) (λ e. inr (inr (inr (number-planned l z ∙ e)))) (plan-only (setOf l) (fits-set l z)))
+    ⊎-elim (λ z. ⊎-elim (λ e. inl (number-planned l z ∙ e)) (λ e. inr (inr (inr (number-planned l z ∙ e)))) (plan-only (setOf l) (fits-set l z) (in-use l)))
     (⊎-elim (λ t. inr (inl (own-number l 2 (omega arith) (omega arith) .1 t))) (λ f. inr (inr (inl (own-number l 4 (omega arith) (omega arith) .1 f)))))
     (list-only l)
 

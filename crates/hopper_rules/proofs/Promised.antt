@@ -7,7 +7,7 @@ use Rattle.units.specs.Judging.{orElse}
 use Rattle.sets.specs.Rules.{headInRange, stationInRange}
 use Rattle.sets.specs.Judged.{judgedThen}
 use Rattle.plans.specs.Rules.{timeAt}
-use Rattle.plans.specs.Planned.{answered, leastAlloc, smallestWith}
+use Rattle.plans.specs.Planned.{answered, smallestWith}
 use Rattle.hopper.specs.Wagons.{wagonFits, judgedList}
 use Rattle.hopper.specs.Requests.{listPlanned, plannedWith}
 use Rattle.hopper.proofs.WagonLaws.{list-fits}
@@ -30,11 +30,11 @@ fitted =
 -- ---- the examples, computed
 
 full : listPlanned (twelve 1) .number ≡ 6
-unfolding plannedWith judgedList wagonFits answered leastAlloc timeAt smallestWith orElse fill judgedThen allBelow sumBelow headInRange stationInRange
+unfolding plannedWith judgedList wagonFits answered timeAt smallestWith orElse fill judgedThen allBelow sumBelow headInRange stationInRange
 full = refl
 
 fit : listPlanned (twelve 0) ≡ record { alloc = record { s = fill 12 (λ i. 19) zeros }; number = 0 }
-unfolding plannedWith judgedList wagonFits answered leastAlloc timeAt smallestWith orElse fill judgedThen allBelow sumBelow headInRange stationInRange
+unfolding plannedWith judgedList wagonFits answered timeAt smallestWith orElse fill judgedThen allBelow sumBelow headInRange stationInRange
 fit = refl
 
 pub promised : Promised

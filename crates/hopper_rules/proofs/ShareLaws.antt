@@ -2,10 +2,9 @@
 use Prim.Native.Nat.{ℕ, _+_, _≤_, _<_}
 use mathlib.Core.Path.{_≡_, refl, sym, ap, _∙_}
 use mathlib.Core.List.{List}
-use mathlib.Core.Logic.{_↔_, _≢_, ⊎-elim}
+use mathlib.Core.Logic.{_↔_, ⊎-elim}
 use native.Mathlib.Omega.{arith}
 use borrow.Author.Tests.{le-leb}
-use Rattle.units.specs.Numbers.{fddi}
 use Rattle.units.specs.Small.{roundedUp}
 use Rattle.units.specs.Places.{at, fill, zeros, sumBelow}
 use Rattle.units.specs.PlaceLaws.{fill-inside, sum-same}
@@ -19,7 +18,7 @@ use Rattle.hopper.specs.declared.WagonList.{WagonList}
 use Rattle.hopper.proofs.WagonLaws.{list-fits}
 use Rattle.hopper.proofs.RequestLaws.{plan-given}
 use Rattle.hopper_rules.proofs.SheetLaws.{has-numbers, walk-time, longest-small, judged-none}
-use Rattle.hopper_rules.proofs.AnswerLaws.{answer-none, plan-only, plan-six}
+use Rattle.hopper_rules.proofs.AnswerLaws.{in-use, answer-none, plan-only, plan-six}
 
 -- half of C, rounded up
 abbrev half : WagonList → ℕ → ℕ
@@ -29,15 +28,12 @@ smallest-half : (c : ℕ) → c ≤ 500 → smallestFor 1 250 c 500 ≡ roundedU
 unfolding smallestWith
 smallest-half c h = rw (le-leb c 500 h) (omega arith)
 
-not-fddi : (l : WagonList) → setOf l .head .mode ≢ fddi
-not-fddi l e = absurd (omega (arith, e))
-
 -- where the planner has a plan, wagon i has its half
 half-planned : (l : WagonList) → ListFits l → planned (setOf l) .number ≡ 0 → (i : ℕ) → i < l .n → at (planned (setOf l) .alloc .s) i ≡ half l i
 half-planned l h e i b =
     let has = has-numbers l h in
     let small = longest-small l h i b in
-    let least = of-plans .kept (setOf l) e .smallest (not-fddi l) i b in
+    let least = of-plans .kept (setOf l) e .smallest i b in
     of-plans .no-second 1 250 (at (setOf l .c) i) (at (setOf l .d) i) _ (omega arith) least
     ∙ rw (has .longest i b, has .deadline i b) (smallest-half (longestAt l i) (omega arith))
 
@@ -63,7 +59,7 @@ module _ (l : WagonList) (h : ListFits l) (room : sumBelow (l .n) (half l) + l .
   deadlines-met : (i : ℕ) → i < l .n → at (setOf l .c) i ≤ timeAt (setOf l) (at halves) i
   deadlines-met i b =
       let has = has-numbers l h in
-      rw (of-plans .time-timely (setOf l) (at halves) i (not-fddi l), has .longest i b, has .deadline i b, stored i b) (enough i b)
+      rw (of-plans .time-timely (setOf l) (at halves) i (in-use l), has .longest i b, has .deadline i b, stored i b) (enough i b)
 
   lost-time : lost (setOf l) ≡ l .n
   lost-time = of-plans .no-frames (setOf l) refl ∙ walk-time l h
@@ -79,7 +75,7 @@ module _ (l : WagonList) (h : ListFits l) (room : sumBelow (l .n) (half l) + l .
   room-planned : planned (setOf l) .number ≡ 0
   room-planned =
       let none = judged-none l h in
-      ⊎-elim (λ e. e) (λ e. absurd (plan-six (setOf l) none .0 e (halves, halves-meet))) (plan-only (setOf l) none)
+      ⊎-elim (λ e. e) (λ e. absurd (plan-six (setOf l) none (in-use l) .0 e (halves, halves-meet))) (plan-only (setOf l) none (in-use l))
 
 -- a plan has room for its halves
 room-left : (l : WagonList) → ListFits l → planned (setOf l) .number ≡ 0 → sumBelow (l .n) (half l) + l .n ≤ 250

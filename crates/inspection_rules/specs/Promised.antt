@@ -1,4 +1,4 @@
--- What is promised of an inspection of records (02, No. 6 and 10); `proofs/Promised.antt` proves it. The plan is any that would not be refused on opening, in every mode and with any F.
+-- What is promised of an inspection of records (02, No. 6 and 10); `proofs/Promised.antt` proves it. The plan is any that is judged 0, in every mode and with any F; FDDI's too, though opening answers it 16.
 use Prim.Native.Nat.{ℕ, zero, suc, _+_, _%_, _^_, _≤_, _<_, _∣_}
 use mathlib.Core.Path.{_≡_}
 use mathlib.Core.Bool.{true, false}
@@ -163,7 +163,7 @@ pub record Promised : Type 0 where
   -- what could be given is what our recorder writes of a visit, with some synchronous amount and some request
   pub written-visit : (t : Set) (a : Alloc) (before : List Entry) → judgedPlan t a ≡ 0 → Gives t a before → (counter : ℕ) (v : VisitEntry)
       → CouldVisit counter (ringAfter (openedRing t a) before) v ↔ WrittenVisit counter (ringAfter (openedRing t a) before) v
-  -- the records of every run of the model from the opening on are accepted, whatever the plan, whatever calls are made, stations switched through and in again among them, and whatever the recorder's counter shows at clock 0
+  -- the records of every run of the model from the opening on are accepted, whatever the plan and its mode, whatever calls are made, stations switched through and in again among them, and whatever the recorder's counter shows at clock 0
   pub runs : (t : Set) (a : Alloc) (counter : ℕ) (calls : List Call) → inspectionOf t a (entriesOf counter t a calls) .rule ≡ 0
   -- an FDDI log is judged by FDDI's steps
   pub late-log : LateLog
@@ -194,7 +194,7 @@ pub record Promised : Type 0 where
   pub log-no-further : (bs cs : List ℕ) (before : List Entry) (e : Entry) (other another : List Entry) → AllBytes bs → length bs < 2 ^ 64 → readLog bs .number ≡ 0 → readLog cs .number ≡ 0
       → readLog cs .set ≡ readLog bs .set → readLog cs .alloc ≡ readLog bs .alloc → entriesIn bs ≡ before ++ e ∷ other → entriesIn cs ≡ before ++ e ∷ another
       → findingIn bs .«record» ≡ length before + 1 → (findingIn cs .«record» ≡ findingIn bs .«record») × (findingIn cs .rule ≡ findingIn bs .rule)
-  -- the log of a run of the model, from the opening on, is accepted, with as many records as visits, markings and unmarkings were accepted
+  -- the log of a run of the model, in every mode and from the opening on, is accepted, with as many records as visits, markings and unmarkings were accepted
   pub log-of-run : (t : Set) (a : Alloc) (counter : ℕ) (calls : List Call) → judgedPlan t a ≡ 0
       → findingIn (logOf t a (entriesOf counter t a calls)) ≡ record { records = length (toldIn (eventsOf t a calls)); «record» = 0; rule = 0; number = 0 }
   -- and so is what our recorder leaves of it in a buffer in which the plan's sheet fits, with as many records as were kept

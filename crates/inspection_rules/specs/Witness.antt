@@ -24,7 +24,7 @@ lateLog =
     ∷ []
 
 pub record LateLog : Type 0 where
-  -- both plans would be opened
+  -- both plans meet the rules
   pub fddi-plan : judgedPlan older shares ≡ 0
   pub timely-plan : judgedPlan pair shares ≡ 0
   -- all four records are accepted of the FDDI ring

@@ -55,10 +55,10 @@ module _ (sheet text : List ℕ) (opens : openedRun (readPlan sheet) .number ≡
   judged = runs.promised .sheet-judged sheet was-read
 
   its-entries : entriesFor sheet text ≡ entriesOf 0 (setFrom sheet) (allocFrom sheet) (callsOf text)
-  its-entries = records.promised .run-log sheet text was-read
+  its-entries = records.promised .run-log sheet text opens
 
   its-log : written sheet text ≡ logOf (setFrom sheet) (allocFrom sheet) (entriesOf 0 (setFrom sheet) (allocFrom sheet) (callsOf text))
-  its-log = records.promised .a-log sheet text was-read ∙ ap (logOf (setFrom sheet) (allocFrom sheet)) its-entries
+  its-log = records.promised .a-log sheet text opens ∙ ap (logOf (setFrom sheet) (allocFrom sheet)) its-entries
 
   -- a record for each that was told of
   its-count : length (entriesFor sheet text) ≡ length (toldIn (eventsOf (setFrom sheet) (allocFrom sheet) (callsOf text)))

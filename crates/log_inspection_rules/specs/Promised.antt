@@ -31,7 +31,8 @@ abbrev pub ComesIn : List ℕ → List ℕ → List (List ℕ) → Type 0
 ComesIn bs first pieces = (bs ≡ first ++ joined pieces) × Enough first (joined pieces)
 
 pub record Promised : Type 0 where
-  -- whatever plan the sheet opens, in every mode, and whatever calls the text makes, marks among them: `inspect` accepts the bytes that `log` writes, and counts all their records
+  -- whatever plan the sheet opens, of both editions of timely-token, and whatever calls the text makes, marks among them: `inspect` accepts the bytes that `log` writes, and counts all their records.
+  -- `log` opens no FDDI plan any more; that the log of every run of an FDDI ring is accepted, `inspection_rules` says (`log-of-run`)
   pub accepted : (sheet text : List ℕ) → openedRun (readPlan sheet) .number ≡ 0
       → findingIn (written sheet text) ≡ record { records = length (entriesFor sheet text); «record» = 0; rule = 0; number = 0 }
   -- in whatever pieces these bytes come, the program ends with 0

@@ -225,7 +225,7 @@ pub record Promised : Type 0 where
   pub marking-refused : (s : Run) (p : Station) → marked (s .ring) p .answer .number ≢ 0 → toldIn (after s (marking p) .events) ≡ toldIn (s .events)
   pub unmarking-refused : (s : Run) (p : Station) → unmarked (s .ring) p .number ≢ 0 → toldIn (after s (unmarking p) .events) ≡ toldIn (s .events)
   pub message-untold : (s : Run) (m : Message) → toldIn (after s (message m) .events) ≡ toldIn (s .events)
-  -- a run of calls on an opened ring, its accepted visits, markings and unmarkings added one after another, leaves the log of its entries.
+  -- a run of calls on an opened ring, in every mode, its accepted visits, markings and unmarkings added one after another, leaves the log of its entries.
   -- The starts are those of the clock, counted on from what the counter begins with, modulo 2^32
   pub run-recorded : (t : Set) (a : Alloc) (counter : ℕ) (calls : List Call) (out : List ℕ) → judgedPlan t a ≡ 0
       → planLength t + length (entriesBytes (entriesOf counter t a calls)) ≤ length out

@@ -1,24 +1,23 @@
--- What planning tries is the least vector, in every mode: at each station at most every vector that meets the rules, and it meets them wherever any vector does. So 6 is right where it breaks one, and it is the plan where it does not.
+-- The smallest S at each station are the least vector of a timely-token set: at each station at most every vector that meets the rules, and they meet them wherever any vector does. So 6 is right where they break one, and they are the plan where they do not. An FDDI set's rules are those of its load.
 use Prim.Native.Nat.{ℕ, _≤_, _<_}
-use mathlib.Core.Path.{_≡_, refl, sym, _∙_}
+use mathlib.Core.Path.{_≡_, refl, sym, ap, _∙_}
 use mathlib.Core.Bool.{true, false}
-use mathlib.Core.Logic.{_≢_, ⊎-elim}
+use mathlib.Core.Logic.{_≢_}
 use native.Mathlib.Omega.{arith}
 use lib.ListN.{length}
 use Rattle.units.specs.Places.{at, allBelow}
 use Rattle.units.specs.PlaceLaws.{zero-at, sum-mono, all-same, fill-length, fill-inside, fill-outside}
 use Rattle.units.specs.Judging.{orElse}
-use Rattle.units.specs.JudgingLaws.{true-or-false, true-and, same-test, held, failed}
-use Rattle.units.specs.Vectors.{wholeRotations, LeastPlaces, SameTerms, deadlineKeptAt, deadlinesKept, rulesKept}
-use Rattle.units.specs.VectorLaws.{decides-token, decides-rules, within-ttrt, terms-back, rules-same, test-same, least-same}
+use Rattle.units.specs.JudgingLaws.{true-and, same-test, held, failed}
+use Rattle.units.specs.Vectors.{wholeRotations, SameTerms, deadlineKeptAt, deadlinesKept, rulesKept}
+use Rattle.units.specs.VectorLaws.{decides-token, decides-rules, within-ttrt, terms-back, rules-same, test-same}
 use Rattle.sets.specs.Judged.{judged, zeros}
 use Rattle.sets.specs.SetLaws.{decides-count, decides-numbers, decides-walk, allowed, judged-rest, judged-keeps}
 use Rattle.sets.specs.declared.Set.{Set}
 use Rattle.fddi.specs.Rules as fddi-rules
-use Rattle.fddi.specs.Climb.{none, leastPlan}
-use Rattle.fddi.proofs.Promised as fddi-plans
-use Rattle.plans.specs.Rules.{lost, alpha, isFddi, loadOf, termsOf, MeetsToken, MeetsRules, IsSmallest, AllocInRange, tokenFits, rulesFit, timelyFitsAt}
-use Rattle.plans.specs.Planned.{smallestAt, smallestAlloc, leastAlloc, leastFits, judgedPlan, blankAlloc, planned}
+use Rattle.fddi.proofs.Promised as fddi-proofs
+use Rattle.plans.specs.Rules.{lost, alpha, isFddi, inUse, loadOf, termsOf, MeetsToken, MeetsRules, IsSmallest, AllocInRange, tokenFits, rulesFit, timelyFitsAt}
+use Rattle.plans.specs.Planned.{smallestAt, smallestAlloc, smallestFits, judgedPlan, blankAlloc, planNumber, answered, planned}
 use Rattle.plans.specs.Answer.{IsPlan}
 use Rattle.plans.specs.PlanLaws.{smallest-is, smallest-least, time-timely, time-fddi, decides-alloc, given-0, answered-refused, answered-plan}
 
@@ -37,7 +36,7 @@ smallest-below t h few v m i l =
     rw (smallest-inside t few i l) (smallest-least (t .head .grid) whole missing (at (t .c) i) (v i) (m .grid i l) enough)
 
 -- at each station of the smallest allocation stands the smallest multiple
-smallest-stands : (t : Set) → t .n ≤ 128 → 0 < t .head .grid → (i : ℕ) → i < t .n → IsSmallest (t .head .grid) (t .head .ttrt) (at (t .c) i) (at (t .d) i) (at (smallestAlloc t .s) i)
+pub smallest-stands : (t : Set) → t .n ≤ 128 → 0 < t .head .grid → (i : ℕ) → i < t .n → IsSmallest (t .head .grid) (t .head .ttrt) (at (t .c) i) (at (t .d) i) (at (smallestAlloc t .s) i)
 smallest-stands t few some i l =
     rw (smallest-inside t few i l) (smallest-is (t .head .grid) (t .head .ttrt) (at (t .c) i) (at (t .d) i) some)
 
@@ -55,7 +54,7 @@ smallest-rules : (t : Set) → isFddi t ≡ false → t .n ≤ 128 → 0 < t .he
 smallest-rules t h few some v m =
     smallest-token t h few some (omega (arith, sum-mono (t .n) (at (smallestAlloc t .s)) v (smallest-below t h few v m), m .token))
 
--- ---- FDDI: the rules of the load are the set's, and the climb finds the least vector
+-- ---- FDDI: the rules of the load are the set's
 
 module _ (t : Set) (h : isFddi t ≡ true) (few : t .n ≤ 128) where
   -- what a vector is held to is the same
@@ -69,7 +68,7 @@ module _ (t : Set) (h : isFddi t ≡ true) (few : t .n ≤ 128) where
         lost = refl;
         grid = refl;
         longest = λ i l. refl;
-        time = λ s v each i l. fddi-plans.promised .first-places-terms (loadOf t) (loadOf t) own .time s v each i l ∙ sym (time-fddi t v i h);
+        time = λ s v each i l. fddi-proofs.promised .first-places-terms (loadOf t) (loadOf t) own .time s v each i l ∙ sym (time-fddi t v i h);
       }
 
   pub from-load : (s : ℕ → ℕ) → fddi-rules.MeetsFddi (loadOf t) s → MeetsRules t s
@@ -81,121 +80,79 @@ module _ (t : Set) (h : isFddi t ≡ true) (few : t .n ≤ 128) where
   pub load-rules : (s : ℕ → ℕ) → rulesKept (fddi-rules.termsOf (loadOf t)) s ≡ rulesFit t s
   load-rules s = test-same _ _ load-terms s s (λ i l. refl)
 
-  -- what the climb finds is the set's least vector
-  climb-least : leastPlan (loadOf t) .found ≡ true → LeastPlaces (termsOf t) (leastPlan (loadOf t) .s)
-  climb-least e = least-same _ _ load-terms _ (fddi-plans.promised .found (loadOf t) e)
+-- ---- the smallest allocation as a list
 
-  -- where a vector meets the rules, it finds one
-  climb-found : (v : ℕ → ℕ) → MeetsRules t v → leastPlan (loadOf t) .found ≡ true
-  climb-found v m =
-      ⊎-elim (λ e. e) (λ e. absurd (fddi-plans.promised .missing (loadOf t) .0 e v (to-load v m))) (true-or-false (leastPlan (loadOf t) .found))
+pub smallest-long : (t : Set) → length (smallestAlloc t .s) ≡ 128
+smallest-long t = fill-length (t .n) (smallestAt t) zeros
 
--- what the climb answers has 128 places, and 0 in those from N on
-climb-long : (t : Set) → length (leastPlan (loadOf t) .s) ≡ 128
-climb-long t =
-    ⊎-elim (λ e. fddi-plans.promised .found (loadOf t) e .places)
-    (λ e. rw (fddi-plans.promised .blank (loadOf t) e) refl)
-    (true-or-false (leastPlan (loadOf t) .found))
+pub smallest-past : (t : Set) (i : ℕ) → t .n ≤ i → at (smallestAlloc t .s) i ≡ 0
+smallest-past t i l = fill-outside (t .n) (smallestAt t) zeros i l ∙ zero-at i
 
-climb-past : (t : Set) (i : ℕ) → t .n ≤ i → at (leastPlan (loadOf t) .s) i ≡ 0
-climb-past t i l =
-    ⊎-elim (λ e. fddi-plans.promised .found (loadOf t) e .past i (omega arith))
-    (λ e. rw (fddi-plans.promised .blank (loadOf t) e) (zero-at i))
-    (true-or-false (leastPlan (loadOf t) .found))
-
--- ---- what planning tries, in every mode
-
-pub least-timely : (t : Set) → isFddi t ≡ false → leastAlloc t ≡ smallestAlloc t
-unfolding leastAlloc
-least-timely t h = rw h
-
-pub least-fddi : (t : Set) → isFddi t ≡ true → leastAlloc t ≡ record { s = leastPlan (loadOf t) .s }
-unfolding leastAlloc
-least-fddi t h = rw h
-
-pub least-long : (t : Set) → length (leastAlloc t .s) ≡ 128
-least-long t =
-    ⊎-elim (λ h. rw (least-fddi t h) (climb-long t))
-    (λ h. rw (least-timely t h) (fill-length (t .n) (smallestAt t) zeros))
-    (true-or-false (isFddi t))
-
-pub least-past : (t : Set) (i : ℕ) → t .n ≤ i → at (leastAlloc t .s) i ≡ 0
-least-past t i l =
-    ⊎-elim (λ h. rw (least-fddi t h) (climb-past t i l))
-    (λ h. rw (least-timely t h) (fill-outside (t .n) (smallestAt t) zeros i l ∙ zero-at i))
-    (true-or-false (isFddi t))
-
--- a vector that meets the rules is at least as large at every station
-pub least-below : (t : Set) → t .n ≤ 128 → (v : ℕ → ℕ) → MeetsRules t v → (i : ℕ) → i < t .n → at (leastAlloc t .s) i ≤ v i
-least-below t few v m i l =
-    ⊎-elim (λ h. rw (least-fddi t h) (climb-least t h few (climb-found t h few v m) .least .least v m i l))
-    (λ h. rw (least-timely t h) (smallest-below t h few v m i l))
-    (true-or-false (isFddi t))
-
--- where a vector meets the rules, what planning tries does
-pub least-needed : (t : Set) → t .n ≤ 128 → 0 < t .head .grid → (v : ℕ → ℕ) → MeetsRules t v → leastFits t ≡ true
-least-needed t few some v m =
-    decides-rules (termsOf t) (at (leastAlloc t .s)) .1
-    (⊎-elim (λ h. rw (least-fddi t h) (climb-least t h few (climb-found t h few v m) .least .meets))
-    (λ h. rw (least-timely t h) (smallest-rules t h few some v m))
-    (true-or-false (isFddi t)))
+-- where a vector meets the rules, the test says that it does
+pub smallest-needed : (t : Set) → isFddi t ≡ false → t .n ≤ 128 → 0 < t .head .grid → (v : ℕ → ℕ) → MeetsRules t v → smallestFits t ≡ true
+smallest-needed t h few some v m = decides-rules (termsOf t) (at (smallestAlloc t .s)) .1 (smallest-rules t h few some v m)
 
 -- ---- what the code asks is what the rules say
 
 pub timely-deadlines : (t : Set) (s : ℕ → ℕ) → isFddi t ≡ false → allBelow (t .n) (timelyFitsAt t s) ≡ deadlinesKept (termsOf t) s
 timely-deadlines t s h = all-same (t .n) (timelyFitsAt t s) (deadlineKeptAt (termsOf t) s) (λ i l. rw (time-timely t s i h))
 
--- FDDI: the climb finds a vector exactly where what planning tries meets the rules
-pub climb-fits : (t : Set) → isFddi t ≡ true → t .n ≤ 128 → 0 < t .head .grid → leastPlan (loadOf t) .found ≡ leastFits t
-climb-fits t h few some =
-    let found = leastPlan (loadOf t) .found in
-    ⊎-elim (λ e. e ∙ sym (least-needed t few some (at (leastPlan (loadOf t) .s)) (climb-least t h few e .least .meets)))
-    (λ e.
-    let none : (m : leastFits t ≡ true) → ⊥ = λ m.
-    fddi-plans.promised .missing (loadOf t) .0 e (at (leastAlloc t .s)) (to-load t h few (at (leastAlloc t .s)) (decides-rules (termsOf t) (at (leastAlloc t .s)) .0 m)) in
-    ⊎-elim (λ k. absurd (none k)) (λ k. e ∙ sym k) (true-or-false (leastFits t)))
-    (true-or-false found)
-
--- timely-token: the token rule decides whether the smallest allocation meets the rules
-pub smallest-fits : (t : Set) → isFddi t ≡ false → t .n ≤ 128 → 0 < t .head .grid → tokenFits t (at (smallestAlloc t .s)) ≡ leastFits t
+-- the token rule decides whether the smallest allocation meets the rules
+pub smallest-fits : (t : Set) → isFddi t ≡ false → t .n ≤ 128 → 0 < t .head .grid → tokenFits t (at (smallestAlloc t .s)) ≡ smallestFits t
 smallest-fits t h few some =
-    rw (least-timely t h)
-    (same-test _ _ _ _ (decides-token (t .head .ttrt) (lost t) (t .n) (at (smallestAlloc t .s))) (decides-rules (termsOf t) (at (smallestAlloc t .s))) (smallest-token t h few some) (λ m. m .token))
+    same-test _ _ _ _ (decides-token (t .head .ttrt) (lost t) (t .n) (at (smallestAlloc t .s))) (decides-rules (termsOf t) (at (smallestAlloc t .s))) (smallest-token t h few some) (λ m. m .token)
 
 -- ---- planning, test by test
 
+-- what planning says of a set that is judged 0
+abbrev chosen : Set → ℕ
+chosen t = orElse (inUse t) 16 (orElse (smallestFits t) 6 0)
+
+number-set : (t : Set) → judged t ≢ 0 → planNumber t ≡ judged t
+number-set t h = judged-keeps t (chosen t) h
+
+number-retired : (t : Set) → judged t ≡ 0 → isFddi t ≡ true → planNumber t ≡ 16
+number-retired t h m = judged-rest t (chosen t) h ∙ failed (inUse t) 16 _ (rw m refl)
+
+number-in-use : (t : Set) → judged t ≡ 0 → isFddi t ≡ false → planNumber t ≡ orElse (smallestFits t) 6 0
+number-in-use t h m = judged-rest t (chosen t) h ∙ held (inUse t) 16 _ (rw m refl)
+
+-- a refused answer is blank
+plan-refused : (t : Set) (k : ℕ) → planNumber t ≡ k → k ≢ 0 → planned t ≡ record { alloc = blankAlloc; number = k }
+plan-refused t k e n = ap (λ (number : ℕ). answered number (smallestAlloc t)) e ∙ answered-refused k (smallestAlloc t) n
+
 pub plan-refused-set : (t : Set) → judged t ≢ 0 → planned t ≡ record { alloc = blankAlloc; number = judged t }
-plan-refused-set t h = rw (judged-keeps t (orElse (leastFits t) 6 0) h) (answered-refused (judged t) (leastAlloc t) h)
+plan-refused-set t h = plan-refused t (judged t) (number-set t h) h
 
-pub plan-none : (t : Set) → judged t ≡ 0 → leastFits t ≡ false → planned t ≡ record { alloc = blankAlloc; number = 6 }
-plan-none t h f = rw (judged-rest t (orElse (leastFits t) 6 0) h, failed (leastFits t) 6 0 f) (answered-refused 6 (leastAlloc t) (omega arith))
+pub plan-retired : (t : Set) → judged t ≡ 0 → isFddi t ≡ true → planned t ≡ record { alloc = blankAlloc; number = 16 }
+plan-retired t h m = plan-refused t 16 (number-retired t h m) (omega arith)
 
-pub plan-found : (t : Set) → judged t ≡ 0 → leastFits t ≡ true → planned t ≡ record { alloc = leastAlloc t; number = 0 }
-plan-found t h f = rw (judged-rest t (orElse (leastFits t) 6 0) h, held (leastFits t) 6 0 f) (answered-plan 0 (leastAlloc t) refl)
+pub plan-none : (t : Set) → judged t ≡ 0 → isFddi t ≡ false → smallestFits t ≡ false → planned t ≡ record { alloc = blankAlloc; number = 6 }
+plan-none t h m f = plan-refused t 6 (number-in-use t h m ∙ failed (smallestFits t) 6 0 f) (omega arith)
+
+pub plan-found : (t : Set) → judged t ≡ 0 → isFddi t ≡ false → smallestFits t ≡ true → planned t ≡ record { alloc = smallestAlloc t; number = 0 }
+plan-found t h m f = answered-plan (planNumber t) (smallestAlloc t) (number-in-use t h m ∙ held (smallestFits t) 6 0 f)
 
 -- ---- a plan that planning answered
 
-pub is-plan : (t : Set) → t .n ≤ 128 → leastFits t ≡ true → IsPlan t (record { alloc = leastAlloc t; number = 0 })
-is-plan t few f =
+pub is-plan : (t : Set) → isFddi t ≡ false → t .n ≤ 128 → smallestFits t ≡ true → IsPlan t (record { alloc = smallestAlloc t; number = 0 })
+is-plan t h few f =
     record {
       accepted = refl;
       plan =
           record {
-            places = least-long t;
-            least = record { meets = decides-rules (termsOf t) (at (leastAlloc t .s)) .0 f; least = least-below t few };
-            past = least-past t;
+            places = smallest-long t;
+            least = record { meets = decides-rules (termsOf t) (at (smallestAlloc t .s)) .0 f; least = smallest-below t h few };
+            past = smallest-past t;
           };
     }
 
-pub smallest-each : (t : Set) → t .n ≤ 128 → 0 < t .head .grid → isFddi t ≡ false → (i : ℕ) → i < t .n → IsSmallest (t .head .grid) (t .head .ttrt) (at (t .c) i) (at (t .d) i) (at (leastAlloc t .s) i)
-smallest-each t few some h i l = rw (least-timely t h) (smallest-stands t few some i l)
-
-pub plan-judged : (t : Set) → judged t ≡ 0 → leastFits t ≡ true → judgedPlan t (leastAlloc t) ≡ 0
+pub plan-judged : (t : Set) → judged t ≡ 0 → smallestFits t ≡ true → judgedPlan t (smallestAlloc t) ≡ 0
 plan-judged t h f =
     let all = allowed t .0 h in
-    let meets = decides-rules (termsOf t) (at (leastAlloc t .s)) .0 f in
-    let small : AllocInRange t (at (leastAlloc t .s)) = λ i l. omega (arith, within-ttrt (termsOf t) (at (leastAlloc t .s)) (meets .token) i l, all .1 .0 .header .ttrt .1) in
-    given-0 t (leastAlloc t) (decides-count t .1 (all .0))
-    (true-and _ _ (decides-numbers t .1 (all .1 .0)) (decides-alloc t (at (leastAlloc t .s)) .1 small))
+    let meets = decides-rules (termsOf t) (at (smallestAlloc t .s)) .0 f in
+    let small : AllocInRange t (at (smallestAlloc t .s)) = λ i l. omega (arith, within-ttrt (termsOf t) (at (smallestAlloc t .s)) (meets .token) i l, all .1 .0 .header .ttrt .1) in
+    given-0 t (smallestAlloc t) (decides-count t .1 (all .0))
+    (true-and _ _ (decides-numbers t .1 (all .1 .0)) (decides-alloc t (at (smallestAlloc t .s)) .1 small))
     (decides-walk t .1 (all .1 .1))
     f

@@ -1,4 +1,4 @@
--- Planning keeps its promises because what it tries is at most every vector that meets the rules, and meets them itself where any does.
+-- Planning keeps its promises because 16 is asked for behind the set's own numbers, and the smallest S are at most every vector that meets the rules, and meet them where any does.
 use Prim.Native.Nat.{ℕ, _-_, _*_, _≤_, _<_, min}
 use mathlib.Core.Path.{_≡_, refl, sym, ap, _∙_}
 use mathlib.Core.Bool.{true, false, true≢false}
@@ -12,20 +12,22 @@ use Rattle.units.specs.Small.{roundedUp}
 use Rattle.units.specs.Grid.{stepped}
 use Rattle.units.specs.GridLaws.{every-multiple, step-enough, step-least}
 use Rattle.units.specs.Places.{at}
-use Rattle.units.specs.JudgingLaws.{true-or-false, decides-not, given, given-later}
-use Rattle.sets.specs.Rules.{countAllowed, numbersAllowed, walkTimeAllowed}
-use Rattle.sets.specs.Judged.{judged}
+use Rattle.units.specs.Judging.{orElse}
+use Rattle.units.specs.JudgingLaws.{true-or-false, decides-not, held, not-given, given, given-later}
+use Rattle.sets.specs.Rules.{CountAllowed, NumbersAllowed, WalkTimeAllowed, countAllowed, numbersAllowed, walkTimeAllowed}
+use Rattle.sets.specs.Judged.{judged, judgedThen}
 use Rattle.sets.specs.SetLaws.{decides-count, decides-numbers, decides-walk, allowed, judged-two, judged-four, judged-five, judged-later}
 use Rattle.sets.specs.declared.Set.{Set}
 use Rattle.units.specs.Vectors.{wholeRotations}
 use Rattle.units.specs.VectorLaws.{decides-rules, least-one}
-use Rattle.plans.specs.Rules.{alpha, leastTime, timeAt, termsOf, MeetsDeadline, MeetsDeadlines, MeetsToken, MeetsRules, IsSmallest}
-use Rattle.plans.specs.Planned.{smallestFor, leastAlloc, leastFits, blankAlloc, planNumber, planned}
+use Rattle.plans.specs.Rules.{alpha, leastTime, timeAt, termsOf, MeetsDeadline, MeetsDeadlines, MeetsToken, MeetsRules, IsSmallest, isFddi, Retired, inUse}
+use Rattle.plans.specs.Planned.{smallestFor, smallestAlloc, smallestFits, blankAlloc, planNumber, answered, planned}
 use Rattle.plans.specs.Answer.{IsPlan, Fitting}
 use Rattle.plans.specs.Promised.{fddiTime, SmallestOfAll, KeptBy, Promised}
 use Rattle.plans.specs.PlanLaws as laws
-use Rattle.plans.specs.PlanLaws.{smallest-multiple, smallest-meets, smallest-least, smallest-is, smallest-one, answered-number, answered-refused, given-two, given-four, given-five, given-seven, given-none}
-use Rattle.plans.proofs.LeastLaws.{from-load, to-load, least-needed, smallest-each, plan-refused-set, plan-none, plan-found, plan-judged, is-plan}
+use Rattle.plans.specs.PlanLaws.{smallest-multiple, smallest-meets, smallest-least, smallest-is, smallest-one, decides-fddi, decides-in-use, use-timely, given-sixteen, past-sixteen, answered-number, answered-refused, given-two, given-four, given-five, given-seven, given-none}
+use Rattle.plans.proofs.LeastLaws.{from-load, to-load, smallest-stands, smallest-needed, plan-refused-set, plan-retired, plan-none, plan-found, plan-judged, is-plan}
+use Rattle.plans.proofs.LeavingLaws.{leaves-fddi}
 use Rattle.plans.proofs.SameLaws.{planned-same, judged-plan-same}
 use Rattle.plans.specs.declared.Planned.{Planned}
 
@@ -81,79 +83,105 @@ at-zero g c d some =
     let same : smallestFor 1 0 c d ≡ c = rw (div-zero d, none) (omega (arith, smallest-meets 1 0 0 c (omega arith), smallest-least 1 0 0 c c (every-multiple c) (omega arith))) in
     rounded g 0 c d some ∙ rw same
 
--- ---- 6, and the plan
+-- ---- 16, 6, and the plan
 
 module _ (t : Set) where
-  -- planning answers 6 or a plan exactly where the set is judged 0, and the rules decide which
-  six-says : planned t .number ≡ 6 → (judged t ≡ 0) × (leastFits t ≡ false)
+  -- past 2, 4 and 5: the set is judged 0, and what planning then says
+  said-later : (k : ℕ) → 2 ≢ k → 4 ≢ k → 5 ≢ k → planned t .number ≡ k → (judged t ≡ 0) × (orElse (inUse t) 16 (orElse (smallestFits t) 6 0) ≡ k)
+  said-later k n₂ n₄ n₅ h = judged-later t _ k n₂ n₄ n₅ .0 (sym (answered-number (planNumber t) (smallestAlloc t)) ∙ h)
+
+  sixteen : (planned t .number ≡ 16) ↔ ((judged t ≡ 0) × Retired t)
+  sixteen = (
+    λ h. let said = said-later 16 (omega arith) (omega arith) (omega arith) h in (said .0, given-sixteen t _ (not-given _ 6 0 16 (omega arith) (omega arith)) .0 (said .1)),
+    λ h. ap (λ (a : Planned). a .number) (plan-retired t (h .0) (decides-fddi t .1 (h .1))),
+  )
+
+  six-says : planned t .number ≡ 6 → (judged t ≡ 0) × (¬ Retired t × (smallestFits t ≡ false))
   six-says h =
-      let said = judged-later t _ 6 (omega arith) (omega arith) (omega arith) .0 (sym (answered-number (planNumber t) (leastAlloc t)) ∙ h) in
-      let d = decides-rules (termsOf t) (at (leastAlloc t .s)) in
-      (said .0, decides-not _ _ d .1 (given _ _ 6 0 d (omega arith) .0 (said .1)))
+      let said = said-later 6 (omega arith) (omega arith) (omega arith) h in
+      let past = past-sixteen t _ 6 (omega arith) .0 (said .1) in
+      let d = decides-rules (termsOf t) (at (smallestAlloc t .s)) in
+      (said .0, (past .0, decides-not _ _ d .1 (given _ _ 6 0 d (omega arith) .0 (past .1))))
 
-  plan-says : planned t .number ≡ 0 → (judged t ≡ 0) × (leastFits t ≡ true)
+  plan-says : planned t .number ≡ 0 → (judged t ≡ 0) × (¬ Retired t × (smallestFits t ≡ true))
   plan-says h =
-      let said = judged-later t _ 0 (omega arith) (omega arith) (omega arith) .0 (sym (answered-number (planNumber t) (leastAlloc t)) ∙ h) in
-      let d = decides-rules (termsOf t) (at (leastAlloc t .s)) in
-      (said .0, d .1 (given-later _ _ 6 0 0 d (omega arith) .0 (said .1) .0))
+      let said = said-later 0 (omega arith) (omega arith) (omega arith) h in
+      let past = past-sixteen t _ 0 (omega arith) .0 (said .1) in
+      let d = decides-rules (termsOf t) (at (smallestAlloc t .s)) in
+      (said .0, (past .0, d .1 (given-later _ _ 6 0 0 d (omega arith) .0 (past .1) .0)))
 
-  -- where no vector meets the rules, what planning tries does not
-  none-token : judged t ≡ 0 → ((s : List ℕ) → ¬ MeetsRules t (at s)) → leastFits t ≡ false
-  none-token h none =
-      ⊎-elim (λ f. absurd (none (leastAlloc t .s) (decides-rules (termsOf t) (at (leastAlloc t .s)) .0 f))) (λ f. f)
-      (true-or-false (leastFits t))
+  -- where no vector meets the rules, the smallest S do not
+  none-fits : ((s : List ℕ) → ¬ MeetsRules t (at s)) → smallestFits t ≡ false
+  none-fits none =
+      ⊎-elim (λ f. absurd (none (smallestAlloc t .s) (decides-rules (termsOf t) (at (smallestAlloc t .s)) .0 f))) (λ f. f)
+      (true-or-false (smallestFits t))
 
-  six : (planned t .number ≡ 6) ↔ ((judged t ≡ 0) × ((s : List ℕ) → ¬ MeetsRules t (at s)))
+  six : (planned t .number ≡ 6) ↔ ((judged t ≡ 0) × (¬ Retired t × ((s : List ℕ) → ¬ MeetsRules t (at s))))
   six = (
     λ h.
         let said = six-says h in
-        (said .0, λ s m. let all = allowed t .0 (said .0) in true≢false (sym (least-needed t (all .0 .1) (all .1 .0 .header .grid .0) (at s) m) ∙ said .1)),
-    λ h. ap (λ (a : Planned). a .number) (plan-none t (h .0) (none-token (h .0) (h .1))),
+        let all = allowed t .0 (said .0) in
+        (said .0, (said .1 .0, λ s m. true≢false (sym (smallest-needed t (use-timely t (said .1 .0)) (all .0 .1) (all .1 .0 .header .grid .0) (at s) m) ∙ said .1 .1))),
+    λ h. ap (λ (a : Planned). a .number) (plan-none t (h .0) (use-timely t (h .1 .0)) (none-fits (h .1 .1))),
   )
 
   refused-set : judged t ≢ 0 → planned t .number ≡ judged t
   refused-set h = ap (λ (a : Planned). a .number) (plan-refused-set t h)
 
-  kept-found : judged t ≡ 0 → leastFits t ≡ true → KeptBy t (record { alloc = leastAlloc t; number = 0 })
-  kept-found h f =
+  editions-stay : ¬ Retired t → planned t ≡ answered (judgedThen t (orElse (smallestFits t) 6 0)) (smallestAlloc t)
+  editions-stay m = rw (held (inUse t) 16 (orElse (smallestFits t) 6 0) (decides-in-use t .1 m)) refl
+
+  kept-found : judged t ≡ 0 → ¬ Retired t → smallestFits t ≡ true → KeptBy t (record { alloc = smallestAlloc t; number = 0 })
+  kept-found h m f =
       let all = allowed t .0 h in
       let few = all .0 .1 in
       record {
-        plan = is-plan t few f;
-        smallest = λ m. smallest-each t few (all .1 .0 .header .grid .0) (ne-eqb _ _ m);
+        in-use = m;
+        plan = is-plan t (use-timely t m) few f;
+        smallest = smallest-stands t few (all .1 .0 .header .grid .0);
         judged = plan-judged t h f;
       }
 
   kept : planned t .number ≡ 0 → KeptBy t (planned t)
-  kept h = let said = plan-says h in rw (plan-found t (said .0) (said .1)) (kept-found (said .0) (said .1))
+  kept h =
+      let said = plan-says h in
+      rw (plan-found t (said .0) (use-timely t (said .1 .0)) (said .1 .1)) (kept-found (said .0) (said .1 .0) (said .1 .1))
 
   -- ---- exactly one answer
 
-  -- a plan in 01's words is the least allocation: each is at most the other
-  one-plan : t .n ≤ 128 → leastFits t ≡ true → (a : Planned) → IsPlan t a → a ≡ record { alloc = leastAlloc t; number = 0 }
-  one-plan few token a p =
-      let same = least-one (termsOf t) (a .alloc .s) (leastAlloc t .s) (p .plan) (is-plan t few token .plan) in
+  -- a plan in 01's words is the smallest allocation: each is at most the other
+  one-plan : isFddi t ≡ false → t .n ≤ 128 → smallestFits t ≡ true → (a : Planned) → IsPlan t a → a ≡ record { alloc = smallestAlloc t; number = 0 }
+  one-plan h few token a p =
+      let same = least-one (termsOf t) (a .alloc .s) (smallestAlloc t .s) (p .plan) (is-plan t h few token .plan) in
       λ i. record { alloc = record { s = same i }; number = p .accepted i }
+
+  -- the set's own number
+  refused-with : (k : ℕ) → judged t ≡ k → k ≢ 0 → planned t ≡ record { alloc = blankAlloc; number = k }
+  refused-with k j n = plan-refused-set t (λ e. n (sym j ∙ e)) ∙ ap (λ (number : ℕ). record { alloc = blankAlloc; number = number }) j
 
   fitting : Fitting t (planned t)
   fitting =
       record {
-        two = λ c.
-            let j = judged-two t .1 c in
-            rw (← j) (plan-refused-set t (omega arith));
-        four = λ c n.
-            let j = judged-four t .1 (c, n) in
-            rw (← j) (plan-refused-set t (omega arith));
-        five = λ c n w.
-            let j = judged-five t .1 (c, (n, w)) in
-            rw (← j) (plan-refused-set t (omega arith));
-        six = λ c n w none.
-            let j = allowed t .1 (c, (n, w)) in
-            plan-none t j (none-token j (λ s m. none (s, m)));
-        plan = λ c n w some.
-            let token = least-needed t (c .1) (n .header .grid .0) (at (some .0)) (some .1) in
-            rw (plan-found t (allowed t .1 (c, (n, w))) token) (is-plan t (c .1) token);
+        two = λ c. refused-with 2 (judged-two t .1 c) (omega arith);
+        four = λ c n. refused-with 4 (judged-four t .1 (c, n)) (omega arith);
+        five = λ c n w. refused-with 5 (judged-five t .1 (c, (n, w))) (omega arith);
+        sixteen = λ c n w m. plan-retired t (allowed t .1 (c, (n, w))) (decides-fddi t .1 m);
+        six = λ c n w m none. plan-none t (allowed t .1 (c, (n, w))) (use-timely t m) (none-fits (λ s meets. none (s, meets)));
+        plan = λ c n w m some.
+            let token = smallest-needed t (use-timely t m) (c .1) (n .header .grid .0) (at (some .0)) (some .1) in
+            rw (plan-found t (allowed t .1 (c, (n, w))) (use-timely t m) token) (is-plan t (use-timely t m) (c .1) token);
       }
+
+  -- a set that is judged 0 and whose mode is still planned
+  one-planned : (a : Planned) → Fitting t a → CountAllowed t → NumbersAllowed t → WalkTimeAllowed t → ¬ Retired t → a ≡ planned t
+  one-planned a f c n w m =
+      let j = allowed t .1 (c, (n, w)) in
+      let h = use-timely t m in
+      ⊎-elim (λ token.
+      one-plan h (c .1) token a (f .plan c n w m (smallestAlloc t .s, decides-rules (termsOf t) (at (smallestAlloc t .s)) .0 token)) ∙ sym (plan-found t j h token))
+      (λ token.
+      f .six c n w m (λ some. true≢false (sym (smallest-needed t h (c .1) (n .header .grid .0) (at (some .0)) (some .1)) ∙ token)) ∙ sym (plan-none t j h token))
+      (true-or-false (smallestFits t))
 
   only-one : (a : Planned) → Fitting t a → a ≡ planned t
   only-one a f =
@@ -163,12 +191,9 @@ module _ (t : Set) where
       let count = decides-count t .0 c in
       let numbers = decides-numbers t .0 n in
       let walk = decides-walk t .0 w in
-      let j = allowed t .1 (count, (numbers, walk)) in
-      ⊎-elim (λ token.
-      one-plan (count .1) token a (f .plan count numbers walk (leastAlloc t .s, decides-rules (termsOf t) (at (leastAlloc t .s)) .0 token)) ∙ sym (plan-found t j token))
-      (λ token.
-      f .six count numbers walk (λ some. true≢false (sym (least-needed t (count .1) (numbers .header .grid .0) (at (some .0)) (some .1)) ∙ token)) ∙ sym (plan-none t j token))
-      (true-or-false (leastFits t)))
+      ⊎-elim (λ m. let old = decides-fddi t .0 m in f .sixteen count numbers walk old ∙ sym (fitting .sixteen count numbers walk old))
+      (λ m. one-planned a f count numbers walk (decides-not _ _ (decides-fddi t) .0 m))
+      (true-or-false (isFddi t)))
       (λ w.
       let count = decides-count t .0 c in
       let numbers = decides-numbers t .0 n in
@@ -185,8 +210,8 @@ module _ (t : Set) where
 
 blank : (t : Set) → planned t .number ≢ 0 → planned t .alloc ≡ blankAlloc
 blank t h =
-    let k : planNumber t ≢ 0 = λ e. h (answered-number (planNumber t) (leastAlloc t) ∙ e) in
-    ap (λ (a : Planned). a .alloc) (answered-refused (planNumber t) (leastAlloc t) k)
+    let k : planNumber t ≢ 0 = λ e. h (answered-number (planNumber t) (smallestAlloc t) ∙ e) in
+    ap (λ (a : Planned). a .alloc) (answered-refused (planNumber t) (smallestAlloc t) k)
 
 pub promised : Promised
 promised =
@@ -204,8 +229,11 @@ promised =
       no-grid = no-grid;
       grid-zero = grid-zero;
       at-zero = at-zero;
+      sixteen = sixteen;
       six = six;
       refused-set = refused-set;
+      editions-stay = editions-stay;
+      leaves-fddi = leaves-fddi;
       blank = blank;
       kept = kept;
       one-answer = λ t a. (only-one t a, λ e. rw e (fitting t));

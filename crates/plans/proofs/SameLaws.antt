@@ -1,6 +1,6 @@
 -- Places from N on are never looked at: the judgement of a plan and planning ask for the first N places alone, in every mode.
 use Prim.Native.Nat.{ℕ, _+_, _-_, _<_}
-use mathlib.Core.Path.{_≡_, refl, sym, ap, _∙_}
+use mathlib.Core.Path.{_≡_, sym, ap, _∙_}
 use mathlib.Core.List.{List}
 use mathlib.Core.Logic.{⊎-elim}
 use native.Mathlib.Omega.{arith}
@@ -18,13 +18,10 @@ use Rattle.sets.specs.SetLaws.{judged-same, tau-same, stations-same}
 use Rattle.sets.specs.declared.Head.{Head}
 use Rattle.sets.specs.declared.Set.{Set}
 use Rattle.fddi.specs.Rules as fddi-rules
-use Rattle.fddi.specs.declared.Found.{Found}
-use Rattle.fddi.proofs.Promised as fddi-plans
-use Rattle.plans.specs.Rules.{isFddi, loadOf, lost, timeAt, termsOf, inRangeS, rulesFit, allocInRange}
-use Rattle.plans.specs.Planned.{smallestAt, smallestAlloc, leastAlloc, leastFits, judgedPlan, planned}
+use Rattle.plans.specs.Rules.{isFddi, inUse, loadOf, lost, timeAt, termsOf, inRangeS, rulesFit, allocInRange}
+use Rattle.plans.specs.Planned.{smallestAt, smallestAlloc, smallestFits, judgedPlan, planned}
 use Rattle.plans.specs.PlanLaws.{time-timely, time-fddi}
 use Rattle.plans.specs.declared.Alloc.{Alloc}
-use Rattle.plans.proofs.LeastLaws.{least-timely, least-fddi}
 
 module _ (a b : Set) (same : SameSet a b) where
   mode-same : isFddi a ≡ isFddi b
@@ -38,17 +35,6 @@ module _ (a b : Set) (same : SameSet a b) where
 
   lost-same : lost a ≡ lost b
   lost-same = rw (tau-same a b same, same .header)
-
-  load-same : fddi-rules.SameLoad (loadOf a) (loadOf b)
-  load-same =
-      record {
-        count = same .count;
-        ttrt = ttrt-same;
-        lost = lost-same;
-        grid = grid-same;
-        longest = λ i l. same .longest i (omega arith);
-        deadline = λ i l. same .deadline i (omega arith);
-      }
 
   module _ (s v : ℕ → ℕ) (each : (i : ℕ) → i < a .n → s i ≡ v i) where
     others-same : (i : ℕ) → i < a .n → fddi-rules.others (fddi-rules.stations (loadOf a)) s i ≡ fddi-rules.others (fddi-rules.stations (loadOf b)) v i
@@ -87,21 +73,12 @@ module _ (a b : Set) (same : SameSet a b) where
       (fill-same (a .n) (smallestAt a) (smallestAt b) zeros (λ i l. rw (grid-same, ttrt-same, same .longest i l, same .deadline i l)) ∙
       ap (λ (n : ℕ). fill n (smallestAt b) zeros) (same .count))
 
-  least-same : leastAlloc a ≡ leastAlloc b
-  least-same =
-      ⊎-elim (λ h.
-      least-fddi a h ∙
-      ap (λ (f : Found). record { s = f .s }) (fddi-plans.promised .first-places (loadOf a) (loadOf b) load-same) ∙
-      sym (least-fddi b (sym mode-same ∙ h)))
-      (λ h. least-timely a h ∙ smallest-same ∙ sym (least-timely b (sym mode-same ∙ h)))
-      (true-or-false (isFddi a))
-
-  fits-same : leastFits a ≡ leastFits b
-  fits-same = rw least-same (rules-same (at (leastAlloc b .s)) (at (leastAlloc b .s)) (λ i l. refl))
+  fits-same : smallestFits a ≡ smallestFits b
+  fits-same = rules-same (at (smallestAlloc a .s)) (at (smallestAlloc b .s)) (λ i l. ap (λ (x : Alloc). at (x .s) i) smallest-same)
 
 pub planned-same : (a b : Set) → SameSet a b → planned a ≡ planned b
 planned-same a b same =
-    rw (fits-same a b same, least-same a b same, judged-same a b (orElse (leastFits b) 6 0) same)
+    rw (mode-same a b same, fits-same a b same, smallest-same a b same, judged-same a b (orElse (inUse b) 16 (orElse (smallestFits b) 6 0)) same)
 
 pub judged-plan-same : (t u : Set) (a b : Alloc) → SameSet t u → ((i : ℕ) → i < t .n → at (a .s) i ≡ at (b .s) i) → judgedPlan t a ≡ judgedPlan u b
 unfolding judgedPlan

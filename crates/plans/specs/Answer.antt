@@ -1,4 +1,4 @@
--- Planning as 01's sentences have it, with no way to compute it: what each answer needs, and no more. `Promised` says that just one answer fits, and that it is planning's.
+-- Planning as the sentences of 01 and of 02, No. 14, have it, with no way to compute it: what each answer needs, and no more. `Promised` says that just one answer fits, and that it is planning's.
 use Prim.Native.Nat.{ℕ}
 use mathlib.Core.Path.{_≡_}
 use mathlib.Core.List.{List}
@@ -6,7 +6,7 @@ use Rattle.units.specs.Places.{at}
 use Rattle.units.specs.Vectors.{LeastPlaces}
 use Rattle.sets.specs.Rules.{CountAllowed, NumbersAllowed, WalkTimeAllowed}
 use Rattle.sets.specs.declared.Set.{Set}
-use Rattle.plans.specs.Rules.{termsOf, MeetsRules}
+use Rattle.plans.specs.Rules.{termsOf, MeetsRules, Retired}
 use Rattle.plans.specs.Planned.{blankAlloc}
 use Rattle.plans.specs.declared.Planned.{Planned}
 
@@ -31,7 +31,9 @@ pub record Fitting (t : Set) (a : Planned) : Type 0 where
   pub four : CountAllowed t → ¬ NumbersAllowed t → Refused 4 a
   -- 5: τ is 0 or above TTRT
   pub five : CountAllowed t → NumbersAllowed t → ¬ WalkTimeAllowed t → Refused 5 a
+  -- 16: FDDI is retired
+  pub sixteen : CountAllowed t → NumbersAllowed t → WalkTimeAllowed t → Retired t → Refused 16 a
   -- 6: no allocation of multiples of the grid exists
-  pub six : CountAllowed t → NumbersAllowed t → WalkTimeAllowed t → ¬ AllocationExists t → Refused 6 a
+  pub six : CountAllowed t → NumbersAllowed t → WalkTimeAllowed t → ¬ Retired t → ¬ AllocationExists t → Refused 6 a
   -- else the plan
-  pub plan : CountAllowed t → NumbersAllowed t → WalkTimeAllowed t → AllocationExists t → IsPlan t a
+  pub plan : CountAllowed t → NumbersAllowed t → WalkTimeAllowed t → ¬ Retired t → AllocationExists t → IsPlan t a

@@ -2,7 +2,7 @@
 --     Rules       X by the mode, and with it what a vector is held to: the rules are those of `units`, for every mode; A*, and what "the smallest S" means
 --     Planned     the smallest S as a formula, the judgement of a given plan, and planning
 --     Bounds      how large the numbers of the divisions are
---     Answer      planning as a relation from 01's sentences alone, with no way to compute it
+--     Answer      planning as a relation from the sentences alone, with no way to compute it
 --     Promised    what is promised beside the contracts
 -- and, for the proofs of the layers above:
 --     PlanLaws

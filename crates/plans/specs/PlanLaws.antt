@@ -5,13 +5,14 @@ use mathlib.Core.Bool.{true, false, _&&_}
 use mathlib.Core.Logic.{_↔_, _≢_, ⊎-elim}
 use native.Mathlib.Omega.{arith}
 use native.Mathlib.Nat.{mul-le-mul-left, div-mul-le-self, zero-mul}
-use borrow.Author.Tests.{le-leb, lt-leb}
-use Rattle.units.specs.Numbers.{mostS}
+use borrow.Author.Tests.{le-leb, lt-leb, eqb-true, eq-eqb, not-true}
+use Rattle.units.specs.Numbers.{mostS, retired, fddi}
 use Rattle.units.specs.Grid.{MultipleOf, stepped}
 use Rattle.units.specs.GridLaws.{step-multiple, step-enough, step-least, step-small}
 use Rattle.units.specs.Places.{at, sumBelow}
 use Rattle.units.specs.PlaceLaws.{decides-all}
-use Rattle.units.specs.JudgingLaws.{Decides, decides-le, decides-both, held, failed, given, given-later, not-given, iff-then, iff-under}
+use Rattle.units.specs.Judging.{orElse}
+use Rattle.units.specs.JudgingLaws.{Decides, decides-le, decides-both, decides-not, true-or-false, held, failed, given, given-later, not-given, iff-then, iff-under}
 use Rattle.sets.specs.Rules.{tau, CountAllowed, WalkTimeAllowed, countAllowed, numbersAllowed, walkTimeAllowed}
 use Rattle.sets.specs.SetLaws.{decides-count, decides-numbers, decides-walk}
 use Rattle.sets.specs.declared.Set.{Set}
@@ -19,7 +20,7 @@ use Rattle.units.specs.SmallLaws.{below-or-not, one-more}
 use Rattle.fddi.specs.Rules as fddi-rules
 use Rattle.units.specs.Vectors.{wholeRotations}
 use Rattle.units.specs.VectorLaws.{decides-rules}
-use Rattle.plans.specs.Rules.{alpha, timeWith, leastTime, isFddi, loadOf, termsOf, timeAt, leftOver, spareTime, AllocInRange, IsSmallest, InRange, KeepsRules, inRangeS, rulesFit, allocInRange}
+use Rattle.plans.specs.Rules.{alpha, timeWith, leastTime, isFddi, Retired, inUse, loadOf, termsOf, timeAt, leftOver, spareTime, AllocInRange, IsSmallest, InRange, KeepsRules, inRangeS, rulesFit, allocInRange}
 use Rattle.plans.specs.Planned.{smallestWith, smallestFor, judgedPlan, blankAlloc, answered}
 use Rattle.plans.specs.declared.Alloc.{Alloc}
 
@@ -127,6 +128,31 @@ spare-fddi t s h = rw h
 
 pub decides-alloc : (t : Set) (s : ℕ → ℕ) → Decides (allocInRange t s) (AllocInRange t s)
 decides-alloc t s = decides-all (t .n) (inRangeS s) (λ i. s i ≤ mostS) (λ i. decides-le (s i) mostS)
+
+-- ---- whether the mode is still planned and opened
+
+pub decides-fddi : (t : Set) → Decides (isFddi t) (Retired t)
+decides-fddi t = (eqb-true (t .head .mode) fddi, eq-eqb (t .head .mode) fddi)
+
+pub decides-in-use : (t : Set) → Decides (inUse t) (¬ Retired t)
+decides-in-use t = (λ h. decides-not _ _ (decides-fddi t) .0 (not-true _ h), λ n. rw (decides-not _ _ (decides-fddi t) .1 n) refl)
+
+-- it is in use, and not by FDDI's rules
+pub use-timely : (t : Set) → ¬ Retired t → isFddi t ≡ false
+use-timely t = decides-not _ _ (decides-fddi t) .1
+
+-- 16 is given exactly if the mode is retired
+pub given-sixteen : (t : Set) (rest : ℕ) → rest ≢ 16 → (orElse (inUse t) retired rest ≡ 16) ↔ Retired t
+given-sixteen t rest n = (
+  λ h.
+      ⊎-elim (λ e. decides-fddi t .0 e) (λ e. absurd (given _ _ 16 rest (decides-in-use t) n .0 h (decides-not _ _ (decides-fddi t) .0 e)))
+      (true-or-false (isFddi t)),
+  λ m. failed (inUse t) 16 rest (rw (decides-fddi t .1 m) refl),
+)
+
+-- another number is given exactly if it is in use and the rest gives it
+pub past-sixteen : (t : Set) (rest k : ℕ) → 16 ≢ k → (orElse (inUse t) retired rest ≡ k) ↔ (¬ Retired t × (rest ≡ k))
+past-sixteen t rest k = given-later (inUse t) (¬ Retired t) 16 rest k (decides-in-use t)
 
 -- ---- the judgement of a given plan, test by test
 

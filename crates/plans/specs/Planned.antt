@@ -2,16 +2,15 @@
 use Prim.Native.Nat.{ℕ, zero, suc, _+_, _*_}
 use mathlib.Core.Bool.{Bool, cond, _&&_}
 use lib.Dec.{leb}
-use Rattle.units.specs.Numbers.{accepted, wrongShape, outOfRange, badWalkTime, noAllocation, rulesBroken}
+use Rattle.units.specs.Numbers.{accepted, wrongShape, outOfRange, badWalkTime, noAllocation, rulesBroken, retired}
 use Rattle.units.specs.Grid.{stepped}
 use Rattle.units.specs.Places.{at, fill}
 use Rattle.units.specs.Judging.{orElse}
 use Rattle.sets.specs.Rules.{countAllowed, numbersAllowed, walkTimeAllowed}
 use Rattle.sets.specs.Judged.{judgedThen, zeros}
 use Rattle.sets.specs.declared.Set.{Set}
-use Rattle.fddi.specs.Climb.{leastPlan}
 use Rattle.units.specs.Vectors.{wholeRotations}
-use Rattle.plans.specs.Rules.{alpha, isFddi, loadOf, rulesFit, allocInRange}
+use Rattle.plans.specs.Rules.{alpha, inUse, rulesFit, allocInRange}
 use Rattle.plans.specs.declared.Alloc.{Alloc}
 use Rattle.plans.specs.declared.Planned.{Planned}
 
@@ -32,12 +31,19 @@ smallestAt t i = smallestFor (t .head .grid) (t .head .ttrt) (at (t .c) i) (at (
 
 -- ---- the judgement of a given plan: 0, or the lowest of 2, 4, 5 and 7 that applies
 
-unfoldable pub judgedPlan : Set → Alloc → ℕ
-judgedPlan t a =
+-- the lowest of 2, 4 and 5 that applies to a set with a given allocation, else what is judged then
+abbrev pub givenThen : Set → Alloc → ℕ → ℕ
+givenThen t a rest =
     orElse (countAllowed t) wrongShape
     (orElse (numbersAllowed t && allocInRange t (at (a .s))) outOfRange
-    (orElse (walkTimeAllowed t) badWalkTime
-    (orElse (rulesFit t (at (a .s))) rulesBroken accepted)))
+    (orElse (walkTimeAllowed t) badWalkTime rest))
+
+-- 7 where the allocation breaks a rule
+abbrev pub rulesNumber : Set → Alloc → ℕ
+rulesNumber t a = orElse (rulesFit t (at (a .s))) rulesBroken accepted
+
+unfoldable pub judgedPlan : Set → Alloc → ℕ
+judgedPlan t a = givenThen t a (rulesNumber t a)
 
 -- ---- planning
 
@@ -49,17 +55,13 @@ blankAlloc = record { s = zeros }
 abbrev pub smallestAlloc : Set → Alloc
 smallestAlloc t = record { s = fill (t .n) (smallestAt t) zeros }
 
--- what planning tries: the smallest S at each station; for FDDI the vector that the climb finds, zeros where it finds none
-unfoldable pub leastAlloc : Set → Alloc
-leastAlloc t = cond (isFddi t) (record { s = leastPlan (loadOf t) .s }) (smallestAlloc t)
+-- the smallest S together meet the rules
+abbrev pub smallestFits : Set → Bool
+smallestFits t = rulesFit t (at (smallestAlloc t .s))
 
--- what planning tries meets the rules
-abbrev pub leastFits : Set → Bool
-leastFits t = rulesFit t (at (leastAlloc t .s))
-
--- the lowest of 2, 4, 5 and 6 that applies; 6 where what it tries breaks a rule
+-- the first of 2, 4, 5, 16 and 6 that applies; 6 where the smallest S together break a rule
 abbrev pub planNumber : Set → ℕ
-planNumber t = judgedThen t (orElse (leastFits t) noAllocation accepted)
+planNumber t = judgedThen t (orElse (inUse t) retired (orElse (smallestFits t) noAllocation accepted))
 
 -- a refused answer is blank
 unfoldable pub answered : ℕ → Alloc → Planned
@@ -68,4 +70,4 @@ answered (suc k) a = record { alloc = blankAlloc; number = suc k }
 
 -- planning's answer
 abbrev pub planned : Set → Planned
-planned t = answered (planNumber t) (leastAlloc t)
+planned t = answered (planNumber t) (smallestAlloc t)

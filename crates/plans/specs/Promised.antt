@@ -3,16 +3,17 @@ use Prim.Native.Nat.{ℕ, _+_, _-_, _*_, _≤_, _<_}
 use mathlib.Core.Path.{_≡_}
 use mathlib.Core.List.{List}
 use mathlib.Core.Logic.{_↔_, _≢_}
-use Rattle.units.specs.Numbers.{fddi, mostStations}
+use Rattle.units.specs.Numbers.{accepted, noAllocation, fddi, mostStations}
 use Rattle.units.specs.Small.{roundedUp}
 use Rattle.units.specs.Places.{at, sumBelow}
+use Rattle.units.specs.Judging.{orElse}
 use Rattle.sets.specs.Rules.{tau, CountAllowed, WalkTimeAllowed, SameSet}
-use Rattle.sets.specs.Judged.{judged}
+use Rattle.sets.specs.Judged.{judged, judgedThen}
 use Rattle.sets.specs.declared.Set.{Set}
 use Rattle.fddi.specs.Rules.{timeWith, rest, others, MeetsFddi}
 use Rattle.units.specs.Vectors.{wholeRotations}
-use Rattle.plans.specs.Rules.{lost, spareTime, leastTime, timeAt, MeetsDeadline, MeetsDeadlines, MeetsToken, MeetsRules, IsSmallest, InRange, KeepsRules, loadOf}
-use Rattle.plans.specs.Planned.{smallestFor, judgedPlan, planned, blankAlloc}
+use Rattle.plans.specs.Rules.{lost, spareTime, leastTime, timeAt, MeetsDeadline, MeetsDeadlines, MeetsToken, MeetsRules, IsSmallest, InRange, KeepsRules, Retired, timelyOf, loadOf}
+use Rattle.plans.specs.Planned.{smallestFor, smallestAlloc, smallestFits, judgedPlan, answered, planned, blankAlloc}
 use Rattle.plans.specs.Answer.{Fitting, IsPlan}
 use Rattle.plans.specs.declared.Alloc.{Alloc}
 use Rattle.plans.specs.declared.Planned.{Planned}
@@ -29,12 +30,21 @@ pub record SmallestOfAll (ttrt c d s : ℕ) : Type 0 where
 
 -- what a plan that planning answered keeps
 pub record KeptBy (t : Set) (a : Planned) : Type 0 where
+  -- the mode is still planned: one of the two timely-token editions
+  pub in-use : ¬ Retired t
   -- it is the least vector that meets the rules, and 0 from N on
   pub plan : IsPlan t a
-  -- timely-token, both editions: at each station it holds the smallest multiple of the grid that meets the station's deadline rule
-  pub smallest : t .head .mode ≢ fddi → (i : ℕ) → i < t .n → IsSmallest (t .head .grid) (t .head .ttrt) (at (t .c) i) (at (t .d) i) (at (a .alloc .s) i)
+  -- at each station it holds the smallest multiple of the grid that meets the station's deadline rule
+  pub smallest : (i : ℕ) → i < t .n → IsSmallest (t .head .grid) (t .head .ttrt) (at (t .c) i) (at (t .d) i) (at (a .alloc .s) i)
   -- the judgement of that set with that allocation is 0
   pub judged : judgedPlan t (a .alloc) ≡ 0
+
+-- a given FDDI plan, and its set planned anew as a timely-token set
+pub record PlannedAnew (t : Set) (a : Alloc) : Type 0 where
+  -- there is a plan
+  pub accepted : planned (timelyOf t) .number ≡ 0
+  -- and it has no more than the given one at any station
+  pub no-more : (i : ℕ) → i < t .n → at (planned (timelyOf t) .alloc .s) i ≤ at (a .s) i
 
 pub record Promised : Type 0 where
   -- timely-token, both editions: X at a station is 01's, by the station's own S
@@ -63,15 +73,21 @@ pub record Promised : Type 0 where
   pub grid-zero : (ttrt c d : ℕ) → smallestFor 0 ttrt c d ≡ 0
   -- at TTRT 0, where D / TTRT is read as 0, X is S, and C comes back, rounded up to the grid
   pub at-zero : (grid c d : ℕ) → 0 < grid → smallestFor grid 0 c d ≡ roundedUp c grid * grid
-  -- planning answers 6 exactly if the set is judged 0 and no list of numbers whatever meets the rules, so no list of multiples of the grid meets the token and the deadline rule
-  pub six : (t : Set) → (planned t .number ≡ 6) ↔ ((judged t ≡ 0) × ((s : List ℕ) → ¬ MeetsRules t (at s)))
+  -- planning answers 16 exactly if the set is judged 0 and its mode is retired: after 2, 4 and 5
+  pub sixteen : (t : Set) → (planned t .number ≡ 16) ↔ ((judged t ≡ 0) × Retired t)
+  -- 6 exactly if the set is judged 0, its mode is still planned, and no list of numbers whatever meets the rules, so no list of multiples of the grid meets the token and the deadline rule
+  pub six : (t : Set) → (planned t .number ≡ 6) ↔ ((judged t ≡ 0) × (¬ Retired t × ((s : List ℕ) → ¬ MeetsRules t (at s))))
   -- where the set is refused, so is the plan, with the set's number
   pub refused-set : (t : Set) → judged t ≢ 0 → planned t .number ≡ judged t
+  -- the 2002 and the 2003 edition are planned as before there was a 16: the set's number, then 6 where the smallest S together break a rule, else the smallest S
+  pub editions-stay : (t : Set) → ¬ Retired t → planned t ≡ answered (judgedThen t (orElse (smallestFits t) noAllocation accepted)) (smallestAlloc t)
+  -- a set that leaves FDDI needs no more synchronous time: where a given FDDI plan meets its rules, the set has a timely-token plan, with no more at any station
+  pub leaves-fddi : (t : Set) (a : Alloc) → Retired t → judgedPlan t a ≡ 0 → PlannedAnew t a
   -- a refused plan is blank
   pub blank : (t : Set) → planned t .number ≢ 0 → planned t .alloc ≡ blankAlloc
   -- an answered plan is what 01 asks, on the grid
   pub kept : (t : Set) → planned t .number ≡ 0 → KeptBy t (planned t)
-  -- 01's sentences allow exactly one answer for each set, and it is planning's
+  -- 01's sentences, with 16, allow exactly one answer for each set, and it is planning's
   pub one-answer : (t : Set) (a : Planned) → Fitting t a ↔ (a ≡ planned t)
   -- places from N on are never looked at, in planning
   pub first-places : (a b : Set) → SameSet a b → planned a ≡ planned b

@@ -1,8 +1,9 @@
 -- 01, "Allocations", and 02, No. 1, 4 and 8, of a set: X by the mode, what a vector is held to, the spare time, and the smallest S. The rules themselves are those of `units`, said once for every mode (`Vectors`), with their tests. An allocation is any vector of numbers, S at each station.
 use Prim.Native.Nat.{ℕ, _+_, _-_, _*_, _≤_, _<_}
-use mathlib.Core.Bool.{Bool, cond}
+use mathlib.Core.Path.{_≡_}
+use mathlib.Core.Bool.{Bool, cond, not}
 use lib.Dec.{leb, eqb}
-use Rattle.units.specs.Numbers.{fddi, mostS}
+use Rattle.units.specs.Numbers.{timely, fddi, mostS}
 use Rattle.units.specs.Grid.{MultipleOf}
 use Rattle.units.specs.Places.{at, sumBelow, allBelow}
 use Rattle.units.specs.Vectors.{wholeRotations, lostTime, Terms, DeadlinesKept, TokenKept, RulesKept, tokenKept, rulesKept}
@@ -41,6 +42,26 @@ pub record IsSmallest (grid ttrt c d s : ℕ) : Type 0 where
 -- the set goes by FDDI's rules
 abbrev pub isFddi : Set → Bool
 isFddi t = eqb (t .head .mode) fddi
+
+-- nothing new is planned or opened in this mode (02, No. 14); what is there is still judged by its rules
+abbrev pub Retired : Set → Type 0
+Retired t = t .head .mode ≡ fddi
+
+-- the mode is still planned and opened
+abbrev pub inUse : Set → Bool
+inUse t = not (isFddi t)
+
+-- the same set by the timely-token rules of 2003: what an FDDI set becomes
+abbrev pub timelyOf : Set → Set
+timelyOf t =
+    record {
+      head = record { ttrt = t .head .ttrt; mode = timely; frame = t .head .frame; grid = t .head .grid };
+      n = t .n;
+      w = t .w;
+      c = t .c;
+      d = t .d;
+      p = t .p;
+    }
 
 -- what FDDI's rules look at
 abbrev pub loadOf : Set → Load

@@ -8,7 +8,7 @@ ghost use Rattle.sets.specs.Rules.{CountAllowed, NumbersAllowed};
 ghost use Rattle.units.specs.Small.{UpTo};
 ghost use Rattle.plans.specs.Bounds.{Lost};
 ghost use Rattle.plans.specs.Rules.{leastTime, loadOf, spareTime, inRangeS, timelyFitsAt, tokenFits, rulesFit};
-ghost use Rattle.plans.specs.Planned.{blankAlloc, smallestFor, smallestAlloc, leastAlloc, leastFits, judgedPlan, planned};
+ghost use Rattle.plans.specs.Planned.{blankAlloc, smallestFor, smallestAlloc, judgedPlan, planned};
 use fddi::Load;
 use sets::Set;
 use units::numbers;
@@ -24,12 +24,6 @@ pub struct Alloc {
 pub struct Planned {
     pub alloc: Alloc,
     pub number: u8,
-}
-
-// What planning tries, and whether it meets the rules.
-struct Tried {
-    alloc: Alloc,
-    fits: bool,
 }
 
 // The blank allocation: every S 0.
@@ -192,26 +186,6 @@ fn smallest_alloc(t: Set) -> Alloc
     Alloc { s }
 }
 
-// What planning tries, by the set's mode, and whether it meets the rules.
-fn attempted(t: Set) -> Tried
-    requires { ⌜ CountAllowed t × NumbersAllowed t ⌝ }
-    ensures { λ r. ⌜ r ≡ record { alloc = leastAlloc t; fits = leastFits t } ⌝ }
-{
-    if t.head.mode == numbers::FDDI {
-        let found = fddi::least_plan(load_of(t));
-        let s = found.s;
-        return Tried {
-            alloc: Alloc { s },
-            fits: found.found,
-        };
-    }
-    let alloc = smallest_alloc(t);
-    Tried {
-        alloc,
-        fits: token_fits(t, alloc),
-    }
-}
-
 // A refused plan: the number, with the blank allocation.
 fn refused(number: u8) -> Planned
     ensures { λ r. ⌜ r ≡ record { alloc = blankAlloc; number = number } ⌝ }
@@ -222,7 +196,7 @@ fn refused(number: u8) -> Planned
     }
 }
 
-// Planning: the least S at each station, or the lowest of 2, 4, 5 and 6 that applies.
+// Planning: the smallest S at each station, or the first of 2, 4, 5, 16 and 6 that applies.
 pub fn plan(t: Set) -> Planned
     ensures { λ r. ⌜ r ≡ planned t ⌝ }
 {
@@ -230,11 +204,14 @@ pub fn plan(t: Set) -> Planned
     if number != numbers::ACCEPTED {
         return refused(number);
     }
-    let tried = attempted(t);
-    if !tried.fits {
+    let retired = t.head.mode == numbers::FDDI;
+    if retired {
+        return refused(numbers::RETIRED);
+    }
+    let alloc = smallest_alloc(t);
+    if !token_fits(t, alloc) {
         return refused(numbers::NO_ALLOCATION);
     }
-    let alloc = tried.alloc;
     Planned {
         alloc,
         number: numbers::ACCEPTED,

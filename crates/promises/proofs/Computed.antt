@@ -4,11 +4,10 @@ use Rattle.units.specs.Judging.{orElse, allHold}
 use Rattle.sets.specs.Rules.{headInRange, stationInRange}
 use Rattle.sets.specs.Judged.{judgedThen}
 use Rattle.fddi.specs.Rules.{timeWith}
-use Rattle.fddi.specs.Climb.{wanted, next, climbFrom}
 use Rattle.plans.specs.Rules.{timeAt, spareTime}
-use Rattle.plans.specs.Planned.{smallestWith, answered, leastAlloc, judgedPlan}
+use Rattle.plans.specs.Planned.{smallestWith, answered, judgedPlan}
 use Rattle.timers.specs.Timers.{later, startedAt, visited, offered}
-use Rattle.rings.specs.Opening.{openedRing, openedWith}
+use Rattle.rings.specs.Opening.{openedRing, openedWith, openingNumber}
 use Rattle.rings.specs.Sound.{isSound}
 use Rattle.rings.specs.State.{following}
 use Rattle.rings.specs.Timers.{lead, timersOffer, limit, tokenCame, timePassed, timersAfter, timelyAfter, silentTimers, silentTimely, silentFddi, timersSound, timelySound, fddiSound}
@@ -20,12 +19,12 @@ use Rattle.promises.specs.Run.{noted, after, run}
 
 -- a plan and its judgement
 unfoldable pub planning : Unit {0}
-unfolding sumBelow allBelow fill orElse allHold headInRange stationInRange judgedThen timeAt spareTime timeWith wanted next climbFrom smallestWith leastAlloc answered judgedPlan
+unfolding sumBelow allBelow fill orElse allHold headInRange stationInRange judgedThen timeAt spareTime timeWith smallestWith answered judgedPlan
 planning = tt
 
--- the opened ring, and whether a ring is sound
+-- opening's number, the opened ring, and whether a ring is sound
 unfoldable pub opening : Unit {0}
-unfolding silentTimers silentTimely silentFddi startedAt openedRing openedWith timersSound timelySound fddiSound isSound
+unfolding silentTimers silentTimely silentFddi startedAt openedRing openedWith openingNumber timersSound timelySound fddiSound isSound
 opening = tt
 
 -- a visit

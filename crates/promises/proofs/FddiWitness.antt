@@ -7,8 +7,9 @@ pub fddi-happens : FddiHappens
 unfolding running
 fddi-happens =
     record {
-      plan = refl;
       judged = refl;
+      not-planned = refl;
+      not-opened = refl;
       records = refl;
       late-here = refl;
       late-there = refl;

@@ -15,8 +15,9 @@ frames-happen =
       window = refl;
       long = refl;
       none = refl;
-      older-plan = refl;
-      older-spare = refl;
       older-judged = refl;
+      older-not-planned = refl;
+      older-not-opened = refl;
+      older-spare = refl;
       older-records = refl;
     }

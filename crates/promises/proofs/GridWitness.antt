@@ -8,9 +8,11 @@ unfolding running
 grid-happens =
     record {
       plan = refl;
-      older-plan = refl;
       earlier-plan = refl;
       judged = refl;
+      older-judged = refl;
+      older-not-planned = refl;
+      older-not-opened = refl;
       off = refl;
       spare = refl;
       records = refl;

@@ -1,4 +1,4 @@
--- A plan that opening accepts gives what the proofs need, and the opened ring keeps all that a run keeps.
+-- A plan that is judged 0 gives what the proofs need, and the opened ring keeps all that a run keeps.
 use Prim.Native.Nat.{ℕ, zero, suc, _+_, _-_, _<_}
 use mathlib.Core.Path.{_≡_, refl}
 use mathlib.Core.List.{[]}

@@ -9,13 +9,14 @@ use Rattle.units.specs.Numbers.{mostClock}
 use Rattle.units.specs.Places.{at}
 use Rattle.units.specs.SmallLaws.{below-or-not}
 use Rattle.sets.specs.declared.Set.{Set}
+use Rattle.plans.specs.Rules.{Retired}
 use Rattle.plans.specs.Planned.{judgedPlan, planned}
 use Rattle.plans.specs.declared.Alloc.{Alloc}
 use Rattle.plans.proofs.Promised.{promised as plans-promised}
 use Rattle.scan.specs.Scanned.{scanned}
 use Rattle.sheets.specs.Reading.{setIn, allocIn, judgedSheet, readNumber, readSheet, readPlan, readRequest}
 use Rattle.sheets.specs.ReadLaws.{then-none, read-accepted, read-number}
-use Rattle.rings.specs.Opening.{openedRing, opening}
+use Rattle.rings.specs.Opening.{openedRing, openingNumber, opening}
 use Rattle.rings.specs.Timers.{Fddi}
 use Rattle.rings.specs.TimerLaws.{fddi-or-not}
 use Rattle.rings.specs.Steps.{Ask, visitNumber, visited}
@@ -23,6 +24,7 @@ use Rattle.rings.specs.State.{Unmarked}
 use Rattle.rings.specs.HandingIn.{LengthAllowed, handedIn}
 use Rattle.rings.specs.RingLaws.{opened-number, opened-accepted, sound-sentences}
 use Rattle.rings.specs.declared.Opened.{Opened}
+use Rattle.ring_rules.specs.Promised.{Fresh}
 use Rattle.ring_rules.proofs.Promised.{promised as rules}
 use Rattle.rings.specs.declared.Message.{Message}
 use Rattle.rings.specs.declared.VisitRecord.{VisitRecord}
@@ -218,14 +220,16 @@ valid t a h =
 
 -- ---- where plans come from
 
-opens : (t : Set) (a : Alloc) → (opening t a .number ≡ 0) ↔ (judgedPlan t a ≡ 0)
-opens t a =
-    let e = opened-number (judgedPlan t a) (openedRing t a) in
-    (λ h. sym e ∙ h, λ h. e ∙ h)
+begins : (t : Set) (a : Alloc) → judgedPlan t a ≡ 0 → Fresh t a (runOf t a [] .ring)
+unfolding run
+begins = rules .opened-fresh
+
+opens : (t : Set) (a : Alloc) → (opening t a .number ≡ 0) ↔ ((judgedPlan t a ≡ 0) × ¬ Retired t)
+opens = rules .opening-none
 
 opened : (t : Set) (a : Alloc) → opening t a .number ≡ 0 → opening t a .ring ≡ runOf t a [] .ring
 unfolding run
-opened t a h = ap (λ (o : Opened). o .ring) (opened-accepted (judgedPlan t a) (openedRing t a) (opens t a .0 h))
+opened t a h = ap (λ (o : Opened). o .ring) (opened-accepted (openingNumber t a) (openedRing t a) (sym (opened-number (openingNumber t a) (openedRing t a)) ∙ h))
 
 plan-judged : (t : Set) → planned t .number ≡ 0 → judgedPlan t (planned t .alloc) ≡ 0
 plan-judged t h = plans-promised .kept t h .judged
@@ -242,6 +246,7 @@ pub promised : Promised
 promised =
     record {
       judged = valid;
+      begins = begins;
       opens = opens;
       opened = opened;
       plan-judged = plan-judged;

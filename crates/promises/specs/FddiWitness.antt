@@ -10,13 +10,14 @@ use Rattle.sets.specs.Judged.{zeros}
 use Rattle.sets.specs.declared.Set.{Set}
 use Rattle.plans.specs.Planned.{judgedPlan, planned}
 use Rattle.rings.specs.State.{unusedAt, withPlan, withTimers, withMessages, withCourse, blankRing}
+use Rattle.rings.specs.Opening.{opening}
 use Rattle.rings.specs.Sound.{isSound}
 use Rattle.rings.specs.Steps.{visited}
 use Rattle.rings.specs.declared.Ring.{Ring}
 use Rattle.promises.specs.Run.{Call, message, ringOf, recordsOf}
 use Rattle.promises.specs.Witness.{two, pairOf, shares, thirty, thousand, greedy, completed, row}
 
--- the set of `Witness` as an FDDI ring: TTRT 100, w 1 each; planning gives the same S, 15 and 0
+-- the set of `Witness` as an FDDI ring: TTRT 100, w 1 each; the S that planning gives there, 15 and 0, keep FDDI's rules too
 abbrev pub older : Set
 older = pairOf fddi
 
@@ -34,9 +35,10 @@ belated clock =
     (withCourse (record { sent = zeros; last = zeros; token = 0; clock = clock; visits = 6 }) (withPlan older shares blankRing)))
 
 pub record FddiHappens : Type 0 where
-  -- planning gives this plan, and it meets the rules
-  pub plan : planned older ≡ record { alloc = shares; number = 0 }
+  -- the plan meets the rules; a ring of it is neither planned nor opened any more
   pub judged : judgedPlan older shares ≡ 0
+  pub not-planned : planned older .number ≡ 16
+  pub not-opened : opening older shares .number ≡ 16
   -- the first visit takes longer than TTRT: both stations are late, and so are offered nothing; the token is back after 115 ticks, TTRT + the sum of S
   pub records : recordsOf older shares completed ≡ row 0 115 15 0 15 0 130 (pos 120) 1 ∷ row 1 114 15 0 0 0 0 (pos 0) 0 ∷ row 0 0 2 98 15 98 0 (pos 0) 0 ∷ []
   pub late-here : at (ringOf older shares first .late) 0 ≡ 1

@@ -9,6 +9,7 @@ use Rattle.sets.specs.declared.Set.{Set}
 use Rattle.plans.specs.Rules.{spareTime}
 use Rattle.plans.specs.Planned.{judgedPlan, planned}
 use Rattle.plans.specs.declared.Alloc.{Alloc}
+use Rattle.rings.specs.Opening.{opening}
 use Rattle.rings.specs.Steps.{Ask, visited}
 use Rattle.rings.specs.declared.Message.{Message}
 use Rattle.promises.specs.Run.{Call, visit, message, ringOf, recordsOf}
@@ -50,9 +51,11 @@ pub record FramesHappen : Type 0 where
   -- a length above F is refused, and so is 0
   pub long : visited (ringOf (framed timely) seventeen []) (framesOf 17) .answer .number ≡ 10
   pub none : visited (ringOf (framed timely) seventeen []) (framesOf 0) .answer .number ≡ 10
-  -- FDDI: the same plan; the seventh frame starts at 96 of 97 ticks, 112 are sent, and the token is back after 132 ticks, TTRT + the sum of S + 15
-  pub older-plan : planned (framed fddi) ≡ record { alloc = seventeen; number = 0 }
-  -- and A* is 100 − 3 − 17: FDDI does not subtract F − 1 in it
-  pub older-spare : spareTime (framed fddi) (at (seventeen .s)) ≡ 80
+  -- FDDI: the same plan meets the rules; it is neither planned nor opened any more
   pub older-judged : judgedPlan (framed fddi) seventeen ≡ 0
+  pub older-not-planned : planned (framed fddi) .number ≡ 16
+  pub older-not-opened : opening (framed fddi) seventeen .number ≡ 16
+  -- A* is 100 − 3 − 17: FDDI does not subtract F − 1 in it
+  pub older-spare : spareTime (framed fddi) (at (seventeen .s)) ≡ 80
+  -- the seventh frame starts at 96 of 97 ticks, 112 are sent, and the token is back after 132 ticks, TTRT + the sum of S + 15
   pub older-records : recordsOf (framed fddi) seventeen again ≡ row 0 132 32 0 17 0 149 (pos 101) 1 ∷ row 1 131 32 0 0 0 0 (pos 0) 0 ∷ row 0 0 3 97 17 112 0 (pos 0) 0 ∷ []

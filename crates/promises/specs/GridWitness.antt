@@ -9,6 +9,7 @@ use Rattle.sets.specs.declared.Set.{Set}
 use Rattle.plans.specs.Rules.{spareTime}
 use Rattle.plans.specs.Planned.{judgedPlan, planned}
 use Rattle.plans.specs.declared.Alloc.{Alloc}
+use Rattle.rings.specs.Opening.{opening}
 use Rattle.promises.specs.Run.{recordsOf}
 use Rattle.promises.specs.Witness.{two, shares, completed, row}
 
@@ -21,11 +22,14 @@ abbrev pub sixteen : Alloc
 sixteen = record { s = two 16 0 }
 
 pub record GridHappens : Type 0 where
-  -- planning gives this plan in every mode, and it meets the rules
+  -- planning gives this plan in both editions, and it meets the rules in every mode
   pub plan : planned (eights timely) ≡ record { alloc = sixteen; number = 0 }
-  pub older-plan : planned (eights fddi) ≡ record { alloc = sixteen; number = 0 }
   pub earlier-plan : planned (eights earlier) ≡ record { alloc = sixteen; number = 0 }
   pub judged : judgedPlan (eights timely) sixteen ≡ 0
+  pub older-judged : judgedPlan (eights fddi) sixteen ≡ 0
+  -- of FDDI none is planned or opened any more
+  pub older-not-planned : planned (eights fddi) .number ≡ 16
+  pub older-not-opened : opening (eights fddi) sixteen .number ≡ 16
   -- the smallest S, 15, is off the grid
   pub off : judgedPlan (eights timely) shares ≡ 7
   -- the ticks that the step costs come off A*: 100 − 2 − 16

@@ -7,7 +7,7 @@ use mathlib.Core.Logic.{_↔_}
 use Rattle.units.specs.Places.{at}
 use Rattle.units.specs.declared.Station.{Station}
 use Rattle.sets.specs.declared.Set.{Set}
-use Rattle.plans.specs.Rules.{spareTime}
+use Rattle.plans.specs.Rules.{Retired, spareTime}
 use Rattle.plans.specs.Planned.{judgedPlan, planned}
 use Rattle.plans.specs.declared.Alloc.{Alloc}
 use Rattle.sheets.specs.Reading.{readRequest, readPlan}
@@ -18,6 +18,7 @@ use Rattle.rings.specs.HandingIn.{handedIn}
 use Rattle.rings.specs.Marking.{marked, unmarked}
 use Rattle.rings.specs.declared.Ring.{Ring}
 use Rattle.rings.specs.declared.Message.{Message}
+use Rattle.ring_rules.specs.Promised.{Fresh}
 use Rattle.promises.specs.Run.{runOf}
 use Rattle.promises.specs.Facts.{VisitFacts, Accepting, MarkFacts, UnmarkFacts}
 use Rattle.promises.specs.Valid.{Timely, Valid}
@@ -33,8 +34,10 @@ use Rattle.promises.specs.MarkWitness.{MarksHappen}
 pub record Promised : Type 0 where
   -- whatever set and allocation meet the rules, they are valid
   pub judged : (t : Set) (a : Alloc) → judgedPlan t a ≡ 0 → Valid t a
-  -- these are the ones that opening accepts
-  pub opens : (t : Set) (a : Alloc) → (opening t a .number ≡ 0) ↔ (judgedPlan t a ≡ 0)
+  -- in every mode their runs begin with the ring that opening gives or, of an FDDI plan, used to give
+  pub begins : (t : Set) (a : Alloc) → judgedPlan t a ≡ 0 → Fresh t a (runOf t a [] .ring)
+  -- these are the ones that opening accepts, but for FDDI's, which it accepts no more; an FDDI ring that is open runs on
+  pub opens : (t : Set) (a : Alloc) → (opening t a .number ≡ 0) ↔ ((judgedPlan t a ≡ 0) × ¬ Retired t)
   -- and the ring that it hands out is the one with which the runs begin
   pub opened : (t : Set) (a : Alloc) → opening t a .number ≡ 0 → opening t a .ring ≡ runOf t a [] .ring
   -- a plan that planning made meets the rules, and so it is valid
@@ -43,7 +46,7 @@ pub record Promised : Type 0 where
   -- a plan sheet that reading accepted meets the rules, and so what it holds is valid
   pub sheet-judged : (bytes : List ℕ) → readPlan bytes .number ≡ 0 → judgedPlan (readPlan bytes .set) (readPlan bytes .alloc) ≡ 0
   pub sheet-valid : (bytes : List ℕ) → readPlan bytes .number ≡ 0 → Valid (readPlan bytes .set) (readPlan bytes .alloc)
-  -- from the bytes of a request sheet to what its mode promises, for a timely-token ring the kept deadlines: where reading and then planning accept, the plan is valid
+  -- from the bytes of a request sheet to the kept deadlines: where reading and then planning accept, which planning does of the two timely-token editions alone, the plan is valid
   pub request-valid : (bytes : List ℕ)
       → readRequest bytes .number ≡ 0 → planned (readRequest bytes .set) .number ≡ 0
       → Valid (readRequest bytes .set) (planned (readRequest bytes .set) .alloc)

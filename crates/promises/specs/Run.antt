@@ -1,4 +1,4 @@
--- A run: a list of calls on a ring that a plan opens, one after another, each answered as the code answers it.
+-- A run: a list of calls on a ring that a plan opens or, an FDDI plan, used to open, one after another, each answered as the code answers it.
 use Prim.Native.Nat.{ℕ, zero, suc}
 use mathlib.Core.List.{List, [], _∷_}
 use Rattle.units.specs.Places.{at}
@@ -66,7 +66,7 @@ unfoldable pub run : Run → List Call → Run
 run s [] = s
 run s (c ∷ cs) = run (after s c) cs
 
--- a set and an allocation opened: nothing has happened yet
+-- the state that opening a set and an allocation gives, or, with FDDI, used to give: nothing has happened yet
 abbrev pub opened : Set → Alloc → Run
 opened t a = record { ring = openedRing t a; events = [] }
 

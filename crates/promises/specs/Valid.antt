@@ -1,4 +1,4 @@
--- Demand 3 in parts: what every run of calls keeps on the ring that set t and allocation a open. Each part is a record by itself; `Valid`, at the end, says which of them a plan promises, by its mode.
+-- Demand 3 in parts: what every run of calls keeps on the ring that set t and allocation a open or, of FDDI, used to open. Each part is a record by itself; `Valid`, at the end, says which of them a plan promises, by its mode.
 use Prim.Native.Nat.{ℕ, _+_, _-_, _*_, _≤_, _<_, min}
 use mathlib.Core.Path.{_≡_}
 use mathlib.Core.List.{List, [], _++_, _∷_}

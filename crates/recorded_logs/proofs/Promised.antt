@@ -5,7 +5,7 @@ use mathlib.Core.List.{List, [], _∷_, map, reverse}
 use native.Mathlib.Omega.{arith}
 use Rattle.plans.specs.Planned.{judgedPlan}
 use Rattle.sheets.specs.Reading.{readPlan}
-use Rattle.sheets.specs.ReadLaws.{then-rest}
+use Rattle.sheets.specs.ReadLaws.{then-none}
 use Rattle.rings.specs.Opening.{opening}
 use Rattle.entries.specs.declared.Entry.the-variants.{Mark}
 use Rattle.logs.specs.Layout.{logOf}
@@ -17,27 +17,28 @@ use Rattle.log_rules.specs.Promised.{GivesBack}
 use Rattle.log_rules.proofs.RunLaws.{run-entries}
 use Rattle.log_rules.proofs.Promised as logs
 use Rattle.calls.specs.Calls.{stationIn}
-use Rattle.calls.specs.Runs.{openedRun, withEnd}
+use Rattle.calls.specs.Runs.{withEnd}
 use Rattle.calls.proofs.Promised as calls
 use Rattle.calls.proofs.ByteLaws.{moved-append, out-append}
 use Rattle.recordings.specs.LogText.{recordFrom, recordOn, loggedAt}
 use Rattle.recordings.proofs.RecordLaws.{left-one, left-none}
 use Rattle.recorded_logs.specs.Calls.{callsOf}
-use Rattle.recorded_logs.specs.Promised.{setFrom, allocFrom, runFor, written, visitsFor, entriesFor, ReadsBack, Promised}
+use Rattle.recorded_logs.specs.Promised.{setFrom, allocFrom, runFor, Opens, written, visitsFor, entriesFor, ReadsBack, Promised}
 use Rattle.recorded_logs.proofs.LoggedLaws.{run-same, whole-log, recorded-visit, recorded-mark, recorded-unmark, not-recorded}
 use Rattle.recorded_logs.proofs.UnreadLaws.{none-named, first-named}
 use Rattle.recorded_logs.proofs.CallLaws.{toldOver, text-entries, mark-inside, unmark-inside, station-small, Runs, text-runs, twice}
 use Rattle.recorded_logs.proofs.PlanLaws.{first-set, first-alloc}
+use Rattle.recorded_logs.proofs.OpenLaws.{opened-exactly, run-retired, log-retired}
 
-module _ (sheet : List ℕ) (h : readPlan sheet .number ≡ 0) where
-  judged-0 : judgedPlan (setFrom sheet) (allocFrom sheet) ≡ 0
-  judged-0 = runs.promised .sheet-judged sheet h
+module _ (sheet : List ℕ) (opens : Opens sheet) where
+  was-read : readPlan sheet .number ≡ 0
+  was-read = then-none _ _ opens .0
 
   opening-0 : opening (setFrom sheet) (allocFrom sheet) .number ≡ 0
-  opening-0 = runs.promised .opens (setFrom sheet) (allocFrom sheet) .1 judged-0
+  opening-0 = then-none _ _ opens .1
 
-  is-opened : openedRun (readPlan sheet) .number ≡ 0
-  is-opened = then-rest _ _ h ∙ opening-0
+  judged-0 : judgedPlan (setFrom sheet) (allocFrom sheet) ≡ 0
+  judged-0 = runs.promised .opens (setFrom sheet) (allocFrom sheet) .0 opening-0 .0
 
   module _ (text : List ℕ) where
     its-run : Runs (withEnd text) (runFor sheet) (opened (setFrom sheet) (allocFrom sheet))
@@ -62,7 +63,7 @@ module _ (sheet : List ℕ) (h : readPlan sheet .number ≡ 0) where
     reads : ReadsBack sheet text (written sheet text)
     reads =
         record {
-          answer = ap readLog its-log ∙ back .answer ∙ rw (first-set sheet h, first-alloc sheet h) refl;
+          answer = ap readLog its-log ∙ back .answer ∙ rw (first-set sheet was-read, first-alloc sheet was-read) refl;
           entries = ap entriesIn its-log ∙ back .entries;
         }
 
@@ -90,10 +91,12 @@ promised =
       unread-none = λ sheet text. none-named (recordFrom (runFor sheet)) (withEnd text) refl (omega arith);
       unread-first = λ sheet text first rest e quiet there.
           first-named (recordFrom (runFor sheet)) (withEnd text) first rest refl (omega arith) e quiet there ∙ calls.promised .numbered (runFor sheet .ring) first;
-      opens = is-opened;
-      run-records = λ sheet text h. its-records sheet h text;
-      run-ring = λ sheet text h. its-run sheet h text .0;
-      a-log = λ sheet text h. its-log sheet h text;
-      run-log = λ sheet text h. its-entries sheet h text;
-      reads-back = λ sheet text h. reads sheet h text;
+      opens = opened-exactly;
+      run-retired = run-retired;
+      log-retired = log-retired;
+      run-records = λ sheet text opens. its-records sheet opens text;
+      run-ring = λ sheet text opens. its-run sheet opens text .0;
+      a-log = λ sheet text opens. its-log sheet opens text;
+      run-log = λ sheet text opens. its-entries sheet opens text;
+      reads-back = λ sheet text opens. reads sheet opens text;
     }

@@ -6,6 +6,7 @@ use mathlib.Core.List.{List, [], _∷_, _++_, reverse}
 use mathlib.Core.Logic.{_≢_, _↔_}
 use lib.ListN.{length}
 use Rattle.sets.specs.declared.Set.{Set}
+use Rattle.plans.specs.Rules.{Retired}
 use Rattle.plans.specs.declared.Alloc.{Alloc}
 use Rattle.sheets.specs.Layout.{fieldsOf, endBytes}
 use Rattle.sheets.specs.Reading.{readPlan}
@@ -28,7 +29,7 @@ use Rattle.lines.specs.declared.Scan.{Scan}
 use Rattle.calls.specs.Calls.{isVisit, askIn, isMark, isUnmark, stationIn, called}
 use Rattle.calls.specs.Runs.{openedRun, unreadAt, runAfter, someUnread, linesIn, withEnd}
 use Rattle.calls.specs.declared.Run.{Run}
-use Rattle.recordings.specs.LogText.{recordFrom, entriesBy, recordAfter, loggedOver}
+use Rattle.recordings.specs.LogText.{recordFrom, entriesBy, recordAfter, loggedOver, openNumber}
 use Rattle.recordings.specs.declared.Recording.{Recording}
 use Rattle.recorded_logs.specs.Calls.{callsOf, visitsOver, entriesOver}
 
@@ -44,6 +45,10 @@ allocFrom sheet = readPlan sheet .alloc
 -- the run that it opens
 abbrev pub runFor : List ℕ → Run
 runFor sheet = openedRun (readPlan sheet) .run
+
+-- the plan is read, and opened
+abbrev pub Opens : List ℕ → Type 0
+Opens sheet = openedRun (readPlan sheet) .number ≡ 0
 
 -- what `log` writes: the plan's fields, those of the visits and the marks, and the end
 abbrev pub written : List ℕ → List ℕ → List ℕ
@@ -99,15 +104,19 @@ pub record Promised : Type 0 where
       → someUnread (runFor sheet) first ≡ false → unreadAt (runAfter (runFor sheet) first) newline ≡ true
       → recordingOf sheet text .unread ≡ nextLine (linesIn first)
   -- ---- the log
-  -- a plan that was read is opened
-  pub opens : (sheet : List ℕ) → readPlan sheet .number ≡ 0 → openedRun (readPlan sheet) .number ≡ 0
+  -- `run` and `log` open exactly the plans that are read and not FDDI's. So what follows is of both editions of timely-token; of every run of an FDDI ring `log_rules` says how it is written
+  pub opens : (sheet : List ℕ) → Opens sheet ↔ ((readPlan sheet .number ≡ 0) × ¬ Retired (setFrom sheet))
+  -- `run` answers 16 exactly if the plan is read and FDDI's; so a plan that breaks a rule is 7 here in every mode
+  pub run-retired : (sheet : List ℕ) → (openedRun (readPlan sheet) .number ≡ 16) ↔ ((readPlan sheet .number ≡ 0) × Retired (setFrom sheet))
+  -- and so does `log`, whatever room its buffer has
+  pub log-retired : (sheet : List ℕ) (room : ℕ) → (openNumber (readPlan sheet) room ≡ 16) ↔ ((readPlan sheet .number ≡ 0) × Retired (setFrom sheet))
   -- the text's calls are a run of the model: its records, the latest first, are those of the visits that `log` records, and its ring is the one behind the text.
   -- So all that is promised of runs holds of them
-  pub run-records : (sheet text : List ℕ) → readPlan sheet .number ≡ 0 → recordsOf (setFrom sheet) (allocFrom sheet) (callsOf text) ≡ reverse (visitsFor sheet text)
-  pub run-ring : (sheet text : List ℕ) → readPlan sheet .number ≡ 0 → ringOf (setFrom sheet) (allocFrom sheet) (callsOf text) ≡ runAfter (runFor sheet) (withEnd text) .ring
+  pub run-records : (sheet text : List ℕ) → Opens sheet → recordsOf (setFrom sheet) (allocFrom sheet) (callsOf text) ≡ reverse (visitsFor sheet text)
+  pub run-ring : (sheet text : List ℕ) → Opens sheet → ringOf (setFrom sheet) (allocFrom sheet) (callsOf text) ≡ runAfter (runFor sheet) (withEnd text) .ring
   -- what `log` writes is the log of the plan that was opened and of what was recorded
-  pub a-log : (sheet text : List ℕ) → readPlan sheet .number ≡ 0 → written sheet text ≡ logOf (setFrom sheet) (allocFrom sheet) (entriesFor sheet text)
+  pub a-log : (sheet text : List ℕ) → Opens sheet → written sheet text ≡ logOf (setFrom sheet) (allocFrom sheet) (entriesFor sheet text)
   -- these are the entries of that run: the numbers of its visits, their starts by the clock modulo 2^32, and its markings and unmarkings
-  pub run-log : (sheet text : List ℕ) → readPlan sheet .number ≡ 0 → entriesFor sheet text ≡ entriesOf 0 (setFrom sheet) (allocFrom sheet) (callsOf text)
+  pub run-log : (sheet text : List ℕ) → Opens sheet → entriesFor sheet text ≡ entriesOf 0 (setFrom sheet) (allocFrom sheet) (callsOf text)
   -- and reading gives back the plan and the entries
-  pub reads-back : (sheet text : List ℕ) → readPlan sheet .number ≡ 0 → ReadsBack sheet text (written sheet text)
+  pub reads-back : (sheet text : List ℕ) → Opens sheet → ReadsBack sheet text (written sheet text)

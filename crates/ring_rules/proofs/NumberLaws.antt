@@ -1,7 +1,7 @@
 -- Each number is given exactly if its line holds, because each test decides its sentence and the judgement stops at the first that fails.
 use Prim.Native.Nat.{ℕ, zero, suc, _≤_, _<_}
 use mathlib.Core.Path.{_≡_, refl}
-use mathlib.Core.Bool.{Bool, true, false}
+use mathlib.Core.Bool.{Bool, true, false, _&&_}
 use mathlib.Core.Logic.{_↔_, _≢_, _⊎_, inl, inr, ⊎-elim}
 use native.Mathlib.Omega.{arith}
 use borrow.Author.Tests.{ltb-true, lt-ltb}
@@ -9,9 +9,18 @@ use lib.Dec.{leb, ltb}
 use Rattle.units.specs.Numbers.{mostClock}
 use Rattle.units.specs.Places.{at}
 use Rattle.units.specs.Judging.{orElse}
-use Rattle.units.specs.JudgingLaws.{Decides, true-or-false, decides-le, decides-between, given, given-later, not-given, iff-then, iff-under}
+use Rattle.units.specs.JudgingLaws.{Decides, true-or-false, decides-le, decides-both, decides-between, given, given-later, not-given, iff-then, iff-under}
 use Rattle.units.specs.declared.Station.{Station}
+use Rattle.units.specs.VectorLaws.{decides-rules}
+use Rattle.sets.specs.Rules.{CountAllowed, WalkTimeAllowed, countAllowed, numbersAllowed, walkTimeAllowed}
+use Rattle.sets.specs.SetLaws.{decides-count, decides-numbers, decides-walk}
+use Rattle.sets.specs.declared.Set.{Set}
+use Rattle.plans.specs.Rules.{Retired, inUse, InRange, KeepsRules, termsOf, rulesFit, allocInRange}
+use Rattle.plans.specs.Planned.{rulesNumber, judgedPlan}
+use Rattle.plans.specs.PlanLaws.{decides-alloc, given-sixteen, past-sixteen}
+use Rattle.plans.specs.declared.Alloc.{Alloc}
 use Rattle.rings.specs.State.{count}
+use Rattle.rings.specs.Opening.{openingNumber}
 use Rattle.rings.specs.Sound.{Sound, isSound}
 use Rattle.rings.specs.Steps.{Ask, LengthNamed, lengthNamed, visitNumber, visitedWith}
 use Rattle.rings.specs.HandingIn.{ArrivalAllowed, Takes, stationKnown, lengthAllowed, stationFree, Free, Arrived, hasArrived, arrivalAllowed, handInNumber}
@@ -26,6 +35,69 @@ pub visited-number : (k : ℕ) (r : Ring) (ask : Ask) → visitedWith k r ask .a
 unfolding visitedWith
 visited-number zero r ask = refl
 visited-number (suc k) r ask = refl
+
+-- ---- the numbers of an opening
+
+module _ (t : Set) (a : Alloc) where
+  decides-range : Decides (numbersAllowed t && allocInRange t (at (a .s))) (InRange t a)
+  decides-range = decides-both _ _ _ _ (decides-numbers t) (decides-alloc t (at (a .s)))
+
+  decides-kept : Decides (rulesFit t (at (a .s))) (KeepsRules t a)
+  decides-kept = decides-rules (termsOf t) (at (a .s))
+
+  pub opening-two : (openingNumber t a ≡ 2) ↔ ¬ CountAllowed t
+  unfolding openingNumber
+  opening-two =
+      given _ _ 2 _ (decides-count t)
+      (not-given _ 4 _ 2 (omega arith) (not-given _ 5 _ 2 (omega arith) (not-given _ 16 _ 2 (omega arith) (not-given _ 7 0 2 (omega arith) (omega arith)))))
+
+  pub opening-four : (openingNumber t a ≡ 4) ↔ (CountAllowed t × ¬ InRange t a)
+  unfolding openingNumber
+  opening-four =
+      iff-then (given-later _ _ 2 _ 4 (decides-count t) (omega arith))
+      (iff-under
+      (given _ _ 4 _ decides-range
+      (not-given _ 5 _ 4 (omega arith) (not-given _ 16 _ 4 (omega arith) (not-given _ 7 0 4 (omega arith) (omega arith))))))
+
+  pub opening-five : (openingNumber t a ≡ 5) ↔ (CountAllowed t × (InRange t a × ¬ WalkTimeAllowed t))
+  unfolding openingNumber
+  opening-five =
+      iff-then (given-later _ _ 2 _ 5 (decides-count t) (omega arith))
+      (iff-under
+      (iff-then (given-later _ _ 4 _ 5 decides-range (omega arith))
+      (iff-under (given _ _ 5 _ (decides-walk t) (not-given _ 16 _ 5 (omega arith) (not-given _ 7 0 5 (omega arith) (omega arith)))))))
+
+  pub opening-sixteen : (openingNumber t a ≡ 16) ↔ (CountAllowed t × (InRange t a × (WalkTimeAllowed t × Retired t)))
+  unfolding openingNumber
+  opening-sixteen =
+      iff-then (given-later _ _ 2 _ 16 (decides-count t) (omega arith))
+      (iff-under
+      (iff-then (given-later _ _ 4 _ 16 decides-range (omega arith))
+      (iff-under
+      (iff-then (given-later _ _ 5 _ 16 (decides-walk t) (omega arith))
+      (iff-under (given-sixteen t _ (not-given _ 7 0 16 (omega arith) (omega arith))))))))
+
+  pub opening-seven : (openingNumber t a ≡ 7) ↔ (CountAllowed t × (InRange t a × (WalkTimeAllowed t × (¬ Retired t × ¬ KeepsRules t a))))
+  unfolding openingNumber
+  opening-seven =
+      iff-then (given-later _ _ 2 _ 7 (decides-count t) (omega arith))
+      (iff-under
+      (iff-then (given-later _ _ 4 _ 7 decides-range (omega arith))
+      (iff-under
+      (iff-then (given-later _ _ 5 _ 7 (decides-walk t) (omega arith))
+      (iff-under
+      (iff-then (past-sixteen t _ 7 (omega arith)) (iff-under (given _ _ 7 0 decides-kept (omega arith)))))))))
+
+  pub opening-only : (openingNumber t a ≡ judgedPlan t a) ⊎ (openingNumber t a ≡ 16)
+  unfolding orElse openingNumber judgedPlan
+  opening-only = go (countAllowed t) (numbersAllowed t && allocInRange t (at (a .s))) (walkTimeAllowed t) (inUse t) (rulesNumber t a)
+    where
+      go : (b₂ b₄ b₅ b₁₆ : Bool) (k : ℕ) → (orElse b₂ 2 (orElse b₄ 4 (orElse b₅ 5 (orElse b₁₆ 16 k))) ≡ orElse b₂ 2 (orElse b₄ 4 (orElse b₅ 5 k))) ⊎ (orElse b₂ 2 (orElse b₄ 4 (orElse b₅ 5 (orElse b₁₆ 16 k))) ≡ 16)
+      go false b₄ b₅ b₁₆ k = inl refl
+      go true false b₅ b₁₆ k = inl refl
+      go true true false b₁₆ k = inl refl
+      go true true true false k = inr refl
+      go true true true true k = inl refl
 
 -- ---- the numbers of a visit
 

@@ -1,10 +1,12 @@
 -- Opening, visits and handing in keep their promises: each answer is the judgement's number with the ring that goes with it, and the laws beside this file say what that ring is.
 use Prim.Native.Nat.{ℕ, _≤_}
 use mathlib.Core.Path.{_≡_, sym, _∙_}
+use mathlib.Core.Bool.{true, false}
 use mathlib.Core.Logic.{_⊎_, _≢_, ⊎-elim, inl, inr}
 use native.Mathlib.Omega.{arith}
 use Rattle.units.specs.Numbers.{mostClock}
 use Rattle.units.specs.Places.{at}
+use Rattle.units.specs.JudgingLaws.{true-or-false}
 use Rattle.units.specs.SmallLaws.{below-or-not}
 use Rattle.units.specs.declared.Station.{Station}
 use Rattle.sets.specs.Rules.{SameSet}
@@ -13,16 +15,18 @@ use Rattle.plans.specs.Planned.{judgedPlan}
 use Rattle.plans.proofs.SameLaws.{judged-plan-same}
 use Rattle.plans.specs.declared.Alloc.{Alloc}
 use Rattle.rings.specs.State.{overrun, Marked, Unmarked, Shaped, blankRing}
-use Rattle.rings.specs.Opening.{openedRing, opening}
+use Rattle.rings.specs.Timers.{Fddi}
+use Rattle.rings.specs.Opening.{openingNumber, openedRing, opening}
 use Rattle.rings.specs.Sound.{Sound}
 use Rattle.rings.specs.Steps.{Ask, LengthNamed, syncSent, asyncSent, moved, recordOf, visitNumber, acceptedVisit, refusedVisit, visited}
 use Rattle.rings.specs.HandingIn.{handInNumber, holding, handedIn}
 use Rattle.ring_rules.specs.Promised.{Fresh, Done, UncutVisit, Held, idle, silent, WalksAsIdle, SameFirst, SameRing, Promised}
 use Rattle.rings.specs.Marking.{markNumber, withdrawal, marked, unmarked}
-use Rattle.rings.specs.TimerLaws.{lead-none, lead-all, marked-or-not}
+use Rattle.rings.specs.TimerLaws.{fddi-or-not, lead-none, lead-all, marked-or-not}
+use Rattle.rings.proofs.OpeningLaws.{before, opening-before, opening-retired, opening-in-use, opening-none}
 use Rattle.rings.specs.MarkLaws.{marked-refused, marked-accepted, mark-passed}
 use Rattle.rings.specs.RingLaws.{decides-sound, opened-number, taken-number, opened-refused, opened-accepted, visit-refused, visit-accepted, visit-passed, taken-refused, taken-accepted, taken-passed}
-use Rattle.ring_rules.proofs.NumberLaws.{visited-number, visit-eight, visit-ten, visit-thirteen, visit-none, visit-only, message-eight, message-nine, message-ten, message-eleven, message-fifteen, message-twelve, message-none, message-only, mark-eight, mark-nine, mark-none, mark-only}
+use Rattle.ring_rules.proofs.NumberLaws.{opening-two, opening-four, opening-five, opening-sixteen, opening-seven, opening-only, visited-number, visit-eight, visit-ten, visit-thirteen, visit-none, visit-only, message-eight, message-nine, message-ten, message-eleven, message-fifteen, message-twelve, message-none, message-only, mark-eight, mark-nine, mark-none, mark-only}
 use Rattle.ring_rules.proofs.MarkedLaws.{number-marked, number-unmarked, mark-unchanged, mark-switches, mark-withdraws, mark-takes-none, mark-stays, mark-twice, mark-arrivals, marked-eleven, unmark-unchanged, unmark-switches, unmark-stays, mark-sound, unmark-sound, idle-sound, idle-named, idle-clock, walks-alike, sound-marks, nothing-new}
 use Rattle.ring_rules.proofs.OpenedLaws.{fresh, opened-sound}
 use Rattle.ring_rules.proofs.MovedLaws.{margin-kept, margin-late, done}
@@ -39,26 +43,44 @@ zero-or-not k = ⊎-elim (λ l. inr (omega arith)) (λ l. inl (omega arith)) (be
 -- ---- opening
 
 module _ (t : Set) (a : Alloc) where
-  number-opened : opening t a .number ≡ judgedPlan t a
-  number-opened = opened-number (judgedPlan t a) (openedRing t a)
+  number-opened : opening t a .number ≡ openingNumber t a
+  number-opened = opened-number (openingNumber t a) (openedRing t a)
+
+  accepts : opening t a .number ≡ 0 → judgedPlan t a ≡ 0
+  accepts e = opening-none t a .0 (sym number-opened ∙ e) .0
 
   ring-opened : opening t a .number ≡ 0 → opening t a .ring ≡ openedRing t a
-  ring-opened e = rw (opened-accepted (judgedPlan t a) (openedRing t a) (sym number-opened ∙ e))
+  ring-opened e = rw (opened-accepted (openingNumber t a) (openedRing t a) (sym number-opened ∙ e))
 
   opening-blank : opening t a .number ≢ 0 → opening t a .ring ≡ blankRing
-  opening-blank n = rw (opened-refused (judgedPlan t a) (openedRing t a) (λ e. n (number-opened ∙ e)))
+  opening-blank n = rw (opened-refused (openingNumber t a) (openedRing t a) (λ e. n (number-opened ∙ e)))
 
   opening-fresh : opening t a .number ≡ 0 → Fresh t a (opening t a .ring)
-  opening-fresh e = rw (ring-opened e) (fresh t a (sym number-opened ∙ e))
+  opening-fresh e = rw (ring-opened e) (fresh t a (accepts e))
 
   opening-sound : opening t a .number ≡ 0 → Sound (opening t a .ring)
-  opening-sound e = rw (ring-opened e) (opened-sound t a (sym number-opened ∙ e))
+  opening-sound e = rw (ring-opened e) (opened-sound t a (accepts e))
+
+-- opening's number goes by the mode and by the judgement's number alone
+number-same : (t u : Set) (a b : Alloc) → SameSet t u → judgedPlan t a ≡ judgedPlan u b → openingNumber t a ≡ openingNumber u b
+number-same t u a b same judged =
+    ⊎-elim (λ (e : Fddi t).
+    ⊎-elim (λ (early : before (judgedPlan t a) ≡ true). opening-before t a early ∙ (judged ∙ sym (opening-before u b (rw judged at early))))
+    (λ (past : before (judgedPlan t a) ≡ false). opening-retired t a past e ∙ sym (opening-retired u b (rw judged at past) (rw (same .header) at e)))
+    (true-or-false (before (judgedPlan t a))))
+    (λ (n : ¬ Fddi t). opening-in-use t a n ∙ (judged ∙ sym (opening-in-use u b (rw (same .header) at n))))
+    (fddi-or-not t)
+
+first-places-opened : (t u : Set) (a b : Alloc) → SameSet t u → SameFirst (t .n) (a .s) (b .s) → judgedPlan t a ≡ 0 → SameRing (openedRing t a) (openedRing u b)
+first-places-opened t u a b same alloc e =
+    fresh-same t u a b _ _ same alloc (fresh t a e) (fresh u b (sym (judged-plan-same t u a b same alloc) ∙ e))
 
 first-places-opening : (t u : Set) (a b : Alloc) → SameSet t u → SameFirst (t .n) (a .s) (b .s)
     → (opening t a .number ≡ opening u b .number) × (opening t a .number ≡ 0 → SameRing (opening t a .ring) (opening u b .ring))
 first-places-opening t u a b same alloc =
-    let number : opening t a .number ≡ opening u b .number = number-opened t a ∙ (judged-plan-same t u a b same alloc ∙ sym (number-opened u b)) in
-    (number, λ e. fresh-same t u a b _ _ same alloc (opening-fresh t a e) (opening-fresh u b (sym number ∙ e)))
+    let numbers : openingNumber t a ≡ openingNumber u b = number-same t u a b same (judged-plan-same t u a b same alloc) in
+    let number : opening t a .number ≡ opening u b .number = number-opened t a ∙ (numbers ∙ sym (number-opened u b)) in
+    (number, λ e. rw (ring-opened t a e, ring-opened u b (sym number ∙ e)) (first-places-opened t u a b same alloc (accepts t a e)))
 
 -- ---- a visit
 
@@ -185,10 +207,19 @@ first-places-unmark a b s La Lb same =
 pub promised : Promised
 promised =
     record {
-      opening-number = number-opened;
+      opening-two = λ t a. rw (number-opened t a) (opening-two t a);
+      opening-four = λ t a. rw (number-opened t a) (opening-four t a);
+      opening-five = λ t a. rw (number-opened t a) (opening-five t a);
+      opening-sixteen = λ t a. rw (number-opened t a) (opening-sixteen t a);
+      opening-seven = λ t a. rw (number-opened t a) (opening-seven t a);
+      opening-none = λ t a. rw (number-opened t a) (opening-none t a);
+      opening-only = λ t a. rw (number-opened t a) (opening-only t a);
+      opening-in-use = λ t a n. number-opened t a ∙ opening-in-use t a n;
       opening-blank = opening-blank;
       opening-fresh = opening-fresh;
       opening-sound = opening-sound;
+      opened-fresh = fresh;
+      opened-sound = opened-sound;
       sound = decides-sound;
       sound-timely = sound-timely;
       sound-fddi = sound-fddi;
@@ -238,6 +269,7 @@ promised =
       unmark-sound = unmark-sound;
       nothing-new = nothing-new;
       first-places-opening = first-places-opening;
+      first-places-opened = first-places-opened;
       first-places-sound = sound-same;
       first-places-visit = first-places-visit;
       first-places-message = first-places-message;

@@ -10,15 +10,16 @@ use Rattle.units.specs.Numbers.{mostClock}
 use Rattle.units.specs.Small.{roundedUp}
 use Rattle.units.specs.Places.{at, sumBelow, sumFrom}
 use Rattle.units.specs.declared.Station.{Station}
-use Rattle.sets.specs.Rules.{SameSet}
+use Rattle.sets.specs.Rules.{CountAllowed, WalkTimeAllowed, SameSet}
 use Rattle.sets.specs.declared.Set.{Set}
+use Rattle.plans.specs.Rules.{Retired, InRange, KeepsRules}
 use Rattle.plans.specs.Planned.{judgedPlan}
 use Rattle.plans.specs.declared.Alloc.{Alloc}
 use Rattle.timers.specs.Timers.{ticks, startedAt, offered, visited as tokenAt}
 use Rattle.rings.specs.State.{count, ttrt, overrun, share, unusedAt, Marked, Unmarked, Shaped, timersOf, blankRing, withTimers, withMessages}
 use Rattle.rings.specs.Timers.{Fddi, Earlier, lead, timerOf, limit, TimersSound}
 use Rattle.rings.specs.Frames.{framesSent}
-use Rattle.rings.specs.Opening.{opening}
+use Rattle.rings.specs.Opening.{openedRing, opening}
 use Rattle.rings.specs.Sound.{Sound, isSound}
 use Rattle.rings.specs.Steps.{Ask, LengthNamed, mostSent, blankRecord, visited}
 use Rattle.rings.specs.HandingIn.{Known, LengthAllowed, Free, Arrived, ArrivalAllowed, Takes, handedIn}
@@ -308,14 +309,32 @@ withMarks marks r = withMessages (record { rest = r .rest; arrival = r .arrival;
 -- ---- the promises
 
 pub record Promised : Type 0 where
-  -- opening's number is the judgement of the set and the allocation: 2, 4, 5, 7 or 0
-  pub opening-number : (t : Set) (a : Alloc) → opening t a .number ≡ judgedPlan t a
+  -- opening: 2 exactly if the count of stations is wrong
+  pub opening-two : (t : Set) (a : Alloc) → (opening t a .number ≡ 2) ↔ ¬ CountAllowed t
+  -- 4 exactly if that passes and a number of the set or an S is out of its range
+  pub opening-four : (t : Set) (a : Alloc) → (opening t a .number ≡ 4) ↔ (CountAllowed t × ¬ InRange t a)
+  -- 5 exactly if that passes and τ is 0 or above TTRT
+  pub opening-five : (t : Set) (a : Alloc) → (opening t a .number ≡ 5) ↔ (CountAllowed t × (InRange t a × ¬ WalkTimeAllowed t))
+  -- 16 exactly if that passes and the mode is FDDI, whether or not the allocation meets the rules: it comes before 7
+  pub opening-sixteen : (t : Set) (a : Alloc) → (opening t a .number ≡ 16) ↔ (CountAllowed t × (InRange t a × (WalkTimeAllowed t × Retired t)))
+  -- 7 exactly if that passes, the mode is another one, and the allocation breaks a rule
+  pub opening-seven : (t : Set) (a : Alloc) → (opening t a .number ≡ 7) ↔ (CountAllowed t × (InRange t a × (WalkTimeAllowed t × (¬ Retired t × ¬ KeepsRules t a))))
+  -- 0 exactly if the plan is judged 0 and the mode is not FDDI
+  pub opening-none : (t : Set) (a : Alloc) → (opening t a .number ≡ 0) ↔ ((judgedPlan t a ≡ 0) × ¬ Retired t)
+  -- no other number is ever given: it is the judgement's, or 16
+  pub opening-only : (t : Set) (a : Alloc) → (opening t a .number ≡ judgedPlan t a) ⊎ (opening t a .number ≡ 16)
+  -- in both editions of timely-token nothing has changed: the number is the judgement's
+  pub opening-in-use : (t : Set) (a : Alloc) → ¬ Retired t → opening t a .number ≡ judgedPlan t a
   -- a refused opening returns the blank ring
   pub opening-blank : (t : Set) (a : Alloc) → opening t a .number ≢ 0 → opening t a .ring ≡ blankRing
   -- an accepted opening returns the ring that 01's sentence has
   pub opening-fresh : (t : Set) (a : Alloc) → opening t a .number ≡ 0 → Fresh t a (opening t a .ring)
   -- and that ring is sound
   pub opening-sound : (t : Set) (a : Alloc) → opening t a .number ≡ 0 → Sound (opening t a .ring)
+  -- in every mode, FDDI too, the state that opening a plan gives or used to give is just that ring
+  pub opened-fresh : (t : Set) (a : Alloc) → judgedPlan t a ≡ 0 → Fresh t a (openedRing t a)
+  -- and it is sound: 16 makes no state unsound
+  pub opened-sound : (t : Set) (a : Alloc) → judgedPlan t a ≡ 0 → Sound (openedRing t a)
   -- the test of soundness holds exactly if the ring keeps 01's list
   pub sound : (r : Ring) → (isSound r ≡ true) ↔ Sound r
   -- what that list asks of the timers: of a timely-token ring that no TRT exceeds TTRT and u is the sum of S − s
@@ -335,7 +354,7 @@ pub record Promised : Type 0 where
   pub visit-thirteen : (r : Ring) (ask : Ask) → (visited r ask .answer .number ≡ 13) ↔ (Sound r × (LengthNamed r ask × ¬ (r .clock ≤ mostClock)))
   -- 0 exactly if all that passes
   pub visit-none : (r : Ring) (ask : Ask) → (visited r ask .answer .number ≡ 0) ↔ (Sound r × (LengthNamed r ask × (r .clock ≤ mostClock)))
-  -- no other number is ever given: for a bad set or allocation inside a ring 8, never 2, 4, 5 or 7
+  -- no other number is ever given: for a bad set or allocation inside a ring 8, never 2, 4, 5 or 7, and for FDDI never 16
   pub visit-only : (r : Ring) (ask : Ask) → (visited r ask .answer .number ≡ 0) ⊎ (visited r ask .answer .number ≡ 8) ⊎ (visited r ask .answer .number ≡ 10) ⊎ (visited r ask .answer .number ≡ 13)
   -- a refused visit gives back the very ring
   pub visit-unchanged : (r : Ring) (ask : Ask) → visited r ask .answer .number ≢ 0 → visited r ask .ring ≡ r
@@ -413,6 +432,8 @@ pub record Promised : Type 0 where
   -- places from N on are never looked at, in opening
   pub first-places-opening : (t u : Set) (a b : Alloc) → SameSet t u → SameFirst (t .n) (a .s) (b .s)
       → (opening t a .number ≡ opening u b .number) × (opening t a .number ≡ 0 → SameRing (opening t a .ring) (opening u b .ring))
+  -- in the state that opening gives or used to give
+  pub first-places-opened : (t u : Set) (a b : Alloc) → SameSet t u → SameFirst (t .n) (a .s) (b .s) → judgedPlan t a ≡ 0 → SameRing (openedRing t a) (openedRing u b)
   -- in the test of soundness
   pub first-places-sound : (a b : Ring) → SameRing a b → isSound a ≡ isSound b
   -- in a visit

@@ -1,7 +1,10 @@
--- Opening takes a set and an allocation; the numbers 2, 4, 5 and 7 apply.
+-- Opening takes a set and an allocation; the numbers 2, 4, 5, 16 and 7 apply, in this order.
 use Prim.Native.Nat.{ℕ, zero, suc}
 use Rattle.sets.specs.declared.Set.{Set}
-use Rattle.plans.specs.Planned.{judgedPlan}
+use Rattle.units.specs.Numbers.{retired}
+use Rattle.units.specs.Judging.{orElse}
+use Rattle.plans.specs.Rules.{inUse}
+use Rattle.plans.specs.Planned.{givenThen, rulesNumber}
 use Rattle.plans.specs.declared.Alloc.{Alloc}
 use Rattle.rings.specs.State.{withPlan, withTimers, blankRing}
 use Rattle.rings.specs.Timers.{silentTimers}
@@ -17,9 +20,9 @@ unfoldable pub openedWith : ℕ → Ring → Opened
 openedWith zero r = record { ring = r; number = 0 }
 openedWith (suc k) r = record { ring = blankRing; number = suc k }
 
--- opening's number: the judgement of the set with the allocation, the lowest of 2, 4, 5 and 7 that applies
-abbrev pub openingNumber : Set → Alloc → ℕ
-openingNumber t a = judgedPlan t a
+-- opening's number: that of the judgement of the set with the allocation, but an FDDI ring is not opened any more: 16, behind 2, 4 and 5 and before 7
+unfoldable pub openingNumber : Set → Alloc → ℕ
+openingNumber t a = givenThen t a (orElse (inUse t) retired (rulesNumber t a))
 
 -- opening's answer: the opened ring, or the refusal
 abbrev pub opening : Set → Alloc → Opened

@@ -23,7 +23,7 @@ visitsEnd = 2 ^ 62
 -- ---- the sentences
 
 pub record Sound (r : Ring) : Type 0 where
-  -- the set and the allocation would not be refused on opening
+  -- the set and the allocation are judged 0: opening would not refuse them with 2, 4, 5 or 7; 16 makes no state unsound
   pub plan : judgedPlan (r .set) (r .alloc) ≡ 0
   -- the token's station is below N
   pub token : r .token < count r

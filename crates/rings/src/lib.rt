@@ -153,11 +153,11 @@ pub fn count_places(ring: Ring) -> u32
     numbers::MOST_STATIONS
 }
 
-// Opening: the opened ring, or the lowest of 2, 4, 5 and 7 that applies with the blank ring.
+// Opening: the opened ring, or the first of 2, 4, 5, 16 and 7 that applies with the blank ring.
 pub fn open(set: Set, alloc: Alloc) -> Opened
     ensures { λ r. ⌜ r ≡ opening set alloc ⌝ }
 {
-    let judged = plans::judge_plan(set, alloc);
+    let judged = opening::opening_number(set, alloc);
     if judged != numbers::ACCEPTED {
         return Opened {
             ring: opening::blank_ring(),

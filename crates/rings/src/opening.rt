@@ -1,12 +1,28 @@
-// The opened ring, and the blank one.
+// Opening's number, the opened ring, and the blank one.
 use super::Ring;
 use super::timing;
 use plans::Alloc;
 use sets::Set;
+use units::numbers;
 ghost use mathlib.Core.Path.{_≡_};
 ghost use Rattle.plans.specs.Planned.{judgedPlan};
 ghost use Rattle.rings.specs.State.{blankRing};
-ghost use Rattle.rings.specs.Opening.{openedRing};
+ghost use Rattle.rings.specs.Opening.{openingNumber, openedRing};
+
+// The first of 2, 4, 5, 16 and 7 that applies: 2, 4 and 5 as the plan is judged, 16 where the mode is FDDI, and else 7 or 0 as it is judged.
+pub(crate) fn opening_number(set: Set, alloc: Alloc) -> u8
+    ensures { λ r. ⌜ r ≡ openingNumber set alloc ⌝ }
+{
+    let judged = plans::judge_plan(set, alloc);
+    let before = (judged != numbers::ACCEPTED) & (judged != numbers::RULES_BROKEN);
+    if before {
+        return judged;
+    }
+    if set.head.mode == numbers::FDDI {
+        return numbers::RETIRED;
+    }
+    judged
+}
 
 // The blank ring: every number in it 0.
 pub(crate) fn blank_ring() -> Ring

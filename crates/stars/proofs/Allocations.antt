@@ -7,7 +7,7 @@ use Rattle.units.specs.Judging.{orElse}
 use Rattle.sets.specs.Rules.{headInRange, stationInRange}
 use Rattle.sets.specs.Judged.{judgedThen}
 use Rattle.plans.specs.Rules.{timeAt, spareTime}
-use Rattle.plans.specs.Planned.{smallestFor, smallestWith, answered, leastAlloc, planned}
+use Rattle.plans.specs.Planned.{smallestFor, smallestWith, answered, planned}
 use Rattle.plans.proofs.Promised.{promised}
 use Rattle.stars.specs.Allocations.{Case, CaseHolds, SetCase, SetCaseHolds, places, Allocations}
 
@@ -21,7 +21,7 @@ none-holds : (r : SetCase) → record { alloc = record { s = places (r .s) }; nu
 none-holds r e n = record { answer = promised .one-answer (r .set) _ .1 e; spare = λ h. absurd (n h) }
 
 pub allocations : Allocations
-unfolding timeAt spareTime smallestWith judgedThen orElse answered leastAlloc sumBelow allBelow fill headInRange stationInRange
+unfolding timeAt spareTime smallestWith judgedThen orElse answered sumBelow allBelow fill headInRange stationInRange
 allocations =
     record {
       stations =

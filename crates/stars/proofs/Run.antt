@@ -5,9 +5,9 @@ use Rattle.units.specs.Judging.{orElse, allHold}
 use Rattle.sets.specs.Rules.{headInRange, stationInRange}
 use Rattle.sets.specs.Judged.{judgedThen}
 use Rattle.plans.specs.Rules.{timeAt, spareTime}
-use Rattle.plans.specs.Planned.{smallestWith, judgedPlan, answered, leastAlloc}
+use Rattle.plans.specs.Planned.{smallestWith, judgedPlan, answered}
 use Rattle.rings.specs.Frames.{framesFrom}
-use Rattle.rings.specs.Opening.{openedRing, openedWith}
+use Rattle.rings.specs.Opening.{openedRing, openedWith, openingNumber}
 use Rattle.rings.specs.Sound.{isSound}
 use Rattle.rings.specs.State.{following}
 use Rattle.rings.specs.Timers.{timersOffer, limit, lead, timelyAfter, timersAfter, silentTimely, silentTimers, timelySound, timersSound}
@@ -16,7 +16,7 @@ use Rattle.rings.specs.HandingIn.{arrivalAllowed, holding, takenWith}
 use Rattle.stars.specs.Run.{WorkedRun}
 
 pub workedRun : WorkedRun
-unfolding framesFrom sumBelow allBelow fill raise orElse allHold headInRange stationInRange judgedThen timeAt spareTime smallestWith judgedPlan answered leastAlloc openedRing openedWith isSound
+unfolding framesFrom sumBelow allBelow fill raise orElse allHold headInRange stationInRange judgedThen timeAt spareTime smallestWith judgedPlan answered openedRing openingNumber openedWith isSound
     mostSent syncSent following timersOffer limit lead timelyAfter timersAfter silentTimely silentTimers timelySound timersSound moved recordOf visitedWith arrivalAllowed holding takenWith
 workedRun =
     record {

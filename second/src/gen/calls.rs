@@ -40,7 +40,7 @@ struct Script {
 
 impl Script {
     fn new(plan: &Plan, manner: Manner, sort: Sort) -> Script {
-        let ring = Ring::open(plan, Planted::Nothing).expect("the plan is sound");
+        let ring = Ring::opened(plan, Planted::Nothing).expect("the plan is sound");
         Script { ring, calls: vec![], manner, uncut: sort.uncut, marked: sort.marked }
     }
 

@@ -14,7 +14,7 @@ use crate::text::Call;
 
 /// The visits and marks of a run, as a recorder notes them.
 pub fn entries(plan: &Plan, calls: &[Call], counter: Counter) -> Vec<Entry> {
-    let mut ring = Ring::open(plan, Planted::Nothing).expect("the plan is sound");
+    let mut ring = Ring::opened(plan, Planted::Nothing).expect("the plan is sound");
     calls.iter().filter_map(|call| noted(call, &call.answer(&mut ring), counter)).collect()
 }
 

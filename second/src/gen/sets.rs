@@ -3,7 +3,6 @@
 use super::random::Random;
 use super::sort::Sort;
 use crate::planner;
-use crate::planted::Planted;
 use crate::rules::{fddi_least_time, least_time, Head, Mode, Plan, Request, Station};
 use crate::rules::{FRAME, GRID, MOST_GAP, MOST_STATIONS};
 
@@ -198,7 +197,7 @@ fn fddi_message(
 
 /// The smallest plan of a feasible set.
 pub fn smallest_plan(request: &Request) -> Plan {
-    planner::plan(request, Planted::Nothing).expect("the set is feasible")
+    planner::least_plan(request).expect("the set is feasible")
 }
 
 /// A feasible set with all spare time walked away, and `over` ticks more; or given to a frame.
@@ -225,7 +224,7 @@ fn most_walk(request: &Request, index: usize, left: u32) -> u32 {
     let feasible = |more: u32| {
         let mut request = request.clone();
         request.stations[index].walk += more;
-        planner::plan(&request, Planted::Nothing).is_ok()
+        planner::least_plan(&request).is_ok()
     };
     let (mut low, mut high) = (0, left);
     while low < high {
@@ -450,6 +449,63 @@ pub fn small_plan(random: &mut Random, sort: Sort) -> Plan {
 pub fn plan_at_edge(random: &mut Random, sort: Sort) -> Plan {
     let edges = at_edges(&small_plan(random, sort));
     random.pick(&edges)
+}
+
+/// A small plan that breaks some of the rules at once, or none: the token rule or a deadline (7), a
+/// deadline that no S keeps (6), τ (5), a range (4), the count of stations (2).
+pub fn broken_plan(random: &mut Random, sort: Sort) -> Plan {
+    let mut plan = small_plan(random, sort);
+    let index = random.index(plan.allocation.len());
+    let ttrt = plan.request.head.ttrt;
+    if random.once_in(2) {
+        plan.allocation[index] = random.pick(&[0, ttrt]);
+    }
+    let station = &mut plan.request.stations[index];
+    if random.once_in(2) {
+        station.longest = MOST_TICKS;
+    }
+    if random.once_in(3) {
+        station.walk = (ttrt + 1).min(1_000_000);
+        if random.once_in(2) {
+            plan.request.stations.iter_mut().for_each(|station| station.walk = 0);
+        }
+    }
+    if random.once_in(4) {
+        out_of_range(random, &mut plan, index);
+    }
+    if random.once_in(6) {
+        let count = random.pick(&[0, MOST_STATIONS + 1]);
+        plan.request.stations.resize(count, plan.request.stations[0]);
+        plan.allocation.resize(count, plan.allocation[0]);
+    }
+    plan
+}
+
+/// An FDDI plan whose stations push each other, with one S a little smaller or larger: what the
+/// others have decides whether it keeps the rules.
+pub fn pushed_plan(random: &mut Random, sort: Sort) -> Plan {
+    let climbed = planner::least_plan(&climbing(random, sort)).ok();
+    let mut plan =
+        climbed.filter(|_| !random.once_in(3)).unwrap_or_else(|| sound_plan(random, sort));
+    let index = random.index(plan.allocation.len());
+    let (s, step) = (plan.allocation[index], plan.request.head.grid);
+    let [less, half] = [s.saturating_sub(step), s / 2 / step * step];
+    plan.allocation[index] = random.pick(&[less, less, less, half, s, s + 1, s + 1, s + step]);
+    plan
+}
+
+/// One number of a plan past its range.
+fn out_of_range(random: &mut Random, plan: &mut Plan, index: usize) {
+    let station = &mut plan.request.stations[index];
+    match random.between(0, 6) {
+        0 => plan.request.head.ttrt = random.pick(&[0, 1_000_001]),
+        1 => plan.request.head.mode = random.pick(&[0, 4]),
+        2 => station.walk = 1_000_001,
+        3 => station.longest = MOST_TICKS + 1,
+        4 => station.deadline = 0,
+        5 => station.gap = station.deadline - 1,
+        _ => plan.allocation[index] = random.pick(&[1_000_001, u32::MAX]),
+    }
 }
 
 /// A plan of any kind, in range or not, now and then of a wrong count of stations.

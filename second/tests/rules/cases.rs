@@ -4,7 +4,9 @@ use crate::{worked_plan, worked_request};
 use second::frames::{answer, NO_CASE};
 use second::gen::{write_cases, Kind, Sort};
 use second::notation::{from_hex, show_set, to_hex};
+use second::planner::least_plan;
 use second::planted::Planted;
+use second::rules::Refusal;
 use second::sheet::fields;
 
 fn answered(case: &str) -> String {
@@ -200,9 +202,25 @@ fn every_number_of_a_kind_is_reached() {
         assert_eq!(numbers((Kind::Requests, sort), 600), [0, 1, 2, 3, 4, 5]);
         assert_eq!(numbers((Kind::Plans, sort), 600), [0, 1, 2, 3, 4, 5, 7]);
         assert_eq!(numbers((Kind::Edges, sort), 3), [0, 1, 2, 3, 4, 5, 7]);
-        assert_eq!(numbers((Kind::Planning, sort), 600), [0, 2, 4, 5, 6]);
+        let begun = [Kind::Planning, Kind::Openings, Kind::Orders].map(|kind| (kind, sort));
+        let [planned, opened, ordered] = begun.map(|kind| numbers(kind, 600));
+        match sort.is_fddi() {
+            // Beside them are a few sets whose mode was changed.
+            true => {
+                let reached = |numbers: &[u8]| [2, 4, 5, 16].iter().all(|n| numbers.contains(n));
+                assert!(reached(&planned) && reached(&opened), "{planned:?}, {opened:?}");
+                assert_eq!(ordered, [0, 2, 4, 5, 7, 16]);
+            }
+            // Where a mode was changed to 2, that is 16.
+            false => {
+                let begun = [planned, opened, ordered].map(|mut numbers| {
+                    numbers.retain(|&number| number != 16 || !sort.has_mode());
+                    numbers
+                });
+                assert_eq!(begun, [&[0, 2, 4, 5, 6][..], &[0, 2, 4, 5, 7], &[0, 2, 4, 5, 6, 7]]);
+            }
+        }
         assert_eq!(numbers((Kind::Writing, sort), 600), [0, 2, 4, 5, 7, 14]);
-        assert_eq!(numbers((Kind::Openings, sort), 600), [0, 2, 4, 5, 7]);
         assert_eq!(numbers((Kind::Logs, sort), 1_500), [0, 1, 2, 3, 4, 5, 7]);
         let inspected = numbers((Kind::Inspections, sort), 1_500);
         assert!([0, 1, 2, 3, 4, 7].iter().all(|number| inspected.contains(number)));
@@ -275,10 +293,13 @@ fn fddi_sets_that_one_tick_of_walking_makes_impossible() {
         let sort = if place % 2 == 0 { Sort::FDDI } else { Sort::FDDI_UNCUT };
         let planned = |over| {
             let request = sets::tight(&mut Random::of_case(5, place), sort, over);
-            answered(&format!("planning {}", show_set(&request, &[])))
+            // Whether there is a plan or not, it is not planned any more.
+            let said = answered(&format!("planning {}", show_set(&request, &[])));
+            assert!(["4", "5", "16"].contains(&&*said), "{said}");
+            least_plan(&request).map(|_| ())
         };
-        assert!(planned(0).starts_with("0 "));
-        impossible += usize::from(planned(1) == "6");
+        assert_eq!(planned(0), Ok(()));
+        impossible += usize::from(planned(1) == Err(Refusal::NoAllocation));
     }
     assert!(impossible > 250, "{impossible}");
 }

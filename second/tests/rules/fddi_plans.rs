@@ -1,14 +1,14 @@
-//! FDDI's deadline rule and its least vectors: worked out by hand, and against every vector.
+//! FDDI's deadline rule and its least vectors, which the making of cases goes by: worked out by hand,
+//! and against every vector.
 
 use crate::{fddi, station, timely};
 use second::gen::random::Random;
 use second::planner;
-use second::planted::Planted;
 use second::rules::{fddi_least_time, Head, Plan, Refusal, Request};
 
 /// S of each station, or the number.
 fn planned(request: &Request) -> Result<Vec<u32>, u8> {
-    let plan = planner::plan(request, Planted::Nothing);
+    let plan = planner::least_plan(request);
     plan.map(|plan| plan.allocation).map_err(Refusal::number)
 }
 

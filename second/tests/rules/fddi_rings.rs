@@ -8,7 +8,7 @@ use second::rules::{Plan, Request, Station};
 
 fn open(ttrt: u32, stations: Vec<Station>, allocation: Vec<u32>) -> Ring {
     let plan = Plan { request: Request { head: fddi(ttrt), stations }, allocation };
-    Ring::open(&plan, Planted::Nothing).expect("sound")
+    Ring::opened(&plan, Planted::Nothing).expect("sound")
 }
 
 /// A lone station of TTRT 10, w 2, C 4, D 30, P 30, S 2: q is 3, and X is 2·S.

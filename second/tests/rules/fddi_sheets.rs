@@ -152,14 +152,11 @@ fn frames() {
     let request = to_hex(&request_sheet());
     assert_eq!(answered(format!("request {request}")), format!("0 4 {set}"));
     assert_eq!(answered(format!("plan {}", to_hex(&plan_sheet()))), format!("0 4 {planset}"));
-    assert_eq!(answered(format!("planning {set}")), "0 18 20,20,20,20");
+    assert_eq!(answered(format!("planning {set}")), "16");
     assert_eq!(answered(format!("write-request 90;{set}")), format!("0 {request}"));
     assert_eq!(answered(format!("write-request 90;{}", set.replace("100,2", "100,4"))), "4");
-    assert_eq!(
-        answered(format!("open {planset}")),
-        "0 0,0,0,80;2,0,0,0,0,0;0,0,0,0,0,0;0,0,0,0,0,0;0,0,0,0,0,0"
-    );
-    assert_eq!(answered("open 4,2;4,0,1,1,0".to_string()), "0 0,0,0,0;0,0,0,0,0,0,1");
+    assert_eq!(answered(format!("open {planset}")), "16");
+    assert_eq!(answered("open 4,2;4,0,1,1,0".to_string()), "16");
     // Mode 1 may stand in a case as well.
     assert_eq!(answered("open 4,1;4,0,1,1,0".to_string()), "0 0,0,0,0;4,0,0,0,0,0");
     for line in ["planning 100,;1,0,1,1", "planning 100,2,1,1,1;1,0,1,1", "planning ,2;1,0,1,1"] {

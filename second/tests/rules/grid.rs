@@ -2,14 +2,14 @@
 
 use crate::{fddi, station, timely, worked_plan};
 use second::gen::random::Random;
-use second::planner::plan;
+use second::planner::least_plan;
 use second::planted::Planted;
 use second::ring::Ring;
 use second::rules::{least_time, Head, Mode, Plan, Refusal, Request, Station};
 
 /// The allocation and A*, or the number.
 fn planned(request: &Request) -> Result<(Vec<u32>, u64), u8> {
-    let planned = plan(request, Planted::Nothing).map_err(Refusal::number)?;
+    let planned = least_plan(request).map_err(Refusal::number)?;
     let spare = planned.spare();
     Ok((planned.allocation, spare))
 }

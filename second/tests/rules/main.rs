@@ -19,6 +19,7 @@ mod marks;
 mod planted;
 mod program;
 mod promises;
+mod retired;
 mod ring;
 mod sheets;
 mod states;

@@ -16,7 +16,7 @@ use second::text::{answer_line, call, Answer, Call};
 
 /// The answers of a ring to calls, each as its line; the promises are checked.
 fn answers(plan: &Plan, calls: &str) -> Vec<String> {
-    let ring = Ring::open(plan, Planted::Nothing).expect("sound");
+    let ring = Ring::opened(plan, Planted::Nothing).expect("sound");
     let mut ring = WatchedRing::new(ring, Planted::Nothing);
     let read = |line: &str| call(&line.split(' ').map(str::as_bytes).collect::<Vec<_>>());
     let calls = calls.split(';').map(|line| read(line).expect("a call"));

@@ -42,16 +42,24 @@ fn shown_by(planted: Planted) -> (Kind, &'static [Sort]) {
         Sort::FDDI_MARKED,
         Sort::EARLIER_MARKED,
     ];
+    const TIMELY_UNCUT: &[Sort] = &[
+        Sort::UNCUT,
+        Sort::EARLIER_UNCUT,
+        Sort::GRID,
+        Sort::EARLIER_GRID,
+        Sort::MARKED,
+        Sort::EARLIER_MARKED,
+    ];
     const GRID: &[Sort] = &[Sort::GRID, Sort::EARLIER_GRID, Sort::FDDI_GRID];
     const MARKED: &[Sort] = &[Sort::MARKED, Sort::EARLIER_MARKED, Sort::FDDI_MARKED];
     match planted {
         Planted::Nothing => (Kind::Runs, &[]),
         Planted::TimeForNobody | Planted::RoundedDown => (Kind::Planning, TIMELY),
-        Planted::OthersLeftOut | Planted::OneVisitTooMany => (Kind::Planning, FDDI),
-        Planted::OverrunLeftOut => (Kind::Planning, UNCUT),
+        Planted::OthersLeftOut | Planted::OneVisitTooMany => (Kind::Orders, FDDI),
+        Planted::OverrunLeftOut => (Kind::Planning, TIMELY_UNCUT),
         Planted::DownToTheGrid => (Kind::Planning, &GRID[..2]),
-        Planted::ClimbOffTheGrid => (Kind::Planning, &GRID[2..]),
-        Planted::OffGridOutOfRange => (Kind::Openings, GRID),
+        Planted::FddiOffTheGrid => (Kind::Orders, &GRID[2..]),
+        Planted::OffGridOutOfRange => (Kind::Openings, &GRID[..2]),
         Planted::ServedAhead => (Kind::Steps, &Sort::ALL),
         Planted::LookedAtFirst => (Kind::Steps, EARLIER),
         Planted::FrameAtLimit | Planted::NotArrivedLast | Planted::NotArrivedAtClock => {
@@ -76,8 +84,8 @@ fn shown_by(planted: Planted) -> (Kind, &'static [Sort]) {
         Planted::MarkAfterSending
         | Planted::MarkedLimitByTimers
         | Planted::WithdrawnArrivalForgotten
+        | Planted::MarkedUnusedNotRaised
         | Planted::KeptUnderMark => (Kind::Runs, MARKED),
-        Planted::MarkedUnusedNotRaised => (Kind::Runs, &MARKED[..2]),
         Planted::MarkCountedAsVisit | Planted::FirstStartBoundByMark => (Kind::Inspections, MARKED),
         Planted::NumberFromCount
         | Planted::NewestDropped
@@ -90,6 +98,10 @@ fn shown_by(planted: Planted) -> (Kind, &'static [Sort]) {
         Planted::OwnPlanTaken | Planted::AllocationNotCompared | Planted::OtherGridAccepted => {
             (Kind::Departures, &Sort::ALL)
         }
+        Planted::RetiredBeforeWalkSum | Planted::RetiredAfterRules => (Kind::Orders, FDDI),
+        Planted::EarlierRetired => (Kind::Orders, EARLIER),
+        Planted::OpenRingUnsound => (Kind::Runs, FDDI),
+        Planted::LogRetired => (Kind::Inspections, FDDI),
         _ => (Kind::Runs, TIMELY),
     }
 }
@@ -98,6 +110,7 @@ fn shown_by(planted: Planted) -> (Kind, &'static [Sort]) {
 fn comparing_finds_every_planted_error() {
     let kinds = [
         Kind::Planning,
+        Kind::Orders,
         Kind::Runs,
         Kind::Steps,
         Kind::Openings,
@@ -107,17 +120,19 @@ fn comparing_finds_every_planted_error() {
         Kind::Trains,
         Kind::Departures,
     ];
+    let retired = &Planted::ALL[52..];
     let every = kinds.map(|kind| Sort::ALL.map(|sort| (kind, sort))).concat();
     let sorted = |(kind, sort): &(Kind, Sort)| kind.has_sorts() || *sort == Sort::TIMELY;
     for (kind, sort) in every.into_iter().filter(sorted) {
         let answered = answered(kind, sort);
         for planted in Planted::ALL {
-            let elsewhere = [Kind::Openings, Kind::Departures].contains(&kind)
-                || planted == Planted::MarkedLimitByTimers;
+            let elsewhere = [Kind::Openings, Kind::Departures, Kind::Orders].contains(&kind)
+                || planted == Planted::MarkedLimitByTimers
+                || retired.contains(&planted);
             if elsewhere && shown_by(planted).0 != kind {
                 // An error in the ring may show in the one that is opened, too, and the limits of
                 // marked visits in logs; errors in the inspection and in `diff` show in logs beside
-                // their plans.
+                // their plans. A wrong 16 shows wherever a ring is planned, opened or looked at.
                 continue;
             }
             let differs = |(case, right): &&(String, String)| answer(case, planted) != *right;
@@ -131,7 +146,7 @@ fn comparing_finds_every_planted_error() {
             assert!(as_expected, "{planted:?}: {found} in {kind:?} of {sort:?}");
         }
     }
-    assert_eq!([0, 53].map(Planted::from_number), [None, None]);
+    assert_eq!([0, 58].map(Planted::from_number), [None, None]);
     assert_eq!(Planted::from_number(20), Some(Planted::FirstStartCompared));
     assert_eq!(Planted::from_number(24), Some(Planted::LogByTheLaterEdition));
     assert_eq!(Planted::from_number(27), Some(Planted::OffGridOutOfRange));
@@ -142,13 +157,15 @@ fn comparing_finds_every_planted_error() {
     assert_eq!(Planted::from_number(46), Some(Planted::DoorForBrake));
     assert_eq!(Planted::from_number(49), Some(Planted::EmptyListPlanned));
     assert_eq!(Planted::from_number(52), Some(Planted::OtherGridAccepted));
+    assert_eq!(Planted::from_number(53), Some(Planted::RetiredBeforeWalkSum));
+    assert_eq!(Planted::from_number(57), Some(Planted::LogRetired));
 }
 
 /// Every promise that the runs with the error break.
 fn broken(planted: Planted, sort: Sort) -> HashSet<Broken> {
     let of_run = |place| {
         let (plan, script) = calls::script(&mut Random::of_case(6, place), sort);
-        let mut ring = WatchedRing::suspected(Ring::open(&plan, planted).expect("sound"));
+        let mut ring = WatchedRing::suspected(Ring::opened(&plan, planted).expect("sound"));
         script.into_iter().flat_map(move |call| ring.checked(&call).1)
     };
     (0..400).flat_map(of_run).collect()

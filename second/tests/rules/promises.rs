@@ -18,7 +18,7 @@ type Counts = HashMap<u8, usize>;
 
 fn follow(place: u64, sort: Sort, counts: &mut Counts) {
     let (plan, script) = calls::script(&mut Random::of_case(1, place), sort);
-    let ring = Ring::open(&plan, Planted::Nothing).expect("sound");
+    let ring = Ring::opened(&plan, Planted::Nothing).expect("sound");
     let mut ring = WatchedRing::new(ring, Planted::Nothing);
     for call in &script {
         let before = ring.ring().clone();
@@ -65,7 +65,7 @@ fn the_scripts_reach_the_edges() {
     let mut reached = [0; 8];
     for place in 0..1_000 {
         let (plan, script) = calls::script(&mut Random::of_case(2, place), Sort::TIMELY);
-        let mut ring = Ring::open(&plan, Planted::Nothing).expect("sound");
+        let mut ring = Ring::opened(&plan, Planted::Nothing).expect("sound");
         script.iter().for_each(|call| count_edges(&mut ring, call, &mut reached));
     }
     assert!(reached.iter().all(|&times| times > 50), "{reached:?}");

@@ -4,27 +4,7 @@
 use second::gen::{calls, random::Random, Sort};
 use second::planted::Planted;
 use second::ring::{Ring, Ticks};
-use second::rules::{Mode, Plan};
-use second::state::{Place, State};
-
-fn opened(plan: &Plan) -> State {
-    let stations = &plan.request.stations;
-    let walk_from = |index: usize| stations[index..].iter().map(|station| station.walk).sum();
-    let place = |index| {
-        let trt = walk_from(index);
-        let late = plan.request.mode() == Mode::Fddi && trt == plan.request.head.ttrt;
-        let trt = if late { 0 } else { trt };
-        Place { trt, late: u32::from(late), ..Place::default() }
-    };
-    State {
-        clock: 0,
-        token: 0,
-        visits: 0,
-        unused: plan.allocated(),
-        plan: plan.clone(),
-        places: (0..stations.len()).map(place).collect(),
-    }
-}
+use second::state::State;
 
 fn assert_same(ring: &Ring, state: &State) {
     assert_eq!((ring.clock(), ring.visits()), (state.clock as Ticks, state.visits));
@@ -44,8 +24,9 @@ fn assert_same(ring: &Ring, state: &State) {
 fn absolute_times_and_timers_agree() {
     for (place, sort) in (0..1_000).flat_map(|place| Sort::ALL.map(|sort| (place, sort))) {
         let (plan, script) = calls::script(&mut Random::of_case(9, place), sort);
-        let mut ring = Ring::open(&plan, Planted::Nothing).expect("sound");
-        let mut state = opened(&plan);
+        let mut ring = Ring::opened(&plan, Planted::Nothing).expect("sound");
+        let mut state = State::opened(&plan);
+        assert_same(&ring, &state);
         for call in &script {
             assert_eq!(call.answer(&mut ring), state.answer(call));
             assert_same(&ring, &state);

@@ -82,7 +82,7 @@ impl Timers {
 
 /// Follows one script; gives how often a token came late, and the largest count seen.
 fn follow(plan: &Plan, script: &[Call]) -> (usize, u32) {
-    let mut ring = Ring::open(plan, Planted::Nothing).expect("sound");
+    let mut ring = Ring::opened(plan, Planted::Nothing).expect("sound");
     let mut timers = Timers::opened(plan);
     let (mut late_tokens, mut largest) = (0, 0);
     for call in script {

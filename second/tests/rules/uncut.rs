@@ -47,7 +47,7 @@ fn framed(mut request: Request, frame: u32) -> Request {
 
 /// S of each station and A*, or the number.
 fn planned(request: &Request) -> Result<(Vec<u32>, u64), u8> {
-    let plan = planner::plan(request, Planted::Nothing).map_err(Refusal::number)?;
+    let plan = planner::least_plan(request).map_err(Refusal::number)?;
     Ok((plan.allocation.clone(), plan.spare()))
 }
 
@@ -124,7 +124,7 @@ fn fddi_plans() {
 
 fn open(head: Head, stations: Vec<Station>, allocation: Vec<u32>) -> Ring {
     let plan = Plan { request: Request { head, stations }, allocation };
-    Ring::open(&plan, Planted::Nothing).expect("sound")
+    Ring::opened(&plan, Planted::Nothing).expect("sound")
 }
 
 fn hand_in(ring: &mut Ring, station: u32, length: u64, arrival: u64) {
@@ -146,7 +146,7 @@ fn the_worked_ring_with_frames() {
     let mut plan = worked_plan();
     plan.request.head.frame = 5;
     assert_eq!(plan.spare(), 14);
-    let mut ring = Ring::open(&plan, Planted::Nothing).expect("sound");
+    let mut ring = Ring::opened(&plan, Planted::Nothing).expect("sound");
     (0..4).for_each(|index| hand_in(&mut ring, index, 20, 0));
     let greedy = ask(1_000, 5);
     assert_eq!(visited(&mut ring, greedy), [0, 0, 2, 14, 20, 15]);
@@ -243,7 +243,7 @@ fn the_scripts_reach_what_f_changes() {
         (0..600).flat_map(|place| [(place, Sort::UNCUT), (place, Sort::FDDI_UNCUT)])
     {
         let (plan, script) = calls::script(&mut Random::of_case(3, place), sort);
-        let mut ring = Ring::open(&plan, Planted::Nothing).expect("sound");
+        let mut ring = Ring::opened(&plan, Planted::Nothing).expect("sound");
         let most = i64::from(plan.request.head.ttrt) + plan.allocated() as i64 + ring.overrun();
         let (mut recent, mut starts) = (vec![0; ring.size()], vec![None; ring.size()]);
         for call in &script {
