@@ -2,14 +2,17 @@
 mod shares;
 
 ghost use mathlib.Core.Path.{_≡_};
-ghost use Prim.Native.Nat.{_+_, _≤_};
-ghost use Rattle.units.specs.Places.{at, allBelow};
+ghost use Prim.Native.Nat.{_+_, _^_, _≤_, min};
+ghost use Rattle.units.specs.Places.{at, sumBelow, allBelow};
+ghost use Rattle.units.specs.Vectors.{lostTime};
+ghost use Rattle.sets.specs.Lent.{setOf};
 ghost use Rattle.sets.specs.Rules.{CountAllowed, NumbersAllowed};
 ghost use Rattle.units.specs.Small.{UpTo};
 ghost use Rattle.plans.specs.Bounds.{Lost};
-ghost use Rattle.plans.specs.Rules.{leastTime, loadOf, spareTime, inRangeS, timelyFitsAt, tokenFits, rulesFit};
+ghost use Rattle.plans.specs.Lent.{allocOf, timelyFitsIn, RulesFitIn};
+ghost use Rattle.plans.specs.Rules.{leastTime, spareTime, inRangeS, tokenFits};
 ghost use Rattle.plans.specs.Planned.{blankAlloc, smallestFor, smallestAlloc, judgedPlan, planned};
-use fddi::Load;
+use sets::Head;
 use sets::Set;
 use units::numbers;
 
@@ -56,15 +59,15 @@ pub fn smallest(grid: u32, ttrt: u32, c: u32, d: u32) -> u64
 }
 
 // Every S is in its range.
-fn alloc_in_range(n: u32, a: Alloc) -> bool
+fn alloc_in_range(n: u32, s: &[u32; 128]) -> bool
     requires { ⌜ n ≤ 128 ⌝ }
-    ensures { λ r. ⌜ r ≡ allBelow n (inRangeS (at (a .s))) ⌝ }
+    ensures { λ r. ⌜ r ≡ allBelow n (inRangeS (at (now (s .entry)))) ⌝ }
 {
     let end = units::places(n);
     let mut all = true;
     let mut i: usize = 0;
     while i < end {
-        let one = a.s[i] <= numbers::MOST_S;
+        let one = s[i] <= numbers::MOST_S;
         all = all & one;
         i += 1;
     }
@@ -72,72 +75,75 @@ fn alloc_in_range(n: u32, a: Alloc) -> bool
 }
 
 // The deadline rule of a timely-token set holds at every station.
-fn deadlines_fit(t: Set, a: Alloc) -> bool
-    requires { ⌜ t .n ≤ 128 ⌝ }
-    ensures { λ r. ⌜ r ≡ allBelow (t .n) (timelyFitsAt t (at (a .s))) ⌝ }
+fn deadlines_fit<'a>(
+    ttrt: u32,
+    n: u32,
+    c: &'a [u32; 128],
+    d: &'a [u32; 128],
+    s: &'a [u32; 128],
+) -> bool
+    requires { ⌜ n ≤ 128 ⌝ }
+    ensures { λ r. ⌜ r ≡ allBelow n (timelyFitsIn ttrt (now (c .entry)) (now (d .entry)) (at (now (s .entry)))) ⌝ }
 {
-    let end = units::places(t.n);
+    let end = units::places(n);
     let mut all = true;
     let mut i: usize = 0;
     while i < end {
-        let time = least_time(t.head.ttrt, t.d[i], a.s[i]);
-        let one = units::wide(t.c[i]) <= time;
+        let time = least_time(ttrt, d[i], s[i]);
+        let one = units::wide(c[i]) <= time;
         all = all & one;
         i += 1;
     }
     all
 }
 
-// What no station may plan with: τ, and the F − 1 ticks by which a frame may run on.
+// What no station may plan with, w lent: τ, and the F − 1 ticks by which a frame may run on.
+fn lost_lent(frame: u32, n: u32, w: &[u32; 128]) -> u64
+    ensures { λ r. ⌜ UpTo (2 ^ 40 + 2 ^ 32) (lostTime (sumBelow (min n 128) (at (now (w .entry)))) frame) r ⌝ }
+{
+    units::sum_lent(w, n) + units::room(units::wide(frame), 1)
+}
+
+// The same of any set.
 fn lost(t: Set) -> u64
     ensures { λ r. ⌜ Lost t r ⌝ }
 {
-    sets::walk_time(t) + units::room(units::wide(t.head.frame), 1)
+    lost_lent(t.head.frame, t.n, &t.w)
 }
 
 // The token rule holds.
 fn token_fits(t: Set, a: Alloc) -> bool
     ensures { λ r. ⌜ r ≡ tokenFits t (at (a .s)) ⌝ }
 {
-    let s = a.s;
-    units::token_kept(t.head.ttrt, lost(t), t.n, s)
-}
-
-// What FDDI's rules look at.
-fn load_of(t: Set) -> Load
-    ensures { λ r. ⌜ r ≡ loadOf t ⌝ }
-{
-    let c = t.c;
-    let d = t.d;
-    Load {
-        n: t.n,
-        ttrt: t.head.ttrt,
-        grid: t.head.grid,
-        lost: lost(t),
-        c,
-        d,
-    }
+    units::token_kept(t.head.ttrt, lost(t), t.n, &a.s)
 }
 
 // The rules hold, by the set's mode.
-fn rules_fit(t: Set, a: Alloc) -> bool
-    requires { ⌜ t .n ≤ 128 ⌝ }
-    ensures { λ r. ⌜ r ≡ rulesFit t (at (a .s)) ⌝ }
+fn rules_fit<'a>(
+    h: Head,
+    n: u32,
+    w: &'a [u32; 128],
+    c: &'a [u32; 128],
+    d: &'a [u32; 128],
+    s: &'a [u32; 128],
+) -> bool
+    requires { ⌜ n ≤ 128 ⌝ }
+    ensures { λ r. ⌜ RulesFitIn h n (now (w .entry)) (now (c .entry)) (now (d .entry)) (at (now (s .entry))) r ⌝ }
 {
-    if t.head.mode == numbers::FDDI {
-        let s = a.s;
-        return fddi::meets_rules(load_of(t), s);
+    let lost = lost_lent(h.frame, n, w);
+    if h.mode == numbers::FDDI {
+        return fddi::meets_rules(n, h.ttrt, h.grid, lost, c, d, s);
     }
-    let s = a.s;
-    deadlines_fit(t, a) & token_fits(t, a) & quotients::all_on_grid(t.head.grid, t.n, s)
+    let deadlines = deadlines_fit(h.ttrt, n, c, d, s);
+    let token = units::token_kept(h.ttrt, lost, n, s);
+    deadlines & token & quotients::all_on_grid(h.grid, n, s)
 }
 
 // A*, the spare time: FDDI subtracts no F − 1 in it.
 pub fn spare(t: Set, a: Alloc) -> u64
     ensures { λ r. ⌜ r ≡ spareTime t (at (a .s)) ⌝ }
 {
-    let s = a.s;
-    let sum = units::sum_first(s, t.n);
+    let sum = units::sum_lent(&a.s, t.n);
     let ttrt = units::wide(t.head.ttrt);
     let mode = t.head.mode;
     if mode == numbers::FDDI {
@@ -146,27 +152,43 @@ pub fn spare(t: Set, a: Alloc) -> u64
     units::room(units::room(ttrt, lost(t)), sum)
 }
 
-// The judgement of a given set and allocation: 0, or the lowest of 2, 4, 5 and 7 that applies.
-pub fn judge_plan(t: Set, a: Alloc) -> u8
-    ensures { λ r. ⌜ r ≡ judgedPlan t a ⌝ }
+// The judgement of a given set and allocation whose arrays are lent: 0, or the lowest of 2, 4, 5 and 7 that applies.
+pub fn judge_plan_lent<'a>(
+    h: Head,
+    n: u32,
+    w: &'a [u32; 128],
+    c: &'a [u32; 128],
+    d: &'a [u32; 128],
+    p: &'a [u32; 128],
+    s: &'a [u32; 128],
+) -> u8
+    ensures { λ r. ⌜ r ≡ judgedPlan (setOf h n (now (w .entry)) (now (c .entry)) (now (d .entry)) (now (p .entry))) (allocOf (now (s .entry))) ⌝ }
 {
-    let number = sets::judge(t);
+    let number = sets::judge_lent(h, n, w, c, d, p);
     if number == numbers::WRONG_SHAPE {
         return number;
     }
     if number == numbers::OUT_OF_RANGE {
         return number;
     }
-    if !alloc_in_range(t.n, a) {
+    if !alloc_in_range(n, s) {
         return numbers::OUT_OF_RANGE;
     }
     if number == numbers::BAD_WALK_TIME {
         return number;
     }
-    if !rules_fit(t, a) {
+    if !rules_fit(h, n, w, c, d, s) {
         return numbers::RULES_BROKEN;
     }
     numbers::ACCEPTED
+}
+
+// The judgement of a given set and allocation: 0, or the lowest of 2, 4, 5 and 7 that applies.
+pub fn judge_plan(t: Set, a: Alloc) -> u8
+    ensures { λ r. ⌜ r ≡ judgedPlan t a ⌝ }
+{
+    let h = t.head;
+    judge_plan_lent(h, t.n, &t.w, &t.c, &t.d, &t.p, &a.s)
 }
 
 // The smallest S at each station of an allowed set, by the stations' own numbers.

@@ -126,9 +126,9 @@ fn on_grid(grid: u32, number: u32) -> bool
     both.remainder == 0
 }
 
-// Each of the first n numbers is a multiple of the grid.
-pub fn all_on_grid(grid: u32, n: u32, numbers: [u32; 128]) -> bool
-    ensures { λ r. ⌜ r ≡ allOnGrid grid (min n 128) (at numbers) ⌝ }
+// Each of the first n numbers, of which there are 128, is a multiple of the grid.
+pub fn all_on_grid(grid: u32, n: u32, numbers: &[u32; 128]) -> bool
+    ensures { λ r. ⌜ r ≡ allOnGrid grid (min n 128) (at (now (numbers .entry))) ⌝ }
 {
     let end = units::places(n);
     let mut all = true;

@@ -6,6 +6,7 @@
 --     Steps        the five steps of a visit, the record, and a visit's answer (8, 13)
 --     HandingIn    what each of 9 to 12 and 15 asks, the ring that holds the message, and the answer
 --     Marking      a station switched through, what that takes back, and switched in again
+--     Lent         a ring whose arrays are lent one by one
 --     Bounds       what the inner functions ask for and hand back
 -- and, for the proofs of the layers above:
 --     TimerLaws
@@ -19,6 +20,7 @@ pub mod Frames
 pub mod Steps
 pub mod HandingIn
 pub mod Marking
+pub mod Lent
 pub mod Bounds
 pub mod TimerLaws
 pub mod FrameLaws

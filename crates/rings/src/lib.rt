@@ -137,13 +137,25 @@ pub struct Opened {
 pub fn sound(ring: Ring) -> bool
     ensures { λ r. ⌜ r ≡ isSound ring ⌝ }
 {
-    let set = ring.set;
-    let alloc = ring.alloc;
-    let refusal = plans::judge_plan(set, alloc);
-    if refusal != numbers::ACCEPTED {
-        return false;
-    }
-    soundness::numbers_sound(ring)
+    let head = ring.set.head;
+    soundness::sound_lent(
+        &ring.set.w,
+        &ring.set.c,
+        &ring.set.d,
+        &ring.set.p,
+        &ring.alloc.s,
+        &ring.trt,
+        &ring.late,
+        &ring.sent,
+        &ring.rest,
+        &ring.arrival,
+        head,
+        ring.set.n,
+        ring.token,
+        ring.clock,
+        ring.visits,
+        ring.unused,
+    )
 }
 
 // How many places each array of a ring has: 128, which some promises ask of a ring (`Shaped`).

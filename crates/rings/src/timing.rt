@@ -2,16 +2,21 @@
 use super::Ring;
 use super::Timers;
 use plans::Alloc;
+use sets::Head;
 use sets::Set;
 use units::numbers;
 ghost use mathlib.Core.Path.{_≡_};
-ghost use Prim.Native.Nat.{_-_, _≤_, _<_};
+ghost use Prim.Native.Nat.{_-_, _≤_, _<_, min};
+ghost use mathlib.Core.Bool.{_&&_};
+ghost use lib.Dec.{leb, ltb, eqb};
+ghost use Rattle.units.specs.Places.{at, sumBelow, allBelow};
 ghost use Rattle.units.specs.Small.{UpTo};
 ghost use Rattle.plans.specs.Planned.{judgedPlan};
 ghost use Rattle.timers.specs.Timers.{visited};
 ghost use Rattle.rings.specs.State.{ttrt, share, timersOf};
 ghost use Rattle.rings.specs.Timers.{FddiSound, lead, timelyLimit, fddiLimit, timersOffer, unusedAfter, rise, timelyAfter, tokenCame, fddiAfter, timersAfter};
-ghost use Rattle.rings.specs.Timers.{silentTimely, silentFddi, silentTimers, timelySound, fddiSound, timersSound};
+ghost use Rattle.rings.specs.Timers.{silentTimely, silentFddi, silentTimers, mostLate};
+ghost use Rattle.rings.specs.Lent.{TimersSoundIn};
 ghost use Rattle.rings.specs.Bounds.{Safe, SafeTimely, SafeTimers, Sendable, Limit};
 
 // The highest late count of a sound ring.
@@ -240,37 +245,45 @@ pub(crate) fn silent_timers(set: Set, alloc: Alloc) -> Timers
 // ---- sound
 
 // Timely-token: no TRT exceeds TTRT, and u is the sum of S − s.
-fn timely_sound(r: Ring) -> bool
-    ensures { λ b. ⌜ b ≡ timelySound r ⌝ }
+fn timely_sound<'a>(
+    ttrt: u32,
+    n: u32,
+    s: &'a [u32; 128],
+    trt: &'a [u32; 128],
+    sent: &'a [u32; 128],
+    unused: u64,
+) -> bool
+    ensures { λ b. ⌜ b ≡ (allBelow (min n 128) (λ i. leb (at (now (trt .entry)) i) ttrt) && eqb unused (sumBelow (min n 128) (λ i. at (now (s .entry)) i - at (now (sent .entry)) i))) ⌝ }
 {
-    let n = r.set.n;
-    let trt = r.trt;
-    let share = r.alloc.s;
-    let sent = r.sent;
-    let trts = places::none_above(trt, r.set.head.ttrt, n);
-    let sum = places::room_first(share, sent, n);
-    trts & (r.unused == sum)
+    let trts = places::none_above(trt, ttrt, n);
+    let sum = places::room_first(s, sent, n);
+    trts & (unused == sum)
 }
 
 // FDDI: the timers are below TTRT, and the late counts at most 3.
-fn fddi_sound(r: Ring) -> bool
-    ensures { λ b. ⌜ b ≡ fddiSound r ⌝ }
+fn fddi_sound<'a>(ttrt: u32, n: u32, trt: &'a [u32; 128], late: &'a [u32; 128]) -> bool
+    ensures { λ b. ⌜ b ≡ (allBelow (min n 128) (λ i. ltb (at (now (trt .entry)) i) ttrt) && allBelow (min n 128) (λ i. leb (at (now (late .entry)) i) mostLate)) ⌝ }
 {
-    let n = r.set.n;
-    let trt = r.trt;
-    let counts = r.late;
-    let below = places::none_reaching(trt, r.set.head.ttrt, n);
-    let few = places::none_above(counts, MOST_LATE, n);
+    let below = places::none_reaching(trt, ttrt, n);
+    let few = places::none_above(late, MOST_LATE, n);
     below & few
 }
 
 // The timers are sound.
-pub(crate) fn timers_sound(r: Ring) -> bool
-    ensures { λ b. ⌜ b ≡ timersSound r ⌝ }
+pub(crate) fn timers_sound<'a>(
+    head: Head,
+    n: u32,
+    s: &'a [u32; 128],
+    trt: &'a [u32; 128],
+    late: &'a [u32; 128],
+    sent: &'a [u32; 128],
+    unused: u64,
+) -> bool
+    requires { ⌜ n ≤ 128 ⌝ }
+    ensures { λ b. ⌜ TimersSoundIn head n (now (s .entry)) (now (trt .entry)) (now (late .entry)) (now (sent .entry)) unused b ⌝ }
 {
-    let head = r.set.head;
     if head.mode == numbers::FDDI {
-        return fddi_sound(r);
+        return fddi_sound(head.ttrt, n, trt, late);
     }
-    timely_sound(r)
+    timely_sound(head.ttrt, n, s, trt, sent, unused)
 }

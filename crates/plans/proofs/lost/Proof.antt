@@ -1,27 +1,17 @@
--- `lost` is right because its body is the definition; τ is a sum of 32-bit numbers, so nothing wraps.
+-- `lost` is right because a place of w past the 128th adds nothing.
 use native.Mathlib.Omega.{arith}
 use borrow.Author.Needs.{needs}
+use Rattle.units.specs.PlaceLaws.{sum-all}
 use Rattle.plans.proofs.lost.Statement.{statement}
 use Rattle.plans.proofs.lost.Tie as tie
 
-walk-time-requires : tie.Need-walk-time-requires
-walk-time-requires c κs = search needs
-
-wide-requires : tie.Need-wide-requires
-wide-requires c κs = search needs
-
-room-requires : tie.Need-room-requires
-room-requires c κs = search needs
-
-add-result : tie.Need-add-result
-add-result c = search needs
-
 returns : tie.Need-returns
 returns c =
+    let t = c .before .before .before .args .t1 in
     record {
-      is = omega (arith, c .before .before .walk-time .ensures .sum, c .room .ensures, c .before .wide .ensures .same);
-      small = omega (arith, c .before .before .walk-time .ensures .small, c .before .wide .ensures .small);
+      is = omega (arith, c .lost-lent .ensures .is, sum-all (t .w) (search needs) (t .n));
+      small = omega (arith, c .lost-lent .ensures .small);
     }
 
 pub lost-spec : {M : Type 1} → statement M
-lost-spec = tie.close (tie.spec walk-time-requires wide-requires room-requires add-result returns)
+lost-spec = tie.close (tie.spec (λ c κs. search needs) returns)

@@ -3,12 +3,13 @@ use native.Mathlib.Omega.{arith}
 use borrow.Author.Needs.{needs}
 use borrow.Author.Tests.{eq-eqb, ne-eqb}
 use Rattle.units.specs.Places.{at}
+use Rattle.units.specs.PlaceLaws.{sum-all}
 use Rattle.plans.specs.PlanLaws.{spare-fddi, spare-timely}
 use Rattle.plans.proofs.spare.Statement.{statement}
 use Rattle.plans.proofs.spare.Tie as tie
 
-sum-first-requires : tie.Need-sum-first-requires
-sum-first-requires c κs = search needs
+sum-lent-requires : tie.Need-sum-lent-requires
+sum-lent-requires c κs = search needs
 
 wide-requires : tie.Need-wide-requires
 wide-requires c κs = search needs
@@ -25,8 +26,8 @@ room-requires-2 c κs = search needs
 returns : tie.Need-returns
 returns c =
     let entry = c .before .before .before in
-    let args = entry .before .before .before .before .args in
-    omega (arith, spare-fddi (args .t) (at (args .a .s)) (eq-eqb _ _ (entry .if1 .taken)))
+    let args = entry .before .before .before .before .before .args in
+    omega (arith, sum-all (args .t2 .s) (search needs) (args .t .n), spare-fddi (args .t) (at (args .t2 .s)) (eq-eqb _ _ (entry .if1 .taken)))
 
 lost-requires : tie.Need-lost-requires
 lost-requires c κs = search needs
@@ -40,14 +41,14 @@ room-requires-4 c κs = search needs
 returns-2 : tie.Need-returns-2
 returns-2 c =
     let entry = c .before .before .before in
-    let args = entry .before .before .before .before .args in
-    omega (arith, spare-timely (args .t) (at (args .a .s)) (ne-eqb _ _ (entry .if1 .left)))
+    let args = entry .before .before .before .before .before .args in
+    omega (arith, sum-all (args .t2 .s) (search needs) (args .t .n), spare-timely (args .t) (at (args .t2 .s)) (ne-eqb _ _ (entry .if1 .left)))
 
 pub spare-spec : {M : Type 1} → statement M
 spare-spec =
     tie.close
     (tie.spec
-    sum-first-requires
+    sum-lent-requires
     wide-requires
     walk-time-requires
     room-requires

@@ -1,17 +1,15 @@
--- `token_fits` is right because the rule of every mode is asked for the set's numbers.
+-- `token_fits` is right because the rule of every mode is asked for the set's numbers, and a place past the 128th adds nothing.
 use mathlib.Core.Path.{refl, _∙_}
 use borrow.Author.Needs.{needs}
+use Rattle.units.specs.PlaceLaws.{sum-all}
 use Rattle.plans.proofs.token_fits.Statement.{statement}
 use Rattle.plans.proofs.token_fits.Tie as tie
 
-lost-requires : tie.Need-lost-requires
-lost-requires c κs = search needs
-
-token-kept-requires : tie.Need-token-kept-requires
-token-kept-requires c κs = search needs
-
 returns : tie.Need-returns
-returns c = c .token-kept .ensures ∙ rw (c .before .lost .ensures .is) refl
+returns c =
+    let lost = c .before .before .before in
+    let args = lost .before .args in
+    c .token-kept .ensures ∙ rw (lost .lost .ensures .is, sum-all (args .t2 .s) (search needs) (args .t .n)) refl
 
 pub token-fits-spec : {M : Type 1} → statement M
-token-fits-spec = tie.close (tie.spec lost-requires token-kept-requires returns)
+token-fits-spec = tie.close (tie.spec (λ c κs. search needs) (λ c κs. search needs) returns)

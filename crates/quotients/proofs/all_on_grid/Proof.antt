@@ -24,8 +24,8 @@ loop-holds c = (omega arith, sym (all-none _))
 mul-on-grid : tie.Need-mul-on-grid Inv-loop μ-loop
 mul-on-grid c = search needs
 
-array-read-on-grid : tie.Need-array-read-on-grid Inv-loop μ-loop
-array-read-on-grid c = search needs
+element-copy-out-on-grid : tie.Need-element-copy-out-on-grid Inv-loop μ-loop
+element-copy-out-on-grid c = search needs
 
 on-grid-requires : tie.Need-on-grid-requires Inv-loop μ-loop
 on-grid-requires c κs = search needs
@@ -38,9 +38,9 @@ loop-less c = search needs
 
 loop-again : tie.Need-loop-again Inv-loop μ-loop
 loop-again c =
-    let at-loop = c .before .before in
+    let at-loop = c .before .before .before in
     let args = at-loop .before .before .args in
-    let all : at-loop .loop .all ≡ allBelow (at-loop .loop .i) (onGridAt (args .grid) (at (args .t3))) = at-loop .loop .inv .1 in
+    let all : at-loop .loop .all ≡ allBelow (at-loop .loop .i) (onGridAt (args .grid) (at (args .numbers .now))) = at-loop .loop .inv .1 in
     (omega arith, rw (all-step, all, c .on-grid .ensures) refl)
 
 returns : tie.Need-returns Inv-loop μ-loop
@@ -57,7 +57,7 @@ all-on-grid-spec =
     places-requires
     loop-holds
     mul-on-grid
-    array-read-on-grid
+    element-copy-out-on-grid
     on-grid-requires
     add-i
     loop-less
