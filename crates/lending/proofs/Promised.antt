@@ -1,14 +1,12 @@
 -- Everything that `specs/Promised.antt` lists, proved. The ring and the answer are the call's by definition; a refused call gives the ring back, whatever its number.
 use Prim.Native.Nat.{ℕ, zero, suc}
 use mathlib.Core.Path.{_≡_, refl}
-use mathlib.Core.Bool.{true, false}
-use mathlib.Core.Logic.{_≢_, ⊎-elim}
-use Rattle.units.specs.JudgingLaws.{true-or-false}
+use mathlib.Core.Logic.{_≢_}
 use Rattle.rings.specs.Steps.{Ask, visitNumber, visitedWith}
 use Rattle.rings.specs.HandingIn.{handInNumber, takenWith}
 use Rattle.units.specs.declared.Station.{Station}
-use Rattle.rings.specs.Marking.{markNumber, withdraws, withdrawal, markedWith, unmarkedWith}
-use Rattle.rings.specs.MarkLaws.{withdrawn, not-withdrawn}
+use Rattle.rings.specs.Marking.{markNumber, markedWith, unmarkedWith}
+use Rattle.rings.specs.MarkLaws.{withdrawal-number}
 use Rattle.rings.specs.declared.Ring.{Ring}
 use Rattle.rings.specs.declared.Message.{Message}
 use Rattle.lending.specs.Promised.{Promised}
@@ -25,11 +23,7 @@ unfolding takenWith
 message-refused zero r m n = absurd (n refl)
 message-refused (suc k) r m n = refl
 
--- a marking: what is withdrawn comes with the number 0
-withdrawal-number : (r : Ring) (i : ℕ) → withdrawal r i .number ≡ 0
-withdrawal-number r i =
-    ⊎-elim (λ (e : withdraws r i ≡ true). rw (withdrawn r i e)) (λ (e : withdraws r i ≡ false). rw (not-withdrawn r i e)) (true-or-false (withdraws r i))
-
+-- and a marking
 mark-refused : (k : ℕ) (r : Ring) (s : Station) → markedWith k r s .answer .number ≢ 0 → markedWith k r s .ring ≡ r
 unfolding markedWith
 mark-refused zero r s n = absurd (n (withdrawal-number r (s .0)))

@@ -38,6 +38,7 @@ use rings::Opened;
 use rings::Ring;
 use rings::VisitAnswer;
 use rings::VisitRecord;
+use rings::in_place;
 use sets::Set;
 use sheets::ReadPlan;
 use sheets::ReadRequest;
@@ -130,9 +131,42 @@ pub extern "C" fn olivastrum_hand_in(ring: &mut Ring, message: Message) -> u8
 pub extern "C" fn olivastrum_mark(ring: &mut Ring, station: Station) -> MarkAnswer
     ensures { λ answer. ⌜ MarkLent (now (ring .entry)) station (now (ring .exit)) answer ⌝ }
 {
-    let marked = Ring::mark(*ring, station);
-    *ring = marked.ring;
-    marked.answer
+    let head = ring.set.head;
+    let n = ring.set.n;
+    let token = ring.token;
+    let clock = ring.clock;
+    let visits = ring.visits;
+    let unused = ring.unused;
+    let next = in_place::mark_on(
+        &ring.set.w,
+        &ring.set.c,
+        &ring.set.d,
+        &ring.set.p,
+        &ring.alloc.s,
+        &mut ring.trt,
+        &mut ring.late,
+        &mut ring.sent,
+        &mut ring.rest,
+        &mut ring.arrival,
+        &mut ring.had,
+        &mut ring.mark,
+        &mut ring.last,
+        head,
+        n,
+        token,
+        clock,
+        visits,
+        unused,
+        station,
+    );
+    if next.number != 0 {
+        return next.answer;
+    }
+    ring.token = next.token;
+    ring.clock = next.clock;
+    ring.visits = next.visits;
+    ring.unused = next.unused;
+    next.answer
 }
 
 // Switching a station of the lent ring in again: its mark is taken off.
@@ -140,9 +174,42 @@ pub extern "C" fn olivastrum_mark(ring: &mut Ring, station: Station) -> MarkAnsw
 pub extern "C" fn olivastrum_unmark(ring: &mut Ring, station: Station) -> u8
     ensures { λ number. ⌜ UnmarkLent (now (ring .entry)) station (now (ring .exit)) number ⌝ }
 {
-    let unmarked = Ring::unmark(*ring, station);
-    *ring = unmarked.ring;
-    unmarked.number
+    let head = ring.set.head;
+    let n = ring.set.n;
+    let token = ring.token;
+    let clock = ring.clock;
+    let visits = ring.visits;
+    let unused = ring.unused;
+    let next = in_place::unmark_on(
+        &ring.set.w,
+        &ring.set.c,
+        &ring.set.d,
+        &ring.set.p,
+        &ring.alloc.s,
+        &mut ring.trt,
+        &mut ring.late,
+        &mut ring.sent,
+        &mut ring.rest,
+        &mut ring.arrival,
+        &mut ring.had,
+        &mut ring.mark,
+        &mut ring.last,
+        head,
+        n,
+        token,
+        clock,
+        visits,
+        unused,
+        station,
+    );
+    if next.number != 0 {
+        return next.answer;
+    }
+    ring.token = next.token;
+    ring.clock = next.clock;
+    ring.visits = next.visits;
+    ring.unused = next.unused;
+    next.answer
 }
 
 // Begins a log in the first bytes of the lent buffer: the plan's fields, without the end.

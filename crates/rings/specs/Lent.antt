@@ -9,6 +9,11 @@ use Rattle.plans.specs.Lent.{allocOf}
 use Rattle.rings.specs.State.{made}
 use Rattle.rings.specs.Timers.{timersSound}
 use Rattle.rings.specs.Sound.{isSound}
+use Rattle.rings.specs.Marking.{markedRing, withdrawal, marked, unmarked}
+use Rattle.units.specs.declared.Station.{Station}
+use Rattle.rings.specs.declared.MarkAnswer.{MarkAnswer}
+use Rattle.rings.specs.declared.MarkNext.{MarkNext}
+use Rattle.rings.specs.declared.NumberNext.{NumberNext}
 use Rattle.rings.specs.declared.Ring.{Ring}
 
 -- the ring of what was lent: w, C, D and P; S; then the arrays that a ring changes; the header, and the numbers
@@ -31,3 +36,30 @@ TimersSoundIn head n s trt late sent unused b =
 abbrev pub SoundIn : List ℕ → List ℕ → List ℕ → List ℕ → List ℕ → List ℕ → List ℕ → List ℕ → List ℕ → List ℕ → Head → ℕ → ℕ → ℕ → ℕ → ℕ → Bool → Type 0
 SoundIn w c d p s trt late sent rest arrival head n token clock visits unused b =
     (had mark last : List ℕ) → b ≡ isSound (ringOf w c d p s trt late sent rest arrival had mark last head n token clock visits unused)
+
+-- ---- marking
+
+-- x is what a marking of station i takes back
+abbrev pub WithdrawnIn : List ℕ → List ℕ → List ℕ → ℕ → MarkAnswer → Type 0
+WithdrawnIn rest arrival mark i x =
+    (w c d p s trt late sent had last : List ℕ) (head : Head) (n token clock visits unused : ℕ)
+    → x ≡ withdrawal (ringOf w c d p s trt late sent rest arrival had mark last head n token clock visits unused) i
+
+-- the remainders and the marks become those of the ring with station i switched through
+abbrev pub SwitchedIn : List ℕ → List ℕ → ℕ → List ℕ → List ℕ → Type 0
+SwitchedIn rest mark i rest′ mark′ =
+    (w c d p s trt late sent arrival had last : List ℕ) (head : Head) (n token clock visits unused : ℕ)
+    → ringOf w c d p s trt late sent rest′ arrival had mark′ last head n token clock visits unused
+    ≡ markedRing (ringOf w c d p s trt late sent rest arrival had mark last head n token clock visits unused) i
+
+-- ---- a call on a ring whose arrays are lent: the ring is r before it and r′ behind it, with the four numbers that come back
+
+pub record MarkedOn (r : Ring) (station : Station) (r′ : Ring) (a : MarkNext) : Type 0 where
+  pub ring : r′ ≡ marked r station .ring
+  pub answered : a .answer ≡ marked r station .answer
+  pub number : a .number ≡ a .answer .number
+
+pub record UnmarkedOn (r : Ring) (station : Station) (r′ : Ring) (a : NumberNext) : Type 0 where
+  pub ring : r′ ≡ unmarked r station .ring
+  pub answered : a .answer ≡ unmarked r station .number
+  pub number : a .number ≡ a .answer

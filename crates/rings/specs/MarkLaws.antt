@@ -2,12 +2,12 @@
 use Prim.Native.Nat.{ℕ, zero, suc, _<_}
 use mathlib.Core.Path.{_≡_, refl}
 use mathlib.Core.Bool.{true, false}
-use mathlib.Core.Logic.{_≢_}
+use mathlib.Core.Logic.{_≢_, ⊎-elim}
 use native.Mathlib.Omega.{arith}
 use borrow.Author.Tests.{ltb-true}
 use lib.Dec.{ltb}
 use Rattle.units.specs.Places.{at}
-use Rattle.units.specs.JudgingLaws.{passed}
+use Rattle.units.specs.JudgingLaws.{passed, true-or-false}
 use Rattle.units.specs.declared.Station.{Station}
 use Rattle.rings.specs.State.{count, Marked, Unmarked}
 use Rattle.rings.specs.TimerLaws.{marked-true, marked-false}
@@ -34,6 +34,11 @@ withdrawn r i h = rw h
 pub not-withdrawn : (r : Ring) (i : ℕ) → withdraws r i ≡ false → withdrawal r i ≡ noneWithdrawn 0
 unfolding withdrawal
 not-withdrawn r i h = rw h
+
+-- what is withdrawn comes with the number 0
+pub withdrawal-number : (r : Ring) (i : ℕ) → withdrawal r i .number ≡ 0
+withdrawal-number r i =
+    ⊎-elim (λ (e : withdraws r i ≡ true). rw (withdrawn r i e)) (λ (e : withdraws r i ≡ false). rw (not-withdrawn r i e)) (true-or-false (withdraws r i))
 
 -- ---- the answers, number by number
 

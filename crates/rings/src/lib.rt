@@ -1,5 +1,6 @@
 // The ring by value: opening, the test of soundness, visits, handing in, and stations switched through.
 mod frames;
+pub mod in_place;
 mod marking;
 mod messages;
 mod opening;
@@ -126,6 +127,26 @@ pub struct Taken {
     pub number: u8,
 }
 
+// What a marking on lent arrays gives back: the ring's four numbers, the number, and the answer.
+pub struct MarkNext {
+    pub token: u32,
+    pub clock: u64,
+    pub visits: u64,
+    pub unused: u64,
+    pub number: u8,
+    pub answer: MarkAnswer,
+}
+
+// The same of a call that answers a number alone.
+pub struct NumberNext {
+    pub token: u32,
+    pub clock: u64,
+    pub visits: u64,
+    pub unused: u64,
+    pub number: u8,
+    pub answer: u8,
+}
+
 // The opened ring and 0, or the blank ring and the refusal.
 #[repr(C)]
 pub struct Opened {
@@ -222,14 +243,56 @@ impl Ring {
     pub fn mark(mut self, station: Station) -> MarkedRing
         ensures { λ r. ⌜ r ≡ marked self station ⌝ }
     {
-        let steady = sound(self);
-        let number = marking::mark_number(steady, self.set.n, station);
-        if number != numbers::ACCEPTED {
-            let answer = marking::none_withdrawn(number);
-            return MarkedRing { ring: self, answer };
-        }
-        let answer = marking::withdrawal_of(self, station);
-        let ring = marking::switched_through(self, station);
+        let set = self.set;
+        let alloc = self.alloc;
+        let mut trt = self.trt;
+        let mut late = self.late;
+        let mut sent = self.sent;
+        let mut rest = self.rest;
+        let mut arrival = self.arrival;
+        let mut had = self.had;
+        let mut mark = self.mark;
+        let mut last = self.last;
+        let head = set.head;
+        let next = in_place::mark_on(
+            &set.w,
+            &set.c,
+            &set.d,
+            &set.p,
+            &alloc.s,
+            &mut trt,
+            &mut late,
+            &mut sent,
+            &mut rest,
+            &mut arrival,
+            &mut had,
+            &mut mark,
+            &mut last,
+            head,
+            set.n,
+            self.token,
+            self.clock,
+            self.visits,
+            self.unused,
+            station,
+        );
+        let ring = Ring {
+            set,
+            alloc,
+            trt,
+            late,
+            sent,
+            rest,
+            token: next.token,
+            arrival,
+            had,
+            mark,
+            last,
+            clock: next.clock,
+            visits: next.visits,
+            unused: next.unused,
+        };
+        let answer = next.answer;
         MarkedRing { ring, answer }
     }
 
@@ -237,12 +300,58 @@ impl Ring {
     pub fn unmark(mut self, station: Station) -> Taken
         ensures { λ r. ⌜ r ≡ unmarked self station ⌝ }
     {
-        let steady = sound(self);
-        let number = marking::mark_number(steady, self.set.n, station);
-        if number != numbers::ACCEPTED {
-            return Taken { ring: self, number };
+        let set = self.set;
+        let alloc = self.alloc;
+        let mut trt = self.trt;
+        let mut late = self.late;
+        let mut sent = self.sent;
+        let mut rest = self.rest;
+        let mut arrival = self.arrival;
+        let mut had = self.had;
+        let mut mark = self.mark;
+        let mut last = self.last;
+        let head = set.head;
+        let next = in_place::unmark_on(
+            &set.w,
+            &set.c,
+            &set.d,
+            &set.p,
+            &alloc.s,
+            &mut trt,
+            &mut late,
+            &mut sent,
+            &mut rest,
+            &mut arrival,
+            &mut had,
+            &mut mark,
+            &mut last,
+            head,
+            set.n,
+            self.token,
+            self.clock,
+            self.visits,
+            self.unused,
+            station,
+        );
+        let ring = Ring {
+            set,
+            alloc,
+            trt,
+            late,
+            sent,
+            rest,
+            token: next.token,
+            arrival,
+            had,
+            mark,
+            last,
+            clock: next.clock,
+            visits: next.visits,
+            unused: next.unused,
+        };
+        Taken {
+            ring,
+            number: next.answer,
         }
-        let ring = marking::switched_in(self, station);
-        Taken { ring, number }
     }
 }

@@ -1,14 +1,15 @@
-// Stations switched through and in again: the number of both calls, what a marking takes back, and the ring then.
+// Stations switched through and in again: the number of both calls, what a marking takes back, and the arrays then.
 use super::MarkAnswer;
-use super::Ring;
 use units::Station;
 use units::Ticks;
 use units::numbers;
 ghost use mathlib.Core.Path.{_≡_};
 ghost use Prim.Native.Nat.{_<_};
 ghost use lib.Dec.{ltb};
+ghost use lib.ListN.{set};
 ghost use Rattle.units.specs.Judging.{orElse};
-ghost use Rattle.rings.specs.Marking.{noneWithdrawn, withdrawal, markedRing, switchedIn};
+ghost use Rattle.rings.specs.Marking.{noneWithdrawn};
+ghost use Rattle.rings.specs.Lent.{WithdrawnIn, SwitchedIn};
 
 // 8 for an unsound ring, then 9 for a station number that is not below N.
 pub(crate) fn mark_number(sound: bool, n: u32, station: Station) -> u8
@@ -36,19 +37,21 @@ pub(crate) fn none_withdrawn(number: u8) -> MarkAnswer
 }
 
 // What a marking takes back of a message, where the station is not marked yet.
-pub(crate) fn withdrawal_of(r: Ring, station: Station) -> MarkAnswer
+pub(crate) fn withdrawal_of<'a>(
+    rest: &'a [u32; 128],
+    arrival: &'a [u64; 128],
+    mark: &'a [u8; 128],
+    station: Station,
+) -> MarkAnswer
     requires { ⌜ station .0 < 128 ⌝ }
-    ensures { λ x. ⌜ x ≡ withdrawal r (station .0) ⌝ }
+    ensures { λ x. ⌜ WithdrawnIn (now (rest .entry)) (now (arrival .entry)) (now (mark .entry)) (station .0) x ⌝ }
 {
     let i = station.0 as usize;
-    let marks = r.mark;
-    let rests = r.rest;
-    let arrivals = r.arrival;
-    let held = (marks[i] == 0) & (0 < rests[i]);
+    let held = (mark[i] == 0) & (0 < rest[i]);
     if held {
         return MarkAnswer {
-            rest: Ticks(units::wide(rests[i])),
-            arrival: Ticks(arrivals[i]),
+            rest: Ticks(units::wide(rest[i])),
+            arrival: Ticks(arrival[i]),
             withdrawn: 1,
             number: numbers::ACCEPTED,
         };
@@ -56,27 +59,28 @@ pub(crate) fn withdrawal_of(r: Ring, station: Station) -> MarkAnswer
     none_withdrawn(numbers::ACCEPTED)
 }
 
-// The ring with this station switched through; one that is marked already stays as it is.
-pub(crate) fn switched_through(mut r: Ring, station: Station) -> Ring
+// This station is switched through; one that is marked already stays as it is.
+pub(crate) fn switch_through<'a>(
+    rest: &'a mut [u32; 128],
+    mark: &'a mut [u8; 128],
+    station: Station,
+)
     requires { ⌜ station .0 < 128 ⌝ }
-    ensures { λ x. ⌜ x ≡ markedRing r (station .0) ⌝ }
+    ensures { λ _. ⌜ SwitchedIn (now (rest .entry)) (now (mark .entry)) (station .0) (now (rest .exit)) (now (mark .exit)) ⌝ }
 {
     let i = station.0 as usize;
-    let marks = r.mark;
-    if 0 < marks[i] {
-        return r;
+    if 0 < mark[i] {
+        return;
     }
-    r.rest[i] = 0;
-    r.mark[i] = 1;
-    r
+    rest[i] = 0;
+    mark[i] = 1;
 }
 
-// The ring in which this station is not marked.
-pub(crate) fn switched_in(mut r: Ring, station: Station) -> Ring
+// This station is not marked.
+pub(crate) fn switch_in(mark: &mut [u8; 128], station: Station)
     requires { ⌜ station .0 < 128 ⌝ }
-    ensures { λ x. ⌜ x ≡ switchedIn r (station .0) ⌝ }
+    ensures { λ _. ⌜ now (mark .exit) ≡ set (now (mark .entry)) (station .0) 0 ⌝ }
 {
     let i = station.0 as usize;
-    r.mark[i] = 0;
-    r
+    mark[i] = 0;
 }
