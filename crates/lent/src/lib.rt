@@ -121,9 +121,42 @@ pub extern "C" fn olivastrum_visit(ring: &mut Ring, ask: Ask) -> VisitAnswer
 pub extern "C" fn olivastrum_hand_in(ring: &mut Ring, message: Message) -> u8
     ensures { λ number. ⌜ HandInLent (now (ring .entry)) message (now (ring .exit)) number ⌝ }
 {
-    let taken = Ring::hand_in(*ring, message);
-    *ring = taken.ring;
-    taken.number
+    let head = ring.set.head;
+    let n = ring.set.n;
+    let token = ring.token;
+    let clock = ring.clock;
+    let visits = ring.visits;
+    let unused = ring.unused;
+    let next = in_place::hand_in_on(
+        &ring.set.w,
+        &ring.set.c,
+        &ring.set.d,
+        &ring.set.p,
+        &ring.alloc.s,
+        &mut ring.trt,
+        &mut ring.late,
+        &mut ring.sent,
+        &mut ring.rest,
+        &mut ring.arrival,
+        &mut ring.had,
+        &mut ring.mark,
+        &mut ring.last,
+        head,
+        n,
+        token,
+        clock,
+        visits,
+        unused,
+        message,
+    );
+    if next.number != 0 {
+        return next.answer;
+    }
+    ring.token = next.token;
+    ring.clock = next.clock;
+    ring.visits = next.visits;
+    ring.unused = next.unused;
+    next.answer
 }
 
 // Switching a station of the lent ring through: its mark is set, and the message that it holds is withdrawn.

@@ -62,11 +62,6 @@ pub record Sent (r : Ring) (async x : ℕ) : Type 0 where
   pub allotted : x ≤ share r (r .token)
   pub rest : x ≤ at (r .rest) (r .token)
 
--- the message is for a station of the ring, whose numbers can be added
-pub record Addressed (r : Ring) (m : Message) : Type 0 where
-  pub inside : m .station .0 < 128
-  pub arrival : at (r .arrival) (m .station .0) ≤ mostClock
-
 -- the message can be stored
 pub record Holdable (m : Message) : Type 0 where
   pub inside : m .station .0 < 128

@@ -1,16 +1,20 @@
 -- A ring whose arrays are lent one by one, beside its numbers.
-use Prim.Native.Nat.{ℕ}
+use Prim.Native.Nat.{ℕ, _≤_, _<_}
 use mathlib.Core.Path.{_≡_}
 use mathlib.Core.Bool.{Bool}
 use mathlib.Core.List.{List}
+use Rattle.units.specs.Numbers.{mostClock}
+use Rattle.units.specs.Places.{at}
 use Rattle.sets.specs.Lent.{setOf}
 use Rattle.sets.specs.declared.Head.{Head}
 use Rattle.plans.specs.Lent.{allocOf}
 use Rattle.rings.specs.State.{made}
 use Rattle.rings.specs.Timers.{timersSound}
 use Rattle.rings.specs.Sound.{isSound}
+use Rattle.rings.specs.HandingIn.{arrivalAllowed, messageNumber, handedIn}
 use Rattle.rings.specs.Marking.{markedRing, withdrawal, marked, unmarked}
 use Rattle.units.specs.declared.Station.{Station}
+use Rattle.rings.specs.declared.Message.{Message}
 use Rattle.rings.specs.declared.MarkAnswer.{MarkAnswer}
 use Rattle.rings.specs.declared.MarkNext.{MarkNext}
 use Rattle.rings.specs.declared.NumberNext.{NumberNext}
@@ -37,6 +41,24 @@ abbrev pub SoundIn : List ℕ → List ℕ → List ℕ → List ℕ → List �
 SoundIn w c d p s trt late sent rest arrival head n token clock visits unused b =
     (had mark last : List ℕ) → b ≡ isSound (ringOf w c d p s trt late sent rest arrival had mark last head n token clock visits unused)
 
+-- ---- handing in
+
+-- every stored arrival of the n stations is in range, and there is a place for each
+abbrev pub ArrivalsFit : ℕ → List ℕ → Type 0
+ArrivalsFit n arrival = (n ≤ 128) × ((i : ℕ) → i < n → at arrival i ≤ mostClock)
+
+-- b says whether the arrival is allowed (12)
+abbrev pub AllowedIn : List ℕ → List ℕ → List ℕ → List ℕ → ℕ → Message → Bool → Type 0
+AllowedIn p arrival had last visits m b =
+    (w c d s trt late sent rest mark : List ℕ) (head : Head) (n token clock unused : ℕ)
+    → b ≡ arrivalAllowed (ringOf w c d p s trt late sent rest arrival had mark last head n token clock visits unused) m
+
+-- x is the first of 9, 10, 11, 15 and 12 that applies, or 0
+abbrev pub NumberIn : ℕ → ℕ → ℕ → List ℕ → List ℕ → List ℕ → List ℕ → List ℕ → List ℕ → List ℕ → Message → ℕ → Type 0
+NumberIn n clock visits c p rest arrival had mark last m x =
+    (w d s trt late sent : List ℕ) (head : Head) (token unused : ℕ)
+    → x ≡ messageNumber (ringOf w c d p s trt late sent rest arrival had mark last head n token clock visits unused) m
+
 -- ---- marking
 
 -- x is what a marking of station i takes back
@@ -53,6 +75,11 @@ SwitchedIn rest mark i rest′ mark′ =
     ≡ markedRing (ringOf w c d p s trt late sent rest arrival had mark last head n token clock visits unused) i
 
 -- ---- a call on a ring whose arrays are lent: the ring is r before it and r′ behind it, with the four numbers that come back
+
+pub record HandedInOn (r : Ring) (message : Message) (r′ : Ring) (a : NumberNext) : Type 0 where
+  pub ring : r′ ≡ handedIn r message .ring
+  pub answered : a .answer ≡ handedIn r message .number
+  pub number : a .number ≡ a .answer
 
 pub record MarkedOn (r : Ring) (station : Station) (r′ : Ring) (a : MarkNext) : Type 0 where
   pub ring : r′ ≡ marked r station .ring

@@ -1,12 +1,101 @@
 // A ring's calls on lent arrays and numbers: the arrays are changed where they stand, and at a refusal they are not. The four numbers come back beside the answer, at a refusal as they were.
 use super::MarkNext;
+use super::Message;
 use super::NumberNext;
 use super::marking;
+use super::messages;
 use super::soundness;
 use sets::Head;
 use units::Station;
 use units::numbers;
-ghost use Rattle.rings.specs.Lent.{ringOf, MarkedOn, UnmarkedOn};
+ghost use Rattle.rings.specs.Lent.{ringOf, HandedInOn, MarkedOn, UnmarkedOn};
+
+// Handing in a message.
+pub fn hand_in_on<'a>(
+    w: &'a [u32; 128],
+    c: &'a [u32; 128],
+    d: &'a [u32; 128],
+    p: &'a [u32; 128],
+    s: &'a [u32; 128],
+    trt: &'a mut [u32; 128],
+    late: &'a mut [u32; 128],
+    sent: &'a mut [u32; 128],
+    rest: &'a mut [u32; 128],
+    arrival: &'a mut [u64; 128],
+    had: &'a mut [u8; 128],
+    mark: &'a mut [u8; 128],
+    last: &'a mut [u64; 128],
+    head: Head,
+    n: u32,
+    token: u32,
+    clock: u64,
+    visits: u64,
+    unused: u64,
+    message: Message,
+) -> NumberNext
+    ensures { λ a. ⌜ HandedInOn (ringOf (now (w .entry)) (now (c .entry)) (now (d .entry)) (now (p .entry)) (now (s .entry)) (now (trt .entry)) (now (late .entry)) (now (sent .entry)) (now (rest .entry)) (now (arrival .entry)) (now (had .entry)) (now (mark .entry)) (now (last .entry)) head n token clock visits unused) message (ringOf (now (w .entry)) (now (c .entry)) (now (d .entry)) (now (p .entry)) (now (s .entry)) (now (trt .exit)) (now (late .exit)) (now (sent .exit)) (now (rest .exit)) (now (arrival .exit)) (now (had .exit)) (now (mark .exit)) (now (last .exit)) head n (a .token) (a .clock) (a .visits) (a .unused)) a ⌝ }
+{
+    let steady = soundness::sound_lent(
+        w,
+        c,
+        d,
+        p,
+        s,
+        &*trt,
+        &*late,
+        &*sent,
+        &*rest,
+        &*arrival,
+        head,
+        n,
+        token,
+        clock,
+        visits,
+        unused,
+    );
+    if !steady {
+        return NumberNext {
+            token,
+            clock,
+            visits,
+            unused,
+            number: numbers::UNSOUND,
+            answer: numbers::UNSOUND,
+        };
+    }
+    let number = messages::message_number(
+        n,
+        clock,
+        visits,
+        c,
+        p,
+        &*rest,
+        &*arrival,
+        &*had,
+        &*mark,
+        &*last,
+        message,
+    );
+    if number != numbers::ACCEPTED {
+        return NumberNext {
+            token,
+            clock,
+            visits,
+            unused,
+            number,
+            answer: number,
+        };
+    }
+    messages::hold(&mut *rest, &mut *arrival, &mut *had, message);
+    NumberNext {
+        token,
+        clock,
+        visits,
+        unused,
+        number,
+        answer: number,
+    }
+}
 
 // Switching a station through: its mark is set, and the message that it holds is withdrawn.
 pub fn mark_on<'a>(

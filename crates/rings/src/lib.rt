@@ -228,15 +228,59 @@ impl Ring {
     pub fn hand_in(mut self, message: Message) -> Taken
         ensures { λ r. ⌜ r ≡ handedIn self message ⌝ }
     {
-        let mut number = numbers::UNSOUND;
-        if sound(self) {
-            number = messages::message_number(self, message);
+        let set = self.set;
+        let alloc = self.alloc;
+        let mut trt = self.trt;
+        let mut late = self.late;
+        let mut sent = self.sent;
+        let mut rest = self.rest;
+        let mut arrival = self.arrival;
+        let mut had = self.had;
+        let mut mark = self.mark;
+        let mut last = self.last;
+        let head = set.head;
+        let next = in_place::hand_in_on(
+            &set.w,
+            &set.c,
+            &set.d,
+            &set.p,
+            &alloc.s,
+            &mut trt,
+            &mut late,
+            &mut sent,
+            &mut rest,
+            &mut arrival,
+            &mut had,
+            &mut mark,
+            &mut last,
+            head,
+            set.n,
+            self.token,
+            self.clock,
+            self.visits,
+            self.unused,
+            message,
+        );
+        let ring = Ring {
+            set,
+            alloc,
+            trt,
+            late,
+            sent,
+            rest,
+            token: next.token,
+            arrival,
+            had,
+            mark,
+            last,
+            clock: next.clock,
+            visits: next.visits,
+            unused: next.unused,
+        };
+        Taken {
+            ring,
+            number: next.answer,
         }
-        if number == numbers::ACCEPTED {
-            let ring = messages::held(self, message);
-            return Taken { ring, number };
-        }
-        Taken { ring: self, number }
     }
 
     // Switching a station through: the ring with its mark set and without its message, which is withdrawn, or the lower of 8 and 9 that applies with the ring as it was.
@@ -349,9 +393,7 @@ impl Ring {
             visits: next.visits,
             unused: next.unused,
         };
-        Taken {
-            ring,
-            number: next.answer,
-        }
+        let number = next.answer;
+        Taken { ring, number }
     }
 }
