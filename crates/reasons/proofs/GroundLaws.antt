@@ -1,7 +1,6 @@
 -- What an S rests on: the definition is handed out where S has 32 bits, as every set's has; below S no multiple of the grid is enough.
 use Prim.Native.Nat.{ℕ, zero, suc, _+_, _-_, _*_, _≤_, _<_}
-use mathlib.Core.Path.{_≡_, refl, sym, ap, _∙_}
-use mathlib.Core.Bool.{Bool, true, false}
+use mathlib.Core.Path.{_≡_, refl, sym, _∙_}
 use mathlib.Core.Logic.{_↔_, ⊎-elim}
 use native.Mathlib.Omega.{arith}
 use native.Mathlib.Nat.{mul-le-mul-left, mul-le-mul-right, mul-zero, zero-mul, suc-mul, mul-comm, lt-mul-div-succ}
@@ -15,11 +14,10 @@ use Rattle.quotients.proofs.Promised as quotients
 use Rattle.sets.specs.SetLaws.{allowed}
 use Rattle.sets.specs.declared.Set.{Set}
 use Rattle.plans.specs.Rules.{alpha, leastTime, IsSmallest}
-use Rattle.plans.specs.Planned.{smallestFor, smallestAt, planned}
+use Rattle.plans.specs.Planned.{smallestFor, smallestAt}
 use Rattle.plans.specs.PlanLaws.{smallest-small, rotations-within}
 use Rattle.reasons.specs.Shortages.{Plannable}
 use Rattle.reasons.specs.Grounds.{mostNumber, noGrounds, groundsFor, groundsOf, groundsAt, NextSmaller, Shown}
-use Rattle.reasons.specs.declared.Grounds.{Grounds}
 use Rattle.reasons.proofs.PlanningLaws.{stands, stepped-by, plan-s}
 
 -- ---- what is handed out

@@ -1,8 +1,8 @@
 -- Of a set that planning answers 6 or a plan, the token rule of the smallest S decides: it keeps the deadline rule and the grid, and at each station it is at most every vector that does. All that the reasons need of planning.
-use Prim.Native.Nat.{ℕ, _+_, _≤_, _<_}
+use Prim.Native.Nat.{ℕ, _≤_, _<_}
 use mathlib.Core.Path.{_≡_, refl, sym, ap, _∙_}
-use mathlib.Core.Bool.{Bool, true, false, not}
-use mathlib.Core.Logic.{_↔_, _≢_, ⊎-elim}
+use mathlib.Core.Bool.{true, false, not}
+use mathlib.Core.Logic.{_↔_, ⊎-elim}
 use native.Mathlib.Omega.{arith}
 use borrow.Author.Tests.{eqb-true, eqb-false, eq-eqb, ne-eqb, not-true}
 use Rattle.units.specs.Grid.{AllOnGrid}
@@ -12,7 +12,7 @@ use Rattle.units.specs.Places.{at, sumBelow}
 use Rattle.units.specs.PlaceLaws.{fill-inside, sum-mono, sum-same}
 use Rattle.units.specs.Vectors.{TokenKept, tokenKept}
 use Rattle.units.specs.VectorLaws.{decides-token}
-use Rattle.sets.specs.Judged.{judged, zeros}
+use Rattle.sets.specs.Judged.{zeros}
 use Rattle.sets.specs.SetLaws.{allowed}
 use Rattle.sets.specs.declared.Set.{Set}
 use Rattle.plans.specs.Rules.{lost, isFddi, IsSmallest, MeetsDeadlines, MeetsRules}

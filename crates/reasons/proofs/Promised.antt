@@ -1,6 +1,5 @@
 -- What `specs/Promised.antt` promises.
 use mathlib.Core.Path.{ap, _∙_}
-use Rattle.reasons.specs.Shortages.{plannable}
 use Rattle.reasons.specs.Promised.{Promised}
 use Rattle.units.specs.JudgingLaws.{decides-not}
 use Rattle.units.specs.Places.{at}

@@ -1,21 +1,20 @@
 -- The room that is left to a station: with another C at one station only that station's S changes, so the token rule holds exactly if this S is within what the others leave; and on the grid it is, exactly if C is at most X at the largest multiple there.
 use Prim.Native.Nat.{ℕ, zero, suc, _+_, _-_, _*_, _/_, _≤_, _<_}
 use mathlib.Core.Path.{_≡_, refl, sym, ap, _∙_}
-use mathlib.Core.Bool.{Bool, true, false}
-use mathlib.Core.List.{List}
+use mathlib.Core.Bool.{true, false}
 use mathlib.Core.Logic.{_↔_, _≢_, ⊎-elim}
 use native.Mathlib.Omega.{arith}
 use native.Mathlib.Nat.{mul-le-mul-right, div-lt-iff-lt-mul, div-mul-le-self}
 use lib.ListN.{length, set}
 use lib.Seq.{getD-set-same, getD-set-other}
-use borrow.Author.Tests.{eqb-true, eqb-false, eq-eqb, ne-eqb}
+use borrow.Author.Tests.{eqb-true, eqb-false, eq-eqb}
 use lib.Dec.{eqb}
 use Rattle.units.specs.Numbers.{mostC, mostStations}
 use Rattle.units.specs.Grid.{MultipleOf}
-use Rattle.units.specs.JudgingLaws.{decides-both, decides-not, true-or-false, iff-then}
+use Rattle.units.specs.JudgingLaws.{decides-both, true-or-false, iff-then}
 use Rattle.units.specs.SmallLaws.{below-or-not}
 use Rattle.units.specs.Places.{at, sumBelow, fill, zeros}
-use Rattle.units.specs.PlaceLaws.{sum-part, sum-same, set-each, fill-inside, zero-at}
+use Rattle.units.specs.PlaceLaws.{sum-part, sum-same, set-each, fill-inside}
 use Rattle.units.specs.Vectors.{TokenKept}
 use Rattle.sets.specs.Rules.{NumbersAllowed}
 use Rattle.sets.specs.Judged.{judged}
@@ -24,7 +23,7 @@ use Rattle.sets.specs.declared.Set.{Set}
 use Rattle.plans.specs.Rules.{lost, leastTime, IsSmallest}
 use Rattle.plans.specs.Planned.{smallestAt, planned}
 use Rattle.plans.proofs.Promised as plans
-use Rattle.reasons.specs.Shortages.{Plannable, plannable, needed, shortageOf}
+use Rattle.reasons.specs.Shortages.{Plannable, plannable, shortageOf}
 use Rattle.reasons.specs.Bounds.{Roomy}
 use Rattle.reasons.specs.Rooms.{leftFor, largestWith, largestC, fits, roomsOf, withLongest, Largest}
 use Rattle.reasons.specs.declared.Rooms.{Rooms}

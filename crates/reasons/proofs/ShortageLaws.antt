@@ -1,22 +1,22 @@
 -- What is needed, what there is, and what is missing of a set; the set without its grid.
 use Prim.Native.Nat.{ℕ, _+_, _-_, _≤_, _<_}
-use mathlib.Core.Path.{_≡_, refl, sym, ap, _∙_}
-use mathlib.Core.Bool.{Bool, true, false}
+use mathlib.Core.Path.{_≡_, ap}
+use mathlib.Core.Bool.{true, false}
 use mathlib.Core.List.{List}
 use mathlib.Core.Logic.{_↔_, ⊎-elim}
 use native.Mathlib.Omega.{arith}
 use borrow.Author.Tests.{ltb-true, eqb-true, eq-eqb}
 use Rattle.units.specs.Grid.{AllOnGrid}
 use Rattle.units.specs.GridLaws.{every-multiple}
-use Rattle.units.specs.JudgingLaws.{decides-both, decides-not, iff-then}
+use Rattle.units.specs.JudgingLaws.{decides-both, iff-then}
 use Rattle.units.specs.SmallLaws.{below-or-not}
-use Rattle.units.specs.Places.{at, sumBelow}
+use Rattle.units.specs.Places.{at}
 use Rattle.units.specs.PlaceLaws.{sum-part}
 use Rattle.units.specs.Vectors.{TokenKept}
 use Rattle.sets.specs.Rules.{NumbersAllowed}
 use Rattle.sets.specs.SetLaws.{allowed}
 use Rattle.sets.specs.declared.Set.{Set}
-use Rattle.plans.specs.Rules.{lost, isFddi, MeetsDeadlines, MeetsToken, MeetsRules}
+use Rattle.plans.specs.Rules.{lost, MeetsDeadlines, MeetsToken, MeetsRules}
 use Rattle.plans.specs.Planned.{smallestAt, planned}
 use Rattle.plans.specs.PlanLaws.{time-timely}
 use Rattle.reasons.specs.Shortages.{Plannable, plannable, smallestSum, needed, available, missing, noShortage, shortageOf, tooMuch, withGrid, gridIsCause}
