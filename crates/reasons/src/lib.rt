@@ -55,7 +55,7 @@ fn plannable(t: Set) -> bool
 }
 
 // What no station may plan with: τ, and the F − 1 ticks by which a frame may run on.
-fn lost(t: Set) -> u64
+pub fn lost_time(t: Set) -> u64
     ensures { λ r. ⌜ Lost t r ⌝ }
 {
     sets::walk_time(t) + units::room(units::wide(t.head.frame), 1)
@@ -89,7 +89,7 @@ pub fn shortage_of(t: Set) -> Shortage
         };
     }
     let sum = smallest_sum(t);
-    let gone = lost(t);
+    let gone = lost_time(t);
     let ttrt = units::wide(t.head.ttrt);
     let needed = sum + gone;
     Shortage {

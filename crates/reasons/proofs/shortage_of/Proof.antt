@@ -27,7 +27,7 @@ returns-2 c =
     let in-ticks = c .before .before in
     let gone = in-ticks .before in
     let summed = gone .before in
-    rw (c .room2 .ensures, c .before .room .ensures, in-ticks .wide .ensures .same, gone .lost .ensures .is, summed .smallest-sum .ensures .is)
+    rw (c .room2 .ensures, c .before .room .ensures, in-ticks .wide .ensures .same, gone .lost-time .ensures .is, summed .smallest-sum .ensures .is)
     (sym (shortage-says _ (is-plannable (summed .before))))
 
 pub shortage-of-spec : {M : Type 1} → statement M

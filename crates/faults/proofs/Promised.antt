@@ -1,0 +1,15 @@
+-- What `specs/Promised.antt` promises.
+use Rattle.faults.specs.Promised.{Promised}
+use Rattle.faults.proofs.HoldingLaws.{held, seven}
+use Rattle.faults.proofs.RangeLaws.{none-listed, none-listed-plan, four, four-plan}
+
+pub promised : Promised
+promised =
+    record {
+      held = held;
+      seven = seven;
+      none-listed = none-listed;
+      none-listed-plan = none-listed-plan;
+      four = four;
+      four-plan = four-plan;
+    }
