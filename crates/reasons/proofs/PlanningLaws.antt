@@ -18,7 +18,7 @@ use Rattle.sets.specs.declared.Set.{Set}
 use Rattle.plans.specs.Rules.{lost, isFddi, IsSmallest, MeetsDeadlines, MeetsRules}
 use Rattle.plans.specs.Planned.{smallestAt, smallestAlloc, planned}
 use Rattle.plans.specs.Answer.{AllocationExists, Fitting}
-use Rattle.plans.specs.PlanLaws.{smallest-is, time-timely}
+use Rattle.plans.specs.PlanLaws.{smallest-is, time-timely, given-none}
 use Rattle.plans.specs.declared.Planned.{Planned}
 use Rattle.plans.proofs.Promised as plans
 use Rattle.reasons.specs.Shortages.{Plannable, plannable}
@@ -27,6 +27,16 @@ use Rattle.reasons.specs.Shortages.{Plannable, plannable}
 pub decides-plannable : (t : Set) → Decides (plannable t) (Plannable t)
 decides-plannable t =
     decides-both _ _ _ _ (eqb-true _ _, eq-eqb _ _) ((λ e. eqb-false _ _ (not-true _ e)), λ n. ap not (ne-eqb _ _ n))
+
+-- where planning answers 6 or a plan, the set is so
+pub six-plannable : (t : Set) → planned t .number ≡ 6 → Plannable t
+six-plannable t e = let f = plans.promised .six t .0 e in (f .0, f .1 .0)
+
+pub plan-plannable : (t : Set) → planned t .number ≡ 0 → Plannable t
+plan-plannable t e =
+    let kept = plans.promised .kept t e in
+    let all = given-none t (planned t .alloc) .0 (kept .judged) in
+    (allowed t .1 (all .0, (all .1 .0 .0, all .1 .1 .0)), kept .in-use)
 
 module _ (t : Set) (h : Plannable t) where
   pub own-mode : isFddi t ≡ false
@@ -79,9 +89,9 @@ module _ (t : Set) (h : Plannable t) where
   number-is =
       let all = allowed t .0 (h .0) in
       let kept = tokenKept (t .head .ttrt) (lost t) (t .n) (smallestAt t) in
-      ⊎-elim (λ (e : kept ≡ true). answers .plan (all .0) (all .1 .0) (all .1 .1) (decides-exists .0 e) .accepted ∙ sym (held kept 6 0 e))
+      ⊎-elim (λ (e : kept ≡ true). answers .plan (all .0) (all .1 .0) (all .1 .1) (h .1) (decides-exists .0 e) .accepted ∙ sym (held kept 6 0 e))
       (λ (e : kept ≡ false).
-      ap (λ (a : Planned). a .number) (answers .six (all .0) (all .1 .0) (all .1 .1) (decides-not _ _ decides-exists .0 e)) ∙ sym (failed kept 6 0 e))
+      ap (λ (a : Planned). a .number) (answers .six (all .0) (all .1 .0) (all .1 .1) (h .1) (decides-not _ _ decides-exists .0 e)) ∙ sym (failed kept 6 0 e))
       (true-or-false kept)
 
   pub six-is : (planned t .number ≡ 6) ↔ ¬ TokenKept (t .head .ttrt) (lost t) (t .n) (smallestAt t)
@@ -97,7 +107,7 @@ module _ (t : Set) (h : Plannable t) where
   plan-s found i l =
       let all = allowed t .0 (h .0) in
       let some = exists-is .1 (plan-is .0 found) in
-      let least = answers .plan (all .0) (all .1 .0) (all .1 .1) some .plan .least in
+      let least = answers .plan (all .0) (all .1 .0) (all .1 .1) (h .1) some .plan .least in
       omega (
         arith,
         inside i l,

@@ -27,7 +27,7 @@ use Rattle.reasons.specs.Shortages.{Plannable, plannable, shortageOf}
 use Rattle.reasons.specs.Bounds.{Roomy}
 use Rattle.reasons.specs.Rooms.{leftFor, largestWith, largestC, fits, roomsOf, withLongest, Largest}
 use Rattle.reasons.specs.declared.Rooms.{Rooms}
-use Rattle.reasons.proofs.PlanningLaws.{decides-plannable, few, stepped-by, stands, six-is, plan-is}
+use Rattle.reasons.proofs.PlanningLaws.{decides-plannable, plan-plannable, few, stepped-by, stands, six-is, plan-is}
 use Rattle.reasons.proofs.ShortageLaws as shortages
 use Rattle.reasons.proofs.GroundLaws.{time-rises, time-within}
 
@@ -41,11 +41,11 @@ pub rooms-none : (t : Set) → fits t ≡ false → roomsOf t ≡ record { c = z
 unfolding roomsOf
 rooms-none t e = rw e
 
-pub decides-fits : (t : Set) → (fits t ≡ true) ↔ (Plannable t × (planned t .number ≡ 0))
+pub decides-fits : (t : Set) → (fits t ≡ true) ↔ (planned t .number ≡ 0)
 decides-fits t =
     let both = decides-both _ _ _ _ (decides-plannable t) (eqb-true (shortageOf t .missing) 0, eq-eqb (shortageOf t .missing) 0) in (
-      λ e. let b = both .0 e in (b .0, shortages.plan t (b .0) .1 (b .1)),
-      λ p. both .1 (p .0, shortages.plan t (p .0) .0 (p .1)),
+      λ e. let b = both .0 e in shortages.plan t (b .0) .1 (b .1),
+      λ found. let p = plan-plannable t found in both .1 (p, shortages.plan t p .0 found),
     )
 
 -- ---- over numbers
@@ -85,7 +85,10 @@ sum-swap (suc n) f g i l each =
 
 -- ---- another C at station i
 
-module _ (t : Set) (h : Plannable t) (found : planned t .number ≡ 0) (long : length (t .c) ≡ mostStations) (i : ℕ) (l : i < t .n) where
+module _ (t : Set) (found : planned t .number ≡ 0) (long : length (t .c) ≡ mostStations) (i : ℕ) (l : i < t .n) where
+  h : Plannable t
+  h = plan-plannable t found
+
   own-place : (x : ℕ) → at (set (t .c) i x) i ≡ x
   own-place x = getD-set-same (t .c) i x 0 (omega (arith, few t h))
 
@@ -143,7 +146,7 @@ module _ (t : Set) (h : Plannable t) (found : planned t .number ≡ 0) (long : l
   largest =
       let all = allowed t .0 (h .0) .1 .0 in
       let filled : at (roomsOf t .c) i ≡ largestC t i =
-      ap (λ (r : Rooms). at (r .c) i) (rooms-say t (decides-fits t .1 (h, found))) ∙ fill-inside (t .n) (largestC t) zeros i l (few t h) in
+      ap (λ (r : Rooms). at (r .c) i) (rooms-say t (decides-fits t .1 found)) ∙ fill-inside (t .n) (largestC t) zeros i l (few t h) in
       let top : largestC t i ≤ mostC = omega (arith, largest-within, all .stations i l .deadline .1) in
       rw filled
       record {
@@ -169,11 +172,12 @@ module _ (t : Set) (spare : ℕ) (room : Roomy t spare) where
   pub roomy-fits : fits t ≡ true
   roomy-fits =
       let token : TokenKept (t .head .ttrt) (lost t) (t .n) (smallestAt t) = omega (arith, room .left-over) in
-      decides-fits t .1 (room .plannable, plan-is t (room .plannable) .1 token)
+      decides-fits t .1 (plan-is t (room .plannable) .1 token)
 
 -- a set that fits has what is available less the sum of S to spare
 pub spare-left : (t : Set) → fits t ≡ true → (shortageOf t .sum ≤ shortageOf t .available) × Roomy t (shortageOf t .available - shortageOf t .sum)
 spare-left t e =
-    let p = decides-fits t .0 e in
-    let token = plan-is t (p .0) .0 (p .1) in
-    rw (shortages.said t (p .0)) (omega (arith, token), record { plannable = p .0; left-over = omega (arith, token) })
+    let found = decides-fits t .0 e in
+    let p = plan-plannable t found in
+    let token = plan-is t p .0 found in
+    rw (shortages.said t p) (omega (arith, token), record { plannable = p; left-over = omega (arith, token) })

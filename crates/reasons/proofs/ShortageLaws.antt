@@ -8,7 +8,7 @@ use native.Mathlib.Omega.{arith}
 use borrow.Author.Tests.{ltb-true, eqb-true, eq-eqb}
 use Rattle.units.specs.Grid.{AllOnGrid}
 use Rattle.units.specs.GridLaws.{every-multiple}
-use Rattle.units.specs.JudgingLaws.{decides-both, iff-then}
+use Rattle.units.specs.JudgingLaws.{decides-both, iff-then, and-true, true-or-false}
 use Rattle.units.specs.SmallLaws.{below-or-not}
 use Rattle.units.specs.Places.{at}
 use Rattle.units.specs.PlaceLaws.{sum-part}
@@ -20,7 +20,7 @@ use Rattle.plans.specs.Rules.{lost, MeetsDeadlines, MeetsToken, MeetsRules}
 use Rattle.plans.specs.Planned.{smallestAt, planned}
 use Rattle.plans.specs.PlanLaws.{time-timely}
 use Rattle.reasons.specs.Shortages.{Plannable, plannable, smallestSum, needed, available, missing, noShortage, shortageOf, tooMuch, withGrid, gridIsCause}
-use Rattle.reasons.proofs.PlanningLaws.{decides-plannable, own-mode, exists-is, six-is, plan-is, sum-least}
+use Rattle.reasons.proofs.PlanningLaws.{decides-plannable, six-plannable, own-mode, exists-is, six-is, plan-is, sum-least}
 use Rattle.reasons.specs.declared.Shortage.{Shortage}
 
 -- ---- what is handed out
@@ -45,8 +45,8 @@ module _ (t : Set) (h : Plannable t) where
   pub exact : (more : ℕ) → TokenKept (t .head .ttrt + more) (lost t) (t .n) (smallestAt t) ↔ (shortageOf t .missing ≤ more)
   exact more = ((λ k. omega (arith, missing-said)), λ l. omega (arith, missing-said))
 
-  pub six : (planned t .number ≡ 6) ↔ (0 < shortageOf t .missing)
-  six = iff-then (six-is t h) (
+  six-says : (planned t .number ≡ 6) ↔ (0 < shortageOf t .missing)
+  six-says = iff-then (six-is t h) (
     (λ none.
         ⊎-elim (λ (b : t .head .ttrt < needed t). omega (arith, missing-said)) (λ (b : needed t ≤ t .head .ttrt). absurd (none b)) (below-or-not (t .head .ttrt) (needed t))),
     λ (l : 0 < shortageOf t .missing) k. omega (arith, missing-said),
@@ -63,6 +63,15 @@ module _ (t : Set) (h : Plannable t) where
       let there : shortageOf t .available ≡ t .head .ttrt - lost t = ap (λ (r : Shortage). r .available) said in
       let above : shortageOf t .available < smallestAt t i = ltb-true _ _ e in
       six-is t h .1 (λ k. omega (arith, sum-part (t .n) (smallestAt t) i l))
+
+pub six : (t : Set) → (planned t .number ≡ 6) ↔ (0 < shortageOf t .missing)
+six t = (
+  λ e. six-says t (six-plannable t e) .0 e,
+  λ (l : 0 < shortageOf t .missing).
+      ⊎-elim (λ e. six-says t (decides-plannable t .0 e) .1 l)
+      (λ e. let none = ap (λ (r : Shortage). r .missing) (shortage-none t e) in absurd (omega arith))
+      (true-or-false (plannable t)),
+)
 
 -- ---- without the grid
 
@@ -86,8 +95,8 @@ module _ (t : Set) (h : Plannable t) where
         },
   )
 
-  pub grid-cause : (gridIsCause t ≡ true) ↔ ((planned t .number ≡ 6) × ((s : List ℕ) × (MeetsDeadlines t (at s) × MeetsToken t (at s))))
-  grid-cause =
+  cause-says : (gridIsCause t ≡ true) ↔ ((planned t .number ≡ 6) × ((s : List ℕ) × (MeetsDeadlines t (at s) × MeetsToken t (at s))))
+  cause-says =
       let u = withGrid t 1 in
       let free = exists-is u free-plannable in
       let both = decides-both _ _ _ _ (eqb-true (planned t .number) 6, eq-eqb (planned t .number) 6) (eqb-true (planned u .number) 0, eq-eqb (planned u .number) 0) in
@@ -98,3 +107,9 @@ module _ (t : Set) (h : Plannable t) where
             (b .0, (some .0, free-rules (at (some .0)) .0 (some .1))),
         λ f. both .1 (f .0, token .1 (free .0 (f .1 .0, free-rules (at (f .1 .0)) .1 (f .1 .1)))),
       )
+
+pub grid-cause : (t : Set) → (gridIsCause t ≡ true) ↔ ((planned t .number ≡ 6) × ((s : List ℕ) × (MeetsDeadlines t (at s) × MeetsToken t (at s))))
+grid-cause t = (
+  λ e. cause-says t (six-plannable t (eqb-true _ _ (and-true _ _ e .0))) .0 e,
+  λ f. cause-says t (six-plannable t (f .0)) .1 f,
+)

@@ -1,24 +1,23 @@
 -- 6: what the smallest S need together, what there is, and the missing ticks; whether a station is too much by itself, and whether the grid is the cause.
 use Prim.Native.Nat.{ℕ, _+_, _-_}
 use mathlib.Core.Path.{_≡_}
-use mathlib.Core.Bool.{Bool, cond, not, _&&_}
-use mathlib.Core.Logic.{_≢_}
+use mathlib.Core.Bool.{Bool, cond, _&&_}
 use lib.Dec.{ltb, eqb}
-use Rattle.units.specs.Numbers.{accepted, noAllocation, fddi}
+use Rattle.units.specs.Numbers.{accepted, noAllocation}
 use Rattle.units.specs.Places.{sumBelow}
 use Rattle.sets.specs.Judged.{judged}
 use Rattle.sets.specs.declared.Set.{Set}
-use Rattle.plans.specs.Rules.{lost, isFddi}
+use Rattle.plans.specs.Rules.{lost, Retired, inUse}
 use Rattle.plans.specs.Planned.{smallestAt, planned}
 use Rattle.reasons.specs.declared.Shortage.{Shortage}
 
--- planning answers 6 or a plan: the set is judged 0, and FDDI is not its mode
+-- planning answers 6 or a plan: the set is judged 0, and its mode is not retired
 abbrev pub Plannable : Set → Type 0
-Plannable t = (judged t ≡ 0) × (t .head .mode ≢ fddi)
+Plannable t = (judged t ≡ 0) × ¬ Retired t
 
 -- the same as a test
 abbrev pub plannable : Set → Bool
-plannable t = eqb (judged t) accepted && not (isFddi t)
+plannable t = eqb (judged t) accepted && inUse t
 
 -- the sum of the smallest S
 abbrev pub smallestSum : Set → ℕ
