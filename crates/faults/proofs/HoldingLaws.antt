@@ -6,7 +6,7 @@ use lib.Dec.{ltb}
 use mathlib.Core.Logic.{_↔_, _≢_, _⊎_, inl, inr, ⊎-elim}
 use native.Mathlib.Omega.{arith}
 use borrow.Author.Tests.{ltb-true, lt-ltb, leb-false, not-true, ne-eqb}
-use Rattle.units.specs.Numbers.{fddi, mostStations}
+use Rattle.units.specs.Numbers.{mostStations}
 use Rattle.units.specs.Grid.{MultipleOf, onGrid, onGridAt, allOnGrid}
 use Rattle.units.specs.GridLaws.{decides-grid, decides-grids}
 use Rattle.units.specs.JudgingLaws.{Decides, decides-both, decides-le, decides-not, true-or-false}
@@ -15,12 +15,15 @@ use Rattle.units.specs.PlaceLaws.{sum-split, from-step}
 use Rattle.units.specs.Vectors.{deadlineKeptAt, deadlinesKept, tokenKept}
 use Rattle.units.specs.VectorLaws.{decides-token, decides-deadlines}
 use Rattle.sets.specs.Rules.{CountAllowed, WalkTimeAllowed}
+use Rattle.sets.specs.SetLaws.{allowed}
 use Rattle.sets.specs.declared.Set.{Set}
 use Rattle.fddi.specs.Rules as fddi-rules
-use Rattle.plans.specs.Rules.{lost, isFddi, leastTime, timeAt, termsOf, InRange, KeepsRules}
-use Rattle.plans.specs.Planned.{smallestFor, smallestAt, judgedPlan}
+use Rattle.plans.specs.Rules.{lost, isFddi, leastTime, timeAt, termsOf, InRange, KeepsRules, Retired}
+use Rattle.plans.specs.Planned.{smallestFor, smallestAt, judgedPlan, planned}
 use Rattle.plans.specs.PlanLaws.{smallest-is, time-timely, given-seven, given-none}
 use Rattle.plans.specs.declared.Alloc.{Alloc}
+use Rattle.reasons.specs.Shortages.{Plannable}
+use Rattle.reasons.proofs.PlanningLaws.{exists-is, plan-is, plan-s}
 use Rattle.faults.specs.Holdings.{isStation, timeBy, excessOf, holdingWith, holdingAt, Faulty}
 use Rattle.faults.specs.Promised.{Held}
 
@@ -63,7 +66,7 @@ module _ (t : Set) (a : Alloc) (i : ℕ) (count : CountAllowed t) (l : i < t .n)
   said : holdingAt t a i ≡ holdingWith (t .head) (at (t .c) i) (at (t .d) i) (at (a .s) i) (timeAt t (at (a .s)) i)
   said = holding-says t a i (decides-station t i .1 (count .1, l))
 
-  excess-said : judgedPlan t a ≡ 0 → t .head .mode ≢ fddi → at (a .s) i ≡ smallestAt t i + excessOf (t .head) (at (t .c) i) (at (t .d) i) (at (a .s) i)
+  excess-said : judgedPlan t a ≡ 0 → ¬ Retired t → at (a .s) i ≡ smallestAt t i + excessOf (t .head) (at (t .c) i) (at (t .d) i) (at (a .s) i)
   excess-said kept timely =
       let mode : isFddi t ≡ false = ne-eqb _ _ timely in
       let all = given-none t a .0 kept in
@@ -85,6 +88,22 @@ module _ (t : Set) (a : Alloc) (i : ℕ) (count : CountAllowed t) (l : i < t .n)
         off-grid = rw said grid-said;
         excess = rw said excess-said;
       }
+
+-- ---- a given plan that meets the rules, and planning's
+
+module _ (t : Set) (a : Alloc) (kept : judgedPlan t a ≡ 0) (timely : ¬ Retired t) where
+  is-plannable : Plannable t
+  is-plannable = let all = given-none t a .0 kept in (allowed t .1 (all .0, (all .1 .0 .0, all .1 .1 .0)), timely)
+
+  pub planned-too : planned t .number ≡ 0
+  planned-too = plan-is t is-plannable .1 (exists-is t is-plannable .0 (a .s, given-none t a .0 kept .1 .1 .1))
+
+  pub planned-same : ((i : ℕ) → i < t .n → holdingAt t a i .excess ≡ 0) ↔ ((i : ℕ) → i < t .n → at (a .s) i ≡ at (planned t .alloc .s) i)
+  planned-same =
+      let count = given-none t a .0 kept .0 in (
+        λ none i l. omega (arith, held t a i count l .excess kept timely, none i l, plan-s t is-plannable planned-too i l),
+        λ same i l. omega (arith, held t a i count l .excess kept timely, same i l, plan-s t is-plannable planned-too i l),
+      )
 
 -- ---- the rules, and their faults
 

@@ -4,6 +4,7 @@ use Rattle.reasons.specs.Promised.{Promised}
 use Rattle.units.specs.JudgingLaws.{decides-not}
 use Rattle.units.specs.Places.{at}
 use Rattle.units.specs.PlaceLaws.{zero-at}
+use Rattle.reasons.proofs.Cases.{cases-hold}
 use Rattle.reasons.proofs.GroundLaws.{shown}
 use Rattle.reasons.proofs.RoomLaws.{rooms-none, decides-fits, largest}
 use Rattle.reasons.specs.declared.Rooms.{Rooms}
@@ -23,4 +24,5 @@ promised =
       grounds = shown;
       rooms = largest;
       no-rooms = λ t n i. ap (λ (r : Rooms). at (r .c) i) (rooms-none t (decides-not _ _ (decides-fits t) .1 n)) ∙ zero-at i;
+      cases = cases-hold;
     }

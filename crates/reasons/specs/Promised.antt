@@ -12,6 +12,7 @@ use Rattle.units.specs.Vectors.{TokenKept}
 use Rattle.sets.specs.declared.Set.{Set}
 use Rattle.plans.specs.Rules.{lost, MeetsDeadlines, MeetsToken}
 use Rattle.plans.specs.Planned.{smallestAt, planned}
+use Rattle.reasons.specs.Cases.{Cases}
 use Rattle.reasons.specs.Grounds.{Shown, groundsAt}
 use Rattle.reasons.specs.Rooms.{Largest, roomsOf}
 use Rattle.reasons.specs.Shortages.{Plannable, noShortage, shortageOf, tooMuch, gridIsCause}
@@ -37,3 +38,5 @@ pub record Promised : Type 0 where
   pub rooms : (t : Set) → planned t .number ≡ 0 → length (t .c) ≡ mostStations → (i : ℕ) → i < t .n → Largest t i (at (roomsOf t .c) i)
   -- a set that has no plan has none
   pub no-rooms : (t : Set) → planned t .number ≢ 0 → (i : ℕ) → at (roomsOf t .c) i ≡ 0
+  -- cases that a person can check by hand
+  pub cases : Cases
