@@ -37,11 +37,11 @@ use Rattle.scan.specs.declared.Scanned.{Scanned}
 use Rattle.scan.proofs.ScanLaws.{zero-or-not, fault-there, end-there, stopped, shape-fault, shape-whole}
 use Rattle.scan.proofs.PassedLaws.{whole-ended, scanned-ended, through, plan-no-request}
 use Rattle.sheets.specs.Layout.{mark, mostOf, furtherBytes, furtherLength, headUpTo, headLength, stationWith, stationBytes, allocationBytes, endBytes, fieldsOf, sheetOf, requestSheet, planSheet, sheetLength}
-use Rattle.sheets.specs.Reading.{thenNumber, setIn, allocIn, judgedSheet, readSheet, readRequest, readPlan}
+use Rattle.sheets.specs.Reading.{thenNumber, setIn, allocIn, judgedSheet, readSheet, readRequest, readPlan, givenSheet}
 use Rattle.sheets.specs.Writing.{writtenAnswer, writtenBuffer, requestWritten, planWritten}
 use Rattle.sheet_rules.specs.Promised.{Promised, ZeroPast, GivenRequest, GivenPlan, firstPlaces, firstAllocations, requestLength, planLength, ByTag, There, said, smallSet, Numbers32}
 use Rattle.sheets.specs.ReadLaws.{then-rest, then-keeps, then-none, read-refused, read-accepted, read-number, sheet-accepted}
-use Rattle.sheets.proofs.ReadingLaws.{head-out}
+use Rattle.sheets.proofs.ReadingLaws.{head-out, given-misshapen, given-read as given-held, given-number, sheet-given}
 use Rattle.sheets.proofs.FirstLaws.{reads-enough}
 use Rattle.sheets.proofs.WritingLaws.{further-none, up-to-more, length-none, length-some, head-fields, head-lengths, sheet-long, answer-accepted, answer-number, buffer-accepted, buffer-refused, number-none, number-short, number-judged as written-judged}
 use Rattle.sheet_rules.proofs.BackLaws.{read-back, laid-number, first-same, first-allocations}
@@ -461,6 +461,23 @@ other-number plan bs w tag low high e out =
     let z : scanned plan bs .number ≡ 0 = ap (λ (r : Scanned). r .number) (end-there plan bs w) in
     number-judged plan bs z ∙ head-out plan (setIn plan bs) (allocIn plan bs) tag (count-read plan bs z) (reads-out bs tag low high e out)
 
+-- ---- what a sheet holds, whatever its numbers are
+
+given-same : (plan : Bool) (bs : List ℕ) → givenSheet plan bs .number ≡ readSheet plan bs .number
+unfolding readSheet
+given-same plan bs = given-number plan bs ∙ sym (read-number _ _ _)
+
+given-fields : (plan : Bool) (bs : List ℕ) → WholeSheet plan bs → (givenSheet plan bs .set ≡ setIn plan bs) × (givenSheet plan bs .alloc ≡ allocIn plan bs)
+given-fields plan bs w =
+    let z : scanned plan bs .number ≡ 0 = ap (λ (r : Scanned). r .number) (end-there plan bs w) in
+    let e = given-held plan bs z in
+    (ap (λ (r : ReadPlan). r .set) e, ap (λ (r : ReadPlan). r .alloc) e)
+
+given-none : (plan : Bool) (bs : List ℕ) → ¬ WholeSheet plan bs → (givenSheet plan bs .set ≡ blankSet) × (givenSheet plan bs .alloc ≡ blankAlloc)
+given-none plan bs broken =
+    let e = given-misshapen plan bs (λ z. broken (shape-whole plan bs z)) in
+    (ap (λ (r : ReadPlan). r .set) e, ap (λ (r : ReadPlan). r .alloc) e)
+
 pub promised : Promised
 promised =
     record {
@@ -508,6 +525,10 @@ promised =
       request-judged = request-judgement;
       plan-judged = plan-judgement;
       plan-no-request = no-request;
+      given-number = given-same;
+      given-accepted = λ plan bs h. sym (sheet-given plan bs (given-same plan bs ∙ h));
+      given-whole = given-fields;
+      given-blank = given-none;
       request-blank = λ bs h. ap (λ (r : ReadPlan). r .set) (blank false bs h);
       plan-blank = λ bs h. (ap (λ (r : ReadPlan). r .set) (blank true bs h), ap (λ (r : ReadPlan). r .alloc) (blank true bs h));
       request-past = past false;

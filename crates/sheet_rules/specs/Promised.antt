@@ -22,7 +22,7 @@ use Rattle.fields.specs.Header.{furtherCount, placeOf, saidAt}
 use Rattle.fields.specs.declared.Passed.{Passed}
 use Rattle.scan.specs.FirstFault.{FirstFault, WholeSheet}
 use Rattle.sheets.specs.Layout.{mark, mostOf, furtherBytes, headUpTo, headBytes, headLength, stationBytes, allocationBytes, sheetOf, requestSheet, planSheet, requestRead, planRead}
-use Rattle.sheets.specs.Reading.{setIn, allocIn, readSheet, readRequest, readPlan}
+use Rattle.sheets.specs.Reading.{setIn, allocIn, readSheet, readRequest, readPlan, givenSheet}
 use Rattle.sheets.specs.Writing.{requestWritten, planWritten}
 use Rattle.sheet_rules.specs.Standing.{MayStand}
 
@@ -230,6 +230,13 @@ pub record Promised : Type 0 where
   pub plan-judged : (bs : List ℕ) → WholeSheet true bs → readPlan bs .number ≡ judgedPlan (setIn true bs) (allocIn true bs)
   -- a plan sheet that is accepted is no request: its first allocation may not stand there
   pub plan-no-request : (bs : List ℕ) → readPlan bs .number ≡ 0 → readRequest bs .number ≡ 2
+  -- what a sheet holds, whatever its numbers are, comes with the number of reading, and is what reading answers where that is accepted
+  pub given-number : (plan : Bool) (bs : List ℕ) → givenSheet plan bs .number ≡ readSheet plan bs .number
+  pub given-accepted : (plan : Bool) (bs : List ℕ) → readSheet plan bs .number ≡ 0 → givenSheet plan bs ≡ readSheet plan bs
+  -- of a sheet without a fault it is the set and the allocation of its fields, with 4, 5 and 7 too
+  pub given-whole : (plan : Bool) (bs : List ℕ) → WholeSheet plan bs → (givenSheet plan bs .set ≡ setIn plan bs) × (givenSheet plan bs .alloc ≡ allocIn plan bs)
+  -- with 1, 2 and 3 it is blank
+  pub given-blank : (plan : Bool) (bs : List ℕ) → ¬ WholeSheet plan bs → (givenSheet plan bs .set ≡ blankSet) × (givenSheet plan bs .alloc ≡ blankAlloc)
   -- refused: the set is blank, and the allocation
   pub request-blank : (bs : List ℕ) → readRequest bs .number ≢ 0 → readRequest bs .set ≡ blankSet
   pub plan-blank : (bs : List ℕ) → readPlan bs .number ≢ 0 → (readPlan bs .set ≡ blankSet) × (readPlan bs .alloc ≡ blankAlloc)

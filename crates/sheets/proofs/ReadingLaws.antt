@@ -27,8 +27,8 @@ use Rattle.scan.proofs.ScanLaws.{stopped}
 use Rattle.scan.proofs.PassedLaws.{AllPassed, all-passed, scanned-ended}
 use Rattle.sheets.specs.Bounds.{PassedFits}
 use Rattle.sheets.specs.Layout.{mostOf}
-use Rattle.sheets.specs.Reading.{numberIn, headIn, planPassed, setIn, allocIn, judgedSheet, readSheet}
-use Rattle.sheets.specs.ReadLaws.{then-rest, then-keeps, read-refused}
+use Rattle.sheets.specs.Reading.{numberIn, headIn, planPassed, setIn, allocIn, thenNumber, judgedSheet, readNumber, readSheet, givenAnswer, givenSheet}
+use Rattle.sheets.specs.ReadLaws.{then-none, read-refused, sheet-accepted}
 
 -- where all fields but the end have passed, there is room for all that is read from them
 pub passed-fits : (plan : Bool) (bs : List ℕ) (p : Passed) (a : ℕ) → AllPassed plan bs p a → PassedFits bs p
@@ -42,6 +42,17 @@ passed-fits plan bs p a e =
       inside = omega (arith, e .place, e .inside);
     }
 
+-- an answer by its number
+given-refused : (k : ℕ) (plan : Bool) (t : Set) (a : Alloc) → k ≢ 0 → givenAnswer k plan t a ≡ record { set = blankSet; alloc = blankAlloc; number = k }
+unfolding givenAnswer
+given-refused zero plan t a h = absurd (h refl)
+given-refused (suc k) plan t a h = refl
+
+given-then : (k : ℕ) (plan : Bool) (t : Set) (a : Alloc) → givenAnswer k plan t a .number ≡ thenNumber k (judgedSheet plan t a)
+unfolding givenAnswer thenNumber
+given-then zero plan t a = refl
+given-then (suc k) plan t a = refl
+
 module _ (plan : Bool) (bs : List ℕ) where
   -- so it is with a sheet without a fault
   pub scanned-fits : scanned plan bs .number ≡ 0 → PassedFits bs (scanned plan bs .passed)
@@ -51,14 +62,29 @@ module _ (plan : Bool) (bs : List ℕ) where
   pub start-fits : planPassed (scanned plan bs .passed) ≡ true → PassedFits bs (scanned plan bs .passed)
   start-fits may = passed-fits plan bs (scanned plan bs .passed) (scanned plan bs .at) (all-passed plan bs _ _ (stopped plan bs .before) may)
 
-  pub sheet-misshapen : scanned plan bs .number ≢ 0 → readSheet plan bs ≡ record { set = blankSet; alloc = blankAlloc; number = scanned plan bs .number }
-  unfolding readSheet
-  sheet-misshapen h = rw (then-keeps (scanned plan bs .number) (judgedSheet plan (setIn plan bs) (allocIn plan bs)) h) (read-refused _ _ _ h)
+  -- what a sheet holds
+  pub given-misshapen : scanned plan bs .number ≢ 0 → givenSheet plan bs ≡ record { set = blankSet; alloc = blankAlloc; number = scanned plan bs .number }
+  unfolding givenSheet
+  given-misshapen h = given-refused (scanned plan bs .number) plan (setIn plan bs) (allocIn plan bs) h
 
-  pub sheet-refused : scanned plan bs .number ≡ 0 → judgedSheet plan (setIn plan bs) (allocIn plan bs) ≢ 0
-      → readSheet plan bs ≡ record { set = blankSet; alloc = blankAlloc; number = judgedSheet plan (setIn plan bs) (allocIn plan bs) }
+  pub given-read : scanned plan bs .number ≡ 0 → givenSheet plan bs ≡ record { set = setIn plan bs; alloc = allocIn plan bs; number = judgedSheet plan (setIn plan bs) (allocIn plan bs) }
+  unfolding givenSheet givenAnswer
+  given-read h = rw h refl
+
+  -- it has the number of reading
+  pub given-number : givenSheet plan bs .number ≡ readNumber plan bs
+  unfolding givenSheet
+  given-number = given-then (scanned plan bs .number) plan (setIn plan bs) (allocIn plan bs)
+
+  -- a sheet that is refused is read blank, and one that is not as it is
+  pub sheet-blank : givenSheet plan bs .number ≢ 0 → readSheet plan bs ≡ record { set = blankSet; alloc = blankAlloc; number = givenSheet plan bs .number }
   unfolding readSheet
-  sheet-refused e h = rw (then-rest (scanned plan bs .number) (judgedSheet plan (setIn plan bs) (allocIn plan bs)) e) (read-refused _ _ _ h)
+  sheet-blank h = rw given-number (read-refused _ _ _ (λ e. h (given-number ∙ e)))
+
+  pub sheet-given : givenSheet plan bs .number ≡ 0 → readSheet plan bs ≡ givenSheet plan bs
+  sheet-given h =
+      let none = then-none (scanned plan bs .number) (judgedSheet plan (setIn plan bs) (allocIn plan bs)) (sym given-number ∙ h) in
+      sheet-accepted plan bs (none .0) (none .1) ∙ rw (given-read (none .0), none .1) refl
 
 -- ---- the header's numbers
 

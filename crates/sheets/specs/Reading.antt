@@ -82,6 +82,16 @@ readAnswer (suc k) t a = record { set = blankSet; alloc = blankAlloc; number = s
 unfoldable pub readSheet : Bool → List ℕ → ReadPlan
 readSheet plan bs = readAnswer (readNumber plan bs) (setIn plan bs) (allocIn plan bs)
 
+-- ---- what a sheet holds, whatever its numbers are
+
+-- with 1, 2 and 3 nothing; else the set and the allocation that the bytes hold, with their judgement: 4, 5 and 7 leave them as they are
+unfoldable pub givenAnswer : ℕ → Bool → Set → Alloc → ReadPlan
+givenAnswer zero plan t a = record { set = t; alloc = a; number = judgedSheet plan t a }
+givenAnswer (suc k) plan t a = record { set = blankSet; alloc = blankAlloc; number = suc k }
+
+unfoldable pub givenSheet : Bool → List ℕ → ReadPlan
+givenSheet plan bs = givenAnswer (scanned plan bs .number) plan (setIn plan bs) (allocIn plan bs)
+
 -- ---- a plan at the start of any bytes, whatever stands behind it
 
 -- all fields of a sheet but its end have passed: the end may stand there

@@ -7,7 +7,7 @@ mod writing;
 ghost use mathlib.Core.Path.{_≡_};
 ghost use mathlib.Core.Bool.{true, false};
 ghost use Rattle.plans.specs.Planned.{blankAlloc};
-ghost use Rattle.sheets.specs.Reading.{readRequest, readPlan, planStart, judgedSheet};
+ghost use Rattle.sheets.specs.Reading.{readRequest, readPlan, planStart, judgedSheet, givenSheet};
 ghost use Rattle.sheets.specs.Writing.{Wrote, WroteFields};
 use plans::Alloc;
 use sets::Set;
@@ -76,6 +76,13 @@ pub fn read_plan(sheet: &[u8]) -> ReadPlan
     ensures { λ r. ⌜ r ≡ readPlan (now (sheet .entry)) ⌝ }
 {
     reading::read_sheet(sheet, true)
+}
+
+// Reads what a sheet holds, whatever its numbers are: the set, of a plan with its allocation, and their judgement. Only with 1, 2 and 3 it is blank.
+pub fn read_given(sheet: &[u8], plan: bool) -> ReadPlan
+    ensures { λ r. ⌜ r ≡ givenSheet plan (now (sheet .entry)) ⌝ }
+{
+    reading::read_given(sheet, plan)
 }
 
 // Reads the plan at the start of the lent bytes, whatever stands behind its fields: these, if all have passed, and their judgement.

@@ -8,7 +8,7 @@ ghost use Rattle.sheets.specs.Bounds.{PassedFits, ColumnFits};
 ghost use Rattle.fields.specs.Bytes.{bodyAt};
 ghost use Rattle.fields.specs.Fields.{furtherSize};
 ghost use Rattle.fields.specs.Header.{furtherCount, behindTag, furtherPlace, givenAt};
-ghost use Rattle.sheets.specs.Reading.{column, headIn, setOf, allocOf, readSheet, planPassed};
+ghost use Rattle.sheets.specs.Reading.{column, headIn, setOf, allocOf, givenSheet, readSheet, planPassed};
 use crate::ReadPlan;
 use crate::bytes;
 use fields::Passed;
@@ -127,9 +127,9 @@ fn refused(number: u8) -> ReadPlan
     ReadPlan { set, alloc, number }
 }
 
-// Reads a sheet: 1, 2, 3 by the first fault from the left; then 4, 5, and 7 for plans.
-pub(crate) fn read_sheet(bs: &[u8], plan: bool) -> ReadPlan
-    ensures { λ r. ⌜ r ≡ readSheet plan (now (bs .entry)) ⌝ }
+// What a sheet holds, whatever its numbers are: 1, 2, 3 by the first fault from the left; then the judgement of what it holds, 4, 5, and 7 for plans.
+pub(crate) fn read_given(bs: &[u8], plan: bool) -> ReadPlan
+    ensures { λ r. ⌜ r ≡ givenSheet plan (now (bs .entry)) ⌝ }
 {
     let scanned = scan::scan_sheet(bs, plan);
     if scanned.number != numbers::ACCEPTED {
@@ -138,10 +138,18 @@ pub(crate) fn read_sheet(bs: &[u8], plan: bool) -> ReadPlan
     let set = read_set(bs, scanned.passed);
     let alloc = read_alloc(bs, scanned.passed);
     let number = crate::judge_sheet(plan, set, alloc);
-    if number != numbers::ACCEPTED {
-        return refused(number);
-    }
     ReadPlan { set, alloc, number }
+}
+
+// Reads a sheet: a refused one is blank.
+pub(crate) fn read_sheet(bs: &[u8], plan: bool) -> ReadPlan
+    ensures { λ r. ⌜ r ≡ readSheet plan (now (bs .entry)) ⌝ }
+{
+    let given = read_given(bs, plan);
+    if given.number != numbers::ACCEPTED {
+        return refused(given.number);
+    }
+    given
 }
 
 // All fields of a sheet but its end have passed.

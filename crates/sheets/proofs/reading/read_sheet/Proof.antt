@@ -1,95 +1,29 @@
--- `read_sheet` is right because it keeps the number of the walk, then that of the judgement, and else hands out what was read.
-use mathlib.Core.Path.{_≡_, sym, ap, subst, _∙_}
-use mathlib.Core.Logic.{_≢_}
-use Rattle.scan.specs.Scanned.{scanned}
-use Rattle.scan.specs.declared.Scanned.{Scanned}
-use Rattle.sheets.specs.Bounds.{PassedFits}
-use Rattle.sheets.specs.Reading.{setOf, allocOf, setIn, allocIn, judgedSheet}
-use Rattle.sheets.specs.ReadLaws.{sheet-accepted}
-use Rattle.sheets.proofs.ReadingLaws.{scanned-fits, sheet-misshapen, sheet-refused}
+-- `read_sheet` is right because what a sheet holds has the number of reading, and an accepted one is what reading answers.
+use mathlib.Core.Path.{_≡_, sym, ap, _∙_}
 use borrow.Author.Needs.{needs}
+use Rattle.sheets.specs.Reading.{givenSheet}
+use Rattle.sheets.specs.declared.ReadPlan.{ReadPlan}
+use Rattle.sheets.proofs.ReadingLaws.{sheet-blank, sheet-given}
 use Rattle.sheets.proofs.reading.read_sheet.Statement.{statement}
 use Rattle.sheets.proofs.reading.read_sheet.Tie as tie
 
--- the walk ended with 0
-walk-0 : (c : tie.Else1) → scanned (c .before .before .before .before .args .plan) (c .before .before .before .before .args .bs .now) .number ≡ 0
-walk-0 c = ap (λ (r : Scanned). r .number) (sym (c .before .before .scan-sheet .ensures)) ∙ c .if1 .left
-
-fits : (c : tie.Else1) → PassedFits (c .before .before .before .before .args .bs .now) (c .before .before .scan-sheet .result .passed)
-fits c =
-    let args = c .before .before .before .before .args in
-    subst (λ (r : Scanned). PassedFits (args .bs .now) (r .passed)) (sym (c .before .before .scan-sheet .ensures)) (scanned-fits (args .plan) (args .bs .now) (walk-0 c))
-
-set-said : (c : tie.After-read-set)
-    → let args = c .before .before .before .before .before .args in
-    c .read-set .result ≡ setIn (args .plan) (args .bs .now)
-set-said c =
-    let walked = c .before .before .before in
-    c .read-set .ensures ∙ ap (λ (r : Scanned). setOf (walked .before .before .args .bs .now) (r .passed)) (walked .scan-sheet .ensures)
-
-alloc-said : (c : tie.After-read-alloc)
-    → let args = c .before .before .before .before .before .before .args in
-    c .read-alloc .result ≡ allocIn (args .plan) (args .bs .now)
-alloc-said c =
-    let walked = c .before .before .before .before in
-    c .read-alloc .ensures ∙ ap (λ (r : Scanned). allocOf (walked .before .before .args .bs .now) (r .passed)) (walked .scan-sheet .ensures)
-
-judged-said : (c : tie.After-judge-sheet)
-    → let args = c .before .before .before .before .before .before .before .args in
-    c .judge-sheet .result ≡ judgedSheet (args .plan) (setIn (args .plan) (args .bs .now)) (allocIn (args .plan) (args .bs .now))
-judged-said c = c .judge-sheet .ensures ∙ rw (set-said (c .before .before), alloc-said (c .before))
-
-scan-sheet-requires : tie.Need-scan-sheet-requires
-scan-sheet-requires c κs = search needs
-
-refused-requires : tie.Need-refused-requires
-refused-requires c κs = search needs
+-- the number of what the sheet holds
+number-said : (c : tie.After-read-given) →
+    let args = c .before .before .args in
+    c .read-given .result .number ≡ givenSheet (args .plan) (args .bs .now) .number
+number-said c = ap (λ (r : ReadPlan). r .number) (c .read-given .ensures)
 
 returns : tie.Need-returns
 returns c =
-    let args = c .before .before .before .before .before .args in
-    let said = c .before .before .before .scan-sheet .ensures in
-    let number : c .before .before .before .scan-sheet .result .number ≡ scanned (args .plan) (args .bs .now) .number = ap (λ (r : Scanned). r .number) said in
-    c .refused .ensures ∙ rw number (sym (sheet-misshapen (args .plan) (args .bs .now) (λ e. c .before .if1 .taken (number ∙ e))))
-
-read-set-requires : tie.Need-read-set-requires
-read-set-requires c κs = fits c
-
-read-alloc-requires : tie.Need-read-alloc-requires
-read-alloc-requires c κs = fits (c .before)
-
-judge-sheet-requires : tie.Need-judge-sheet-requires
-judge-sheet-requires c κs = search needs
-
-refused-requires-2 : tie.Need-refused-requires-2
-refused-requires-2 c κs = search needs
+    let given = c .before .before .before in
+    let args = given .before .before .args in
+    c .refused .ensures ∙ rw (number-said given) (sym (sheet-blank (args .plan) (args .bs .now) (λ e. c .before .if1 .taken (number-said given ∙ e))))
 
 returns-2 : tie.Need-returns-2
 returns-2 c =
-    let judged = c .before .before in
-    let args = judged .before .before .before .before .before .before .before .args in
-    let said = judged-said judged in
-    let refused : judged .judge-sheet .result ≢ 0 = c .before .if2 .taken in
-    c .refused2 .ensures ∙ rw said (sym (sheet-refused (args .plan) (args .bs .now) (walk-0 (judged .before .before .before)) (λ e. refused (said ∙ e))))
-
-returns-3 : tie.Need-returns-3
-returns-3 c =
-    let judged = c .before in
-    let args = judged .before .before .before .before .before .before .before .args in
-    let accepted : judged .judge-sheet .result ≡ 0 = c .if2 .left in
-    rw (accepted, set-said (judged .before .before), alloc-said (judged .before))
-    (sym (sheet-accepted (args .plan) (args .bs .now) (walk-0 (judged .before .before .before)) (sym (judged-said judged) ∙ accepted)))
+    let given = c .before .before in
+    let args = given .before .before .args in
+    given .read-given .ensures ∙ sym (sheet-given (args .plan) (args .bs .now) (sym (number-said given) ∙ c .if1 .left))
 
 pub read-sheet-spec : {M : Type 1} → statement M
-read-sheet-spec =
-    tie.close
-    (tie.spec
-    scan-sheet-requires
-    refused-requires
-    returns
-    read-set-requires
-    read-alloc-requires
-    judge-sheet-requires
-    refused-requires-2
-    returns-2
-    returns-3)
+read-sheet-spec = tie.close (tie.spec (λ c κs. search needs) (λ c κs. search needs) returns returns-2)
