@@ -19,7 +19,7 @@ mostNumber = 4_294_967_295
 abbrev pub noGrounds : Grounds
 noGrounds = record { whole = 0; alpha = 0; smallest = 0; time = 0; below = 0 }
 
--- those of C and D, where S is the smallest
+-- those of TTRT, D and the smallest S
 abbrev pub groundsFor : ℕ → ℕ → ℕ → ℕ → Grounds
 groundsFor grid ttrt d s =
     record { whole = wholeRotations ttrt d; alpha = alpha ttrt d; smallest = s; time = leastTime ttrt d s; below = leastTime ttrt d (s - grid) }

@@ -144,6 +144,7 @@ pub fn grid_is_cause(t: Set) -> bool
 // The largest number of 32 bits.
 const MOST_NUMBER: u64 = 4_294_967_295;
 
+// No grounds: every number 0.
 fn no_grounds() -> Grounds
     ensures { λ r. ⌜ r ≡ noGrounds ⌝ }
 {
