@@ -48,7 +48,7 @@ use Rattle.rings.proofs.Ring.Laws as T′
 use Rattle.lent.proofs.Loans.{Loan, Names, Ends, ref, parts, refs, lents, ends, lend-all, back-all}
 use Rattle.lent.proofs.Loans as Ln
 use Rattle.lent.proofs.Apart.{loans, lists, Rest, apart, whole}
-use Rattle.lent.proofs.Walk.{PlainType, last-of, silent}
+use Rattle.lent.proofs.Plain.{PlainType, last-of, silent}
 
 -- what the callee gives: the four numbers, the call's number, and the answer
 pub record NextType (Y : PlainType) : Type 2 where

@@ -1,6 +1,6 @@
 pub mod Fields
 pub mod Promised
-pub mod Walk
+pub mod Plain
 pub mod Loans
 pub mod Apart
 pub mod LentWalk

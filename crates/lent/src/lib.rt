@@ -111,9 +111,42 @@ pub extern "C" fn olivastrum_open_ring(set: Set, alloc: Alloc) -> Opened
 pub extern "C" fn olivastrum_visit(ring: &mut Ring, ask: Ask) -> VisitAnswer
     ensures { λ answer. ⌜ VisitLent (now (ring .entry)) ask (now (ring .exit)) answer ⌝ }
 {
-    let visited = Ring::visit(*ring, ask);
-    *ring = visited.ring;
-    visited.answer
+    let head = ring.set.head;
+    let n = ring.set.n;
+    let token = ring.token;
+    let clock = ring.clock;
+    let visits = ring.visits;
+    let unused = ring.unused;
+    let next = in_place::visit_on(
+        &ring.set.w,
+        &ring.set.c,
+        &ring.set.d,
+        &ring.set.p,
+        &ring.alloc.s,
+        &mut ring.trt,
+        &mut ring.late,
+        &mut ring.sent,
+        &mut ring.rest,
+        &mut ring.arrival,
+        &mut ring.had,
+        &mut ring.mark,
+        &mut ring.last,
+        head,
+        n,
+        token,
+        clock,
+        visits,
+        unused,
+        ask,
+    );
+    if next.number != 0 {
+        return next.answer;
+    }
+    ring.token = next.token;
+    ring.clock = next.clock;
+    ring.visits = next.visits;
+    ring.unused = next.unused;
+    next.answer
 }
 
 // Handing in a message at the lent ring.

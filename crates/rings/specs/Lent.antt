@@ -11,11 +11,13 @@ use Rattle.plans.specs.Lent.{allocOf}
 use Rattle.rings.specs.State.{made}
 use Rattle.rings.specs.Timers.{timersSound}
 use Rattle.rings.specs.Sound.{isSound}
+use Rattle.rings.specs.Steps.{Ask, visited}
 use Rattle.rings.specs.HandingIn.{arrivalAllowed, messageNumber, handedIn}
 use Rattle.rings.specs.Marking.{markedRing, withdrawal, marked, unmarked}
 use Rattle.units.specs.declared.Station.{Station}
 use Rattle.rings.specs.declared.Message.{Message}
 use Rattle.rings.specs.declared.MarkAnswer.{MarkAnswer}
+use Rattle.rings.specs.declared.VisitNext.{VisitNext}
 use Rattle.rings.specs.declared.MarkNext.{MarkNext}
 use Rattle.rings.specs.declared.NumberNext.{NumberNext}
 use Rattle.rings.specs.declared.Ring.{Ring}
@@ -75,6 +77,11 @@ SwitchedIn rest mark i rest′ mark′ =
     ≡ markedRing (ringOf w c d p s trt late sent rest arrival had mark last head n token clock visits unused) i
 
 -- ---- a call on a ring whose arrays are lent: the ring is r before it and r′ behind it, with the four numbers that come back
+
+pub record VisitedOn (r : Ring) (ask : Ask) (r′ : Ring) (a : VisitNext) : Type 0 where
+  pub ring : r′ ≡ visited r ask .ring
+  pub answered : a .answer ≡ visited r ask .answer
+  pub number : a .number ≡ a .answer .number
 
 pub record HandedInOn (r : Ring) (message : Message) (r′ : Ring) (a : NumberNext) : Type 0 where
   pub ring : r′ ≡ handedIn r message .ring

@@ -8,6 +8,7 @@
 --     Marking      a station switched through, what that takes back, and switched in again
 --     Lent         a ring whose arrays are lent one by one
 --     Bounds       what the inner functions ask for and hand back
+--     Views        what a visit looks at, by its numbers alone
 -- and, for the proofs of the layers above:
 --     TimerLaws
 --     RingLaws
@@ -22,6 +23,7 @@ pub mod HandingIn
 pub mod Marking
 pub mod Lent
 pub mod Bounds
+pub mod Views
 pub mod TimerLaws
 pub mod FrameLaws
 pub mod RingLaws

@@ -7,6 +7,7 @@ mod opening;
 mod soundness;
 mod steps;
 mod timing;
+mod view;
 
 ghost use mathlib.Core.Path.{_≡_};
 ghost use Rattle.rings.specs.Bounds.{Placed};
@@ -127,6 +128,16 @@ pub struct Taken {
     pub number: u8,
 }
 
+// What a visit on lent arrays gives back: the ring's four numbers, the number, and the answer.
+pub struct VisitNext {
+    pub token: u32,
+    pub clock: u64,
+    pub visits: u64,
+    pub unused: u64,
+    pub number: u8,
+    pub answer: VisitAnswer,
+}
+
 // What a marking on lent arrays gives back: the ring's four numbers, the number, and the answer.
 pub struct MarkNext {
     pub token: u32,
@@ -209,18 +220,56 @@ impl Ring {
     pub fn visit(mut self, ask: Ask) -> Visited
         ensures { λ r. ⌜ r ≡ visited self ask ⌝ }
     {
-        let steady = sound(self);
-        let named = frames::length_fits(ask.length, self.set.head.frame);
-        let number = steps::first_refusal(steady, named, self.clock);
-        if number != numbers::ACCEPTED {
-            return steps::refused(self, number);
-        }
-        let limit = timing::limit_of(self);
-        let asynchronous = frames::time_sent(limit, ask);
-        let sync = steps::sync_sent(self, asynchronous);
-        let record = steps::record_of(self, sync, asynchronous);
-        let answer = VisitAnswer { record, number };
-        let ring = steps::moved_on(self, sync, asynchronous);
+        let set = self.set;
+        let alloc = self.alloc;
+        let mut trt = self.trt;
+        let mut late = self.late;
+        let mut sent = self.sent;
+        let mut rest = self.rest;
+        let mut arrival = self.arrival;
+        let mut had = self.had;
+        let mut mark = self.mark;
+        let mut last = self.last;
+        let head = set.head;
+        let next = in_place::visit_on(
+            &set.w,
+            &set.c,
+            &set.d,
+            &set.p,
+            &alloc.s,
+            &mut trt,
+            &mut late,
+            &mut sent,
+            &mut rest,
+            &mut arrival,
+            &mut had,
+            &mut mark,
+            &mut last,
+            head,
+            set.n,
+            self.token,
+            self.clock,
+            self.visits,
+            self.unused,
+            ask,
+        );
+        let ring = Ring {
+            set,
+            alloc,
+            trt,
+            late,
+            sent,
+            rest,
+            token: next.token,
+            arrival,
+            had,
+            mark,
+            last,
+            clock: next.clock,
+            visits: next.visits,
+            unused: next.unused,
+        };
+        let answer = next.answer;
         Visited { ring, answer }
     }
 

@@ -1,6 +1,6 @@
 // The timers: the limit that they give, what becomes of them at a visit and at opening, and when they are sound. A function for each piece and mode, and one above them that asks for the mode.
-use super::Ring;
 use super::Timers;
+use super::view::View;
 use plans::Alloc;
 use sets::Head;
 use sets::Set;
@@ -13,10 +13,13 @@ ghost use Rattle.units.specs.Places.{at, sumBelow, allBelow};
 ghost use Rattle.units.specs.Small.{UpTo};
 ghost use Rattle.plans.specs.Planned.{judgedPlan};
 ghost use Rattle.timers.specs.Timers.{visited};
-ghost use Rattle.rings.specs.State.{ttrt, share, timersOf};
-ghost use Rattle.rings.specs.Timers.{FddiSound, lead, timelyLimit, fddiLimit, timersOffer, unusedAfter, rise, timelyAfter, tokenCame, fddiAfter, timersAfter};
+ghost use lib.ListN.{set};
+ghost use Rattle.places.specs.Held.{raisedHeld};
+ghost use Rattle.places.specs.Laps.{ranOn, lapsCounted};
+ghost use Rattle.rings.specs.Timers.{Fddi, lead, timelyLimit, fddiLimit, timersOffer, unusedAfter, rise};
 ghost use Rattle.rings.specs.Timers.{silentTimely, silentFddi, silentTimers, mostLate};
 ghost use Rattle.rings.specs.Lent.{TimersSoundIn};
+ghost use Rattle.rings.specs.Views.{pointOf, Movable, cameIn, TimersMoved};
 ghost use Rattle.rings.specs.Bounds.{Safe, SafeTimely, SafeTimers, Sendable, Limit};
 
 // The highest late count of a sound ring.
@@ -25,108 +28,99 @@ const MOST_LATE: u32 = 3;
 // ---- the limit
 
 // Timely-token, step 1: the larger of TTRT − (F − 1) − u − TRT and 0.
-fn timely_limit(r: Ring) -> u64
-    requires { ⌜ r .token < 128 ⌝ }
-    ensures { λ x. ⌜ UpTo (ttrt r) (timelyLimit r) x ⌝ }
+fn timely_limit(v: View) -> u64
+    ensures { λ x. ⌜ UpTo (v .head .ttrt) (timelyLimit (pointOf v)) x ⌝ }
 {
-    let p = r.token as usize;
-    let times = r.trt;
     let whole = units::room(
-        units::wide(r.set.head.ttrt),
-        units::room(units::wide(r.set.head.frame), 1),
+        units::wide(v.head.ttrt),
+        units::room(units::wide(v.head.frame), 1),
     );
-    let left = units::room(whole, r.unused);
-    units::room(left, units::wide(times[p]))
+    let left = units::room(whole, v.unused);
+    units::room(left, units::wide(v.trt))
 }
 
 // FDDI: nothing where the late count is above 0, else TTRT less the timer.
-fn fddi_limit(r: Ring) -> u64
-    requires { ⌜ r .token < 128 ⌝ }
-    ensures { λ x. ⌜ UpTo (ttrt r) (fddiLimit r) x ⌝ }
+fn fddi_limit(v: View) -> u64
+    ensures { λ x. ⌜ UpTo (v .head .ttrt) (fddiLimit (pointOf v)) x ⌝ }
 {
-    let p = r.token as usize;
-    let counts = r.late;
-    if 0 < counts[p] {
+    if 0 < v.late {
         return 0;
     }
-    let times = r.trt;
-    units::room(units::wide(r.set.head.ttrt), units::wide(times[p]))
+    units::room(units::wide(v.head.ttrt), units::wide(v.trt))
 }
 
 // What the timers offer, by the mode.
-fn timers_offer(r: Ring) -> u64
-    requires { ⌜ r .token < 128 ⌝ }
-    ensures { λ x. ⌜ UpTo (ttrt r) (timersOffer r) x ⌝ }
+fn timers_offer(v: View) -> u64
+    ensures { λ x. ⌜ UpTo (v .head .ttrt) (timersOffer (pointOf v)) x ⌝ }
 {
-    if r.set.head.mode == numbers::FDDI {
-        return fddi_limit(r);
+    if v.head.mode == numbers::FDDI {
+        return fddi_limit(v);
     }
-    timely_limit(r)
+    timely_limit(v)
 }
 
 // The limit: what the timers offer, and 0 for a station that is marked.
-pub(crate) fn limit_of(r: Ring) -> u64
-    requires { ⌜ r .token < 128 ⌝ }
-    ensures { λ x. ⌜ Limit r x ⌝ }
+pub(crate) fn limit_of(v: View) -> u64
+    ensures { λ x. ⌜ Limit (pointOf v) x ⌝ }
 {
-    let p = r.token as usize;
-    let marks = r.mark;
-    if 0 < marks[p] {
+    if 0 < v.mark {
         return 0;
     }
-    timers_offer(r)
+    timers_offer(v)
 }
 
 // ---- at a visit
 
 // Steps 2 and 3: u after the visit.
-fn unused_after(r: Ring, sync: u64) -> u64
-    requires { ⌜ Safe r × SafeTimely r × (sync ≤ share r (r .token)) ⌝ }
-    ensures { λ x. ⌜ x ≡ unusedAfter r sync ⌝ }
+fn unused_after(v: View, sync: u64) -> u64
+    requires { ⌜ Safe (pointOf v) × SafeTimely (pointOf v) × (sync ≤ v .share) ⌝ }
+    ensures { λ x. ⌜ x ≡ unusedAfter (pointOf v) sync ⌝ }
 {
-    let p = r.token as usize;
-    let shares = r.alloc.s;
-    let share = units::wide(shares[p]);
-    let amounts = r.sent;
-    let fallen = r.unused - (share - units::wide(amounts[p]));
+    let share = units::wide(v.share);
+    let fallen = v.unused - (share - units::wide(v.sent));
     fallen + (share - sync)
 }
 
-// What the clock and every timer rise by.
-pub(crate) fn rise_of(r: Ring, sync: u64, asynchronous: u64) -> u64
-    requires { ⌜ Safe r × Sendable r sync asynchronous ⌝ }
-    ensures { λ x. ⌜ x ≡ rise r sync asynchronous ⌝ }
+// The same; an FDDI ring neither looks at it nor changes it.
+pub(crate) fn unused_next(v: View, sync: u64) -> u64
+    requires { ⌜ Safe (pointOf v) × SafeTimers (pointOf v) × (sync ≤ v .share) ⌝ }
+    ensures { λ x. ⌜ (Fddi (pointOf v .set) → x ≡ v .unused) × (¬ Fddi (pointOf v .set) → x ≡ unusedAfter (pointOf v) sync) ⌝ }
 {
-    let p = r.token as usize;
-    let walks = r.set.w;
-    let walk = units::wide(walks[p]);
+    if v.head.mode == numbers::FDDI {
+        return v.unused;
+    }
+    unused_after(v, sync)
+}
+
+// What the clock and every timer rise by.
+pub(crate) fn rise_of(v: View, sync: u64, asynchronous: u64) -> u64
+    requires { ⌜ Safe (pointOf v) × Sendable (pointOf v) sync asynchronous ⌝ }
+    ensures { λ x. ⌜ x ≡ rise (pointOf v) sync asynchronous ⌝ }
+{
+    let walk = units::wide(v.walk);
     sync + asynchronous + walk
 }
 
 // Of the asynchronous time, what comes before the synchronous part: all of it in the 2002 edition, else nothing.
-pub(crate) fn lead_of(r: Ring, asynchronous: u64) -> u64
-    ensures { λ x. ⌜ UpTo asynchronous (lead (r .set) asynchronous) x ⌝ }
+pub(crate) fn lead_of(v: View, asynchronous: u64) -> u64
+    ensures { λ x. ⌜ UpTo asynchronous (lead (pointOf v .set) asynchronous) x ⌝ }
 {
-    if r.set.head.mode == numbers::EARLIER {
+    if v.head.mode == numbers::EARLIER {
         return asynchronous;
     }
     0
 }
 
-// Timely-token: TRT, this station's from the start of its synchronous part on, and u.
-fn timely_after(r: Ring, sync: u64, asynchronous: u64) -> Timers
-    requires { ⌜ Safe r × SafeTimely r × Sendable r sync asynchronous ⌝ }
-    ensures { λ x. ⌜ x ≡ timelyAfter r sync asynchronous ⌝ }
+// Timely-token: every TRT rises; this station's is what passed since its synchronous part began.
+fn move_timely(trt: &mut [u32; 128], n: u32, token: u32, rise: u64, since: u64)
+    requires { ⌜ Movable n token rise since ⌝ }
+    ensures { λ _. ⌜ now (trt .exit) ≡ set (raisedHeld n rise (now (trt .entry))) token since ⌝ }
 {
-    let p = r.token as usize;
-    let rise = rise_of(r, sync, asynchronous);
-    let lead = lead_of(r, asynchronous);
-    let unused = unused_after(r, sync);
-    let late = r.late;
-    let times = r.trt;
-    let mut trt = places::raised(times, r.set.n, rise as u32);
-    trt[p] = (rise - lead) as u32;
-    Timers { trt, late, unused }
+    let i = token as usize;
+    let by = rise as u32;
+    let own = since as u32;
+    places::raise(&mut *trt, n, by);
+    trt[i] = own;
 }
 
 // FDDI: a token comes to a timer; with the late count above 0 it runs on, else it goes to 0.
@@ -144,54 +138,53 @@ fn count_on_token(count: u32, timer: u32) -> u32
 }
 
 // FDDI: the token has come to its station.
-fn token_came(r: Ring) -> Timers
-    requires { ⌜ r .token < 128 ⌝ }
-    ensures { λ x. ⌜ x ≡ tokenCame (r .token) (timersOf r) ⌝ }
+fn token_came<'a>(trt: &'a mut [u32; 128], late: &'a mut [u32; 128], token: u32)
+    requires { ⌜ token < 128 ⌝ }
+    ensures { λ _. ⌜ (now (trt .exit) ≡ cameIn (now (trt .entry)) (now (late .entry)) token .trt) × (now (late .exit) ≡ cameIn (now (trt .entry)) (now (late .entry)) token .late) ⌝ }
 {
-    let p = r.token as usize;
-    let mut trt = r.trt;
-    let mut late = r.late;
-    let timer = trt[p];
-    let count = late[p];
-    trt[p] = timer_on_token(count, timer);
-    late[p] = count_on_token(count, timer);
-    Timers {
-        trt,
-        late,
-        unused: r.unused,
-    }
+    let i = token as usize;
+    let timer = trt[i];
+    let count = late[i];
+    trt[i] = timer_on_token(count, timer);
+    late[i] = count_on_token(count, timer);
 }
 
-// FDDI: the token has come, and time has passed.
-fn fddi_after(r: Ring, sync: u64, asynchronous: u64) -> Timers
-    requires { ⌜ Safe r × FddiSound r × Sendable r sync asynchronous ⌝ }
-    ensures { λ x. ⌜ x ≡ fddiAfter r sync asynchronous ⌝ }
+// FDDI: the token has come, and time passes.
+fn move_fddi<'a>(
+    trt: &'a mut [u32; 128],
+    late: &'a mut [u32; 128],
+    n: u32,
+    token: u32,
+    rise: u64,
+    top: u32,
+)
+    requires { ⌜ Movable n token rise 0 ⌝ }
+    ensures { λ _. ⌜ (now (trt .exit) ≡ ranOn n rise top (cameIn (now (trt .entry)) (now (late .entry)) token .trt)) × (now (late .exit) ≡ lapsCounted n rise top (cameIn (now (trt .entry)) (now (late .entry)) token .trt) (cameIn (now (trt .entry)) (now (late .entry)) token .late)) ⌝ }
 {
-    let rise = rise_of(r, sync, asynchronous) as u32;
-    let n = r.set.n;
-    let top = r.set.head.ttrt;
-    let came = token_came(r);
-    let timers = came.trt;
-    let counts = came.late;
-    let trt = places::run_on(timers, n, rise, top);
-    let late = places::count_laps(counts, timers, n, rise, top);
-    Timers {
-        trt,
-        late,
-        unused: came.unused,
-    }
+    let by = rise as u32;
+    token_came(&mut *trt, &mut *late, token);
+    places::count(&mut *late, &*trt, n, by, top);
+    places::run(&mut *trt, n, by, top);
 }
 
-// The timers after a visit that sent these two amounts.
-pub(crate) fn timers_after(r: Ring, sync: u64, asynchronous: u64) -> Timers
-    requires { ⌜ Safe r × SafeTimers r × Sendable r sync asynchronous ⌝ }
-    ensures { λ x. ⌜ x ≡ timersAfter r sync asynchronous ⌝ }
+// The timers after a visit, by the mode.
+pub(crate) fn move_timers<'a>(
+    trt: &'a mut [u32; 128],
+    late: &'a mut [u32; 128],
+    head: Head,
+    n: u32,
+    token: u32,
+    rise: u64,
+    since: u64,
+)
+    requires { ⌜ Movable n token rise since ⌝ }
+    ensures { λ _. ⌜ TimersMoved head n token rise since (now (trt .entry)) (now (late .entry)) (now (trt .exit)) (now (late .exit)) ⌝ }
 {
-    let mode = r.set.head.mode;
-    if mode == numbers::FDDI {
-        return fddi_after(r, sync, asynchronous);
+    if head.mode == numbers::FDDI {
+        move_fddi(&mut *trt, &mut *late, n, token, rise, head.ttrt);
+        return;
     }
-    timely_after(r, sync, asynchronous)
+    move_timely(&mut *trt, n, token, rise, since);
 }
 
 // ---- at opening

@@ -23,7 +23,7 @@ use Rattle.rings.proofs.in_place.hand_in_on.Symbol as on-def
 use Rattle.rings.proofs.in_place.hand_in_on.Met as on-thm
 use Rattle.lending.specs.Lent.{HandInLent}
 use Rattle.lending.proofs.Promised.{promised}
-use Rattle.lent.proofs.Walk.{PlainType, of-uint, of-struct}
+use Rattle.lent.proofs.Plain.{PlainType, of-uint, of-struct}
 use Rattle.lent.proofs.LentWalk.{NextType, meets}
 use Rattle.lent.proofs.olivastrum_hand_in as lent
 use Rattle.lent.proofs.olivastrum_hand_in.Key as key

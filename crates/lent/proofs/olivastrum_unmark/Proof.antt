@@ -23,7 +23,7 @@ use Rattle.rings.proofs.in_place.unmark_on.Symbol as on-def
 use Rattle.rings.proofs.in_place.unmark_on.Met as on-thm
 use Rattle.lending.specs.Lent.{UnmarkLent}
 use Rattle.lending.proofs.Promised.{promised}
-use Rattle.lent.proofs.Walk.{PlainType, of-uint, of-struct}
+use Rattle.lent.proofs.Plain.{PlainType, of-uint, of-struct}
 use Rattle.lent.proofs.LentWalk.{NextType, meets}
 use Rattle.lent.proofs.olivastrum_unmark as lent
 use Rattle.lent.proofs.olivastrum_unmark.Key as key
