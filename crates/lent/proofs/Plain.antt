@@ -16,8 +16,6 @@ use denote.Exit.{Exit, unchanged, Last, left, yes}
 use denote.RattleType.{RattleType}
 use denote.Laws.{Is, Tells, Makes}
 use denote.Plain.{UInt, uint-tells, uint-makes, uint-lawful}
-use denote.Signature.{plain}
-use denote.Steps.{nothing}
 use denote.Struct.Struct.{Plains, layout}
 use denote.Struct.Declared.{Declared, fields, shape, row}
 use denote.Struct.Laws as LL
