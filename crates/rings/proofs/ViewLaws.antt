@@ -10,17 +10,14 @@ use Rattle.places.specs.Held.{raisedHeld}
 use Rattle.places.proofs.Promised.{promised}
 use Rattle.rings.specs.State.{count, ttrt, timersOf}
 use Rattle.rings.specs.Lent.{ringOf}
-use Rattle.rings.specs.Timers.{Fddi, FddiSound, limit, timersOffer, lead, rise, riseSince, unusedAfter, tokenCame, timelyAfter, timersAfter}
+use Rattle.rings.specs.Timers.{Fddi, limit, timersOffer, lead, rise, riseSince, unusedAfter, tokenCame, timelyAfter, timersAfter}
 use Rattle.rings.specs.TimerLaws.{fddi-or-not, after-fddi, after-timely}
 use Rattle.rings.specs.Steps.{Ask, asyncSent, syncStart, mostSent, syncSent, nextToken, moved, recordOf, visitNumber, visited}
 use Rattle.rings.specs.RingLaws.{visit-accepted}
 use Rattle.rings.specs.Bounds.{Safe, SafeTimely, SafeTimers, Sendable}
 use Rattle.rings.specs.Views.{viewOf, pointOf, MovesOf, TimersMoved}
 use Rattle.rings.specs.declared.Ring.{Ring}
-use Rattle.rings.specs.declared.Timers.{Timers}
-use Rattle.rings.specs.declared.Visited.{Visited}
 use Rattle.rings.specs.declared.VisitRecord.{VisitRecord}
-use Rattle.rings.specs.declared.VisitAnswer.{VisitAnswer}
 use Rattle.rings.specs.declared.steps.Moves.{Moves}
 use Rattle.rings.proofs.FddiLaws.{ran}
 

@@ -1,11 +1,10 @@
 -- `olivastrum_mark` is the walk over `mark_on`: what that does to the arrays, with the four numbers stored, has the contract's three parts, which `lending` proves of the definition.
-use mathlib.Core.Path.{_≡_, refl, sym, ap, subst, _∙_}
+use mathlib.Core.Path.{_≡_, sym, ap, subst, _∙_}
 use mathlib.Core.Bool.{not}
 use mathlib.Core.Logic.{_≢_}
 use mathlib.Core.List.{List}
 use Prim.Native.Nat.{ℕ}
 use lib.Dec.{T, eqb}
-use mir.Syntax.{w8}
 use contract.Running.{givenOf, tables, tablesOf}
 use denote.Struct.Laws as LL
 use denote.Triple.Spec.{tripleOf}
@@ -26,7 +25,7 @@ use Rattle.rings.proofs.in_place.mark_on.Symbol as on-def
 use Rattle.rings.proofs.in_place.mark_on.Met as on-thm
 use Rattle.lending.specs.Lent.{MarkLent}
 use Rattle.lending.proofs.Promised.{promised}
-use Rattle.lent.proofs.Plain.{PlainType, of-uint, of-struct}
+use Rattle.lent.proofs.Plain.{PlainType, of-struct}
 use Rattle.lent.proofs.LentWalk.{NextType, meets}
 use Rattle.lent.proofs.olivastrum_mark as lent
 use Rattle.lent.proofs.olivastrum_mark.Key as key

@@ -4,7 +4,6 @@ use mathlib.Core.Path.{_≡_, refl, sym, ap, subst, _∙_}
 use native.Mathlib.Omega.{arith}
 use lib.ListN.{set}
 use Rattle.rings.specs.Lent.{ringOf}
-use Rattle.rings.specs.Sound.{isSound}
 use Rattle.rings.specs.Steps.{LengthNamed, asyncSent, blankRecord, firstRefusal, visitNumber}
 use Rattle.rings.specs.Bounds.{Safe, SafeTimers}
 use Rattle.rings.specs.Views.{viewOf, pointOf, MovesOf}

@@ -3,7 +3,6 @@ use mathlib.Core.Path.{_≡_, refl, _∙_}
 use native.Mathlib.Omega.{arith}
 use Rattle.rings.specs.Bounds.{Sendable}
 use Rattle.rings.specs.Steps.{asyncSent}
-use Rattle.rings.specs.TimerLaws.{lead-within}
 use Rattle.rings.specs.Views.{pointOf}
 use borrow.Author.Needs.{needs}
 use Rattle.rings.proofs.steps.moves_of.Statement.{statement}

@@ -3,7 +3,6 @@ use mathlib.Core.Path.{sym}
 use native.Mathlib.Omega.{arith}
 use Rattle.rings.specs.TimerLaws.{lead-all, lead-none}
 use Rattle.rings.specs.Views.{pointOf}
-use borrow.Author.Needs.{needs}
 use Rattle.rings.proofs.timing.lead_of.Statement.{statement}
 use Rattle.rings.proofs.timing.lead_of.Tie as tie
 

@@ -1,6 +1,6 @@
 -- `move_fddi` is right because the laps are counted of the timers as they were when the token had come, and then these run on.
 use Prim.Native.Nat.{ℕ, min}
-use mathlib.Core.Path.{_≡_, refl, ap, _∙_}
+use mathlib.Core.Path.{_≡_, ap, _∙_}
 use mathlib.Core.List.{List}
 use native.Mathlib.Omega.{arith}
 use Rattle.places.specs.Laps.{ranOn, lapsCounted}

@@ -1,6 +1,5 @@
 -- `unused_next` is right because it asks for the mode as the definition does.
 use mathlib.Core.Path.{refl}
-use borrow.Author.Needs.{needs}
 use Rattle.rings.proofs.timing.unused_next.Statement.{statement}
 use Rattle.rings.proofs.timing.unused_next.Tie as tie
 
