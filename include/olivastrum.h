@@ -31,8 +31,7 @@
  * beside `number` is blank, every number in it 0, but that olivastrum_inspect_log_of says in `refused` which side it is;
  * olivastrum_add_visit and olivastrum_add_mark hand back the recorder as it was, so that the log can be ended;
  * olivastrum_change_train, olivastrum_change_wagon, olivastrum_couple_wagon and olivastrum_uncouple_wagon hand back the
- * train as it was. On a ring a refused call stores the same bytes again, so it too is one that writes: a ring that
- * two threads share is locked for it. An inspected log is accepted only if its rule is 0 too, and of
+ * train as it was. On a ring a refused call only reads. An inspected log is accepted only if its rule is 0 too, and of
  * olivastrum_inspect_log_of only if `another` is 0 as well.
  *
  * Padding. olivastrum_set, olivastrum_alloc, olivastrum_ask, olivastrum_message, olivastrum_ring, olivastrum_recorder,
@@ -81,7 +80,7 @@
 #define OLIVASTRUM_VERSION_MAJOR 0
 #define OLIVASTRUM_VERSION_MINOR 15
 #define OLIVASTRUM_VERSION_PATCH 1
-#define OLIVASTRUM_VERSION "0.16.0"
+#define OLIVASTRUM_VERSION "0.16.1"
 
 #ifdef __cplusplus
 extern "C" {
