@@ -84,7 +84,7 @@ static void of_mode(uint32_t mode)
 int main(void)
 {
     room = (sizeof *lent + 65535) / 65536 * 65536;
-    lent = mmap(NULL, room, PROT_READ | PROT_WRITE, MAP_PRIVATE | MAP_ANONYMOUS, -1, 0);
+    lent = mmap(0, room, PROT_READ | PROT_WRITE, MAP_PRIVATE | MAP_ANONYMOUS, -1, 0);
     if (lent == MAP_FAILED) fail("mmap", 0);
     of_mode(OLIVASTRUM_TIMELY);
     of_mode(OLIVASTRUM_FDDI);
