@@ -18,7 +18,7 @@ abbrev lent : tie.Start → Set
 lent c = let args = c .args in setOf (args .h) (args .n) (args .w .now) (args .c .now) (args .d .now) (args .p .now)
 
 count-held : (c : tie.Else1) → countAllowed (lent (c .before)) ≡ true
-count-held c = not-false _ (c .if1 .left)
+count-held c = not-false (countAllowed (lent (c .before))) (c .if1 .left)
 
 count-allowed : (c : tie.Else1) → CountAllowed (lent (c .before))
 count-allowed c = decides-count (lent (c .before)) .0 (count-held c)
@@ -36,7 +36,7 @@ walk-said c =
     rw (c .before .sum-lent .ensures .sum, c .wide .ensures .same, few) refl
 
 returns : tie.Need-returns
-returns c = sym (judged-2 (lent (c .before)) (not-true _ (c .if1 .taken)))
+returns c = sym (judged-2 (lent (c .before)) (not-true (countAllowed (lent (c .before))) (c .if1 .taken)))
 
 stations-in-range-requires : tie.Need-stations-in-range-requires
 stations-in-range-requires c κs = count-allowed (c .before) .1

@@ -1,5 +1,6 @@
 -- `read_sheet` is right because what a sheet holds has the number of reading, and an accepted one is what reading answers.
 use mathlib.Core.Path.{_≡_, sym, ap, _∙_}
+use mathlib.Core.Logic.{_≢_}
 use borrow.Author.Needs.{needs}
 use Rattle.sheets.specs.Reading.{givenSheet}
 use Rattle.sheets.specs.declared.ReadPlan.{ReadPlan}
@@ -17,7 +18,8 @@ returns : tie.Need-returns
 returns c =
     let given = c .before .before .before in
     let args = given .before .before .args in
-    c .refused .ensures ∙ rw (number-said given) (sym (sheet-blank (args .plan) (args .bs .now) (λ e. c .before .if1 .taken (number-said given ∙ e))))
+    let refused : given .read-given .result .number ≢ 0 = c .before .if1 .taken in
+    c .refused .ensures ∙ rw (number-said given) (sym (sheet-blank (args .plan) (args .bs .now) (λ e. refused (number-said given ∙ e))))
 
 returns-2 : tie.Need-returns-2
 returns-2 c =
