@@ -78,7 +78,7 @@
 
 /* The version of the header and the library, as `./olivastrum version` prints it. */
 #define OLIVASTRUM_VERSION_MAJOR 0
-#define OLIVASTRUM_VERSION_MINOR 15
+#define OLIVASTRUM_VERSION_MINOR 16
 #define OLIVASTRUM_VERSION_PATCH 1
 #define OLIVASTRUM_VERSION "0.16.1"
 
