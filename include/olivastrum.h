@@ -440,19 +440,19 @@ OLIVASTRUM_SIZE(struct olivastrum_coupled, 664);
 /* ---- the functions */
 
 /* Reads a request sheet: the set, or 1 to 5 with the blank set. */
-#define OLIVASTRUM_STACK_READ_REQUEST_SHEET 14848
+#define OLIVASTRUM_STACK_READ_REQUEST_SHEET 12800
 struct olivastrum_read_request olivastrum_read_request_sheet(const uint8_t *sheet, size_t length);
 
 /* Reads a plan sheet: the set and its allocation, or 1 to 5 or 7 with both blank. */
-#define OLIVASTRUM_STACK_READ_PLAN_SHEET 16896
+#define OLIVASTRUM_STACK_READ_PLAN_SHEET 10752
 struct olivastrum_read_plan olivastrum_read_plan_sheet(const uint8_t *sheet, size_t length);
 
 /* Writes a request sheet into the first bytes of out and leaves the rest: the sheet's length, or 2, 4, 5 or 14. */
-#define OLIVASTRUM_STACK_WRITE_REQUEST_SHEET 14848
+#define OLIVASTRUM_STACK_WRITE_REQUEST_SHEET 12800
 struct olivastrum_written olivastrum_write_request_sheet(struct olivastrum_set set, uint8_t *out, size_t length);
 
 /* Writes a plan sheet into the first bytes of out and leaves the rest: the sheet's length, or 2, 4, 5, 7 or 14. */
-#define OLIVASTRUM_STACK_WRITE_PLAN_SHEET 18944
+#define OLIVASTRUM_STACK_WRITE_PLAN_SHEET 12800
 struct olivastrum_written olivastrum_write_plan_sheet(struct olivastrum_set set, struct olivastrum_alloc alloc, uint8_t *out, size_t length);
 
 /* Plans a set: the least vector of multiples of g, no other that meets the rules has less at any station; or 2, 4, 5, 16
@@ -463,35 +463,35 @@ struct olivastrum_planned olivastrum_plan_set(struct olivastrum_set set);
 
 /* Opens a ring: clock 0, the token at station 0, nothing held, no station marked; or 2, 4, 5, 16 or 7 with the blank ring.
  * 16 is given to every set of mode 2 that 2, 4 and 5 do not apply to, whether its allocation keeps the rules or not. */
-#define OLIVASTRUM_STACK_OPEN_RING 14336
+#define OLIVASTRUM_STACK_OPEN_RING 10240
 struct olivastrum_opened olivastrum_open_ring(struct olivastrum_set set, struct olivastrum_alloc alloc);
 
 /* A visit at the station that has the token, with frames asked for. The ring is changed where it stands; 8, 10 or 13
  * leave it as it was. */
-#define OLIVASTRUM_STACK_VISIT 31232
+#define OLIVASTRUM_STACK_VISIT 512
 struct olivastrum_visit_answer olivastrum_visit(struct olivastrum_ring *ring, struct olivastrum_ask ask);
 
 /* Hands in a message whose arrival the ring's clock has reached; before that it is 15. A station that is marked takes none
  * (11). The ring is changed where it stands; 8 to 12 and 15 leave it as it was. Returns the number. */
-#define OLIVASTRUM_STACK_HAND_IN 25600
+#define OLIVASTRUM_STACK_HAND_IN 512
 uint8_t olivastrum_hand_in(struct olivastrum_ring *ring, struct olivastrum_message message);
 
 /* Switches a station through: from now on it is offered 0, sends nothing and takes no message (11), and the token walks
  * through it. The message that it holds is withdrawn and handed back; its arrival stays the station's last accepted one.
  * A station that is marked already stays as it is. The ring is changed where it stands; 8 or 9 leave it as it was. */
-#define OLIVASTRUM_STACK_MARK 36864
+#define OLIVASTRUM_STACK_MARK 512
 struct olivastrum_mark_answer olivastrum_mark(struct olivastrum_ring *ring, struct olivastrum_station station);
 
 /* Switches a station in again; one that is not marked stays as it is. The ring is changed where it stands; 8 or 9 leave it
  * as it was. Returns the number. */
-#define OLIVASTRUM_STACK_UNMARK 22528
+#define OLIVASTRUM_STACK_UNMARK 512
 uint8_t olivastrum_unmark(struct olivastrum_ring *ring, struct olivastrum_station station);
 
 /* Begins a log: the plan's fields, without their end, in the first bytes of out. The recorder's counter is what the host
  * says it is at the ring's clock (0 and 0 give the log that the program's `log` writes). The rest of out is left as it
  * was. 2, 4, 5, 7 or 14 write nothing; the recorder then has only its number, and is not to be used: what is added to it
  * would be written from place 0 on, and would be no log. */
-#define OLIVASTRUM_STACK_BEGIN_LOG 19456
+#define OLIVASTRUM_STACK_BEGIN_LOG 12800
 struct olivastrum_recorder olivastrum_begin_log(struct olivastrum_set set, struct olivastrum_alloc alloc, uint32_t counter, uint64_t clock, uint8_t *out, size_t length);
 
 /* Adds the record of an accepted visit: the counter moves on by what the clock rose. 14 where its field and the end do
@@ -510,7 +510,7 @@ struct olivastrum_recorder olivastrum_add_mark(struct olivastrum_recorder record
 struct olivastrum_written olivastrum_end_log(struct olivastrum_recorder recorder, uint8_t *out, size_t length);
 
 /* Reads a log: its plan and where its records are, or 1 to 5 or 7 with all blank. A plan sheet is a log without records. */
-#define OLIVASTRUM_STACK_READ_LOG 14848
+#define OLIVASTRUM_STACK_READ_LOG 13312
 struct olivastrum_read_log olivastrum_read_log(const uint8_t *log, size_t length);
 
 /* The record whose field begins at this place of a log, and the place behind it; all blank where none does. It looks at
@@ -523,13 +523,13 @@ struct olivastrum_next_entry olivastrum_log_entry(const uint8_t *log, size_t len
  * say, could have given its visits, with any synchronous amount up to S at each visit of an unmarked station and some
  * request in frames; a marked station is visited with limit 0 and sends nothing. Else the first record that breaks a rule,
  * and the first rule that it breaks. Or 1 to 5 or 7, with the rest 0. */
-#define OLIVASTRUM_STACK_INSPECT_LOG 17920
+#define OLIVASTRUM_STACK_INSPECT_LOG 17408
 struct olivastrum_finding olivastrum_inspect_log(const uint8_t *log, size_t length);
 
 /* Inspects a log against a plan sheet, one answer in this order: the refusal of the plan sheet, 1 to 5 or 7; that of the
  * log; that their plans differ in a number of the header or of a station, or in the stations; or what
  * olivastrum_inspect_log says of the log. Plan and log may be the same bytes. */
-#define OLIVASTRUM_STACK_INSPECT_LOG_OF 25600
+#define OLIVASTRUM_STACK_INSPECT_LOG_OF 22016
 struct olivastrum_plan_finding olivastrum_inspect_log_of(const uint8_t *plan, size_t plan_length, const uint8_t *log, size_t length);
 
 /* Makes an area a store without a version, whatever it held: the next one stored is version 1. 2 for another length, and
@@ -541,17 +541,17 @@ uint8_t olivastrum_empty_store(uint8_t *area, size_t length);
  * is no store; then 1, 2, 3, 4, 5 or 7 as reading the sheet gives them; then 18 where the newest version is 4,294,967,295:
  * none is stored from then on. A refused call writes no byte. Of sixteen the oldest goes. The area is written where it
  * stands, byte after byte: a host whose power may fail in between stores in a copy, and keeps that when the call is over. */
-#define OLIVASTRUM_STACK_STORE_PLAN 19968
+#define OLIVASTRUM_STACK_STORE_PLAN 13824
 struct olivastrum_stored_plan olivastrum_store_plan(uint8_t *area, size_t length, const uint8_t *sheet, size_t sheet_length);
 
 /* Where the plan sheet of a version stands in the area: the bytes that were stored. 2 where the area is no store, then 17
  * where that version was dropped or never given. The place holds until the area is written again: storing moves what is
  * kept. */
-#define OLIVASTRUM_STACK_FIND_VERSION 17408
+#define OLIVASTRUM_STACK_FIND_VERSION 11264
 struct olivastrum_found_version olivastrum_find_version(const uint8_t *area, size_t length, uint32_t version);
 
 /* Which versions an area keeps, or 2 where it is no store. */
-#define OLIVASTRUM_STACK_VERSIONS_IN 17408
+#define OLIVASTRUM_STACK_VERSIONS_IN 10752
 struct olivastrum_versions olivastrum_versions_in(const uint8_t *area, size_t length);
 
 /* The request of a wagon list: its set, or 2 or 4 with the blank set. */
@@ -560,7 +560,7 @@ struct olivastrum_read_request olivastrum_hopper_request(struct olivastrum_wagon
 
 /* Writes the request sheet of a wagon list, as olivastrum_write_request_sheet does: its length, or 2, 4 or 14. A list that
  * has no plan has its sheet. */
-#define OLIVASTRUM_STACK_WRITE_HOPPER_SHEET 15360
+#define OLIVASTRUM_STACK_WRITE_HOPPER_SHEET 13312
 struct olivastrum_written olivastrum_write_hopper_sheet(struct olivastrum_wagon_list list, uint8_t *out, size_t length);
 
 /* Couples the wagons of a list: the train with its plan, which is what olivastrum_plan_set answers to the list's request; or
@@ -570,7 +570,7 @@ struct olivastrum_coupled olivastrum_couple_train(struct olivastrum_wagon_list l
 
 /* A train with another list. The train that is handed in is not looked at; where the list is refused with 2, 4 or 6 it is
  * handed back as it was. */
-#define OLIVASTRUM_STACK_CHANGE_TRAIN 7168
+#define OLIVASTRUM_STACK_CHANGE_TRAIN 6656
 struct olivastrum_coupled olivastrum_change_train(struct olivastrum_train train, struct olivastrum_wagon_list list);
 
 /* Another wagon at a place of a train, counted from 0; 2, 4, 9 or 6 hand the train back as it was. 2 and 4 are of the list
@@ -588,7 +588,7 @@ struct olivastrum_coupled olivastrum_couple_wagon(struct olivastrum_train train,
 struct olivastrum_coupled olivastrum_uncouple_wagon(struct olivastrum_train train);
 
 /* The most that a call of any of them needs. */
-#define OLIVASTRUM_STACK_MOST 36864
+#define OLIVASTRUM_STACK_MOST 22016
 
 #ifdef __cplusplus
 }
