@@ -6,12 +6,10 @@ ghost use Prim.Native.Nat.{_+_, _^_, _≤_, min};
 ghost use Rattle.units.specs.Places.{at, sumBelow, allBelow};
 ghost use Rattle.units.specs.Vectors.{lostTime};
 ghost use Rattle.sets.specs.Lent.{setOf};
-ghost use Rattle.sets.specs.Rules.{CountAllowed, NumbersAllowed};
 ghost use Rattle.units.specs.Small.{UpTo};
-ghost use Rattle.plans.specs.Bounds.{Lost};
-ghost use Rattle.plans.specs.Lent.{allocOf, timelyFitsIn, RulesFitIn};
-ghost use Rattle.plans.specs.Rules.{leastTime, spareTime, inRangeS, tokenFits};
-ghost use Rattle.plans.specs.Planned.{blankAlloc, smallestFor, smallestAlloc, judgedPlan, planned};
+ghost use Rattle.plans.specs.Lent.{allocOf, timelyFitsIn, RulesFitIn, TokenFitsIn, Plannable, SmallestIn};
+ghost use Rattle.plans.specs.Rules.{leastTime, spareTime, inRangeS};
+ghost use Rattle.plans.specs.Planned.{blankAlloc, smallestFor, judgedPlan, planned};
 use sets::Head;
 use sets::Set;
 use units::numbers;
@@ -104,18 +102,12 @@ fn lost_lent(frame: u32, n: u32, w: &[u32; 128]) -> u64
     units::sum_lent(w, n) + units::room(units::wide(frame), 1)
 }
 
-// The same of any set.
-fn lost(t: Set) -> u64
-    ensures { λ r. ⌜ Lost t r ⌝ }
-{
-    lost_lent(t.head.frame, t.n, &t.w)
-}
-
 // The token rule holds.
-fn token_fits(t: Set, a: Alloc) -> bool
-    ensures { λ r. ⌜ r ≡ tokenFits t (at (a .s)) ⌝ }
+fn token_fits<'a>(h: Head, n: u32, w: &'a [u32; 128], s: &'a [u32; 128]) -> bool
+    requires { ⌜ n ≤ 128 ⌝ }
+    ensures { λ r. ⌜ TokenFitsIn h n (now (w .entry)) (at (now (s .entry))) r ⌝ }
 {
-    units::token_kept(t.head.ttrt, lost(t), t.n, &a.s)
+    units::token_kept(h.ttrt, lost_lent(h.frame, n, w), n, s)
 }
 
 // The rules hold, by the set's mode.
@@ -147,9 +139,9 @@ pub fn spare(t: Set, a: Alloc) -> u64
     let ttrt = units::wide(t.head.ttrt);
     let mode = t.head.mode;
     if mode == numbers::FDDI {
-        return units::room(units::room(ttrt, sets::walk_time(t)), sum);
+        return units::room(units::room(ttrt, units::sum_lent(&t.w, t.n)), sum);
     }
-    units::room(units::room(ttrt, lost(t)), sum)
+    units::room(units::room(ttrt, lost_lent(t.head.frame, t.n, &t.w)), sum)
 }
 
 // The judgement of a given set and allocation whose arrays are lent: 0, or the lowest of 2, 4, 5 and 7 that applies.
@@ -191,16 +183,16 @@ pub fn judge_plan(t: Set, a: Alloc) -> u8
     judge_plan_lent(h, t.n, &t.w, &t.c, &t.d, &t.p, &a.s)
 }
 
-// The smallest S at each station of an allowed set, by the stations' own numbers.
-fn smallest_alloc(t: Set) -> Alloc
-    requires { ⌜ CountAllowed t × NumbersAllowed t ⌝ }
-    ensures { λ r. ⌜ r ≡ smallestAlloc t ⌝ }
+// The smallest S at each station of an allowed set whose C and D are lent, by the stations' own numbers.
+fn smallest_alloc<'a>(h: Head, n: u32, c: &'a [u32; 128], d: &'a [u32; 128]) -> Alloc
+    requires { ⌜ Plannable h n (now c) ⌝ }
+    ensures { λ r. ⌜ SmallestIn h n (now (c .entry)) (now (d .entry)) r ⌝ }
 {
-    let end = units::places(t.n);
+    let end = units::places(n);
     let mut s: [u32; 128] = [0; 128];
     let mut i: usize = 0;
     while i < end {
-        let least = smallest(t.head.grid, t.head.ttrt, t.c[i], t.d[i]);
+        let least = smallest(h.grid, h.ttrt, c[i], d[i]);
         let stored = least as u32;
         s[i] = stored;
         i += 1;
@@ -222,16 +214,17 @@ fn refused(number: u8) -> Planned
 pub fn plan(t: Set) -> Planned
     ensures { λ r. ⌜ r ≡ planned t ⌝ }
 {
-    let number = sets::judge(t);
+    let h = t.head;
+    let number = sets::judge_lent(h, t.n, &t.w, &t.c, &t.d, &t.p);
     if number != numbers::ACCEPTED {
         return refused(number);
     }
-    let retired = t.head.mode == numbers::FDDI;
+    let retired = h.mode == numbers::FDDI;
     if retired {
         return refused(numbers::RETIRED);
     }
-    let alloc = smallest_alloc(t);
-    if !token_fits(t, alloc) {
+    let alloc = smallest_alloc(h, t.n, &t.c, &t.d);
+    if !token_fits(h, t.n, &t.w, &alloc.s) {
         return refused(numbers::NO_ALLOCATION);
     }
     Planned {

@@ -8,53 +8,21 @@ use Rattle.plans.specs.PlanLaws.{spare-fddi, spare-timely}
 use Rattle.plans.proofs.spare.Statement.{statement}
 use Rattle.plans.proofs.spare.Tie as tie
 
-sum-lent-requires : tie.Need-sum-lent-requires
-sum-lent-requires c κs = search needs
-
-wide-requires : tie.Need-wide-requires
-wide-requires c κs = search needs
-
-walk-time-requires : tie.Need-walk-time-requires
-walk-time-requires c κs = search needs
-
-room-requires : tie.Need-room-requires
-room-requires c κs = search needs
-
-room-requires-2 : tie.Need-room-requires-2
-room-requires-2 c κs = search needs
-
 returns : tie.Need-returns
 returns c =
-    let entry = c .before .before .before in
-    let args = entry .before .before .before .before .before .args in
-    omega (arith, sum-all (args .t2 .s) (search needs) (args .t .n), spare-fddi (args .t) (at (args .t2 .s)) (eq-eqb _ _ (entry .if1 .taken)))
-
-lost-requires : tie.Need-lost-requires
-lost-requires c κs = search needs
-
-room-requires-3 : tie.Need-room-requires-3
-room-requires-3 c κs = search needs
-
-room-requires-4 : tie.Need-room-requires-4
-room-requires-4 c κs = search needs
+    let asked = c .before .before .before .before .before in
+    let args = asked .before .before .before .before .before .args in
+    omega (arith, sum-all (args .t2 .s) (search needs) (args .t1 .n), sum-all (args .t1 .w) (search needs) (args .t1 .n), spare-fddi (args .t1) (at (args .t2 .s)) (eq-eqb _ _ (asked .if1 .taken)))
 
 returns-2 : tie.Need-returns-2
 returns-2 c =
-    let entry = c .before .before .before in
-    let args = entry .before .before .before .before .before .args in
-    omega (arith, sum-all (args .t2 .s) (search needs) (args .t .n), spare-timely (args .t) (at (args .t2 .s)) (ne-eqb _ _ (entry .if1 .left)))
+    let asked = c .before .before .before .before .before in
+    let args = asked .before .before .before .before .before .args in
+    omega (arith, sum-all (args .t2 .s) (search needs) (args .t1 .n), sum-all (args .t1 .w) (search needs) (args .t1 .n), c .before .before .lost-lent .ensures .is,
+    spare-timely (args .t1) (at (args .t2 .s)) (ne-eqb _ _ (asked .if1 .left)))
 
 pub spare-spec : {M : Type 1} → statement M
 spare-spec =
     tie.close
-    (tie.spec
-    sum-lent-requires
-    wide-requires
-    walk-time-requires
-    room-requires
-    room-requires-2
-    returns
-    lost-requires
-    room-requires-3
-    room-requires-4
-    returns-2)
+    (tie.spec (λ c κs. search needs) (λ c κs. search needs) (λ c κs. search needs) (λ c κs. search needs) (λ c κs. search needs) returns
+    (λ c κs. search needs) (λ c κs. search needs) (λ c κs. search needs) returns-2)
