@@ -11,11 +11,14 @@ pub(crate) fn length_fits(length: u32, longest: u32) -> bool
     (1 <= length) & (length <= longest)
 }
 
-// Step 4: what the frames take that are sent, at this limit.
+// Step 4: what the frames take that are sent, at this limit. Of frames of one tick no quotient is asked for.
 pub(crate) fn time_sent(limit: u64, ask: Ask) -> u64
     requires { ⌜ Offer limit ask ⌝ }
     ensures { λ x. ⌜ FramesSent limit ask x ⌝ }
 {
+    if ask.length == 1 {
+        return units::least(units::wide(ask.frames), limit);
+    }
     let length = units::wide(ask.length);
     let most = quotients::rounded_up(limit, length);
     let frames = units::least(units::wide(ask.frames), most);

@@ -197,21 +197,33 @@ pub fn count_places(ring: Ring) -> u32
     numbers::MOST_STATIONS
 }
 
-// Opening: the opened ring, or the first of 2, 4, 5, 16 and 7 that applies with the blank ring.
+// Opening: the opened ring, or the first of 2, 4, 5, 16 and 7 that applies with the blank ring. The plan is judged where it stands in the ring; then TRT is what the silent first rotation leaves, and u the sum of S.
 pub fn open(set: Set, alloc: Alloc) -> Opened
     ensures { λ r. ⌜ r ≡ opening set alloc ⌝ }
 {
-    let judged = opening::opening_number(set, alloc);
-    if judged != numbers::ACCEPTED {
-        return Opened {
-            ring: opening::blank_ring(),
-            number: judged,
-        };
+    let mut ring = opening::blank_ring();
+    ring.set = set;
+    ring.alloc = alloc;
+    let head = ring.set.head;
+    let n = ring.set.n;
+    let number = opening::opening_number(
+        head,
+        n,
+        &ring.set.w,
+        &ring.set.c,
+        &ring.set.d,
+        &ring.set.p,
+        &ring.alloc.s,
+    );
+    if number != numbers::ACCEPTED {
+        ring = opening::blank_ring();
+    } else {
+        let w = ring.set.w;
+        let trt = places::sums_to_last(w, n);
+        ring.unused = units::sum_lent(&ring.alloc.s, n);
+        ring.trt = trt;
     }
-    Opened {
-        ring: opening::opened_ring(set, alloc),
-        number: judged,
-    }
+    Opened { ring, number }
 }
 
 // By value: each method takes the ring and hands out the next one inside its answer.

@@ -1,24 +1,31 @@
-// Opening's number, the opened ring, and the blank one.
+// Opening's number, and the blank ring.
 use super::Ring;
-use super::timing;
-use plans::Alloc;
-use sets::Set;
+use sets::Head;
 use units::numbers;
 ghost use mathlib.Core.Path.{_≡_};
-ghost use Rattle.plans.specs.Planned.{judgedPlan};
+ghost use Rattle.sets.specs.Lent.{setOf};
+ghost use Rattle.plans.specs.Lent.{allocOf};
 ghost use Rattle.rings.specs.State.{blankRing};
-ghost use Rattle.rings.specs.Opening.{openingNumber, openedRing};
+ghost use Rattle.rings.specs.Opening.{openingNumber};
 
-// The first of 2, 4, 5, 16 and 7 that applies: 2, 4 and 5 as the plan is judged, 16 where the mode is FDDI, and else 7 or 0 as it is judged.
-pub(crate) fn opening_number(set: Set, alloc: Alloc) -> u8
-    ensures { λ r. ⌜ r ≡ openingNumber set alloc ⌝ }
+// The first of 2, 4, 5, 16 and 7 that applies to what is lent: 2, 4 and 5 as the plan is judged, 16 where the mode is FDDI, and else 7 or 0 as it is judged.
+pub(crate) fn opening_number<'a>(
+    head: Head,
+    n: u32,
+    w: &'a [u32; 128],
+    c: &'a [u32; 128],
+    d: &'a [u32; 128],
+    p: &'a [u32; 128],
+    s: &'a [u32; 128],
+) -> u8
+    ensures { λ r. ⌜ r ≡ openingNumber (setOf head n (now (w .entry)) (now (c .entry)) (now (d .entry)) (now (p .entry))) (allocOf (now (s .entry))) ⌝ }
 {
-    let judged = plans::judge_plan(set, alloc);
+    let judged = plans::judge_plan_lent(head, n, w, c, d, p, s);
     let before = (judged != numbers::ACCEPTED) & (judged != numbers::RULES_BROKEN);
     if before {
         return judged;
     }
-    if set.head.mode == numbers::FDDI {
+    if head.mode == numbers::FDDI {
         return numbers::RETIRED;
     }
     judged
@@ -46,21 +53,4 @@ pub(crate) fn blank_ring() -> Ring
         visits: 0,
         unused: 0,
     }
-}
-
-// The ring when the silent first rotation has ended and the token is at station 0.
-pub(crate) fn opened_ring(set: Set, alloc: Alloc) -> Ring
-    requires { ⌜ judgedPlan set alloc ≡ 0 ⌝ }
-    ensures { λ r. ⌜ r ≡ openedRing set alloc ⌝ }
-{
-    let timers = timing::silent_timers(set, alloc);
-    let trt = timers.trt;
-    let late = timers.late;
-    let mut ring = blank_ring();
-    ring.set = set;
-    ring.alloc = alloc;
-    ring.trt = trt;
-    ring.late = late;
-    ring.unused = timers.unused;
-    ring
 }

@@ -1,9 +1,6 @@
-// The timers: the limit that they give, what becomes of them at a visit and at opening, and when they are sound. A function for each piece and mode, and one above them that asks for the mode.
-use super::Timers;
+// The timers: the limit that they give, what becomes of them at a visit, and when they are sound. A function for each piece and mode, and one above them that asks for the mode.
 use super::view::View;
-use plans::Alloc;
 use sets::Head;
-use sets::Set;
 use units::numbers;
 ghost use mathlib.Core.Path.{_≡_};
 ghost use Prim.Native.Nat.{_-_, _≤_, _<_, min};
@@ -11,13 +8,12 @@ ghost use mathlib.Core.Bool.{_&&_};
 ghost use lib.Dec.{leb, ltb, eqb};
 ghost use Rattle.units.specs.Places.{at, sumBelow, allBelow};
 ghost use Rattle.units.specs.Small.{UpTo};
-ghost use Rattle.plans.specs.Planned.{judgedPlan};
 ghost use Rattle.timers.specs.Timers.{visited};
 ghost use lib.ListN.{set};
 ghost use Rattle.places.specs.Held.{raisedHeld};
 ghost use Rattle.places.specs.Laps.{ranOn, lapsCounted};
 ghost use Rattle.rings.specs.Timers.{Fddi, lead, timelyLimit, fddiLimit, timersOffer, unusedAfter, rise};
-ghost use Rattle.rings.specs.Timers.{silentTimely, silentFddi, silentTimers, mostLate};
+ghost use Rattle.rings.specs.Timers.{mostLate};
 ghost use Rattle.rings.specs.Lent.{TimersSoundIn};
 ghost use Rattle.rings.specs.Views.{pointOf, Movable, cameIn, TimersMoved};
 ghost use Rattle.rings.specs.Bounds.{Safe, SafeTimely, SafeTimers, Sendable, Limit};
@@ -185,54 +181,6 @@ pub(crate) fn move_timers<'a>(
         return;
     }
     move_timely(&mut *trt, n, token, rise, since);
-}
-
-// ---- at opening
-
-// Timely-token: TRT as the silent first rotation leaves it, counts 0, u the sum of S.
-fn silent_timely(set: Set, alloc: Alloc) -> Timers
-    requires { ⌜ judgedPlan set alloc ≡ 0 ⌝ }
-    ensures { λ x. ⌜ x ≡ silentTimely set alloc ⌝ }
-{
-    let w = set.w;
-    let trt = places::sums_to_last(w, set.n);
-    let s = alloc.s;
-    let unused = units::sum_first(s, set.n);
-    Timers {
-        trt,
-        late: [0; 128],
-        unused,
-    }
-}
-
-// FDDI: the same, and a timer that starts at TTRT becomes 0 with count 1.
-fn silent_fddi(set: Set, alloc: Alloc) -> Timers
-    requires { ⌜ judgedPlan set alloc ≡ 0 ⌝ }
-    ensures { λ x. ⌜ x ≡ silentFddi set alloc ⌝ }
-{
-    let n = set.n;
-    let top = set.head.ttrt;
-    let silent = silent_timely(set, alloc);
-    let sums = silent.trt;
-    let zeros = silent.late;
-    let trt = places::run_on(sums, n, 0, top);
-    let late = places::count_laps(zeros, sums, n, 0, top);
-    Timers {
-        trt,
-        late,
-        unused: silent.unused,
-    }
-}
-
-// The timers when the silent first rotation has ended.
-pub(crate) fn silent_timers(set: Set, alloc: Alloc) -> Timers
-    requires { ⌜ judgedPlan set alloc ≡ 0 ⌝ }
-    ensures { λ x. ⌜ x ≡ silentTimers set alloc ⌝ }
-{
-    if set.head.mode == numbers::FDDI {
-        return silent_fddi(set, alloc);
-    }
-    silent_timely(set, alloc)
 }
 
 // ---- sound

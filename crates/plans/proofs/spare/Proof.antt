@@ -18,8 +18,13 @@ returns-2 : tie.Need-returns-2
 returns-2 c =
     let asked = c .before .before .before .before .before in
     let args = asked .before .before .before .before .before .args in
-    omega (arith, sum-all (args .t2 .s) (search needs) (args .t1 .n), sum-all (args .t1 .w) (search needs) (args .t1 .n), c .before .before .lost-lent .ensures .is,
-    spare-timely (args .t1) (at (args .t2 .s)) (ne-eqb _ _ (asked .if1 .left)))
+    omega (
+      arith,
+      sum-all (args .t2 .s) (search needs) (args .t1 .n),
+      sum-all (args .t1 .w) (search needs) (args .t1 .n),
+      c .before .before .lost-lent .ensures .is,
+      spare-timely (args .t1) (at (args .t2 .s)) (ne-eqb _ _ (asked .if1 .left)),
+    )
 
 pub spare-spec : {M : Type 1} → statement M
 spare-spec =
