@@ -218,8 +218,7 @@ pub fn open(set: Set, alloc: Alloc) -> Opened
     if number != numbers::ACCEPTED {
         ring = opening::blank_ring();
     } else {
-        let w = ring.set.w;
-        let trt = places::sums_to_last(w, n);
+        let trt = places::sums_to_last(&ring.set.w, n);
         ring.unused = units::sum_lent(&ring.alloc.s, n);
         ring.trt = trt;
     }

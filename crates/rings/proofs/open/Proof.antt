@@ -10,6 +10,7 @@ use Rattle.sets.specs.declared.Set.{Set}
 use Rattle.plans.specs.Planned.{judgedPlan}
 use Rattle.plans.specs.PlanLaws.{given-none}
 use Rattle.plans.specs.declared.Alloc.{Alloc}
+use Rattle.places.specs.Held.{sumsToLast}
 use Rattle.places.proofs.Promised.{promised}
 use Rattle.rings.specs.State.{withPlan, withTimers, blankRing}
 use Rattle.rings.specs.Opening.{openingNumber, openedRing, opening}
@@ -37,22 +38,23 @@ number-said c = c .opening-number .ensures
 accepted : (c : tie.Else1) → let asked = c .before in (judgedPlan (set-of asked) (alloc-of asked) ≡ 0) × ¬ Fddi (set-of asked)
 accepted c = opening-none (set-of (c .before)) (alloc-of (c .before)) .0 (sym (number-said (c .before)) ∙ c .if1 .left)
 
+-- it has at most 128 stations
+few : (c : tie.Else1) → min (set-of (c .before) .n) 128 ≡ set-of (c .before) .n
+few c = omega (arith, given-none (set-of (c .before)) (alloc-of (c .before)) .0 (accepted c .0) .0 .1)
+
 -- what is stored for TRT is the whole sum of w from each station on
-walked : (c : tie.After-sums-to-last) → let t = set-of (c .before .before .before) in c .sums-to-last .result ≡ fill (t .n) (silentTrt t) zeros
+walked : (c : tie.After-sums-to-last) → let t = set-of (c .before .before .before .before) in c .sums-to-last .result ≡ fill (t .n) (silentTrt t) zeros
 walked c =
-    let asked = c .before .before .before in
-    let t = set-of asked in
-    let plan = given-none t (alloc-of asked) .0 (accepted (c .before .before) .0) in
-    c .sums-to-last .ensures ∙ promised .sums-fit (t .n) (t .w) (omega (arith, plan .1 .0 .0 .header .ttrt, plan .1 .1 .0))
+    let entry = c .before .before .before in
+    let t = set-of (entry .before) in
+    let plan = given-none t (alloc-of (entry .before)) .0 (accepted entry .0) in
+    c .sums-to-last .ensures ∙ ap (λ (n : ℕ). sumsToLast n (t .w)) (few entry) ∙ promised .sums-fit (t .n) (t .w) (omega (arith, plan .1 .0 .0 .header .ttrt, plan .1 .1 .0))
 
 -- u is the sum of S
-unused-said : (c : tie.After-sum-lent) → let asked = c .before .before .before .before .before .before in c .sum-lent .result ≡ silentUnused (set-of asked) (alloc-of asked)
+unused-said : (c : tie.After-sum-lent) → let asked = c .before .before .before .before .before .before .before in c .sum-lent .result ≡ silentUnused (set-of asked) (alloc-of asked)
 unused-said c =
-    let entry = c .before .before .before .before .before in
-    let t = set-of (entry .before) in
-    let a = alloc-of (entry .before) in
-    let few : min (t .n) 128 ≡ t .n = omega (arith, given-none t a .0 (accepted entry .0) .0 .1) in
-    c .sum-lent .ensures .sum ∙ ap (λ (n : ℕ). sumBelow n (at (a .s))) few
+    let entry = c .before .before .before .before .before .before in
+    c .sum-lent .ensures .sum ∙ ap (λ (n : ℕ). sumBelow n (at (alloc-of (entry .before) .s))) (few entry)
 
 -- the blank ring with the plan and these timers is the opened ring of a mode in use
 opened-is : (t : Set) (a : Alloc) (blank : Ring) (trt : List ℕ) (unused : ℕ) → ¬ Fddi t → blank ≡ blankRing → trt ≡ fill (t .n) (silentTrt t) zeros → unused ≡ silentUnused t a
@@ -72,7 +74,7 @@ returns c =
 returns-2 : tie.Need-returns-2
 returns-2 c =
     let sums = c .before .before .before in
-    let entry = sums .before .before in
+    let entry = sums .before .before .before in
     let asked = entry .before in
     let blank = asked .before .before .before .before .before .before .before .before in
     let t = set-of asked in
