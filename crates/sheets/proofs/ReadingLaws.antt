@@ -1,21 +1,24 @@
 -- The laws of reading: what has passed lies inside the bytes, and the answers of a refused reading.
 use Prim.Native.Nat.{ℕ, zero, suc, _+_, _≤_, _<_}
 use mathlib.Core.Path.{_≡_, refl, sym, ap, subst, _∙_}
-use mathlib.Core.Bool.{Bool, true, false}
+use mathlib.Core.Bool.{Bool, true, false, cond, _||_}
 use mathlib.Core.List.{List}
 use mathlib.Core.Logic.{⊎-elim, _≢_}
 use native.Mathlib.Omega.{arith}
 use lib.Dec.{eqb}
+use borrow.Author.Tests.{ne-eqb}
 use Rattle.units.specs.JudgingLaws.{true-or-false}
 use Rattle.units.specs.SmallLaws.{below-or-not}
 use Rattle.sets.specs.Header.{headNumber}
 use Rattle.sets.specs.Rules.{CountAllowed, HeadInRange}
 use Rattle.sets.specs.Judged.{blankSet}
+use Rattle.sets.specs.Lent.{setOf as lentSet}
 use Rattle.sets.specs.SetLaws.{judged-four}
 use Rattle.sets.specs.declared.Head.{Head}
 use Rattle.sets.specs.declared.Set.{Set}
 use Rattle.plans.specs.Planned.{blankAlloc}
 use Rattle.plans.specs.declared.Alloc.{Alloc}
+use Rattle.plans.specs.Lent.{allocOf as lentAlloc}
 use Rattle.plans.proofs.Promised.{promised}
 use Rattle.fields.specs.Fields.{modeTag, frameTag, gridTag}
 use Rattle.fields.specs.Header.{furtherCount, furtherPlace, givenAt}
@@ -25,10 +28,10 @@ use Rattle.scan.specs.Scanned.{scanned}
 use Rattle.fields.specs.declared.Passed.{Passed}
 use Rattle.scan.proofs.ScanLaws.{stopped}
 use Rattle.scan.proofs.PassedLaws.{AllPassed, all-passed, scanned-ended}
-use Rattle.sheets.specs.Bounds.{PassedFits}
+use Rattle.sheets.specs.Bounds.{PassedFits, ColumnsRead}
 use Rattle.sheets.specs.Layout.{mostOf}
-use Rattle.sheets.specs.Reading.{numberIn, headIn, planPassed, setIn, allocIn, thenNumber, judgedSheet, readNumber, readSheet, givenAnswer, givenSheet}
-use Rattle.sheets.specs.ReadLaws.{then-none, read-refused, sheet-accepted}
+use Rattle.sheets.specs.Reading.{numberIn, headIn, setOf, allocOf, planPassed, setIn, allocIn, thenNumber, judgedSheet, readNumber, readSheet, readAnswer, givenAnswer, givenSheet, fieldsAnswer}
+use Rattle.sheets.specs.ReadLaws.{then-rest, then-keeps, then-none, read-refused, read-number, sheet-accepted}
 
 -- where all fields but the end have passed, there is room for all that is read from them
 pub passed-fits : (plan : Bool) (bs : List ℕ) (p : Passed) (a : ℕ) → AllPassed plan bs p a → PassedFits bs p
@@ -53,6 +56,34 @@ unfolding givenAnswer thenNumber
 given-then zero plan t a = refl
 given-then (suc k) plan t a = refl
 
+answered : (k : ℕ) (t : Set) (a : Alloc)
+    → cond (false || eqb k 0) (record { set = t; alloc = a; number = k }) (record { set = blankSet; alloc = blankAlloc; number = k }) ≡ readAnswer k t a
+unfolding readAnswer
+answered zero t a = refl
+answered (suc k) t a = rw (ne-eqb (suc k) 0 (λ e. absurd (omega arith))) refl
+
+-- what is blank, and what is not, of fields that have passed, by the number that was judged
+module _ (kept plan : Bool) (t : Set) (a : Alloc) {k : ℕ} (said : k ≡ judgedSheet plan t a) where
+  pub answer-blank : (kept || eqb k 0) ≡ false → record { set = blankSet; alloc = blankAlloc; number = k } ≡ fieldsAnswer kept plan t a
+  unfolding fieldsAnswer
+  answer-blank test =
+      let same : (kept || eqb (judgedSheet plan t a) 0) ≡ false = ap (λ (i : ℕ). kept || eqb i 0) (sym said) ∙ test in
+      rw same (ap (λ (i : ℕ). record { set = blankSet; alloc = blankAlloc; number = i }) said)
+
+  pub answer-whole : (kept || eqb k 0) ≡ true → record { set = t; alloc = a; number = k } ≡ fieldsAnswer kept plan t a
+  unfolding fieldsAnswer
+  answer-whole test =
+      let same : (kept || eqb (judgedSheet plan t a) 0) ≡ true = ap (λ (i : ℕ). kept || eqb i 0) (sym said) ∙ test in
+      rw same (ap (λ (i : ℕ). record { set = t; alloc = a; number = i }) said)
+
+-- the header and the columns that were read are the set and the allocation that the fields hold
+module _ {bs : List ℕ} {q : Passed} {h : Head} {w c d p s : List ℕ} (e : h ≡ headIn bs) (read : ColumnsRead bs q w c d p s) where
+  pub set-read : lentSet h (q .stations) w c d p ≡ setOf bs q
+  set-read = rw (e, read .walk, read .longest, read .deadline, read .gap) refl
+
+  pub alloc-read : lentAlloc s ≡ allocOf bs q
+  alloc-read = rw (read .share) refl
+
 module _ (plan : Bool) (bs : List ℕ) where
   -- so it is with a sheet without a fault
   pub scanned-fits : scanned plan bs .number ≡ 0 → PassedFits bs (scanned plan bs .passed)
@@ -76,15 +107,35 @@ module _ (plan : Bool) (bs : List ℕ) where
   unfolding givenSheet
   given-number = given-then (scanned plan bs .number) plan (setIn plan bs) (allocIn plan bs)
 
-  -- a sheet that is refused is read blank, and one that is not as it is
-  pub sheet-blank : givenSheet plan bs .number ≢ 0 → readSheet plan bs ≡ record { set = blankSet; alloc = blankAlloc; number = givenSheet plan bs .number }
-  unfolding readSheet
-  sheet-blank h = rw given-number (read-refused _ _ _ (λ e. h (given-number ∙ e)))
-
+  -- a sheet that is not refused is read as it is
   pub sheet-given : givenSheet plan bs .number ≡ 0 → readSheet plan bs ≡ givenSheet plan bs
   sheet-given h =
       let none = then-none (scanned plan bs .number) (judgedSheet plan (setIn plan bs) (allocIn plan bs)) (sym given-number ∙ h) in
       sheet-accepted plan bs (none .0) (none .1) ∙ rw (given-read (none .0), none .1) refl
+
+  -- the number of reading, by the walk and then by the judgement
+  pub number-misshapen : scanned plan bs .number ≢ 0 → scanned plan bs .number ≡ readSheet plan bs .number
+  unfolding readSheet
+  number-misshapen h = sym (read-number _ _ _ ∙ then-keeps _ _ h)
+
+  pub number-judged : scanned plan bs .number ≡ 0 → judgedSheet plan (setIn plan bs) (allocIn plan bs) ≡ readSheet plan bs .number
+  unfolding readSheet
+  number-judged h = sym (read-number _ _ _ ∙ then-rest _ _ h)
+
+  -- what is read, kept or not, of a sheet with a fault and of one without
+  pub kept-misshapen : (kept : Bool) → scanned plan bs .number ≢ 0
+      → cond kept (givenSheet plan bs) (readSheet plan bs) ≡ record { set = blankSet; alloc = blankAlloc; number = scanned plan bs .number }
+  unfolding readSheet
+  kept-misshapen true h = given-misshapen h
+  kept-misshapen false h = rw (then-keeps (scanned plan bs .number) (judgedSheet plan (setIn plan bs) (allocIn plan bs)) h) (read-refused _ _ _ h)
+
+  pub kept-read : (kept : Bool) → scanned plan bs .number ≡ 0
+      → fieldsAnswer kept plan (setIn plan bs) (allocIn plan bs) ≡ cond kept (givenSheet plan bs) (readSheet plan bs)
+  unfolding fieldsAnswer readSheet
+  kept-read true h = sym (given-read h)
+  kept-read false h =
+      let k = judgedSheet plan (setIn plan bs) (allocIn plan bs) in
+      answered k (setIn plan bs) (allocIn plan bs) ∙ ap (λ (i : ℕ). readAnswer i (setIn plan bs) (allocIn plan bs)) (sym (then-rest (scanned plan bs .number) k h))
 
 -- ---- the header's numbers
 

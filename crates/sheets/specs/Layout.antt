@@ -64,6 +64,10 @@ stationWith w c d p = mark stationTag stationSize ++ bytesOf w ++ bytesOf c ++ b
 unfoldable pub allocationWith : ℕ → List ℕ
 allocationWith s = mark allocationTag allocationSize ++ bytesOf s
 
+-- station i of what w, C, D and P hold
+abbrev pub stationIn : List ℕ → List ℕ → List ℕ → List ℕ → ℕ → List ℕ
+stationIn w c d p i = stationWith (at w i) (at c i) (at d i) (at p i)
+
 -- station i of a set
 abbrev pub stationBytes : Set → ℕ → List ℕ
 stationBytes t i = stationWith (at (t .w) i) (at (t .c) i) (at (t .d) i) (at (t .p) i)

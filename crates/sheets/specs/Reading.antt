@@ -1,9 +1,10 @@
 -- What reading answers, for any bytes whatever.
 -- The fields are handed out one after another from the left (`scan/specs/Scanned.antt`). Where the walk ends with 0, the numbers that the fields hold are read and judged.
 use Prim.Native.Nat.{ℕ, zero, suc, _+_, _*_}
-use mathlib.Core.Bool.{Bool, cond, true, false}
+use mathlib.Core.Bool.{Bool, cond, true, false, _||_}
 use mathlib.Core.List.{List}
-use lib.Dec.{leb}
+use lib.Dec.{leb, eqb}
+use Rattle.units.specs.Numbers.{accepted}
 use Rattle.units.specs.Places.{fill}
 use Rattle.sets.specs.Judged.{judged, blankSet, zeros}
 use Rattle.sets.specs.declared.Head.{Head}
@@ -88,6 +89,13 @@ readSheet plan bs = readAnswer (readNumber plan bs) (setIn plan bs) (allocIn pla
 unfoldable pub givenAnswer : ℕ → Bool → Set → Alloc → ReadPlan
 givenAnswer zero plan t a = record { set = t; alloc = a; number = judgedSheet plan t a }
 givenAnswer (suc k) plan t a = record { set = blankSet; alloc = blankAlloc; number = suc k }
+
+-- what fields that have passed answer: what they hold, with its judgement; where that refuses, blank, if it is not to be kept
+unfoldable pub fieldsAnswer : Bool → Bool → Set → Alloc → ReadPlan
+fieldsAnswer kept plan t a =
+    cond (kept || eqb (judgedSheet plan t a) accepted)
+    (record { set = t; alloc = a; number = judgedSheet plan t a })
+    (record { set = blankSet; alloc = blankAlloc; number = judgedSheet plan t a })
 
 unfoldable pub givenSheet : Bool → List ℕ → ReadPlan
 givenSheet plan bs = givenAnswer (scanned plan bs .number) plan (setIn plan bs) (allocIn plan bs)

@@ -1,14 +1,16 @@
 // Reading: the fields are handed out one after another from the left; then the numbers that they hold are read and judged.
 ghost use mathlib.Core.Path.{_≡_};
-ghost use Prim.Native.Nat.{_+_, _≤_};
+ghost use mathlib.Core.Bool.{cond};
+ghost use Prim.Native.Nat.{_+_, _*_, _≤_};
 ghost use lib.ListN.{length};
 ghost use Rattle.sets.specs.Judged.{blankSet};
-ghost use Rattle.plans.specs.Planned.{blankAlloc};
-ghost use Rattle.sheets.specs.Bounds.{PassedFits, ColumnFits};
-ghost use Rattle.fields.specs.Bytes.{bodyAt};
+ghost use Rattle.plans.specs.Planned.{judgedPlan, blankAlloc};
+ghost use Rattle.units.specs.Places.{fill};
+ghost use Rattle.sheets.specs.Bounds.{PassedFits, ColumnFits, Zeros, ColumnsRead};
+ghost use Rattle.fields.specs.Bytes.{numberAt, bodyAt};
 ghost use Rattle.fields.specs.Fields.{furtherSize};
 ghost use Rattle.fields.specs.Header.{furtherCount, behindTag, furtherPlace, givenAt};
-ghost use Rattle.sheets.specs.Reading.{column, headIn, setOf, allocOf, givenSheet, readSheet, planPassed};
+ghost use Rattle.sheets.specs.Reading.{headIn, setOf, allocOf, fieldsAnswer, givenSheet, readSheet, planPassed};
 use crate::ReadPlan;
 use crate::bytes;
 use fields::Passed;
@@ -17,12 +19,11 @@ use sets::Head;
 use sets::Set;
 use units::numbers;
 
-// One number from each of n like fields; 0 in the places from n on.
-fn read_column(bs: &[u8], from: usize, step: usize, n: usize) -> [u32; 128]
+// Reads one number from each of n like fields into the first n places.
+fn read_column(bs: &[u8], from: usize, step: usize, n: usize, numbers: &mut [u32; 128])
     requires { ⌜ ColumnFits (now bs) from step n ⌝ }
-    ensures { λ r. ⌜ r ≡ column (now (bs .entry)) from step n ⌝ }
+    ensures { λ _. ⌜ now (numbers .exit) ≡ fill n (λ i. numberAt (now (bs .entry)) (from + step * i)) (now (numbers .entry)) ⌝ }
 {
-    let mut numbers: [u32; 128] = [0; 128];
     let mut at = from;
     let mut i: usize = 0;
     while i < n {
@@ -31,7 +32,6 @@ fn read_column(bs: &[u8], from: usize, step: usize, n: usize) -> [u32; 128]
         at += step;
         i += 1;
     }
-    numbers
 }
 
 // The number in a body of the header's field with this tag.
@@ -85,37 +85,26 @@ fn read_head(bs: &[u8]) -> Head
     head
 }
 
-// The set that the header and the stations hold.
-pub(crate) fn read_set(bs: &[u8], passed: Passed) -> Set
-    requires { ⌜ PassedFits (now bs) passed ⌝ }
-    ensures { λ r. ⌜ r ≡ setOf (now (bs .entry)) passed ⌝ }
+// Reads w, C, D and P of the stations and S of the allocations that have passed into places that hold zeros.
+fn read_columns<'a>(
+    bs: &[u8],
+    passed: Passed,
+    w: &'a mut [u32; 128],
+    c: &'a mut [u32; 128],
+    d: &'a mut [u32; 128],
+    p: &'a mut [u32; 128],
+    s: &'a mut [u32; 128],
+)
+    requires { ⌜ PassedFits (now bs) passed × Zeros (now w) (now c) (now d) (now p) (now s) ⌝ }
+    ensures { λ _. ⌜ ColumnsRead (now (bs .entry)) passed (now (w .exit)) (now (c .exit)) (now (d .exit)) (now (p .exit)) (now (s .exit)) ⌝ }
 {
-    let head = read_head(bs);
     let from = passed.from;
     let n = passed.stations;
-    let count = n as u32;
-    let w = read_column(bs, from + 3, 19, n);
-    let c = read_column(bs, from + 7, 19, n);
-    let d = read_column(bs, from + 11, 19, n);
-    let p = read_column(bs, from + 15, 19, n);
-    Set {
-        head,
-        n: count,
-        w,
-        c,
-        d,
-        p,
-    }
-}
-
-// The allocation that the fields behind the stations hold.
-pub(crate) fn read_alloc(bs: &[u8], passed: Passed) -> Alloc
-    requires { ⌜ PassedFits (now bs) passed ⌝ }
-    ensures { λ r. ⌜ r ≡ allocOf (now (bs .entry)) passed ⌝ }
-{
-    let from = passed.from + 19 * passed.stations;
-    let s = read_column(bs, from + 3, 7, passed.allocations);
-    Alloc { s }
+    read_column(bs, from + 3, 19, n, w);
+    read_column(bs, from + 7, 19, n, c);
+    read_column(bs, from + 11, 19, n, d);
+    read_column(bs, from + 15, 19, n, p);
+    read_column(bs, from + 19 * n + 3, 7, passed.allocations, s);
 }
 
 // A refused reading: the number, with everything blank.
@@ -127,29 +116,63 @@ fn refused(number: u8) -> ReadPlan
     ReadPlan { set, alloc, number }
 }
 
-// What a sheet holds, whatever its numbers are: 1, 2, 3 by the first fault from the left; then the judgement of what it holds, 4, 5, and 7 for plans.
-pub(crate) fn read_given(bs: &[u8], plan: bool) -> ReadPlan
-    ensures { λ r. ⌜ r ≡ givenSheet plan (now (bs .entry)) ⌝ }
+// What the fields that have passed hold, with its judgement; where that refuses, it is blank, or `kept` as it is.
+pub(crate) fn read_fields(bs: &[u8], passed: Passed, plan: bool, kept: bool) -> ReadPlan
+    requires { ⌜ PassedFits (now bs) passed ⌝ }
+    ensures { λ r. ⌜ r ≡ fieldsAnswer kept plan (setOf (now (bs .entry)) passed) (allocOf (now (bs .entry)) passed) ⌝ }
+{
+    let head = read_head(bs);
+    let n = passed.stations as u32;
+    let mut w: [u32; 128] = [0; 128];
+    let mut c: [u32; 128] = [0; 128];
+    let mut d: [u32; 128] = [0; 128];
+    let mut p: [u32; 128] = [0; 128];
+    let mut s: [u32; 128] = [0; 128];
+    read_columns(bs, passed, &mut w, &mut c, &mut d, &mut p, &mut s);
+    let number = crate::judge_sheet(plan, head, n, &w, &c, &d, &p, &s);
+    let whole = kept | (number == numbers::ACCEPTED);
+    if !whole {
+        return refused(number);
+    }
+    ReadPlan {
+        set: Set {
+            head,
+            n,
+            w,
+            c,
+            d,
+            p,
+        },
+        alloc: Alloc { s },
+        number,
+    }
+}
+
+// Reads a sheet: 1, 2, 3 by the first fault from the left; then 4, 5, and 7 for plans. A refused one is blank; where only its numbers are refused, it may be kept.
+pub(crate) fn read_sheet(bs: &[u8], plan: bool, kept: bool) -> ReadPlan
+    ensures { λ r. ⌜ r ≡ cond kept (givenSheet plan (now (bs .entry))) (readSheet plan (now (bs .entry))) ⌝ }
 {
     let scanned = scan::scan_sheet(bs, plan);
     if scanned.number != numbers::ACCEPTED {
         return refused(scanned.number);
     }
-    let set = read_set(bs, scanned.passed);
-    let alloc = read_alloc(bs, scanned.passed);
-    let number = crate::judge_sheet(plan, set, alloc);
-    ReadPlan { set, alloc, number }
+    read_fields(bs, scanned.passed, plan, kept)
 }
 
-// Reads a sheet: a refused one is blank.
-pub(crate) fn read_sheet(bs: &[u8], plan: bool) -> ReadPlan
-    ensures { λ r. ⌜ r ≡ readSheet plan (now (bs .entry)) ⌝ }
+// The judgement of the plan that the fields that have passed hold; it is not handed out.
+pub(crate) fn judge_fields(bs: &[u8], passed: Passed) -> u8
+    requires { ⌜ PassedFits (now bs) passed ⌝ }
+    ensures { λ r. ⌜ r ≡ judgedPlan (setOf (now (bs .entry)) passed) (allocOf (now (bs .entry)) passed) ⌝ }
 {
-    let given = read_given(bs, plan);
-    if given.number != numbers::ACCEPTED {
-        return refused(given.number);
-    }
-    given
+    let head = read_head(bs);
+    let n = passed.stations as u32;
+    let mut w: [u32; 128] = [0; 128];
+    let mut c: [u32; 128] = [0; 128];
+    let mut d: [u32; 128] = [0; 128];
+    let mut p: [u32; 128] = [0; 128];
+    let mut s: [u32; 128] = [0; 128];
+    read_columns(bs, passed, &mut w, &mut c, &mut d, &mut p, &mut s);
+    plans::judge_plan_lent(head, n, &w, &c, &d, &p, &s)
 }
 
 // All fields of a sheet but its end have passed.

@@ -1,18 +1,18 @@
 // Writing: all is judged first; then the fields are laid one after another.
 ghost use mathlib.Core.Path.{_≡_};
-ghost use Prim.Native.Nat.{_+_, _*_, _≤_};
+ghost use Prim.Native.Nat.{_+_, _*_, _≤_, _<_};
 ghost use lib.ListN.{length};
 ghost use Rattle.fields.specs.Rows.{laid, rows};
 ghost use Rattle.fields.specs.Bytes.{bodyOf};
-ghost use Rattle.fields.specs.Fields.{furtherSize};
+ghost use Rattle.sets.specs.Lent.{setOf};
+ghost use Rattle.plans.specs.Lent.{allocOf};
+ghost use Rattle.fields.specs.Fields.{furtherSize, allocationsFor};
 ghost use Rattle.fields.specs.Header.{furtherCount};
-ghost use Rattle.sheets.specs.Layout.{furtherBytes, furtherLength, furtherField, headBytes, headLength, stationWith, allocationWith, stationBytes, allocationBytes, fieldsOf, fieldsLength};
+ghost use Rattle.sheets.specs.Layout.{furtherBytes, furtherLength, furtherField, headBytes, headLength, stationIn, allocationWith, allocationBytes, fieldsOf};
 ghost use Rattle.sheets.specs.Writing.{Wrote, WroteFields, refusedWriting};
 use crate::Written;
 use crate::bytes;
-use plans::Alloc;
 use sets::Head;
-use sets::Set;
 use units::numbers;
 
 // How many bytes the header's field with this tag has.
@@ -90,16 +90,24 @@ fn head_length(h: Head) -> usize
     sum
 }
 
-// Writes one station.
-fn put_station(out: &mut [u8], at: usize, w: u32, c: u32, d: u32, p: u32)
-    requires { ⌜ at + 19 ≤ length (now out) ⌝ }
-    ensures { λ _. ⌜ now (out .exit) ≡ laid (now (out .entry)) at (stationWith w c d p) ⌝ }
+// Writes station i.
+fn put_station<'a>(
+    out: &mut [u8],
+    at: usize,
+    i: usize,
+    w: &'a [u32; 128],
+    c: &'a [u32; 128],
+    d: &'a [u32; 128],
+    p: &'a [u32; 128],
+)
+    requires { ⌜ (i < 128) × (at + 19 ≤ length (now out)) ⌝ }
+    ensures { λ _. ⌜ now (out .exit) ≡ laid (now (out .entry)) at (stationIn (now (w .entry)) (now (c .entry)) (now (d .entry)) (now (p .entry)) i) ⌝ }
 {
     bytes::put_start(out, at, fields::STATION_TAG, 16);
-    bytes::put_number(out, at + 3, w);
-    bytes::put_number(out, at + 7, c);
-    bytes::put_number(out, at + 11, d);
-    bytes::put_number(out, at + 15, p);
+    bytes::put_number(out, at + 3, w[i]);
+    bytes::put_number(out, at + 7, c[i]);
+    bytes::put_number(out, at + 11, d[i]);
+    bytes::put_number(out, at + 15, p[i]);
 }
 
 // Writes one allocation.
@@ -112,56 +120,72 @@ fn put_allocation(out: &mut [u8], at: usize, s: u32)
 }
 
 // Writes the first n stations.
-fn put_stations(out: &mut [u8], from: usize, t: Set, n: usize)
+fn put_stations<'a>(
+    out: &mut [u8],
+    from: usize,
+    n: usize,
+    w: &'a [u32; 128],
+    c: &'a [u32; 128],
+    d: &'a [u32; 128],
+    p: &'a [u32; 128],
+)
     requires { ⌜ (n ≤ 128) × (from + 19 * n ≤ length (now out)) ⌝ }
-    ensures { λ _. ⌜ now (out .exit) ≡ laid (now (out .entry)) from (rows n (stationBytes t)) ⌝ }
+    ensures { λ _. ⌜ now (out .exit) ≡ laid (now (out .entry)) from (rows n (stationIn (now (w .entry)) (now (c .entry)) (now (d .entry)) (now (p .entry)))) ⌝ }
 {
     let mut at = from;
     let mut i: usize = 0;
     while i < n {
-        put_station(out, at, t.w[i], t.c[i], t.d[i], t.p[i]);
+        put_station(out, at, i, w, c, d, p);
         at += 19;
         i += 1;
     }
 }
 
 // Writes the first m allocations.
-fn put_allocations(out: &mut [u8], from: usize, a: Alloc, m: usize)
+fn put_allocations(out: &mut [u8], from: usize, m: usize, s: &[u32; 128])
     requires { ⌜ (m ≤ 128) × (from + 7 * m ≤ length (now out)) ⌝ }
-    ensures { λ _. ⌜ now (out .exit) ≡ laid (now (out .entry)) from (rows m (allocationBytes a)) ⌝ }
+    ensures { λ _. ⌜ now (out .exit) ≡ laid (now (out .entry)) from (rows m (allocationBytes (allocOf (now (s .entry))))) ⌝ }
 {
     let mut at = from;
     let mut i: usize = 0;
     while i < m {
-        put_allocation(out, at, a.s[i]);
+        put_allocation(out, at, s[i]);
         at += 7;
         i += 1;
     }
 }
 
 // How many bytes all fields of a sheet but the end have.
-fn fields_length(plan: bool, t: Set) -> usize
-    requires { ⌜ t .n ≤ 128 ⌝ }
-    ensures { λ r. ⌜ r ≡ fieldsLength plan t ⌝ }
+fn fields_length(plan: bool, h: Head, n: u32) -> usize
+    requires { ⌜ n ≤ 128 ⌝ }
+    ensures { λ r. ⌜ r ≡ 7 + headLength h + 19 * n + 7 * allocationsFor plan n ⌝ }
 {
-    let h = t.head;
-    let n = t.n as usize;
-    7 + head_length(h) + 19 * n + 7 * fields::allocations_for(plan, n)
+    let count = n as usize;
+    7 + head_length(h) + 19 * count + 7 * fields::allocations_for(plan, count)
 }
 
 // Writes all fields of a sheet but the end.
-fn put_fields(plan: bool, t: Set, a: Alloc, out: &mut [u8])
-    requires { ⌜ (t .n ≤ 128) × (fieldsLength plan t ≤ length (now out)) ⌝ }
-    ensures { λ _. ⌜ now (out .exit) ≡ laid (now (out .entry)) 0 (fieldsOf plan t a) ⌝ }
+fn put_fields<'a>(
+    plan: bool,
+    h: Head,
+    n: u32,
+    w: &'a [u32; 128],
+    c: &'a [u32; 128],
+    d: &'a [u32; 128],
+    p: &'a [u32; 128],
+    s: &'a [u32; 128],
+    out: &mut [u8],
+)
+    requires { ⌜ (n ≤ 128) × (7 + headLength h + 19 * n + 7 * allocationsFor plan n ≤ length (now out)) ⌝ }
+    ensures { λ _. ⌜ now (out .exit) ≡ laid (now (out .entry)) 0 (fieldsOf plan (setOf h n (now (w .entry)) (now (c .entry)) (now (d .entry)) (now (p .entry))) (allocOf (now (s .entry)))) ⌝ }
 {
-    let n = t.n as usize;
-    let m = fields::allocations_for(plan, n);
-    let h = t.head;
+    let count = n as usize;
+    let m = fields::allocations_for(plan, count);
     let from = 7 + head_length(h);
-    let behind = from + 19 * n;
+    let behind = from + 19 * count;
     put_head(out, h);
-    put_stations(out, from, t, n);
-    put_allocations(out, behind, a, m);
+    put_stations(out, from, count, w, c, d, p);
+    put_allocations(out, behind, m, s);
 }
 
 // A refused writing.
@@ -172,18 +196,28 @@ fn refused(number: u8) -> Written
 }
 
 // Writes all fields of a sheet but the end: N (2), then 4, 5, for plans 7, then 14 where they and the end do not fit; then their bytes.
-pub(crate) fn write_fields(plan: bool, t: Set, a: Alloc, out: &mut [u8]) -> Written
-    ensures { λ r. ⌜ WroteFields plan t a (now (out .entry)) (now (out .exit)) r ⌝ }
+pub(crate) fn write_fields<'a>(
+    plan: bool,
+    h: Head,
+    n: u32,
+    w: &'a [u32; 128],
+    c: &'a [u32; 128],
+    d: &'a [u32; 128],
+    p: &'a [u32; 128],
+    s: &'a [u32; 128],
+    out: &mut [u8],
+) -> Written
+    ensures { λ r. ⌜ WroteFields plan (setOf h n (now (w .entry)) (now (c .entry)) (now (d .entry)) (now (p .entry))) (allocOf (now (s .entry))) (now (out .entry)) (now (out .exit)) r ⌝ }
 {
-    let number = crate::judge_sheet(plan, t, a);
+    let number = crate::judge_sheet(plan, h, n, w, c, d, p, s);
     if number != numbers::ACCEPTED {
         return refused(number);
     }
-    let length = fields_length(plan, t);
+    let length = fields_length(plan, h, n);
     if out.len() < length + 3 {
         return refused(numbers::BUFFER_TOO_SHORT);
     }
-    put_fields(plan, t, a, out);
+    put_fields(plan, h, n, w, c, d, p, s, out);
     Written {
         length,
         number: numbers::ACCEPTED,
@@ -191,10 +225,20 @@ pub(crate) fn write_fields(plan: bool, t: Set, a: Alloc, out: &mut [u8]) -> Writ
 }
 
 // Writes a sheet: all fields but the end; then the end behind them.
-pub(crate) fn write_sheet(plan: bool, t: Set, a: Alloc, out: &mut [u8]) -> Written
-    ensures { λ r. ⌜ Wrote plan t a (now (out .entry)) (now (out .exit)) r ⌝ }
+pub(crate) fn write_sheet<'a>(
+    plan: bool,
+    h: Head,
+    n: u32,
+    w: &'a [u32; 128],
+    c: &'a [u32; 128],
+    d: &'a [u32; 128],
+    p: &'a [u32; 128],
+    s: &'a [u32; 128],
+    out: &mut [u8],
+) -> Written
+    ensures { λ r. ⌜ Wrote plan (setOf h n (now (w .entry)) (now (c .entry)) (now (d .entry)) (now (p .entry))) (allocOf (now (s .entry))) (now (out .entry)) (now (out .exit)) r ⌝ }
 {
-    let so_far = write_fields(plan, t, a, out);
+    let so_far = write_fields(plan, h, n, w, c, d, p, s, out);
     if so_far.number != numbers::ACCEPTED {
         return so_far;
     }

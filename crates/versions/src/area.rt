@@ -3,7 +3,6 @@ ghost use mathlib.Core.Path.{_≡_};
 ghost use Prim.Native.Nat.{_+_, _-_, _≤_};
 ghost use lib.ListN.{length, take, drop};
 ghost use Rattle.fields.specs.Bounds.{Short};
-ghost use Rattle.sheets.specs.Reading.{readPlan};
 ghost use Rattle.versions.specs.Area.{versionFits, isPlan, versionStands, placeOf, beforeIn, countIn, zerosFrom, endsAt};
 ghost use Rattle.versions.specs.Answers.{Judged};
 ghost use Rattle.versions.specs.Bounds.{walkedTo, TurnOf};
@@ -41,20 +40,12 @@ fn version_fits(area: &[u8], at: usize) -> bool
     (area[at] == VERSION_TAG) & (4 <= size) & (size + 3 <= left)
 }
 
-// What plan reading says of a sheet.
-pub(crate) fn plan_number(sheet: &[u8]) -> u8
-    ensures { λ r. ⌜ r ≡ readPlan (now (sheet .entry)) .number ⌝ }
-{
-    let answer = sheets::read_plan(sheet);
-    answer.number
-}
-
 // Plan reading accepts the bytes from one place up to another.
 fn is_plan(area: &[u8], from: usize, end: usize) -> bool
     requires { ⌜ (from ≤ end) × (end ≤ length (now area)) ⌝ }
     ensures { λ r. ⌜ r ≡ isPlan (take (end - from) (drop from (now (area .entry)))) ⌝ }
 {
-    plan_number(&area[from..end]) == numbers::ACCEPTED
+    sheets::plan_number(&area[from..end]) == numbers::ACCEPTED
 }
 
 // A version with this number stands at the place, and its plan is accepted.

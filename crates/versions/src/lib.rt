@@ -74,7 +74,7 @@ pub fn store_plan(area: &mut [u8], sheet: &[u8]) -> StoredPlan
     if held.number != numbers::ACCEPTED {
         return storing::refused(held.number);
     }
-    let number = area::plan_number(sheet);
+    let number = sheets::plan_number(sheet);
     if number != numbers::ACCEPTED {
         return storing::refused(number);
     }

@@ -7,7 +7,7 @@ use Rattle.plans.specs.Planned.{blankAlloc}
 use Rattle.scan.specs.Scanned.{scanned}
 use Rattle.scan.specs.declared.Scanned.{Scanned}
 use Rattle.sheets.specs.Bounds.{PassedFits}
-use Rattle.sheets.specs.Reading.{setOf, allocOf, setIn, allocIn, planPassed, planStart}
+use Rattle.sheets.specs.Reading.{setOf, allocOf, setIn, allocIn, judgedSheet, fieldsAnswer, planPassed, planStart}
 use Rattle.sheets.proofs.ReadingLaws.{start-fits}
 use borrow.Author.Needs.{needs}
 use Rattle.sheets.proofs.read_start.Statement.{statement}
@@ -44,26 +44,21 @@ returns c =
     ap (λ (r : Scanned). planPassed (r .passed)) (sym said) ∙ sym (asked .plan-passed .ensures) ∙ not-true _ (c .before .before .if1 .taken) in
     rw (c .before .blank-set .ensures, c .blank-alloc .ensures, not-yet) (ap (λ (r : Scanned). record { set = blankSet; alloc = blankAlloc; passed = false; number = r .number; at = r .at }) said)
 
-read-set-requires : tie.Need-read-set-requires
-read-set-requires c κs = fits c
-
-read-alloc-requires : tie.Need-read-alloc-requires
-read-alloc-requires c κs = fits (c .before)
-
-judge-plan-requires : tie.Need-judge-plan-requires
-judge-plan-requires c κs = search needs
+read-fields-requires : tie.Need-read-fields-requires
+read-fields-requires c κs = fits c
 
 returns-2 : tie.Need-returns-2
-unfolding planStart
+unfolding planStart fieldsAnswer judgedSheet
 returns-2 c =
-    let else = c .before .before .before in
+    let fields = c .before .before in
+    let else = fields .before in
     let walked = else .before .before in
     let bs = walked .before .before .args .sheet .now in
     let said = walked .scan-sheet .ensures in
-    let t : c .before .before .read-set .result ≡ setIn true bs = c .before .before .read-set .ensures ∙ ap (λ (r : Scanned). setOf bs (r .passed)) said in
-    let a : c .before .read-alloc .result ≡ allocIn true bs = c .before .read-alloc .ensures ∙ ap (λ (r : Scanned). allocOf bs (r .passed)) said in
+    let read : fields .read-fields .result ≡ fieldsAnswer true true (setIn true bs) (allocIn true bs) =
+    fields .read-fields .ensures ∙ ap (λ (r : Scanned). fieldsAnswer true true (setOf bs (r .passed)) (allocOf bs (r .passed))) said in
     let place : walked .scan-sheet .result .at ≡ scanned true bs .at = ap (λ (r : Scanned). r .at) said in
-    rw (c .judge-plan .ensures, t, a, place, came-by else) refl
+    rw (read, place, came-by else) refl
 
 pub read-start-spec : {M : Type 1} → statement M
 read-start-spec =
@@ -74,7 +69,5 @@ read-start-spec =
     blank-set-requires
     blank-alloc-requires
     returns
-    read-set-requires
-    read-alloc-requires
-    judge-plan-requires
+    read-fields-requires
     returns-2)

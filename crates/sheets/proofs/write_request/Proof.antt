@@ -13,7 +13,7 @@ same-length : tie.Need-same-length
 same-length c = search needs
 
 returns : tie.Need-returns
-returns c = rw (c .before .before .before .before .blank-alloc .ensures) at (c .before .before .write-sheet .ensures)
+returns c = rw (c .before .before .before .before .before .before .before .before .before .before .before .blank-alloc .ensures) at (c .before .before .write-sheet .ensures)
 
 pub write-request-spec : {M : Type 1} → statement M
 write-request-spec =

@@ -6,33 +6,30 @@ use borrow.Author.Needs.{needs}
 use Rattle.sheets.proofs.writing.fields_length.Statement.{statement}
 use Rattle.sheets.proofs.writing.fields_length.Tie as tie
 
-cast-n : tie.Need-cast-n
-cast-n c = search needs
-
 head-length-requires : tie.Need-head-length-requires
 head-length-requires c κs = search needs
 
 add-result : tie.Need-add-result
-add-result c = omega (arith, head-small (c .before .before .before .args .t .head) 3)
+add-result c = omega (arith, head-small (c .before .args .h) 3)
 
 mul-result : tie.Need-mul-result
 mul-result c = search needs
 
 add-result-2 : tie.Need-add-result-2
-add-result-2 c = omega (arith, head-small (c .before .before .before .args .t .head) 3)
+add-result-2 c = omega (arith, head-small (c .before .args .h) 3)
 
 allocations-for-requires : tie.Need-allocations-for-requires
 allocations-for-requires c κs = search needs
 
 mul-result-2 : tie.Need-mul-result-2
 mul-result-2 c =
-    let args = c .before .before .before .before .args in
-    omega (arith, allocations-few (args .plan) (args .t .n))
+    let args = c .before .before .args in
+    omega (arith, allocations-few (args .plan) (args .n))
 
 add-result-3 : tie.Need-add-result-3
 add-result-3 c =
-    let args = c .before .before .before .before .args in
-    omega (arith, head-small (args .t .head) 3, allocations-few (args .plan) (args .t .n))
+    let args = c .before .before .args in
+    omega (arith, head-small (args .h) 3, allocations-few (args .plan) (args .n))
 
 returns : tie.Need-returns
 returns c = search needs
@@ -41,7 +38,6 @@ pub fields-length-spec : {M : Type 1} → statement M
 fields-length-spec =
     tie.close
     (tie.spec
-    cast-n
     head-length-requires
     add-result
     mul-result

@@ -1,6 +1,7 @@
 -- `put_allocations` is right because each turn lays one more row behind the rows laid.
 use Prim.Native.Nat.{_-_}
 use native.Mathlib.Omega.{arith}
+use Rattle.plans.specs.Lent.{allocOf}
 use Rattle.sheets.specs.Layout.{allocationBytes}
 use Rattle.sheets.proofs.WritingLaws.{allocation-length, RowsLaid, rows-begin, rows-turn, rows-end}
 use borrow.Author.Needs.{needs}
@@ -8,10 +9,10 @@ use Rattle.sheets.proofs.writing.put_allocations.Statement.{statement}
 use Rattle.sheets.proofs.writing.put_allocations.Tie as tie
 
 abbrev Inv-loop : tie.InvT-loop
-Inv-loop out₀ from m a at₀ i₀ out at i = RowsLaid out₀ out from at 7 m i (allocationBytes a)
+Inv-loop out₀ from m s at₀ i₀ out at i = RowsLaid out₀ out from at 7 m i (allocationBytes (allocOf s))
 
 abbrev μ-loop : tie.MeasureT-loop
-μ-loop out₀ from m a at₀ i₀ out at i = m - i
+μ-loop out₀ from m s at₀ i₀ out at i = m - i
 
 loop-again : tie.Need-loop-again Inv-loop μ-loop
 loop-again c =

@@ -2,14 +2,22 @@
 use Prim.Native.Nat.{ℕ, _+_}
 use mathlib.Core.Path.{ap}
 use native.Mathlib.Omega.{arith}
+use Rattle.sets.specs.Lent.{setOf}
+use Rattle.sets.specs.declared.Set.{Set}
+use Rattle.plans.specs.Lent.{allocOf}
+use Rattle.plans.specs.declared.Alloc.{Alloc}
 use Rattle.fields.proofs.FieldLaws.{allocations-few}
 use Rattle.sheets.proofs.WritingLaws.{fields-laid}
 use borrow.Author.Needs.{needs}
 use Rattle.sheets.proofs.writing.put_fields.Statement.{statement}
 use Rattle.sheets.proofs.writing.put_fields.Tie as tie
 
-cast-n : tie.Need-cast-n
-cast-n c = search needs
+-- the set and the allocation that are lent
+abbrev set-of : tie.Start → Set
+set-of c = let a = c .args in setOf (a .h) (a .n) (a .w .now) (a .c .now) (a .d .now) (a .p .now)
+
+abbrev alloc-of : tie.Start → Alloc
+alloc-of c = allocOf (c .args .s .now)
 
 allocations-for-requires : tie.Need-allocations-for-requires
 allocations-for-requires c κs = search needs
@@ -34,14 +42,16 @@ put-stations-requires c κs = search needs
 
 put-allocations-requires : tie.Need-put-allocations-requires
 put-allocations-requires c κs =
-    let measured = c .before .before .before .before .before .before .before .before .before in
-    let counted = measured .before .before in
-    let start = counted .before .before .before in
-    let few = allocations-few (start .args .plan) (start .args .t .n) in
+    let placed = c .before .before .before in
+    let headed = placed .before .before .before .before in
+    let measured = headed .before .before in
+    let counted = measured .before in
+    let start = counted .before .before in
+    let few = allocations-few (start .args .plan) (start .args .n) in
     let said = counted .allocations-for .ensures in
     let begun = measured .head-length .ensures in
     let fit = start .pre in
-    (omega arith, omega arith)
+    (omega arith, omega (arith, fit .1, said, begun, placed .put-stations .kept .0, headed .put-head .kept .0))
 
 same-length : tie.Need-same-length
 same-length c = search needs
@@ -52,9 +62,9 @@ returns c =
     let placed = allocated .before .before .before .before in
     let headed = placed .before .before .before .before in
     let measured = headed .before .before in
-    let counted = measured .before .before in
-    let start = counted .before .before .before in
-    fields-laid (start .args .plan) (start .args .t) (start .args .a) _ _ _ _ _ _
+    let counted = measured .before in
+    let start = counted .before .before in
+    fields-laid (start .args .plan) (set-of start) (alloc-of start) _ _ _ _ _ _
     (record {
       head = headed .put-head .ensures;
       stations = placed .put-stations .ensures;
@@ -66,7 +76,6 @@ pub put-fields-spec : {M : Type 1} → statement M
 put-fields-spec =
     tie.close
     (tie.spec
-    cast-n
     allocations-for-requires
     head-length-requires
     add-from

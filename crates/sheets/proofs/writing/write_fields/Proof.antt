@@ -4,6 +4,10 @@ use mathlib.Core.Path.{_≡_, sym, _∙_}
 use mathlib.Core.Logic.{_≢_}
 use native.Mathlib.Omega.{arith}
 use lib.ListN.{length}
+use Rattle.sets.specs.Lent.{setOf}
+use Rattle.sets.specs.declared.Set.{Set}
+use Rattle.plans.specs.Lent.{allocOf}
+use Rattle.plans.specs.declared.Alloc.{Alloc}
 use Rattle.fields.proofs.FieldLaws.{allocations-few}
 use Rattle.sheets.specs.Layout.{sheetLength}
 use Rattle.sheets.specs.Reading.{judgedSheet}
@@ -13,15 +17,22 @@ use borrow.Author.Needs.{needs}
 use Rattle.sheets.proofs.writing.write_fields.Statement.{statement}
 use Rattle.sheets.proofs.writing.write_fields.Tie as tie
 
+-- the set and the allocation that are lent
+abbrev set-of : tie.Start → Set
+set-of c = let a = c .args in setOf (a .h) (a .n) (a .w .now) (a .c .now) (a .d .now) (a .p .now)
+
+abbrev alloc-of : tie.Start → Alloc
+alloc-of c = allocOf (c .args .s .now)
+
 judged-0 : (c : tie.Else1)
-    → let args = c .before .before .before .args in
-    judgedSheet (args .plan) (args .t) (args .a) ≡ 0
+    → let start = c .before .before .before in
+    judgedSheet (start .args .plan) (set-of start) (alloc-of start) ≡ 0
 judged-0 c = sym (c .before .judge-sheet .ensures) ∙ c .if1 .left
 
-few : (c : tie.Else1) → c .before .before .before .args .t .n ≤ 128
+few : (c : tie.Else1) → c .before .before .before .args .n ≤ 128
 few c =
-    let args = c .before .before .before .args in
-    judged-kept (args .plan) (args .t) (args .a) (judged-0 c) .count .1
+    let start = c .before .before .before in
+    judged-kept (start .args .plan) (set-of start) (alloc-of start) (judged-0 c) .count .1
 
 judge-sheet-requires : tie.Need-judge-sheet-requires
 judge-sheet-requires c κs = search needs
@@ -31,21 +42,21 @@ refused-requires c κs = search needs
 
 returns : tie.Need-returns
 returns c =
-    let args = c .before .before .before .before .args in
+    let start = c .before .before .before .before in
     let said = c .before .before .judge-sheet .ensures in
-    let refused : judgedSheet (args .plan) (args .t) (args .a) ≢ 0 = λ e. c .before .if1 .taken (said ∙ e) in
+    let refused : judgedSheet (start .args .plan) (set-of start) (alloc-of start) ≢ 0 = λ e. c .before .if1 .taken (said ∙ e) in
     rw (c .refused .ensures, said)
-    (fields-refused (args .plan) (args .t) (args .a) (args .out .now) _ refused (number-judged (args .plan) (args .t) (args .a) (args .out .now) refused))
+    (fields-refused (start .args .plan) (set-of start) (alloc-of start) (start .args .out .now) _ refused (number-judged (start .args .plan) (set-of start) (alloc-of start) (start .args .out .now) refused))
 
 fields-length-requires : tie.Need-fields-length-requires
 fields-length-requires c κs = few c
 
 add-if2 : tie.Need-add-if2
 add-if2 c =
-    let args = c .before .before .before .before .args in
+    let start = c .before .before .before .before in
     let said = c .fields-length .ensures in
     let n = few (c .before) in
-    omega (arith, said, head-small (args .t .head) 3, allocations-few (args .plan) (args .t .n))
+    omega (arith, said, head-small (start .args .h) 3, allocations-few (start .args .plan) (start .args .n))
 
 refused-requires-2 : tie.Need-refused-requires-2
 refused-requires-2 c κs = search needs
@@ -53,11 +64,11 @@ refused-requires-2 c κs = search needs
 returns-2 : tie.Need-returns-2
 returns-2 c =
     let measured = c .before .before in
-    let args = measured .before .before .before .before .args in
+    let start = measured .before .before .before .before in
     let said = measured .fields-length .ensures in
-    let short : length (args .out .now) < sheetLength (args .plan) (args .t) = omega arith in
+    let short : length (start .args .out .now) < sheetLength (start .args .plan) (set-of start) = omega arith in
     rw (c .refused2 .ensures)
-    (fields-refused (args .plan) (args .t) (args .a) (args .out .now) 14 (omega arith) (number-short (args .plan) (args .t) (args .a) (args .out .now) (judged-0 (measured .before)) short))
+    (fields-refused (start .args .plan) (set-of start) (alloc-of start) (start .args .out .now) 14 (omega arith) (number-short (start .args .plan) (set-of start) (alloc-of start) (start .args .out .now) (judged-0 (measured .before)) short))
 
 put-fields-requires : tie.Need-put-fields-requires
 put-fields-requires c κs =
@@ -72,11 +83,11 @@ returns-3 : tie.Need-returns-3
 returns-3 c =
     let put = c .before .before in
     let measured = put .before .before .before in
-    let args = measured .before .before .before .before .args in
+    let start = measured .before .before .before .before in
     let said = measured .fields-length .ensures in
-    let long : sheetLength (args .plan) (args .t) ≤ length (args .out .now) = omega arith in
+    let long : sheetLength (start .args .plan) (set-of start) ≤ length (start .args .out .now) = omega arith in
     rw (put .put-fields .ensures, said)
-    (fields-all (args .plan) (args .t) (args .a) (args .out .now) (judged-0 (measured .before)) long)
+    (fields-all (start .args .plan) (set-of start) (alloc-of start) (start .args .out .now) (judged-0 (measured .before)) long)
 
 pub write-fields-spec : {M : Type 1} → statement M
 write-fields-spec =
