@@ -1,12 +1,15 @@
 /*
- * The proved library against plain C, both in this process and through the same harness. First every answer of the one is
- * held to the other's: accepted calls, damaged sheets, sets and rings, and long runs. Then each job is timed in turns, one
- * batch of the proved calls and one of the plain ones, and the median over the turns is printed, with how it grows with N.
+ * The proved library against plain C, all in this process and through the same harness. First every answer is held to plain
+ * C's (agree.c). Then each job is timed in turns: a batch of the proved calls, one of plain C that is handed pointers
+ * (plain.c), and one of plain C with the library's own signatures (values.c). Printed are the medians over the turns: by the
+ * number of stations; by the mode, the grid, the frames and the rotations of a deadline; and of calls that are refused.
  */
-#include "olivastrum.h"
+#include "bytes.h"
+#include "calls.h"
 #include "plain.h"
 #include "sets.h"
 #include "system.h"
+#include "values.h"
 #include <stdio.h>
 #include <string.h>
 
@@ -14,599 +17,490 @@ typedef struct olivastrum_set set_t;
 typedef struct olivastrum_alloc alloc_t;
 typedef struct olivastrum_ring ring_t;
 typedef struct olivastrum_message message_t;
+typedef struct olivastrum_station station_t;
 
-/* ---- do both give the same answers? */
+#define MOST_CLOCK 1000000000000u
 
-static unsigned long compared;
+static const struct calls proved_calls = {olivastrum_read_plan_sheet, olivastrum_write_plan_sheet, olivastrum_plan_set, olivastrum_open_ring,
+                                          olivastrum_visit, olivastrum_hand_in, olivastrum_mark, olivastrum_unmark};
+static const struct calls value_calls = {values_read_plan_sheet, values_write_plan_sheet, values_plan_set, values_open_ring,
+                                         values_visit, values_hand_in, values_mark, values_unmark};
 
-#define SAME(test)                                                                  \
-    do {                                                                            \
-        compared++;                                                                 \
-        if (!(test)) {                                                              \
-            printf("bench.c:%d: the two differ: %s\n", __LINE__, #test);            \
-            return 0;                                                               \
-        }                                                                           \
-    } while (0)
+#define BY_POINTERS ((const struct calls *)0)
 
-/* A number near one of the ends of the ranges. */
-static uint32_t edge(void)
-{
-    static const uint32_t ends[] = {0, 1, 2, 100, 1000, 100000, 128, 1000000, 100000000, 0xffffffff};
-    return ends[random_number() % (sizeof ends / sizeof *ends)] + random_number() % 3 - 1;
-}
-
-static int same_reading(const uint8_t *sheet, size_t length)
-{
-    struct olivastrum_read_plan proved = olivastrum_read_plan_sheet(sheet, length), plain;
-    plain_read_plan(sheet, length, &plain);
-    SAME(proved.number == plain.number);
-    SAME(memcmp(&proved.set, &plain.set, sizeof plain.set) == 0);
-    SAME(memcmp(&proved.alloc, &plain.alloc, sizeof plain.alloc) == 0);
-    return 1;
-}
-
-#define MOST_PLAN_BYTES (OLIVASTRUM_PLAN_BYTES(128) + OLIVASTRUM_MODE_BYTES + OLIVASTRUM_FRAME_BYTES + OLIVASTRUM_GRID_BYTES)
-
-/* The longest frame of the rings that are timed with frames. */
-#define FRAME 40
-
-/* The sheet with a field of the header put in at every place. */
-static int same_with(const uint8_t *sheet, size_t length, const uint8_t *field, size_t size)
-{
-    static uint8_t longer[MOST_PLAN_BYTES + OLIVASTRUM_FRAME_BYTES];
-    for (size_t at = 0; at <= length; at++) {
-        memcpy(longer, sheet, at);
-        memcpy(longer + at, field, size);
-        memcpy(longer + at + size, sheet + at, length - at);
-        if (!same_reading(longer, length + size))
-            return 0;
-    }
-    return 1;
-}
-
-static int same_sheets(uint32_t n, uint32_t mode, uint32_t frame)
-{
-    static uint8_t sheet[MOST_PLAN_BYTES + 1];
-    set_t set = stations(n, mode, frame);
-    size_t length = olivastrum_write_plan_sheet(set, shares_of(&set), sheet, sizeof sheet).length;
-    SAME(length == OLIVASTRUM_PLAN_BYTES(n) + (mode != OLIVASTRUM_TIMELY ? OLIVASTRUM_MODE_BYTES : 0) + (frame > 1 ? OLIVASTRUM_FRAME_BYTES : 0));
-    for (uint8_t number = 0; number <= 4; number++) {
-        const uint8_t modes[OLIVASTRUM_MODE_BYTES] = {4, 0, 1, number};
-        const uint8_t frames[OLIVASTRUM_FRAME_BYTES] = {5, 0, 4, 0, number / 3, 0, number};
-        const uint8_t grids[OLIVASTRUM_GRID_BYTES] = {6, 0, 4, 0, 0, number / 3, number};
-        if (!same_with(sheet, length, modes, sizeof modes) || !same_with(sheet, length, frames, sizeof frames))
-            return 0;
-        if (!same_with(sheet, length, grids, sizeof grids))
-            return 0;
-    }
-    for (size_t cut = 0; cut <= length + 1; cut++)
-        if (!same_reading(sheet, cut))
-            return 0;
-    for (size_t at = 0; at < length; at++) {
-        uint8_t byte = sheet[at];
-        static const uint8_t others[] = {0, 1, 2, 3, 4, 5, 6, 16, 255};
-        for (size_t k = 0; k < sizeof others; k++) {
-            sheet[at] = others[k];
-            if (!same_reading(sheet, length) || !same_reading(sheet, at + random_number() % 20))
-                return 0;
-        }
-        sheet[at] = byte;
-    }
-    return 1;
-}
-
-/* Planning, writing and opening with whatever numbers stand there. */
-static int same_plan(set_t set, alloc_t alloc)
-{
-    struct olivastrum_planned planned = olivastrum_plan_set(set), plain_planned;
-    plain_plan(&set, &plain_planned);
-    SAME(planned.number == plain_planned.number);
-    SAME(memcmp(&planned.alloc, &plain_planned.alloc, sizeof planned.alloc) == 0);
-
-    static uint8_t proved_out[MOST_PLAN_BYTES], plain_out[MOST_PLAN_BYTES];
-    memset(proved_out, 85, sizeof proved_out);
-    memset(plain_out, 85, sizeof plain_out);
-    size_t room = random_number() % 2 ? sizeof proved_out : random_number() % sizeof proved_out;
-    struct olivastrum_written proved = olivastrum_write_plan_sheet(set, alloc, proved_out, room);
-    struct olivastrum_written plain = plain_write_plan(&set, &alloc, plain_out, room);
-    SAME(proved.number == plain.number && proved.length == plain.length);
-    SAME(memcmp(proved_out, plain_out, sizeof plain_out) == 0);
-
-    struct olivastrum_opened opened = olivastrum_open_ring(set, alloc), plain_opened;
-    plain_open(&set, &alloc, &plain_opened);
-    SAME(opened.number == plain_opened.number);
-    SAME(memcmp(&opened.ring, &plain_opened.ring, sizeof opened.ring) == 0);
-    return 1;
-}
-
-static int same_plans(uint32_t n, uint32_t mode, uint32_t frame)
-{
-    set_t set = stations(n, mode, frame);
-    alloc_t alloc = shares_of(&set);
-    if (!same_plan(set, alloc))
-        return 0;
-    for (int k = 0; k < 2000; k++) {
-        set_t other = set;
-        alloc_t share = alloc;
-        uint32_t i = random_number() % n;
-        switch (random_number() % 10) {
-        case 0: other.w[i] = edge(); break;
-        case 1: other.c[i] = edge(); break;
-        case 2: other.d[i] = edge(); break;
-        case 3: other.p[i] = edge(); break;
-        case 4: other.head.ttrt = edge(); break;
-        case 5: other.n = edge(); break;
-        case 6: share.s[i] += random_number() % 3 - 1; break;
-        case 7: other.head.mode = edge(); break;
-        case 8: other.head.frame = random_number() % 2 ? edge() : random_number() % 70000; break;
-        case 9: other.head.grid = random_number() % 2 ? edge() : random_number() % 1200; break;
-        }
-        if (random_number() % 4 == 0)
-            share.s[random_number() % n] = edge();
-        if (random_number() % 2 == 0)
-            share = olivastrum_plan_set(other).alloc;
-        if (!same_plan(other, share))
-            return 0;
-    }
-    return 1;
-}
-
-/* FDDI sets: random ones, with frames and a grid or without, with their plan, one a tick beside it and none; and one that is
- * all walk time, so that a timer starts at TTRT. */
-static int same_older(uint32_t n)
-{
-    for (int k = 0; k < 500; k++) {
-        set_t set = random_fddi(n, 1 + random_number() % 120);
-        if (random_number() % 2)
-            set.head.frame = 1 + random_number() % 1000;
-        if (random_number() % 2)
-            set.head.grid = 1 + random_number() % 1000;
-        alloc_t share = shares_of(&set);
-        if (!same_plan(set, share))
-            return 0;
-        share.s[random_number() % n] += random_number() % 2 ? 1 : (uint32_t)-1;
-        if (!same_plan(set, share))
-            return 0;
-    }
-    set_t walk = stations(n, OLIVASTRUM_FDDI, 1);
-    walk.head.ttrt = 0;
-    for (uint32_t i = 0; i < n; i++) {
-        walk.head.ttrt += walk.w[i];
-        walk.c[i] = 0;
-    }
-    return same_plan(walk, shares_of(&walk));
-}
-
-static int same_visit(ring_t *proved, ring_t *plain, struct olivastrum_ask ask)
-{
-    struct olivastrum_visit_answer answer = olivastrum_visit(proved, ask), plain_answer;
-    plain_visit(plain, ask, &plain_answer);
-    SAME(answer.number == plain_answer.number && answer.record.completed == plain_answer.record.completed);
-    SAME(memcmp(&answer.record, &plain_answer.record, offsetof(struct olivastrum_visit_record, completed)) == 0);
-    SAME(memcmp(proved, plain, sizeof *plain) == 0);
-    return 1;
-}
-
-static int same_hand_in(ring_t *proved, ring_t *plain, message_t message)
-{
-    SAME(olivastrum_hand_in(proved, message) == plain_hand_in(plain, &message));
-    SAME(memcmp(proved, plain, sizeof *plain) == 0);
-    return 1;
-}
-
-static int same_mark(ring_t *proved, ring_t *plain, uint64_t number)
-{
-    struct olivastrum_station station = {number};
-    struct olivastrum_mark_answer answer = olivastrum_mark(proved, station), plain_answer;
-    plain_mark(plain, number, &plain_answer);
-    SAME(answer.number == plain_answer.number && answer.withdrawn == plain_answer.withdrawn);
-    SAME(answer.rest.ticks == plain_answer.rest.ticks && answer.arrival.ticks == plain_answer.arrival.ticks);
-    SAME(memcmp(proved, plain, sizeof *plain) == 0);
-    return 1;
-}
-
-static int same_unmark(ring_t *proved, ring_t *plain, uint64_t number)
-{
-    struct olivastrum_station station = {number};
-    SAME(olivastrum_unmark(proved, station) == plain_unmark(plain, number));
-    SAME(memcmp(proved, plain, sizeof *plain) == 0);
-    return 1;
-}
-
-/* A marking or an unmarking, now and then of a station that there is not. */
-static int same_switch(ring_t *proved, ring_t *plain)
-{
-    uint64_t number = random_number() % (proved->set.n + proved->set.n / 8 + 1);
-    return random_number() % 2 ? same_mark(proved, plain, number) : same_unmark(proved, plain, number);
-}
-
-static message_t any_message(const ring_t *ring)
-{
-    uint32_t n = ring->set.n, i = random_number() % (n + n / 8 + 1);
-    uint32_t c = ring->set.c[i % 128];
-    uint64_t back = random_number() % 4 ? 0 : random_number() % 1000;
-    message_t message = {{i}, {random_number() % (c + 2)}, {back < ring->clock ? ring->clock - back : 0}};
-    if (random_number() % 8 == 0)
-        message.arrival.ticks = random_number();
-    if (random_number() % 8 == 0)
-        message.arrival.ticks = ring->clock + random_number() % 3;
-    return message;
-}
-
-/* Some frames, few or many, of a length that is mostly one of the ring's. */
-static struct olivastrum_ask any_ask(uint32_t frame)
-{
-    uint32_t frames = random_number() % 2 ? random_number() % 1000 : random_number();
-    return (struct olivastrum_ask){frames, random_number() % 16 ? 1 + random_number() % frame : edge()};
-}
-
-/* A long run of visits and handings in, some refused, and now and then of a marking; a number of the ring is overwritten
- * first in a copy. */
-static int same_runs(uint32_t n, uint32_t mode, uint32_t frame)
-{
-    set_t set = stations(n, mode, frame);
-    alloc_t alloc = shares_of(&set);
-    ring_t proved = ring_of(&set, &alloc), plain = proved;
-    for (int k = 0; k < 5000; k++) {
-        struct olivastrum_ask ask = any_ask(frame);
-        if (!same_hand_in(&proved, &plain, any_message(&proved)) || !same_visit(&proved, &plain, ask))
-            return 0;
-        if (random_number() % 8 == 0 && !same_switch(&proved, &plain))
-            return 0;
-        ring_t damaged = proved;
-        uint32_t at = random_number() % (sizeof damaged / 4);
-        uint32_t now = random_number() % 2 ? edge() : random_number();
-        memcpy((uint8_t *)&damaged + 4 * at, &now, 4);
-        ring_t plain_damaged = damaged;
-        if (!same_visit(&damaged, &plain_damaged, ask))
-            return 0;
-        if (!same_hand_in(&damaged, &plain_damaged, any_message(&proved)) || !same_switch(&damaged, &plain_damaged))
-            return 0;
-    }
-    SAME(proved.visits > 4000);
-    return 1;
-}
-
-static int agree(void)
-{
-    static const uint32_t counts[] = {1, 2, 3, 8, 128};
-    for (size_t k = 0; k < sizeof counts / sizeof *counts; k++) {
-        uint32_t n = counts[k];
-        for (uint32_t mode = OLIVASTRUM_TIMELY; mode <= OLIVASTRUM_EARLIER; mode++)
-            for (uint32_t frame = 1; frame <= FRAME; frame += FRAME - 1)
-                if (!same_sheets(n, mode, frame) || !same_plans(n, mode, frame) || !same_runs(n, mode, frame))
-                    return 0;
-        if (!same_older(n))
-            return 0;
-    }
-    return 1;
-}
-
-/* ---- the jobs, each as a batch of so many calls */
+/* ---- the jobs, each as a batch of so many calls: these ones, or BY_POINTERS plain C's; an answer is written where it stays */
 
 struct work {
     set_t set;
-    alloc_t alloc;
-    ring_t opened;
-    ring_t ring;
-    uint8_t sheet[MOST_PLAN_BYTES];
-    uint8_t out[MOST_PLAN_BYTES];
-    size_t length;
-    unsigned long refused; /* a timed call that is refused would measure something else */
+    _Alignas(8) alloc_t alloc; /* else the compiler copies it twice to pass it */
+    ring_t opened, ring;       /* each batch begins with the opened one */
+    uint8_t sheet[MOST_PLAN_BYTES + 1], out[MOST_PLAN_BYTES];
+    size_t length, room; /* of the sheet, and of what is written into */
+    struct olivastrum_ask ask;
+    message_t message;
+    station_t station;
+    uint8_t number;       /* what every call answers */
+    unsigned long others; /* calls that answered another number: they would measure something else */
 };
 
-static void read_proved(struct work *w, unsigned long calls)
+static void note(struct work *w, uint8_t number)
+{
+    w->others += number != w->number;
+}
+
+static void read_sheets(const struct calls *by, struct work *w, unsigned long calls)
 {
     while (calls-- > 0) {
-        struct olivastrum_read_plan answer = olivastrum_read_plan_sheet(w->sheet, w->length);
-        w->refused += answer.number;
+        if (by) {
+            struct olivastrum_read_plan answer = by->read(w->sheet, w->length);
+            note(w, answer.number);
+        } else {
+            struct olivastrum_read_plan answer;
+            plain_read_plan(w->sheet, w->length, &answer);
+            note(w, answer.number);
+        }
     }
 }
 
-static void read_plain(struct work *w, unsigned long calls)
-{
-    while (calls-- > 0) {
-        struct olivastrum_read_plan answer;
-        plain_read_plan(w->sheet, w->length, &answer);
-        w->refused += answer.number;
-    }
-}
-
-static void write_proved(struct work *w, unsigned long calls)
+static void write_sheets(const struct calls *by, struct work *w, unsigned long calls)
 {
     while (calls-- > 0)
-        w->refused += olivastrum_write_plan_sheet(w->set, w->alloc, w->out, sizeof w->out).number;
+        note(w, (by ? by->write(w->set, w->alloc, w->out, w->room) : plain_write_plan(&w->set, &w->alloc, w->out, w->room)).number);
 }
 
-static void write_plain(struct work *w, unsigned long calls)
-{
-    while (calls-- > 0)
-        w->refused += plain_write_plan(&w->set, &w->alloc, w->out, sizeof w->out).number;
-}
-
-static void plan_proved(struct work *w, unsigned long calls)
+static void plan_sets(const struct calls *by, struct work *w, unsigned long calls)
 {
     while (calls-- > 0) {
-        struct olivastrum_planned answer = olivastrum_plan_set(w->set);
-        w->refused += answer.number;
+        if (by) {
+            struct olivastrum_planned answer = by->plan(w->set);
+            note(w, answer.number);
+        } else {
+            struct olivastrum_planned answer;
+            plain_plan(&w->set, &answer);
+            note(w, answer.number);
+        }
     }
 }
 
-static void plan_plain(struct work *w, unsigned long calls)
+static void open_rings(const struct calls *by, struct work *w, unsigned long calls)
 {
     while (calls-- > 0) {
-        struct olivastrum_planned answer;
-        plain_plan(&w->set, &answer);
-        w->refused += answer.number;
+        if (by) {
+            struct olivastrum_opened answer = by->open(w->set, w->alloc);
+            note(w, answer.number);
+        } else {
+            struct olivastrum_opened answer;
+            plain_open(&w->set, &w->alloc, &answer);
+            note(w, answer.number);
+        }
     }
 }
 
-static void open_proved(struct work *w, unsigned long calls)
+/* Every accepted visit finds a message of full length that has just arrived. */
+static void visit_rings(const struct calls *by, struct work *w, unsigned long calls)
 {
+    ring_t *ring = &w->ring;
     while (calls-- > 0) {
-        struct olivastrum_opened answer = olivastrum_open_ring(w->set, w->alloc);
-        w->refused += answer.number;
+        if (w->number == OLIVASTRUM_ACCEPTED) {
+            ring->rest[ring->token] = ring->set.c[ring->token];
+            ring->arrival[ring->token] = ring->clock;
+        }
+        if (by) {
+            struct olivastrum_visit_answer answer = by->visit(ring, w->ask);
+            note(w, answer.number);
+        } else {
+            struct olivastrum_visit_answer answer;
+            plain_visit(ring, w->ask, &answer);
+            note(w, answer.number);
+        }
     }
 }
 
-static void open_plain(struct work *w, unsigned long calls)
+/* The station behind this one. */
+static uint64_t next(const ring_t *ring, uint64_t i)
 {
+    return i + 1 < ring->set.n ? i + 1 : 0;
+}
+
+/* Every accepted handing in finds a station that holds nothing, the next one each time. */
+static void hand_in_messages(const struct calls *by, struct work *w, unsigned long calls)
+{
+    ring_t *ring = &w->ring;
     while (calls-- > 0) {
-        struct olivastrum_opened answer;
-        plain_open(&w->set, &w->alloc, &answer);
-        w->refused += answer.number;
+        if (w->number == OLIVASTRUM_ACCEPTED) {
+            uint64_t i = next(ring, w->message.station.number);
+            ring->rest[i] = 0;
+            ring->had[i] = 0;
+            w->message = (message_t){{i}, {ring->set.c[i]}, {ring->clock}};
+        }
+        note(w, by ? by->hand_in(ring, w->message) : plain_hand_in(ring, &w->message));
     }
 }
 
-/* Every visit finds a message of full length that has just arrived. */
-static void arrive(ring_t *ring)
+/* Every accepted marking finds a station that is in and holds a message, the next one each time. */
+static void mark_stations(const struct calls *by, struct work *w, unsigned long calls)
 {
-    uint32_t p = ring->token;
-    ring->rest[p] = ring->set.c[p];
-    ring->arrival[p] = ring->clock;
-}
-
-/* Ticks are asked for one by one; where the ring has frames, the longest ones are. */
-static struct olivastrum_ask asked(const ring_t *ring)
-{
-    uint32_t length = ring->set.head.frame;
-    return (struct olivastrum_ask){length > 1 ? 2 : 50, length};
-}
-
-static void visit_proved(struct work *w, unsigned long calls)
-{
+    ring_t *ring = &w->ring;
     while (calls-- > 0) {
-        arrive(&w->ring);
-        struct olivastrum_visit_answer answer = olivastrum_visit(&w->ring, asked(&w->ring));
-        w->refused += answer.number;
+        if (w->number == OLIVASTRUM_ACCEPTED) {
+            uint64_t i = w->station.number = next(ring, w->station.number);
+            ring->rest[i] = ring->set.c[i];
+            ring->mark[i] = 0;
+        }
+        if (by) {
+            struct olivastrum_mark_answer answer = by->mark(ring, w->station);
+            note(w, answer.number);
+        } else {
+            struct olivastrum_mark_answer answer;
+            plain_mark(ring, w->station.number, &answer);
+            note(w, answer.number);
+        }
     }
 }
 
-static void visit_plain(struct work *w, unsigned long calls)
+/* Every accepted unmarking finds a station that is marked, the next one each time. */
+static void unmark_stations(const struct calls *by, struct work *w, unsigned long calls)
 {
+    ring_t *ring = &w->ring;
     while (calls-- > 0) {
-        arrive(&w->ring);
-        struct olivastrum_visit_answer answer;
-        plain_visit(&w->ring, asked(&w->ring), &answer);
-        w->refused += answer.number;
+        if (w->number == OLIVASTRUM_ACCEPTED) {
+            w->station.number = next(ring, w->station.number);
+            ring->mark[w->station.number] = 1;
+        }
+        note(w, by ? by->unmark(ring, w->station) : plain_unmark(ring, w->station.number));
     }
 }
 
-/* Every handing in finds a station that holds nothing, the next one each time. */
-static message_t next_message(ring_t *ring, unsigned long call)
-{
-    uint32_t i = (uint32_t)call & (ring->set.n - 1);
-    ring->rest[i] = 0;
-    ring->had[i] = 0;
-    return (message_t){{i}, {ring->set.c[i]}, {ring->clock}};
-}
+typedef void batch(const struct calls *, struct work *, unsigned long);
 
-static void hand_in_proved(struct work *w, unsigned long calls)
-{
-    while (calls-- > 0) {
-        message_t message = next_message(&w->ring, calls);
-        w->refused += olivastrum_hand_in(&w->ring, message);
-    }
-}
+/* What the ratios should be at most: to plain C that is handed pointers at 128 and at 8 stations, and to plain C with the
+ * same signatures at both. Held to plain C that has no divide either (-DBY_SHIFTING). */
+struct aims {
+    double at_128, at_8, values;
+};
 
-static void hand_in_plain(struct work *w, unsigned long calls)
-{
-    while (calls-- > 0) {
-        message_t message = next_message(&w->ring, calls);
-        w->refused += plain_hand_in(&w->ring, &message);
-    }
-}
+static const struct aims on_a_ring = {1.2, 1.5, 1.2}, on_a_plan = {1.2, 2.0, 1.5}, of_writing = {1.3, 3.0, 1.5};
 
-/* Every marking finds a station that is in and holds a message, the next one each time. */
-static struct olivastrum_station next_held(ring_t *ring, unsigned long call)
-{
-    uint32_t i = (uint32_t)call & (ring->set.n - 1);
-    ring->rest[i] = ring->set.c[i];
-    ring->mark[i] = 0;
-    return (struct olivastrum_station){i};
-}
-
-static void mark_proved(struct work *w, unsigned long calls)
-{
-    while (calls-- > 0) {
-        struct olivastrum_station station = next_held(&w->ring, calls);
-        w->refused += olivastrum_mark(&w->ring, station).number;
-    }
-}
-
-static void mark_plain(struct work *w, unsigned long calls)
-{
-    while (calls-- > 0) {
-        struct olivastrum_station station = next_held(&w->ring, calls);
-        struct olivastrum_mark_answer answer;
-        plain_mark(&w->ring, station.number, &answer);
-        w->refused += answer.number;
-    }
-}
-
-typedef void batch(struct work *, unsigned long);
+enum { READING, WRITING, PLANNING, OPENING, VISIT, HANDING_IN, MARKING, UNMARKING, JOBS };
 
 static const struct job {
     const char *name;
-    batch *proved, *plain;
-    const char *aim;
-} jobs[] = {
-    {"reading a plan sheet", read_proved, read_plain, "1.5"},
-    {"writing a plan sheet", write_proved, write_plain, "1.5"},
-    {"planning", plan_proved, plan_plain, "1.5"},
-    {"opening", open_proved, open_plain, "1.5"},
-    {"a lent visit", visit_proved, visit_plain, "2.5"},
-    {"a lent handing in", hand_in_proved, hand_in_plain, "2.5"},
-    {"a lent marking", mark_proved, mark_plain, "2.5"},
+    batch *run;
+    const struct aims *aims;
+} jobs[JOBS] = {
+    [READING] = {"reading a plan sheet", read_sheets, &on_a_plan},
+    [WRITING] = {"writing a plan sheet", write_sheets, &of_writing},
+    [PLANNING] = {"planning", plan_sets, &on_a_plan},
+    [OPENING] = {"opening", open_rings, &on_a_plan},
+    [VISIT] = {"a lent visit", visit_rings, &on_a_ring},
+    [HANDING_IN] = {"a lent handing in", hand_in_messages, &on_a_ring},
+    [MARKING] = {"a lent marking", mark_stations, &on_a_ring},
+    [UNMARKING] = {"a lent unmarking", unmark_stations, &on_a_ring},
 };
-
-#define JOBS (sizeof jobs / sizeof *jobs)
-
-/* On an FDDI set, which is run on, and neither planned nor opened. */
-static const struct job older = {"a lent visit, FDDI", visit_proved, visit_plain, "2.5"};
-
-/* On a set whose frames are not cut. */
-static const struct job uncut = {"a lent visit, frames", visit_proved, visit_plain, "2.5"};
-
-/* On a set of the 2002 edition. */
-static const struct job earlier = {"a lent visit, 2002", visit_proved, visit_plain, "2.5"};
 
 /* ---- timing */
 
 #define TURNS 31
-#define BATCH_NS 400000.0
+#define BATCH_NS 200000.0
 
 static struct work work;
 
+/* The work on a set, every call of it accepted. Ticks are asked for one by one; where the ring has frames, the longest. */
 static void prepare(set_t set)
 {
+    memset(&work, 0, sizeof work);
     work.set = set;
-    work.alloc = shares_of(&work.set);
-    work.opened = ring_of(&work.set, &work.alloc);
-    work.length = olivastrum_write_plan_sheet(work.set, work.alloc, work.sheet, sizeof work.sheet).length;
+    work.alloc = shares_of(&set);
+    work.opened = ring_of(&set, &work.alloc);
+    work.length = olivastrum_write_plan_sheet(set, work.alloc, work.sheet, sizeof work.sheet).length;
+    work.room = sizeof work.out;
+    work.ask = (struct olivastrum_ask){set.head.frame > 1 ? 2 : 50, set.head.frame};
 }
 
 /* The processor time of one batch, in ns. */
-static double timed(batch *run, unsigned long calls)
+static double timed(const struct job *job, const struct calls *by, unsigned long calls)
 {
     work.ring = work.opened;
-    run(&work, 16);
+    job->run(by, &work, 16);
     double from = processor_ns();
-    run(&work, calls);
+    job->run(by, &work, calls);
     return processor_ns() - from;
 }
 
-struct measured {
-    double proved, plain; /* ns per call, medians */
-    double ratio, low, high; /* the ratio of a turn's two batches: median and quartiles */
+/* Over the turns: the median and the quartiles. */
+struct spread {
+    double low, median, high;
 };
 
-static struct measured measure(const struct job *job)
+static struct spread spread_of(double *all)
 {
+    qsort(all, TURNS, sizeof *all, by_size);
+    return (struct spread){all[TURNS / 4], all[TURNS / 2], all[3 * TURNS / 4]};
+}
+
+static void show_time(struct spread ns)
+{
+    printf(ns.median < 99.95 ? " %9.1f" : " %9.0f", ns.median);
+}
+
+static void show_ratio(struct spread ratio, double aim)
+{
+    int over = aim > 0 && ratio.median >= aim + 0.005;
+    printf(" %6.2f%c (%.2f to %.2f)", ratio.median, over ? '!' : ' ', ratio.low, ratio.high);
+}
+
+static int wrong; /* a timed call answered another number */
+
+/* One row: the job on the work as it is prepared. */
+static void show(const struct job *job, const char *more, uint32_t n)
+{
+    double proved[TURNS], pointers[TURNS], values[TURNS], to_pointers[TURNS], to_values[TURNS];
     unsigned long calls = 16;
-    while (timed(job->plain, calls) < BATCH_NS)
+    while (timed(job, BY_POINTERS, calls) < BATCH_NS)
         calls *= 2;
-    double proved[TURNS], plain[TURNS], ratio[TURNS];
     for (int k = 0; k < TURNS; k++) {
-        proved[k] = timed(job->proved, calls) / (double)calls;
-        plain[k] = timed(job->plain, calls) / (double)calls;
-        ratio[k] = proved[k] / plain[k];
+        proved[k] = timed(job, &proved_calls, calls) / (double)calls;
+        pointers[k] = timed(job, BY_POINTERS, calls) / (double)calls;
+        values[k] = timed(job, &value_calls, calls) / (double)calls;
+        to_pointers[k] = proved[k] / pointers[k];
+        to_values[k] = proved[k] / values[k];
     }
-    qsort(proved, TURNS, sizeof *proved, by_size);
-    qsort(plain, TURNS, sizeof *plain, by_size);
-    qsort(ratio, TURNS, sizeof *ratio, by_size);
-    return (struct measured){proved[TURNS / 2], plain[TURNS / 2], ratio[TURNS / 2], ratio[TURNS / 4], ratio[3 * TURNS / 4]};
-}
-
-static void show(const char *name, struct measured m, const char *aim)
-{
-    printf("%-20s %10.0f %12.0f   %5.2f (%.2f to %.2f)   %s\n", name, m.proved, m.plain, m.ratio, m.low, m.high, aim);
-}
-
-static int none_refused(void)
-{
-    if (work.refused != 0)
-        printf("a timed call was refused\n");
-    return work.refused == 0;
-}
-
-/* Planning, opening and a lent visit at 128 stations, by how many rotations a deadline has; of FDDI a lent visit. */
-static int show_rotations(const struct job *first)
-{
-    static const uint32_t whole[] = {2, 10, 1000};
-    for (uint32_t mode = OLIVASTRUM_TIMELY; mode <= OLIVASTRUM_FDDI; mode++) {
-        printf("\nD / TTRT%-17s proved ns   plain C ns   ratio (quartiles)\n", mode == OLIVASTRUM_FDDI ? ", FDDI" : "");
-        for (const struct job *job = mode == OLIVASTRUM_FDDI ? first + 2 : first; job < first + 3; job++)
-            for (size_t k = 0; k < sizeof whole / sizeof *whole; k++) {
-                prepare(rotations(whole[k], mode));
-                struct measured m = measure(job);
-                if (!none_refused())
-                    return 0;
-                printf("%4u ", whole[k]);
-                show(job->name, m, "");
-            }
+    const struct aims *aims = job->aims;
+    int held = n == 8 || n == OLIVASTRUM_MOST_STATIONS;
+    printf("%-20s %-26s %4u", job->name, more, n);
+    show_time(spread_of(proved));
+    show_time(spread_of(pointers));
+    show_ratio(spread_of(to_pointers), !held ? 0 : n == 8 ? aims->at_8 : aims->at_128);
+    show_time(spread_of(values));
+    show_ratio(spread_of(to_values), held ? aims->values : 0);
+    printf("\n");
+    if (work.others != 0) {
+        printf("a timed call answered another number\n");
+        wrong = 1;
     }
-    return 1;
 }
 
-/* Opening and a lent visit at 128 stations, in each mode, without a grid and on one; of FDDI a lent visit. */
-static int show_grids(const struct job *first)
+static void show_head(const char *first)
 {
-    static const uint32_t grids[] = {1, 8};
-    printf("\nmode, grid               proved ns   plain C ns   ratio (quartiles)\n");
-    for (uint32_t mode = OLIVASTRUM_TIMELY; mode <= OLIVASTRUM_EARLIER; mode++)
-        for (const struct job *job = mode == OLIVASTRUM_FDDI ? first + 1 : first; job < first + 2; job++)
-            for (size_t k = 0; k < sizeof grids / sizeof *grids; k++) {
-                set_t set = stations(OLIVASTRUM_MOST_STATIONS, mode, 1);
-                set.head.grid = grids[k];
+    printf("\n%-47s %4s %9s %9s %-22s %9s %s\n", first, "N", "proved ns", "pointers", "  ratio (quartiles)", "by value", "  ratio (quartiles)");
+}
+
+/* ---- the tables */
+
+/* Judging by itself is opening that is refused with 7 at the last station: S is one less than its deadline asks for. */
+static void refuse_last(void)
+{
+    uint32_t last = work.set.n - 1;
+    put_number(work.sheet + work.length - 7, --work.alloc.s[last]);
+    work.number = OLIVASTRUM_RULE_BROKEN;
+}
+
+static void show_by_stations(void)
+{
+    static const uint32_t counts[] = {1, 8, 12, 32, 128};
+    static const struct job judging = {"judging", open_rings, &on_a_plan};
+    show_head("by the number of stations");
+    for (size_t j = 0; j < JOBS; j++) {
+        for (size_t k = 0; k < sizeof counts / sizeof *counts; k++) {
+            prepare(stations(counts[k], OLIVASTRUM_TIMELY, 1));
+            show(&jobs[j], "", counts[k]);
+        }
+        for (size_t k = 0; j == OPENING && k < sizeof counts / sizeof *counts; k++) {
+            prepare(stations(counts[k], OLIVASTRUM_TIMELY, 1));
+            refuse_last();
+            show(&judging, "(opening, 7)", counts[k]);
+        }
+    }
+}
+
+/* The mode, F and the grid of a set. Two of them at once are for visits alone. */
+struct kind {
+    const char *name;
+    uint32_t mode, frame, grid;
+    int two;
+};
+
+/* FDDI is visited, read and written, and neither planned nor opened. */
+static int is_asked(size_t job, const struct kind *kind)
+{
+    return (!kind->two || job == VISIT) && (kind->mode != OLIVASTRUM_FDDI || (job != PLANNING && job != OPENING));
+}
+
+static void show_by_kind(void)
+{
+    static const struct kind kinds[] = {
+        {"grid 8", OLIVASTRUM_TIMELY, 1, 8, 0},
+        {"frames", OLIVASTRUM_TIMELY, FRAME, 1, 0},
+        {"FDDI", OLIVASTRUM_FDDI, 1, 1, 0},
+        {"FDDI, grid 8", OLIVASTRUM_FDDI, 1, 8, 1},
+        {"FDDI, frames", OLIVASTRUM_FDDI, FRAME, 1, 1},
+        {"2002 edition", OLIVASTRUM_EARLIER, 1, 1, 0},
+        {"2002 edition, grid 8", OLIVASTRUM_EARLIER, 1, 8, 1},
+        {"2002 edition, frames", OLIVASTRUM_EARLIER, FRAME, 1, 1},
+    };
+    show_head("by the mode, the grid, the frames and D / TTRT");
+    for (size_t j = 0; j < JOBS; j++)
+        for (const struct kind *kind = kinds; kind < kinds + sizeof kinds / sizeof *kinds; kind++)
+            for (uint32_t n = 8; is_asked(j, kind) && n <= 128; n += 120) {
+                set_t set = stations(n, kind->mode, kind->frame);
+                set.head.grid = kind->grid;
                 prepare(set);
-                struct measured m = measure(job);
-                if (!none_refused())
-                    return 0;
-                printf("%u, %u ", mode, grids[k]);
-                show(job->name, m, "");
+                show(&jobs[j], kind->name, n);
             }
-    return 1;
+}
+
+/* What it takes to have no divide: the more rotations a deadline has, the more bits has its quotient. */
+static void show_by_rotations(void)
+{
+    static const size_t asking[] = {PLANNING, OPENING, VISIT};
+    for (size_t j = 0; j < sizeof asking / sizeof *asking; j++)
+        for (uint32_t n = 8; n <= 128; n += 120) {
+            prepare(rotations(n, 10));
+            show(&jobs[asking[j]], "D / TTRT 10", n);
+            prepare(rotations(n, 1000));
+            show(&jobs[asking[j]], "D / TTRT 1,000", n);
+        }
+}
+
+/* ---- refused calls: what is wrong, and the number that is answered */
+
+static void no_station(void)
+{
+    work.set.n = work.opened.set.n = 0;
+}
+
+static void first_walk_long(void)
+{
+    work.opened.set.w[0] = 1000001;
+}
+
+static void last_arrival_late(void)
+{
+    work.opened.arrival[work.set.n - 1] = MOST_CLOCK + 1;
+}
+
+static void frame_long(void)
+{
+    work.ask.length = work.set.head.frame + 1;
+}
+
+static void clock_high(void)
+{
+    work.opened.clock = MOST_CLOCK + 1;
+}
+
+static void station_missing(void)
+{
+    work.station.number = work.message.station.number = work.set.n;
+}
+
+static void message_long(void)
+{
+    work.message.length.ticks = work.set.c[0] + 1;
+}
+
+/* The last test of a handing in: less than P after the last accepted one. */
+static void message_early(void)
+{
+    work.message.length.ticks = 1;
+    work.opened.had[0] = 1;
+}
+
+static void sheet_empty(void)
+{
+    work.length = 0;
+}
+
+static void first_tag_wrong(void)
+{
+    work.sheet[0] = 9;
+}
+
+static void sheet_longer(void)
+{
+    work.sheet[work.length++] = 0;
+}
+
+static void room_short(void)
+{
+    work.room = work.length - 1;
+}
+
+static void last_too_much(void)
+{
+    work.set.c[work.set.n - 1] = 100000000;
+}
+
+static void show_refused(void)
+{
+    static const struct refusal {
+        size_t job;
+        uint32_t mode;
+        const char *name;
+        void (*spoil)(void);
+        uint8_t number;
+    } refusals[] = {
+        {READING, 1, "1, empty", sheet_empty, 1},
+        {READING, 1, "2, the first tag", first_tag_wrong, 2},
+        {READING, 1, "3, a byte behind", sheet_longer, 3},
+        {READING, 1, "7, the last station", refuse_last, 7},
+        {WRITING, 1, "2, no station", no_station, 2},
+        {WRITING, 1, "7, the last station", refuse_last, 7},
+        {WRITING, 1, "14, a byte short", room_short, 14},
+        {PLANNING, 1, "2, no station", no_station, 2},
+        {PLANNING, 2, "16, FDDI", 0, 16},
+        {PLANNING, 1, "6, at the end", last_too_much, 6},
+        {OPENING, 1, "2, no station", no_station, 2},
+        {OPENING, 2, "16, FDDI", 0, 16},
+        {VISIT, 1, "8, no station", no_station, 8},
+        {VISIT, 1, "8, the first w", first_walk_long, 8},
+        {VISIT, 1, "8, the last arrival", last_arrival_late, 8},
+        {VISIT, 1, "10, above F", frame_long, 10},
+        {VISIT, 1, "13, the clock", clock_high, 13},
+        {VISIT, 2, "8, the first w, FDDI", first_walk_long, 8},
+        {VISIT, 2, "8, the last arrival, FDDI", last_arrival_late, 8},
+        {VISIT, 2, "13, the clock, FDDI", clock_high, 13},
+        {VISIT, 3, "8, the last arrival, 2002", last_arrival_late, 8},
+        {VISIT, 3, "13, the clock, 2002", clock_high, 13},
+        {HANDING_IN, 1, "8, no station", no_station, 8},
+        {HANDING_IN, 1, "8, the last arrival", last_arrival_late, 8},
+        {HANDING_IN, 1, "9, no such station", station_missing, 9},
+        {HANDING_IN, 1, "10, above C", message_long, 10},
+        {HANDING_IN, 1, "12, within P", message_early, 12},
+        {HANDING_IN, 2, "9, no such station, FDDI", station_missing, 9},
+        {HANDING_IN, 3, "9, no such station, 2002", station_missing, 9},
+        {MARKING, 1, "8, no station", no_station, 8},
+        {MARKING, 1, "8, the last arrival", last_arrival_late, 8},
+        {MARKING, 1, "9, no such station", station_missing, 9},
+        {MARKING, 2, "9, no such station, FDDI", station_missing, 9},
+        {MARKING, 3, "9, no such station, 2002", station_missing, 9},
+        {UNMARKING, 1, "8, no station", no_station, 8},
+        {UNMARKING, 1, "8, the last arrival", last_arrival_late, 8},
+        {UNMARKING, 1, "9, no such station", station_missing, 9},
+        {UNMARKING, 2, "9, no such station, FDDI", station_missing, 9},
+        {UNMARKING, 3, "9, no such station, 2002", station_missing, 9},
+    };
+    show_head("refused");
+    for (const struct refusal *r = refusals; r < refusals + sizeof refusals / sizeof *refusals; r++)
+        for (uint32_t n = 8; n <= 128; n += 120) {
+            prepare(stations(n, r->mode, 1));
+            if (r->spoil)
+                r->spoil();
+            work.number = r->number;
+            show(&jobs[r->job], r->name, n);
+        }
 }
 
 int main(void)
 {
-    static const uint32_t counts[] = {8, 16, 32, 64, 128};
-    enum { COUNTS = sizeof counts / sizeof *counts, LAST = COUNTS - 1 };
-    static struct measured all[JOBS][COUNTS];
-
-    if (!agree())
+    unsigned long proved = compared_answers(&proved_calls), values = compared_answers(&value_calls);
+    if (proved == 0 || values != proved)
         return 1;
-    printf("answers compared before timing: %lu, all the same\n", compared);
-    for (int k = 0; k < COUNTS; k++) {
-        prepare(stations(counts[k], OLIVASTRUM_TIMELY, 1));
-        for (size_t j = 0; j < JOBS; j++)
-            all[j][k] = measure(&jobs[j]);
-    }
-    prepare(stations(counts[LAST], OLIVASTRUM_FDDI, 1));
-    struct measured fddi = measure(&older);
-    prepare(stations(counts[LAST], OLIVASTRUM_TIMELY, FRAME));
-    struct measured frames = measure(&uncut);
-    prepare(stations(counts[LAST], OLIVASTRUM_EARLIER, 1));
-    struct measured first = measure(&earlier);
-    if (!none_refused())
-        return 1;
-
-    printf("\n128 stations          proved ns   plain C ns   ratio (quartiles)     aim\n");
-    for (size_t j = 0; j < JOBS; j++)
-        show(jobs[j].name, all[j][LAST], jobs[j].aim);
-    show(older.name, fddi, older.aim);
-    show(uncut.name, frames, uncut.aim);
-    show(earlier.name, first, earlier.aim);
-    printf("\nproved ns at N =    ");
-    for (int k = 0; k < COUNTS; k++)
-        printf("%8u", counts[k]);
-    printf("   128 over 8 (linear: at most 16)   plain C\n");
-    for (size_t j = 0; j < JOBS; j++) {
-        printf("%-20s", jobs[j].name);
-        for (int k = 0; k < COUNTS; k++)
-            printf("%8.0f", all[j][k].proved);
-        printf("   %10.1f %32.1f\n", all[j][LAST].proved / all[j][0].proved, all[j][LAST].plain / all[j][0].plain);
-    }
-    return !show_rotations(&jobs[2]) || !show_grids(&jobs[3]);
+    printf("answers compared before timing: %lu of the proved calls and %lu of plain C by value, all the same as those of plain C by pointers\n", proved, values);
+    show_by_stations();
+    show_by_kind();
+    show_by_rotations();
+    show_refused();
+    printf("\n!: above the aim, which is held to plain C that has no divide either (-DBY_SHIFTING)\n");
+    return wrong;
 }

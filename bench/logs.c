@@ -1,16 +1,21 @@
 /*
  * How many visits of a log are written and read in a second: the recorder's three calls, the reading of a whole log, and the
- * entries handed out one after another. Each beside plain C, whose bytes and answers are held to the proved library's first.
+ * entries handed out one after another. Each beside plain C in one loop, and, where there is a call for each visit, beside
+ * plain C of the same signature in a file of its own (values.c). Their bytes and answers are held to the proved library's
+ * first.
  */
 #include "olivastrum.h"
+#include "bytes.h"
 #include "plain.h"
 #include "sets.h"
 #include "system.h"
+#include "values.h"
 #include <stdio.h>
 #include <string.h>
 
 #define VISITS 100000u
 #define TURNS 15
+#define COMPARED 200000u
 
 typedef struct olivastrum_visit_entry entry_t;
 
@@ -21,20 +26,6 @@ static struct olivastrum_alloc alloc;
 static uint64_t seen; /* so that nothing that is read is left out by the compiler */
 
 /* ---- plain C */
-
-static uint32_t number_at(const uint8_t *at)
-{
-    return (uint32_t)at[0] << 24 | (uint32_t)at[1] << 16 | (uint32_t)at[2] << 8 | at[3];
-}
-
-static uint8_t *put_number(uint8_t *at, uint32_t x)
-{
-    at[0] = (uint8_t)(x >> 24);
-    at[1] = (uint8_t)(x >> 16);
-    at[2] = (uint8_t)(x >> 8);
-    at[3] = (uint8_t)x;
-    return at + 4;
-}
 
 static size_t plain_write(uint8_t *out, size_t room)
 {
@@ -83,12 +74,25 @@ static uint64_t plain_count(const uint8_t *log, size_t length, size_t at)
 
 /* ---- the jobs, each over the whole log */
 
+typedef struct olivastrum_recorder adding(struct olivastrum_recorder, struct olivastrum_visit_record, uint8_t *, size_t);
+typedef struct olivastrum_next_entry entering(const uint8_t *, size_t, uint64_t);
+
+static size_t write_by(adding *add, uint8_t *out)
+{
+    struct olivastrum_recorder recorder = olivastrum_begin_log(set, alloc, 0, 0, out, sizeof proved);
+    for (uint32_t k = 0; k < VISITS; k++)
+        recorder = add(recorder, records[k], out, sizeof proved);
+    return olivastrum_end_log(recorder, out, sizeof proved).length;
+}
+
 static size_t write_proved(void)
 {
-    struct olivastrum_recorder recorder = olivastrum_begin_log(set, alloc, 0, 0, proved, sizeof proved);
-    for (uint32_t k = 0; k < VISITS; k++)
-        recorder = olivastrum_add_visit(recorder, records[k], proved, sizeof proved);
-    return olivastrum_end_log(recorder, proved, sizeof proved).length;
+    return write_by(olivastrum_add_visit, proved);
+}
+
+static size_t write_values(void)
+{
+    return write_by(values_add_visit, plain);
 }
 
 static size_t write_plain(void)
@@ -108,16 +112,26 @@ static size_t read_plain(void)
     return plain_count(plain, length, first);
 }
 
-static size_t hand_out_proved(void)
+static size_t hand_out_by(entering *entry, const uint8_t *log)
 {
     size_t visits = 0;
     for (uint64_t at = first;; visits++) {
-        struct olivastrum_next_entry next = olivastrum_log_entry(proved, length, at);
+        struct olivastrum_next_entry next = entry(log, length, at);
         if (next.next == 0)
             return visits;
         seen += next.kind == OLIVASTRUM_VISIT_TAG ? next.visit.start + next.visit.asynchronous : next.mark.mark;
         at = next.next;
     }
+}
+
+static size_t hand_out_proved(void)
+{
+    return hand_out_by(olivastrum_log_entry, proved);
+}
+
+static size_t hand_out_values(void)
+{
+    return hand_out_by(values_log_entry, plain);
 }
 
 static size_t hand_out_plain(void)
@@ -136,12 +150,54 @@ static size_t hand_out_plain(void)
 
 static const struct job {
     const char *name;
-    size_t (*proved)(void), (*plain)(void);
+    size_t (*proved)(void), (*plain)(void), (*values)(void); /* reading is one call for all */
 } jobs[] = {
-    {"writing", write_proved, write_plain},
-    {"reading", read_proved, read_plain},
-    {"handing out", hand_out_proved, hand_out_plain},
+    {"written", write_proved, write_plain, write_values},
+    {"read", read_proved, read_plain, 0},
+    {"handed out", hand_out_proved, hand_out_plain, hand_out_values},
 };
+
+/* ---- do all give the same? */
+
+/* A visit added to any recorder, in any room: the same recorder comes back, and the same bytes stand there. */
+static int same_added(void)
+{
+    uint8_t one[64] = {0}, other[64] = {0};
+    struct olivastrum_recorder recorder = {random_number() % 70, random_number(), random_number(), random_number()};
+    struct olivastrum_visit_record record = records[random_number() % VISITS];
+    size_t room = random_number() % (sizeof one + 1);
+    record.station.number = random_number();
+    struct olivastrum_recorder mine = olivastrum_add_visit(recorder, record, one, room), theirs = values_add_visit(recorder, record, other, room);
+    return memcmp(&mine, &theirs, sizeof mine) == 0 && memcmp(one, other, sizeof one) == 0;
+}
+
+/* What stands at a place of a few bytes that begin as a record does, or nearly. */
+static int same_entry(void)
+{
+    static const uint8_t near[] = {0, 2, 15, 16, 17, 18};
+    uint8_t log[40];
+    for (size_t k = 0; k < sizeof log; k++)
+        log[k] = (uint8_t)random_number();
+    uint64_t at = random_number() % (sizeof log + 1), room = random_number() % (sizeof log + 1);
+    for (uint64_t k = at; k < at + 3 && k < sizeof log; k++)
+        log[k] = k == at + 1 ? random_number() % 8 == 0 : near[random_number() % sizeof near];
+    struct olivastrum_next_entry mine = olivastrum_log_entry(log, room, at), theirs = values_log_entry(log, room, at);
+    return memcmp(&mine, &theirs, sizeof mine) == 0;
+}
+
+/* The logs are the same bytes, whoever writes them, and have the same visits. */
+static int same_logs(void)
+{
+    struct olivastrum_read_log read = olivastrum_read_log(proved, length);
+    if (length == 0 || write_plain() != length || memcmp(proved, plain, length) != 0)
+        return 0;
+    memset(plain, 0, sizeof plain);
+    if (write_values() != length || memcmp(proved, plain, length) != 0)
+        return 0;
+    if (read.number != OLIVASTRUM_ACCEPTED || read.first != first || read_plain() != read.records)
+        return 0;
+    return hand_out_proved() == VISITS && hand_out_plain() == VISITS && hand_out_values() == VISITS;
+}
 
 /* ---- timing */
 
@@ -149,20 +205,32 @@ static double timed(size_t (*run)(void))
 {
     double from = processor_ns();
     seen += run();
-    return processor_ns() - from;
+    return (processor_ns() - from) / VISITS;
+}
+
+static double median(double *all)
+{
+    qsort(all, TURNS, sizeof *all, by_size);
+    return all[TURNS / 2];
 }
 
 static void show(const struct job *job)
 {
-    double one[TURNS], other[TURNS];
+    double one[TURNS], loop[TURNS], call[TURNS], to_loop[TURNS], to_call[TURNS];
     for (int k = 0; k < TURNS; k++) {
         one[k] = timed(job->proved);
-        other[k] = timed(job->plain);
+        loop[k] = timed(job->plain);
+        call[k] = job->values ? timed(job->values) : 1;
+        to_loop[k] = one[k] / loop[k];
+        to_call[k] = one[k] / call[k];
     }
-    qsort(one, TURNS, sizeof *one, by_size);
-    qsort(other, TURNS, sizeof *other, by_size);
-    double mine = one[TURNS / 2] / VISITS, theirs = other[TURNS / 2] / VISITS;
-    printf("%-12s %8.1f %10.1f   %5.2f   %12.0f\n", job->name, mine, theirs, mine / theirs, 1e9 / mine);
+    double mine = median(one);
+    printf("%-12s %9.1f %9.1f %7.2f", job->name, mine, median(loop), median(to_loop));
+    if (job->values)
+        printf(" %9.1f %7.2f", median(call), median(to_call));
+    else
+        printf(" %9s %7s", "-", "-");
+    printf("   %13.0f\n", 1e9 / mine);
 }
 
 int main(void)
@@ -176,17 +244,15 @@ int main(void)
     }
     length = write_proved();
     first = OLIVASTRUM_PLAN_BYTES(128) + OLIVASTRUM_FRAME_BYTES - 3;
-    if (length == 0 || write_plain() != length || memcmp(proved, plain, length) != 0) {
-        printf("the two write different logs\n");
+    int same = same_logs();
+    for (uint32_t k = 0; same && k < COMPARED; k++)
+        same = same_added() && same_entry();
+    if (!same) {
+        printf("the logs differ\n");
         return 1;
     }
-    struct olivastrum_read_log read = olivastrum_read_log(proved, length);
-    if (read.number != OLIVASTRUM_ACCEPTED || read.first != first || read_plain() != read.records || hand_out_proved() != VISITS || hand_out_plain() != VISITS) {
-        printf("the two read different logs\n");
-        return 1;
-    }
-    printf("a log of %u visits, %zu bytes: both write the same bytes, and read as many visits\n", VISITS, length);
-    printf("\na visit      proved ns plain C ns   ratio   visits a second\n");
+    printf("a log of %u visits, %zu bytes: all write the same bytes, and hand out as many visits; %u calls of each kind compared\n", VISITS, length, COMPARED);
+    printf("\na visit      proved ns  one loop   ratio  by value   ratio   visits a second\n");
     for (size_t k = 0; k < sizeof jobs / sizeof *jobs; k++)
         show(&jobs[k]);
     return seen == 0;

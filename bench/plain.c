@@ -3,6 +3,7 @@
  * to the proved library's before it measures.
  */
 #include "plain.h"
+#include "bytes.h"
 #include "quotient.h"
 #include <string.h>
 
@@ -186,20 +187,6 @@ static uint8_t judge_plan(const set_t *set, const alloc_t *alloc)
 }
 
 /* ---- sheets */
-
-static uint32_t number_at(const uint8_t *at)
-{
-    return (uint32_t)at[0] << 24 | (uint32_t)at[1] << 16 | (uint32_t)at[2] << 8 | at[3];
-}
-
-static uint8_t *put_number(uint8_t *at, uint32_t x)
-{
-    at[0] = (uint8_t)(x >> 24);
-    at[1] = (uint8_t)(x >> 16);
-    at[2] = (uint8_t)(x >> 8);
-    at[3] = (uint8_t)x;
-    return at + 4;
-}
 
 static uint8_t *put_head(uint8_t *at, uint8_t tag, uint8_t length)
 {

@@ -1,8 +1,14 @@
 #include "sets.h"
 
+static uint64_t seed = 1;
+
+void first_numbers(void)
+{
+    seed = 1;
+}
+
 uint32_t random_number(void)
 {
-    static uint64_t seed = 1;
     seed ^= seed << 13;
     seed ^= seed >> 7;
     seed ^= seed << 17;
@@ -23,9 +29,9 @@ struct olivastrum_set stations(uint32_t n, uint32_t mode, uint32_t frame)
     return set;
 }
 
-struct olivastrum_set rotations(uint32_t q, uint32_t mode)
+struct olivastrum_set rotations(uint32_t n, uint32_t q)
 {
-    struct olivastrum_set set = {.head = {90000, mode, 1, 1}, .n = OLIVASTRUM_MOST_STATIONS};
+    struct olivastrum_set set = {.head = {90000, OLIVASTRUM_TIMELY, 1, 1}, .n = n};
     for (uint32_t i = 0; i < set.n; i++) {
         set.w[i] = 1;
         set.c[i] = (q - 1) * (100 + 37 * i % 400);

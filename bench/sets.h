@@ -7,11 +7,14 @@
 /* A number below 2^32, the same ones in every run. */
 uint32_t random_number(void);
 
+/* From here on the first ones again. */
+void first_numbers(void);
+
 /* Stations of all kinds in a ring of TTRT 100,000 with frames up to `frame`, planned and run in any mode. */
 struct olivastrum_set stations(uint32_t n, uint32_t mode, uint32_t frame);
 
-/* 128 stations whose deadlines are q whole rotations and a part of one, for any mode. */
-struct olivastrum_set rotations(uint32_t q, uint32_t mode);
+/* A timely-token set whose deadlines are q whole rotations and a part of one. */
+struct olivastrum_set rotations(uint32_t n, uint32_t q);
 
 /* S at each station as the library plans it. FDDI is planned no more: there the least vector that meets its rules, and zeros
  * where there is none. */

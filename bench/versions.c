@@ -4,6 +4,7 @@
  * whole area, each plan in it too.
  */
 #include "olivastrum.h"
+#include "bytes.h"
 #include "plain.h"
 #include "sets.h"
 #include "system.h"
@@ -28,11 +29,6 @@ struct held {
     uint32_t before, count;
     size_t end;
 };
-
-static uint32_t number_at(const uint8_t *at)
-{
-    return (uint32_t)at[0] << 24 | (uint32_t)at[1] << 16 | (uint32_t)at[2] << 8 | at[3];
-}
 
 static size_t size_at(const uint8_t *at)
 {
@@ -123,8 +119,7 @@ static struct olivastrum_stored_plan plain_store(uint8_t *area, size_t length, c
     at[1] = (uint8_t)((n + 4) >> 8);
     at[2] = (uint8_t)(n + 4);
     stored.version = last + 1;
-    for (int k = 0; k < 4; k++)
-        at[3 + k] = (uint8_t)(stored.version >> (24 - 8 * k));
+    put_number(at + 3, stored.version);
     memcpy(at + 7, bytes, n);
     at[7 + n] = 255;
     at[8 + n] = at[9 + n] = 0;
