@@ -179,7 +179,7 @@ struct aims {
     double at_128, at_8, values;
 };
 
-static const struct aims on_a_ring = {1.2, 1.5, 1.2}, on_a_plan = {1.2, 2.0, 1.5}, of_writing = {1.3, 3.0, 1.5};
+static const struct aims on_a_ring = {1.2, 1.5, 1.2}, on_a_plan = {1.2, 2.0, 1.5}, of_writing = {1.3, 3.0, 1.5}, none = {0, 0, 0};
 
 enum { READING, WRITING, PLANNING, OPENING, VISIT, HANDING_IN, MARKING, UNMARKING, JOBS };
 
@@ -487,7 +487,10 @@ static void show_refused(void)
             if (r->spoil)
                 r->spoil();
             work.number = r->number;
-            show(&jobs[r->job], r->name, n);
+            struct job job = jobs[r->job];
+            if (job.aims != &on_a_ring) /* no aim is set for the others' refusals */
+                job.aims = &none;
+            show(&job, r->name, n);
         }
 }
 
