@@ -1,7 +1,7 @@
 /*
  * How long it takes to store a plan into a full store and to find a version, at 1 and at 16 kept versions, of 4 and of 128
- * stations. Each beside plain C, whose answers and whose area are held to the proved library's first. Every call judges the
- * whole area, each plan in it too.
+ * stations. Each beside plain C of the same signature, not inlined, whose answers and whose area are held to the proved
+ * library's first. Every call judges the whole area, each plan in it too.
  */
 #include "olivastrum.h"
 #include "bytes.h"
@@ -12,7 +12,9 @@
 #include <string.h>
 
 #define TURNS 15
-#define CALLS 20
+#define CALLS 100
+
+#define APART __attribute__((noinline))
 
 #define VERSION_TAG 32
 
@@ -95,7 +97,7 @@ static void drop_oldest(uint8_t *area, struct held *held)
     memset(area + held->end, 0, by + 3);
 }
 
-static struct olivastrum_stored_plan plain_store(uint8_t *area, size_t length, const uint8_t *bytes, size_t n)
+APART static struct olivastrum_stored_plan plain_store(uint8_t *area, size_t length, const uint8_t *bytes, size_t n)
 {
     struct olivastrum_stored_plan stored = {0, 0};
     struct held held;
@@ -126,7 +128,7 @@ static struct olivastrum_stored_plan plain_store(uint8_t *area, size_t length, c
     return stored;
 }
 
-static struct olivastrum_found_version plain_find(const uint8_t *area, size_t length, uint32_t version)
+APART static struct olivastrum_found_version plain_find(const uint8_t *area, size_t length, uint32_t version)
 {
     struct olivastrum_found_version found = {0, 0, 0};
     struct held held;
@@ -194,15 +196,17 @@ static double timed(void (*run)(void))
 
 static void show(const char *name, uint32_t n, uint32_t kept, void (*run)(void), void (*other)(void))
 {
-    double one[TURNS], two[TURNS];
+    double one[TURNS], two[TURNS], ratio[TURNS];
     for (int k = 0; k < TURNS; k++) {
-        one[k] = timed(run);
-        two[k] = timed(other);
+        one[k] = timed(run) / CALLS;
+        two[k] = timed(other) / CALLS;
+        ratio[k] = one[k] / two[k];
     }
     qsort(one, TURNS, sizeof *one, by_size);
     qsort(two, TURNS, sizeof *two, by_size);
-    double mine = one[TURNS / 2] / CALLS, theirs = two[TURNS / 2] / CALLS;
-    printf("%-8s %8u %8u %12.0f %12.0f   %5.2f\n", name, n, kept, mine, theirs, mine / theirs);
+    qsort(ratio, TURNS, sizeof *ratio, by_size);
+    printf("%-8s %8u %8u %12.0f %12.0f   %5.2f (%.2f to %.2f)\n", name, n, kept, one[TURNS / 2], two[TURNS / 2], ratio[TURNS / 2], ratio[TURNS / 4],
+           ratio[3 * TURNS / 4]);
 }
 
 /* Both areas, emptied, with so many versions of the sheet; 0 where they differ. */
@@ -248,7 +252,7 @@ static int measured(uint32_t n)
 
 int main(void)
 {
-    printf("          stations versions    proved ns   plain C ns   ratio\n");
+    printf("          stations versions    proved ns   plain C ns   ratio (quartiles)\n");
     if (!measured(4) || !measured(128)) {
         printf("the two keep different versions\n");
         return 1;
