@@ -1,7 +1,8 @@
 /*
  * How many records of a log are inspected in a second, beside plain C that reads the log and keeps the same five rules by the
  * same moments. First the findings of the two are held to each other: on logs as a ring wrote them, with any number of any
- * record changed, cut, with records left out, and with marks put in. Then whole logs are inspected in turns.
+ * record changed, cut, with records left out, and with marks put in. Then whole logs are inspected in turns; and the same
+ * records one by one, on an inspection that the host keeps, beside plain C that is handed a pointer to its own and the record.
  */
 #include "olivastrum.h"
 #include "plain.h"
@@ -328,6 +329,73 @@ static int show(const char *name, struct olivastrum_set set, uint32_t frames)
     return 1;
 }
 
+/* ---- a record inspected, kept by the host: the records of the log in turns, each a call that is not inlined */
+
+static struct olivastrum_next_entry entries[VISITS];
+
+static __attribute__((noinline)) struct olivastrum_record_finding plain_record(struct inspection *it, struct olivastrum_next_entry entry)
+{
+    struct olivastrum_record_finding said = {it->visits + 1, 0, 0, NONE, 0};
+    said.rule = entry.kind == OLIVASTRUM_VISIT_TAG ? broken_rule(it, &entry.visit) : marked(it, (uint8_t)entry.mark.station, (uint8_t)entry.mark.mark);
+    if (said.rule == NONE && entry.kind == OLIVASTRUM_VISIT_TAG)
+        move_on(it, &entry.visit);
+    return said;
+}
+
+static double kept_timed(struct olivastrum_inspection kept)
+{
+    double from = processor_ns();
+    for (uint32_t k = 0; k < VISITS; k++) {
+        struct olivastrum_record_finding said = olivastrum_inspect_record(&kept, entries[k]);
+        seen += said.record;
+        if (said.rule || said.number)
+            return -1;
+    }
+    return processor_ns() - from;
+}
+
+static double plain_timed(struct inspection it)
+{
+    double from = processor_ns();
+    for (uint32_t k = 0; k < VISITS; k++) {
+        struct olivastrum_record_finding said = plain_record(&it, entries[k]);
+        seen += said.record;
+        if (said.rule)
+            return -1;
+    }
+    return processor_ns() - from;
+}
+
+static int show_kept(const char *name, struct olivastrum_set set, uint32_t frames)
+{
+    double one[TURNS], other[TURNS];
+    size_t length = written(set, frames), first = behind_plan(log_bytes, length);
+    struct olivastrum_read_log read = olivastrum_read_log(log_bytes, length);
+    struct olivastrum_begun_inspection begun = olivastrum_begin_inspection(read.set, read.alloc);
+    static struct inspection it;
+    it.plan.set = read.set;
+    it.plan.alloc = read.alloc;
+    begin(&it);
+    if (read.number || begun.number || read.records != VISITS)
+        return 0;
+    uint64_t at = read.first;
+    for (uint32_t k = 0; k < VISITS; k++) {
+        entries[k] = olivastrum_log_entry(log_bytes, length, at);
+        at = entries[k].next;
+    }
+    for (int k = 0; k < TURNS; k++) {
+        one[k] = kept_timed(begun.inspection);
+        other[k] = plain_timed(it);
+        if (one[k] < 0 || other[k] < 0)
+            return 0;
+    }
+    qsort(one, TURNS, sizeof *one, by_size);
+    qsort(other, TURNS, sizeof *other, by_size);
+    double mine = one[TURNS / 2] / VISITS, theirs = other[TURNS / 2] / VISITS;
+    printf("%-24s %3u %12lu %10.1f %10.1f   %5.2f   %12.0f\n", name, set.n, above_limit(first), mine, theirs, mine / theirs, 1e9 / mine);
+    return 1;
+}
+
 int main(void)
 {
     printf("logs of %u records                above\na record                   N    the limit  proved ns plain C ns   ratio   records a second\n", VISITS);
@@ -336,6 +404,11 @@ int main(void)
             !show("timely-token, F 5,000", stations(n, OLIVASTRUM_TIMELY, 5000), 100) || !show("FDDI", stations(n, OLIVASTRUM_FDDI, 1), 100) ||
             !show("FDDI, frames", stations(n, OLIVASTRUM_FDDI, 40), 100) || !show("2002 edition", stations(n, OLIVASTRUM_EARLIER, 1), 100) ||
             !show("2002 edition, frames", stations(n, OLIVASTRUM_EARLIER, 40), 100))
+            return 1;
+    printf("a record inspected, kept by the host\n");
+    for (uint32_t n = 8; n <= 128; n *= 16)
+        if (!show_kept("timely-token", stations(n, OLIVASTRUM_TIMELY, 1), 100) || !show_kept("timely-token, frames", stations(n, OLIVASTRUM_TIMELY, 40), 100) ||
+            !show_kept("FDDI", stations(n, OLIVASTRUM_FDDI, 1), 100) || !show_kept("2002 edition", stations(n, OLIVASTRUM_EARLIER, 1), 100))
             return 1;
     printf("%lu findings compared: %lu station, %lu start, %lu limit, %lu synchronous, %lu asynchronous, %lu refused\n", compared, broken[STATION],
            broken[START], broken[LIMIT], broken[SYNCHRONOUS], broken[ASYNCHRONOUS], refusals);

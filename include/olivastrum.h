@@ -8,6 +8,7 @@
  *     log bytes --olivastrum_read_log, olivastrum_log_entry--> set, allocation, visits and marks
  *     log bytes --olivastrum_inspect_log--> the first record that no run could have given, if there is one
  *     plan sheet bytes and log bytes --olivastrum_inspect_log_of--> the same of a run of that plan, if the log's plan is that one
+ *     set and allocation --olivastrum_begin_inspection--> inspection --olivastrum_inspect_record--> the same inspection, one record on: what it says of the record as it comes
  *     wagon list --olivastrum_couple_train--> train, list and allocation --olivastrum_change_wagon, olivastrum_couple_wagon, olivastrum_uncouple_wagon, olivastrum_change_train--> the train, changed
  *     sheet bytes --olivastrum_store_plan--> a numbered version in an area of the host --olivastrum_find_version--> the same bytes
  *
@@ -16,22 +17,22 @@
  * calls that touch different memory may run at the same time, in threads and in signal handlers.
  *
  * What the host owes. A pointer is never null, not even beside a length of 0. It points at as many bytes as its
- * length says, or at a whole ring, aligned for uint64_t. While a call runs nothing else reads or writes what is
- * lent to be written (a ring, an `out` buffer, an area), and what is lent to be written overlaps nothing else that the call
+ * length says, or at a whole ring or a whole inspection, aligned for uint64_t. While a call runs nothing else reads or writes what is
+ * lent to be written (a ring, an inspection, an `out` buffer, an area), and what is lent to be written overlaps nothing else that the call
  * is lent: a sheet that is stored does not stand in the area. Nothing more: every bit pattern of a set, an allocation, a
- * message, an ask, a ring, a station, a recorder, a visit's record, a mark's entry, a wagon, a wagon list and a train is a
- * value, and gets its answer.
+ * message, an ask, a ring, a station, a recorder, a visit's record, a mark's entry, a next entry, an inspection, a wagon, a
+ * wagon list and a train is a value, and gets its answer.
  *
  * Refusals. `number` is 0 for accepted, or the refusal; the numbers are below, and within one call the lowest
  * that applies is given (1, 2 and 3: the first fault from the left of the sheet), but that 15 is given before 12, though
  * it is higher: handing in asks 8, 9, 10, 11, 15, 12; that 16 is given before 6 and 7: planning asks 2, 4, 5, 16, 6, and
  * opening 2, 4, 5, 16, 7; that an area which is no store is 2 before its sheet is looked at, so before the sheet's 1; that
- * a plan sheet is refused before the log that is held to it; and that of a train that no call made a place is 9 before the
- * planner's 6. A refused call changes nothing: not a byte of a lent ring, not a byte of a lent buffer. What it returns
+ * a plan sheet is refused before the log that is held to it; that a record asks 8, 2, 4; and that of a train that no call made a place is 9 before the
+ * planner's 6. A refused call changes nothing: not a byte of a lent ring or inspection, not a byte of a lent buffer. What it returns
  * beside `number` is blank, every number in it 0, but that olivastrum_inspect_log_of says in `refused` which side it is;
  * olivastrum_add_visit and olivastrum_add_mark hand back the recorder as it was, so that the log can be ended;
  * olivastrum_change_train, olivastrum_change_wagon, olivastrum_couple_wagon and olivastrum_uncouple_wagon hand back the
- * train as it was. On a ring a refused call only reads. An inspected log is accepted only if its rule is 0 too, and of
+ * train as it was. On a ring and on an inspection a refused call only reads. An inspected log is accepted only if its rule is 0 too, and of
  * olivastrum_inspect_log_of only if `another` is 0 as well.
  *
  * Padding. olivastrum_set, olivastrum_alloc, olivastrum_ask, olivastrum_message, olivastrum_ring, olivastrum_recorder,
@@ -98,7 +99,7 @@ enum {
     OLIVASTRUM_WALK_TIME = 5,         /* the sum of all w is 0 or above TTRT */
     OLIVASTRUM_NO_ALLOCATION = 6,     /* planning: no allocation of multiples of g exists */
     OLIVASTRUM_RULE_BROKEN = 7,       /* the given allocation breaks the token or the deadline rule, or is off the grid */
-    OLIVASTRUM_UNSOUND = 8,           /* the ring's state is unsound */
+    OLIVASTRUM_UNSOUND = 8,           /* the ring's state is unsound; of an inspection: N is not 1 to 128, so none was begun there */
     OLIVASTRUM_NO_SUCH_STATION = 9,   /* station number not below N */
     OLIVASTRUM_BAD_LENGTH = 10,       /* message length 0 or above C; visit: frame length 0 or above F */
     OLIVASTRUM_STILL_HELD = 11,       /* that station still holds an unsent message, or is marked */
@@ -343,6 +344,47 @@ struct olivastrum_plan_finding {
     uint8_t another;
 };
 
+/* How far an inspection has come. The host keeps it and need not look into it. */
+struct olivastrum_progress {
+    uint64_t records; /* so many records keep every rule */
+    uint32_t token;
+    uint32_t clock;
+    uint32_t unused;
+    uint32_t start;
+    uint32_t span;
+    uint8_t visited; /* 0: no visit has passed yet, and the first one may start at any moment */
+    uint8_t rule;    /* the rule that the record behind these breaks; 0: none so far */
+};
+
+/* An inspection that the host keeps: of the plan what a record is held to, and what the records so far leave of each station. */
+struct olivastrum_inspection {
+    struct olivastrum_head head;
+    uint32_t n;
+    uint32_t w[OLIVASTRUM_MOST_STATIONS];
+    uint32_t s[OLIVASTRUM_MOST_STATIONS];
+    uint32_t base[OLIVASTRUM_MOST_STATIONS];
+    uint32_t sent[OLIVASTRUM_MOST_STATIONS];
+    uint8_t mark[OLIVASTRUM_MOST_STATIONS];
+    struct olivastrum_progress progress;
+};
+
+struct olivastrum_begun_inspection {
+    struct olivastrum_inspection inspection;
+    uint8_t number;
+};
+
+/* What a record is answered: its number among the records, from 1, the rule that it breaks, 0 for none, and by that rule what
+ * it must say and what it says: the station; the ticks since the start of the visit before; the limit; S and the synchronous
+ * amount; the limit and the asynchronous amount; of a mark N, below which its station must be, and its station. Both are 0
+ * where no rule is broken. Behind a broken rule nothing is looked at: record and rule stay, and both are 0 too. */
+struct olivastrum_record_finding {
+    uint64_t record;
+    uint32_t expected;
+    uint32_t found;
+    uint8_t rule;
+    uint8_t number;
+};
+
 struct olivastrum_planned {
     struct olivastrum_alloc alloc;
     uint8_t number;
@@ -427,6 +469,10 @@ OLIVASTRUM_SIZE(struct olivastrum_read_log, 2608);
 OLIVASTRUM_SIZE(struct olivastrum_next_entry, 40);
 OLIVASTRUM_SIZE(struct olivastrum_finding, 24);
 OLIVASTRUM_SIZE(struct olivastrum_plan_finding, 32);
+OLIVASTRUM_SIZE(struct olivastrum_progress, 32);
+OLIVASTRUM_SIZE(struct olivastrum_inspection, 2232);
+OLIVASTRUM_SIZE(struct olivastrum_begun_inspection, 2240);
+OLIVASTRUM_SIZE(struct olivastrum_record_finding, 24);
 OLIVASTRUM_SIZE(struct olivastrum_stored_plan, 8);
 OLIVASTRUM_SIZE(struct olivastrum_found_version, 24);
 OLIVASTRUM_SIZE(struct olivastrum_versions, 12);
@@ -531,6 +577,19 @@ struct olivastrum_finding olivastrum_inspect_log(const uint8_t *log, size_t leng
  * olivastrum_inspect_log says of the log. Plan and log may be the same bytes. */
 #define OLIVASTRUM_STACK_INSPECT_LOG_OF 22016
 struct olivastrum_plan_finding olivastrum_inspect_log_of(const uint8_t *plan, size_t plan_length, const uint8_t *log, size_t length);
+
+/* Begins an inspection of a ring that runs, with the ring's set and allocation: the inspection that the host keeps, as it is
+ * before the ring's first record, at the opening. Or 2, 4, 5 or 7, as olivastrum_read_log says of a log with this plan, with
+ * the blank inspection. Mode 2, FDDI, is inspected as ever. */
+#define OLIVASTRUM_STACK_BEGIN_INSPECTION 7168
+struct olivastrum_begun_inspection olivastrum_begin_inspection(struct olivastrum_set set, struct olivastrum_alloc alloc);
+
+/* Inspects one record more, a visit (kind 16) or a mark (kind 17), in the order in which they come; `next` is not looked at.
+ * Behind all records of a log the rule is that of olivastrum_inspect_log, and so is the record where a rule is broken. Only
+ * the arrays at the record's station and `progress` change, whatever N is. 8 if no inspection was begun there, 2 for another
+ * kind, 4 for a number that no field of a log holds: a station or a mark above 255. */
+#define OLIVASTRUM_STACK_INSPECT_RECORD 512
+struct olivastrum_record_finding olivastrum_inspect_record(struct olivastrum_inspection *inspection, struct olivastrum_next_entry entry);
 
 /* Makes an area a store without a version, whatever it held: the next one stored is version 1. 2 for another length, and
  * no byte is written. Returns the number. */

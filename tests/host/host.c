@@ -73,6 +73,17 @@ static int layouts(void)
          AT(olivastrum_plan_finding, record), AT(olivastrum_plan_finding, rule), AT(olivastrum_plan_finding, refused),
          AT(olivastrum_plan_finding, number), AT(olivastrum_plan_finding, another));
 
+    SAME(FIELDS_PROGRESS, sizeof(struct olivastrum_progress), AT(olivastrum_progress, records), AT(olivastrum_progress, token),
+         AT(olivastrum_progress, clock), AT(olivastrum_progress, unused), AT(olivastrum_progress, start), AT(olivastrum_progress, span),
+         AT(olivastrum_progress, visited), AT(olivastrum_progress, rule));
+    SAME(FIELDS_KEPT_INSPECTION, sizeof(struct olivastrum_inspection), AT(olivastrum_inspection, head), AT(olivastrum_inspection, n),
+         AT(olivastrum_inspection, w), AT(olivastrum_inspection, s), AT(olivastrum_inspection, base), AT(olivastrum_inspection, sent),
+         AT(olivastrum_inspection, mark), AT(olivastrum_inspection, progress));
+    SAME(FIELDS_BEGUN_INSPECTION, sizeof(struct olivastrum_begun_inspection), AT(olivastrum_begun_inspection, inspection),
+         AT(olivastrum_begun_inspection, number));
+    SAME(FIELDS_RECORD_FINDING, sizeof(struct olivastrum_record_finding), AT(olivastrum_record_finding, record),
+         AT(olivastrum_record_finding, expected), AT(olivastrum_record_finding, found), AT(olivastrum_record_finding, rule),
+         AT(olivastrum_record_finding, number));
     SAME(FIELDS_STORED_PLAN, sizeof(struct olivastrum_stored_plan), AT(olivastrum_stored_plan, version), AT(olivastrum_stored_plan, number));
     SAME(FIELDS_FOUND_VERSION, sizeof(struct olivastrum_found_version), AT(olivastrum_found_version, place),
          AT(olivastrum_found_version, length), AT(olivastrum_found_version, number));
@@ -476,6 +487,70 @@ static int is_finding(struct olivastrum_finding found, uint64_t records, uint64_
     return found.records == records && found.record == record && found.rule == rule && found.number == number;
 }
 
+/* The records of a log that is read, handed in one after another, and held to what the inspection of the whole log says:
+ * until a record breaks a rule each is counted, and from that one on the answer stays. */
+static int watched(const uint8_t *log, size_t length)
+{
+    struct olivastrum_read_log read = olivastrum_read_log(log, length);
+    struct olivastrum_finding whole = olivastrum_inspect_log(log, length);
+    struct olivastrum_begun_inspection begun = olivastrum_begin_inspection(read.set, read.alloc);
+    CHECK(read.number == 0 && begun.number == 0);
+    uint64_t at = read.first;
+    for (uint64_t k = 1; k <= read.records; k++) {
+        struct olivastrum_next_entry entry = olivastrum_log_entry(log, length, at);
+        struct olivastrum_record_finding said = olivastrum_inspect_record(&begun.inspection, entry);
+        int broken = whole.rule != 0 && whole.record <= k;
+        CHECK(said.number == 0 && said.rule == (broken ? whole.rule : 0) && said.record == (broken ? whole.record : k));
+        int compared = broken && whole.record == k;
+        CHECK(compared ? said.expected != said.found || entry.kind == OLIVASTRUM_MARK_TAG || said.rule == 5 : said.expected == 0 && said.found == 0);
+        at = entry.next;
+    }
+    CHECK(begun.inspection.progress.rule == whole.rule && whole.records == read.records);
+    return 1;
+}
+
+/* A plan that no log has begins no inspection, and a record that no log holds is not looked at. */
+static int not_watched(struct olivastrum_set set, struct olivastrum_alloc alloc)
+{
+    struct olivastrum_begun_inspection begun = olivastrum_begin_inspection(set, alloc);
+    CHECK(begun.number == 0);
+    struct olivastrum_inspection kept = begun.inspection, any;
+    struct olivastrum_next_entry entry;
+    memset(&entry, 0, sizeof entry);
+    CHECK(olivastrum_inspect_record(&kept, entry).number == OLIVASTRUM_SHEET_WRONG);
+    entry.kind = OLIVASTRUM_VISIT_TAG;
+    entry.visit.station = 256;
+    CHECK(olivastrum_inspect_record(&kept, entry).number == OLIVASTRUM_OUT_OF_RANGE);
+    entry.kind = OLIVASTRUM_MARK_TAG;
+    entry.mark.mark = 256;
+    CHECK(olivastrum_inspect_record(&kept, entry).number == OLIVASTRUM_OUT_OF_RANGE);
+    CHECK(memcmp(&kept, &begun.inspection, sizeof kept) == 0);
+    entry.mark.mark = 2; /* a log can hold it, and it breaks the station rule: N is 4, and the station 0 */
+    struct olivastrum_record_finding said = olivastrum_inspect_record(&kept, entry);
+    CHECK(said.number == 0 && said.record == 1 && said.rule == 1 && said.expected == STATIONS && said.found == 0);
+    alloc.s[0] = 99;
+    begun = olivastrum_begin_inspection(set, alloc);
+    CHECK(begun.number == OLIVASTRUM_RULE_BROKEN && all_zero(&begun.inspection, sizeof begun.inspection));
+    CHECK(olivastrum_inspect_record(&begun.inspection, entry).number == OLIVASTRUM_UNSOUND);
+    memset(&any, 0xff, sizeof any); /* any bytes get an answer */
+    CHECK(olivastrum_inspect_record(&any, entry).number == OLIVASTRUM_UNSOUND);
+    any.n = 128;
+    CHECK(olivastrum_inspect_record(&any, entry).number == 0);
+    return 1;
+}
+
+/* The logs of examples/: of the worked run, and of another maker. */
+static int watched_examples(void)
+{
+    static const uint8_t worked[] = {
+#include "worked_log.h"
+    };
+    static const uint8_t other[] = {
+#include "other_log.h"
+    };
+    return watched(worked, sizeof worked) && watched(other, sizeof other);
+}
+
 /* The log that the ring wrote is accepted, and so is its plan alone. A number that is one higher is found, and the log as it
  * is read no more is refused. */
 static int inspecting(uint8_t *log)
@@ -489,6 +564,7 @@ static int inspecting(uint8_t *log)
             *byte += 1;
             int free_start = rule == 2 && k == 0; /* then the second record's is wrong */
             CHECK(is_finding(olivastrum_inspect_log(log, LOG_BYTES), VISITS, free_start ? 2 : k + 1, rule, 0));
+            CHECK(watched(log, LOG_BYTES));
             *byte -= 1;
         }
     CHECK(is_finding(olivastrum_inspect_log(log, LOG_BYTES - 1), 0, 0, 0, OLIVASTRUM_SHEET_ENDS));
@@ -601,6 +677,7 @@ static int marked_log(struct olivastrum_set set, struct olivastrum_alloc alloc)
 
     /* inspected: accepted; a mark that is neither 0 nor 1, or of a station that there is not, breaks the station rule */
     CHECK(is_finding(olivastrum_inspect_log(log, sizeof log), MARKS + MARKED_VISITS, 0, 0, 0));
+    CHECK(watched(log, sizeof log));
     log[read.first + 4] = 2;
     CHECK(is_finding(olivastrum_inspect_log(log, sizeof log), MARKS + MARKED_VISITS, 1, 1, 0));
     log[read.first + 4] = 1, log[read.first + 3] = STATIONS;
@@ -1003,7 +1080,7 @@ int main(void)
     struct olivastrum_alloc alloc;
     if (!layouts() || !constants() || !places() || !planning(&set, &alloc) || !opening(&ring, set, alloc))
         return 1;
-    if (!asked_less(ring) || !switched_through(ring) || !worked_run(&ring) || !logs(set, alloc) || !marked_log(set, alloc) || !any_bytes(&ring) || !older_ring() || !uncut_ring() || !earlier_ring() || !stepped_ring() || !versions(set, alloc) || !hopper_train())
+    if (!asked_less(ring) || !switched_through(ring) || !worked_run(&ring) || !logs(set, alloc) || !not_watched(set, alloc) || !watched_examples() || !marked_log(set, alloc) || !any_bytes(&ring) || !older_ring() || !uncut_ring() || !earlier_ring() || !stepped_ring() || !versions(set, alloc) || !hopper_train())
         return 1;
     puts("ok");
     return 0;

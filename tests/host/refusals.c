@@ -1,5 +1,5 @@
-/* A refused call on a lent ring writes no byte: each of the four calls, with each number that it may refuse with, in every
- * mode, on a ring in pages that cannot be written. A store there ends the program with a signal. Then the pages are made
+/* A refused call on a lent ring or inspection writes no byte: each of the five calls, with each number that it may refuse with, in every
+ * mode, on a ring or an inspection in pages that cannot be written. A store there ends the program with a signal. Then the pages are made
  * writable and the same calls are accepted, so that it is the number that keeps a byte from being stored. Prints `ok`. */
 #include "olivastrum.h"
 #include <stdio.h>
@@ -11,9 +11,10 @@ static struct olivastrum_ring *lent;
 static size_t room;
 
 /* What a call answered to a ring that cannot be written. */
-#define REFUSED(ring, number_, call)                                                                                          \
+#define REFUSED(ring, number_, call) REFUSED_ON(struct olivastrum_ring, ring, number_, call)
+#define REFUSED_ON(type, ring, number_, call)                                                                                 \
     do {                                                                                                                      \
-        struct olivastrum_ring before = (ring);                                                                               \
+        type before = (ring);                                                                                                 \
         memcpy(lent, &before, sizeof before);                                                                                 \
         if (mprotect(lent, room, PROT_READ)) fail("mprotect", 0);                                                             \
         unsigned got = (call);                                                                                                \
@@ -81,6 +82,29 @@ static void of_mode(uint32_t mode)
     if (olivastrum_visit(lent, ask).number || lent->visits != 1) fail("an accepted visit", 0);
 }
 
+/* The same of the inspection that a host keeps of such a ring. */
+static void inspected(uint32_t mode)
+{
+    struct olivastrum_set set = {{100, mode, 4, 1}, 2, {1, 1}, {30, 30}, {250, 250}, {300, 300}};
+    struct olivastrum_alloc alloc = {{15, 15}};
+    struct olivastrum_begun_inspection begun = olivastrum_begin_inspection(set, alloc);
+    if (begun.number) fail("beginning", begun.number);
+    struct olivastrum_inspection kept = begun.inspection, unbegun = kept, *watching = (struct olivastrum_inspection *)lent;
+    unbegun.n = 0;
+    struct olivastrum_next_entry entry = {OLIVASTRUM_VISIT_TAG, {0, 7, 0, 0, 0}, {1, 1}, 0}, none = entry, far = entry, odd = entry, mark = entry;
+    none.kind = 15;
+    far.visit.station = 256;
+    odd.kind = mark.kind = OLIVASTRUM_MARK_TAG;
+    odd.mark.mark = 256;
+    REFUSED_ON(struct olivastrum_inspection, unbegun, OLIVASTRUM_UNSOUND, olivastrum_inspect_record(watching, entry).number);
+    REFUSED_ON(struct olivastrum_inspection, kept, OLIVASTRUM_SHEET_WRONG, olivastrum_inspect_record(watching, none).number);
+    REFUSED_ON(struct olivastrum_inspection, kept, OLIVASTRUM_OUT_OF_RANGE, olivastrum_inspect_record(watching, far).number);
+    REFUSED_ON(struct olivastrum_inspection, kept, OLIVASTRUM_OUT_OF_RANGE, olivastrum_inspect_record(watching, odd).number);
+    memcpy(watching, &kept, sizeof kept);
+    if (olivastrum_inspect_record(watching, mark).record != 1 || watching->mark[1] != 1) fail("an accepted mark", 0);
+    if (olivastrum_inspect_record(watching, entry).rule != 3 || watching->progress.rule != 3) fail("a visit with another limit", 0);
+}
+
 int main(void)
 {
     room = (sizeof *lent + 65535) / 65536 * 65536;
@@ -89,6 +113,9 @@ int main(void)
     of_mode(OLIVASTRUM_TIMELY);
     of_mode(OLIVASTRUM_FDDI);
     of_mode(OLIVASTRUM_EARLIER);
-    if (count != 39) fail("calls", count);
+    inspected(OLIVASTRUM_TIMELY);
+    inspected(OLIVASTRUM_FDDI);
+    inspected(OLIVASTRUM_EARLIER);
+    if (count != 51) fail("calls", count);
     puts("ok");
 }

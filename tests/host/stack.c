@@ -27,6 +27,8 @@ static struct olivastrum_recorder recorder;
 static struct olivastrum_visit_record record;
 static struct olivastrum_station station;
 static struct olivastrum_mark_entry mark_entry;
+static struct olivastrum_inspection kept;
+static struct olivastrum_next_entry entry;
 static struct olivastrum_wagon_list list;
 static struct olivastrum_train train;
 static struct olivastrum_wagon wagon;
@@ -129,6 +131,16 @@ static struct olivastrum_plan_finding inspect_log_of(void)
     return olivastrum_inspect_log_of(plan_sheet, plan_length, sheet, length);
 }
 
+static struct olivastrum_begun_inspection begin_inspection(void)
+{
+    return olivastrum_begin_inspection(set, alloc);
+}
+
+static struct olivastrum_record_finding inspect_record(void)
+{
+    return olivastrum_inspect_record(&kept, entry);
+}
+
 static uint8_t empty_store(void)
 {
     return olivastrum_empty_store(emptied, sizeof emptied);
@@ -209,6 +221,8 @@ static struct function {
     {"olivastrum_log_entry", (call *)log_entry, OLIVASTRUM_STACK_LOG_ENTRY, 0},
     {"olivastrum_inspect_log", (call *)inspect_log, OLIVASTRUM_STACK_INSPECT_LOG, 0},
     {"olivastrum_inspect_log_of", (call *)inspect_log_of, OLIVASTRUM_STACK_INSPECT_LOG_OF, 0},
+    {"olivastrum_begin_inspection", (call *)begin_inspection, OLIVASTRUM_STACK_BEGIN_INSPECTION, 0},
+    {"olivastrum_inspect_record", (call *)inspect_record, OLIVASTRUM_STACK_INSPECT_RECORD, 0},
     {"olivastrum_empty_store", (call *)empty_store, OLIVASTRUM_STACK_EMPTY_STORE, 0},
     {"olivastrum_store_plan", (call *)store_plan, OLIVASTRUM_STACK_STORE_PLAN, 0},
     {"olivastrum_find_version", (call *)find_version, OLIVASTRUM_STACK_FIND_VERSION, 0},
@@ -247,11 +261,13 @@ static size_t needed(call *made, uint8_t paint)
 static void measure(struct function *f)
 {
     struct olivastrum_ring before = ring;
+    struct olivastrum_inspection kept_before = kept;
     for (int k = 0; k < 2; k++) {
         size_t need = needed(f->made, k == 0 ? 0xa5 : 0x5a);
         if (need > f->measured)
             f->measured = need;
         ring = before;
+        kept = kept_before;
     }
 }
 
@@ -282,8 +298,11 @@ static void with_sheets(void)
     recorder = olivastrum_add_visit(recorder, record, sheet, sizeof sheet);
     length = olivastrum_end_log(recorder, sheet, sizeof sheet).length;
     recorder.at -= recorder.at < OLIVASTRUM_VISIT_BYTES ? 0 : OLIVASTRUM_VISIT_BYTES;
+    kept = olivastrum_begin_inspection(set, alloc).inspection;
+    entry = olivastrum_log_entry(sheet, length, recorder.at);
     measure_all();
     recorder.at -= recorder.at < OLIVASTRUM_MARK_BYTES ? 0 : OLIVASTRUM_MARK_BYTES; /* the entry is the mark */
+    entry = olivastrum_log_entry(sheet, length, recorder.at);
     measure_all();
     length = olivastrum_write_plan_sheet(set, alloc, sheet, sizeof sheet).length;
     measure_all();

@@ -1,11 +1,13 @@
 -- What becomes of an inspection with a record, and with one record after another.
 use Prim.Native.Nat.{ℕ, zero, suc, _+_, _-_, _%_, _^_}
+use mathlib.Core.Path.{_≡_}
 use mathlib.Core.Bool.{false, cond}
 use mathlib.Core.List.{List, [], _∷_}
 use lib.Dec.{leb, eqb}
 use lib.ListN.{set}
 use Rattle.units.specs.Numbers.{fddi}
 use Rattle.units.specs.Places.{at}
+use Rattle.sets.specs.Lent.{setOf}
 use Rattle.sets.specs.declared.Head.{Head}
 use Rattle.sets.specs.declared.Set.{Set}
 use Rattle.plans.specs.declared.Alloc.{Alloc}
@@ -22,6 +24,10 @@ use Rattle.inspection.specs.declared.Course.{Course}
 use Rattle.inspection.specs.declared.Inspection.{Inspection}
 
 -- ---- a visit that keeps every rule moves the inspection on
+
+-- x is what comes of an asynchronous amount before the synchronous part; the header alone has a part in it
+abbrev pub LeadIn : Head → ℕ → ℕ → Type 0
+LeadIn head asynchronous x = (n : ℕ) (w c d p : List ℕ) → x ≡ lead (setOf head n w c d p) asynchronous
 
 -- where the clock stands when the token station's timer is at 0, now that the token has come: when its synchronous part starts, but an FDDI timer that has run for TTRT or longer loses just that
 unfoldable pub baseWith : Head → ℕ → ℕ → ℕ → ℕ

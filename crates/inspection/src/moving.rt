@@ -4,19 +4,17 @@ use super::counter;
 use super::rules;
 use entries::VisitEntry;
 use sets::Head;
-use sets::Set;
 use units::numbers;
 ghost use mathlib.Core.Path.{_≡_};
 ghost use Prim.Native.Nat.{_<_};
 ghost use Rattle.rings.specs.State.{following};
-ghost use Rattle.rings.specs.Timers.{lead};
-ghost use Rattle.inspection.specs.Records.{baseWith, unusedWith, spanWith, courseWith, markOf};
+ghost use Rattle.inspection.specs.Records.{LeadIn, baseWith, unusedWith, spanWith, courseWith, markOf};
 
 // Of the asynchronous amount, what comes before the synchronous part: all of it in the 2002 edition, else nothing.
-pub(crate) fn lead_of(set: Set, asynchronous: u32) -> u32
-    ensures { λ r. ⌜ r ≡ lead set asynchronous ⌝ }
+pub(crate) fn lead_of(head: Head, asynchronous: u32) -> u32
+    ensures { λ r. ⌜ LeadIn head asynchronous r ⌝ }
 {
-    if set.head.mode == numbers::EARLIER {
+    if head.mode == numbers::EARLIER {
         return asynchronous;
     }
     0

@@ -11,7 +11,7 @@ use units::numbers;
 ghost use mathlib.Core.Path.{_≡_};
 ghost use Prim.Native.Nat.{_-_, _≤_};
 ghost use Rattle.entries.specs.declared.Entry.the-variants.{Visit, Mark};
-ghost use Rattle.inspection.specs.Rules.{placeOf, limitWith, unlessMarked, dueWith, ruleKept};
+ghost use Rattle.inspection.specs.Rules.{placeOf, limitWith, unlessMarked, dueWith, ruleKept, brokenRule};
 
 // The larger of a − b and 0.
 pub(crate) fn less(a: u32, b: u32) -> u32
@@ -88,7 +88,7 @@ fn mark_kept(due: Expected, mark: MarkEntry, rule: u8) -> bool
 }
 
 // The record keeps this one of the rules, from 1 to 5.
-pub(crate) fn rule_kept(due: Expected, entry: Entry, rule: u8) -> bool
+fn rule_kept(due: Expected, entry: Entry, rule: u8) -> bool
     requires { ⌜ (1 ≤ rule) × (rule ≤ 5) ⌝ }
     ensures { λ r. ⌜ r ≡ ruleKept due entry rule ⌝ }
 {
@@ -96,4 +96,18 @@ pub(crate) fn rule_kept(due: Expected, entry: Entry, rule: u8) -> bool
         Entry::Visit(visit) => visit_kept(due, visit, rule),
         Entry::Mark(mark) => mark_kept(due, mark, rule),
     }
+}
+
+// The first rule that the record breaks, 0 if none.
+pub(crate) fn broken_rule(due: Expected, entry: Entry) -> u8
+    ensures { λ r. ⌜ r ≡ brokenRule due entry ⌝ }
+{
+    let mut rule: u8 = 1;
+    while rule <= 5 {
+        if !rule_kept(due, entry, rule) {
+            return rule;
+        }
+        rule += 1;
+    }
+    0
 }

@@ -17,6 +17,7 @@
 --     Places       places from N on are never looked at
 --     Editions     the two editions told apart
 --     Logs         the finding of a log's bytes
+--     Watched      an inspection that is kept is the log's
 --     Promised     the promises, one by one
 pub mod Reaching
 pub mod Standing
@@ -36,4 +37,5 @@ pub mod Witness
 pub mod Places
 pub mod Editions
 pub mod Logs
+pub mod Watched
 pub mod Promised

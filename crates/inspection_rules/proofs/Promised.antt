@@ -34,6 +34,7 @@ use Rattle.inspection.proofs.RecordLaws.{all-stays}
 use Rattle.inspection.proofs.FindingLaws.{one-named, none-named, handed-length, finding-refused}
 use Rattle.inspection_rules.proofs.Finding.{all-join, set-is, reaches, could-keeps, keeps-could, Stopped, ends}
 use Rattle.inspection_rules.proofs.Further.{further}
+use Rattle.inspection_rules.proofs.Watched.{watched}
 use Rattle.inspection_rules.proofs.Next.{start-free, start-between, one-more}
 use Rattle.inspection_rules.proofs.One.{not-both, one-finding}
 use Rattle.inspection_rules.proofs.Amounts.{which-amounts}
@@ -264,4 +265,5 @@ promised =
       log-no-further = λ bs cs before e other another bytes short z. log-further bs bytes short z cs before e other another;
       log-of-run = λ t a counter calls h. log-clean t a (entriesOf counter t a calls) _ h (run-fits t a counter calls) (model-accepted t a counter calls h) (model-length t a counter calls);
       recorded-run = recorded-accepted;
+      watched = watched;
     }

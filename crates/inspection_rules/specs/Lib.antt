@@ -4,10 +4,12 @@
 --     Model       the record of a visit of the model, as our recorder writes it down
 --     Witness     an FDDI log with a late token, and a log with marks
 --     Editions    a run of each edition that the other does not allow
+--     Watched     an inspection that a host keeps, record by record
 --     Promised    an inspection accepts just the first, and else names the second
 pub mod Gives
 pub mod Broken
 pub mod Model
 pub mod Witness
 pub mod Editions
+pub mod Watched
 pub mod Promised

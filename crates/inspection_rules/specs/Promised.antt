@@ -38,6 +38,7 @@ use Rattle.inspection.specs.declared.Expected.{Expected}
 use Rattle.inspection_rules.specs.Gives.{Asked, CouldVisit, ringWith, ringAfter, GivesFrom, Gives}
 use Rattle.inspection_rules.specs.Broken.{lastOf, markAfter, took, StartRule, Rule, FirstBroken}
 use Rattle.inspection_rules.specs.Model.{WrittenVisit}
+use Rattle.inspection_rules.specs.Watched.{Watched}
 use Rattle.inspection_rules.specs.Witness.{LateLog, MarkedLog}
 use Rattle.inspection_rules.specs.Editions.{Editions}
 
@@ -203,3 +204,5 @@ pub record Promised : Type 0 where
       let told = reverse (toldIn (eventsOf t a calls)) in
       let s = recorded begins told in
       findingIn (take (endAnswer s .length) (endBuffer s)) ≡ record { records = length (keptOf begins told); «record» = 0; rule = 0; number = 0 }
+  -- an inspection that a host keeps says, record by record, what the inspection of the log's records so far says, and behind all of them what that of the whole log does
+  pub watched : (bs : List ℕ) → AllBytes bs → readLog bs .number ≡ 0 → Watched bs

@@ -1,4 +1,4 @@
--- Everything that `specs/Promised.antt` lists, proved. The ring and the answer are the call's by definition; a refused call gives the ring back, whatever its number.
+-- Everything that `specs/Promised.antt` lists, proved. The ring or the inspection, and the answer, are the call's by definition; a refused call gives it back, whatever its number.
 use Prim.Native.Nat.{ℕ, zero, suc}
 use mathlib.Core.Path.{_≡_, refl}
 use mathlib.Core.Logic.{_≢_}
@@ -9,6 +9,9 @@ use Rattle.rings.specs.Marking.{markNumber, markedWith, unmarkedWith}
 use Rattle.rings.specs.MarkLaws.{withdrawal-number}
 use Rattle.rings.specs.declared.Ring.{Ring}
 use Rattle.rings.specs.declared.Message.{Message}
+use Rattle.entries.specs.declared.Entry.{Entry}
+use Rattle.inspection.specs.Kept.{entryOf, recordNumber, recordedWith, answeredWith}
+use Rattle.inspection.specs.declared.KeptInspection.{KeptInspection}
 use Rattle.lending.specs.Promised.{Promised}
 
 -- a visit that is not answered 0 gives the ring back
@@ -35,6 +38,12 @@ unfolding unmarkedWith
 unmark-refused zero r s n = absurd (n refl)
 unmark-refused (suc k) r s n = refl
 
+-- and a record
+record-refused : (k : ℕ) (i : KeptInspection) (e : Entry) → answeredWith k i e .number ≢ 0 → recordedWith k i e ≡ i
+unfolding recordedWith answeredWith
+record-refused zero i e n = absurd (n refl)
+record-refused (suc k) i e n = refl
+
 pub promised : Promised
 promised =
     record {
@@ -42,4 +51,5 @@ promised =
       hand-in = λ r m. record { ring = refl; answered = refl; refused = message-refused (handInNumber r m) r m };
       mark = λ r s. record { ring = refl; answered = refl; refused = mark-refused (markNumber r s) r s };
       unmark = λ r s. record { ring = refl; answered = refl; refused = unmark-refused (markNumber r s) r s };
+      inspect = λ i x. record { kept = refl; answered = refl; refused = record-refused (recordNumber (i .n) x) i (entryOf x) };
     }

@@ -1,4 +1,4 @@
--- A call on a lent ring: what the host's memory holds of the ring when the call ends, and what is answered. Both are what the form by value gives.
+-- A call on a lent ring or a lent inspection: what the host's memory holds of it when the call ends, and what is answered. Both are what the form by value gives.
 use Prim.Native.Nat.{ℕ}
 use mathlib.Core.Path.{_≡_}
 use mathlib.Core.Logic.{_≢_}
@@ -10,6 +10,10 @@ use Rattle.rings.specs.declared.Ring.{Ring}
 use Rattle.rings.specs.declared.Message.{Message}
 use Rattle.rings.specs.declared.VisitAnswer.{VisitAnswer}
 use Rattle.rings.specs.declared.MarkAnswer.{MarkAnswer}
+use Rattle.inspection.specs.Kept
+use Rattle.inspection.specs.declared.LogEntry.{LogEntry}
+use Rattle.inspection.specs.declared.KeptInspection.{KeptInspection}
+use Rattle.inspection.specs.declared.RecordFinding.{RecordFinding}
 
 -- a visit at the lent ring, with these asynchronous frames asked for
 pub record VisitLent (entry : Ring) (ask : Steps.Ask) (exit : Ring) (answer : VisitAnswer) : Type 0 where
@@ -46,3 +50,12 @@ pub record UnmarkLent (entry : Ring) (station : Station) (exit : Ring) (said : �
   pub answered : said ≡ Marking.unmarked entry station .number
   -- a refused call leaves each field of the ring as it was
   pub refused : said ≢ 0 → exit ≡ entry
+
+-- a record inspected, on the inspection that the host keeps and lends
+pub record RecordLent (entry : KeptInspection) (told : LogEntry) (exit : KeptInspection) (finding : RecordFinding) : Type 0 where
+  -- the inspection in the host's memory is the one behind the record
+  pub kept : exit ≡ Kept.recorded entry told
+  -- the number, the record's number, the rule and what was compared are the record's
+  pub answered : finding ≡ Kept.answered entry told
+  -- a refused record leaves each field of the inspection as it was
+  pub refused : finding .number ≢ 0 → exit ≡ entry

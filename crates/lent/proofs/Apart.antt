@@ -31,7 +31,7 @@ use Rattle.rings.proofs.Ring as T
 use Rattle.rings.proofs.Ring.Laws as T′
 use Rattle.lent.proofs.Loans.{Loan, shared, mutable, parts}
 
-abbrev membersOf : List Field → List Member
+abbrev pub membersOf : List Field → List Member
 membersOf [] = []
 membersOf (F ∷ Fs) = record { row = F .row; ty = lone (F .row .mir) } ∷ membersOf Fs
 
@@ -44,7 +44,7 @@ alloc = membersOf (Al.the-type .parts)
 abbrev ring : List Member
 ring = membersOf (T.the-type .parts)
 
-map-id : (xs : List ℕ) → map (λ (x : ℕ). x) xs ≡ xs
+pub map-id : (xs : List ℕ) → map (λ (x : ℕ). x) xs ≡ xs
 map-id [] = refl
 map-id (x ∷ xs) = ap (_∷_ x) (map-id xs)
 
@@ -117,7 +117,7 @@ module _ {M : Type 1} (𝓤 : URA M) (H : Heap 𝓤) (A : Atoms 𝓤) (W : Given
   unfolding partOf
   alloc-out h = struct-parts 𝓤 H A W fullShare (Al.the-type .name) alloc (lawfuls 𝓤 H A W (Al.the-type .parts) Al′.the-laws) (Al.the-type .to h) b (o + 2068)
 
-  back-in : (ν : Sym) (ms : List Member) (a : Denots (rowsOf ms)) (p : ℕ) → ent 𝓤 (sep 𝓤 ⟦ partsAt fullShare ms 0 a b p ⟧ (PartsBack 𝓤 H A fullShare ν ms b p)) ⟦ partAt (Struct (shapeOf ν ms)) fullShare a b p ⟧
+  pub back-in : (ν : Sym) (ms : List Member) (a : Denots (rowsOf ms)) (p : ℕ) → ent 𝓤 (sep 𝓤 ⟦ partsAt fullShare ms 0 a b p ⟧ (PartsBack 𝓤 H A fullShare ν ms b p)) ⟦ partAt (Struct (shapeOf ν ms)) fullShare a b p ⟧
   back-in ν ms a p =
       qed W (‵ (partsAt fullShare ms 0 a b p) ∷ raw (PartsBack 𝓤 H A fullShare ν ms b p) ∷ []) ∵ move ! (1 ∷ []) $ use1 W (raw (Back a)) (allE 𝓤 Back a) $ move ! (1 ∷ 0 ∷ []) $
       use2 W (‵ (partAt (Struct (shapeOf ν ms)) fullShare a b p)) (apply∗ 𝓤 ⟦ partsAt fullShare ms 0 a b p ⟧ ⟦ partAt (Struct (shapeOf ν ms)) fullShare a b p ⟧) $ done !

@@ -25,6 +25,11 @@ use Rattle.entries.proofs.MarkEntry.Laws as MarkEntry
 use Rattle.logs.proofs.ReadLog.Laws as ReadLog
 use Rattle.logs.proofs.Recorder.Laws as Recorder
 use Rattle.inspection.proofs.Finding.Laws as Finding
+use Rattle.inspection.proofs.LogEntry.Laws as LogEntry
+use Rattle.inspection.proofs.Progress.Laws as Progress
+use Rattle.inspection.proofs.KeptInspection.Laws as KeptInspection
+use Rattle.inspection.proofs.BegunInspection.Laws as BegunInspection
+use Rattle.inspection.proofs.RecordFinding.Laws as RecordFinding
 use Rattle.versions.proofs.StoredPlan.Laws as StoredPlan
 use Rattle.versions.proofs.FoundVersion.Laws as FoundVersion
 use Rattle.versions.proofs.VersionsIn.Laws as VersionsIn
@@ -33,7 +38,6 @@ use Rattle.hopper.proofs.WagonList.Laws as WagonList
 use Rattle.hopper.proofs.Train.Laws as Train
 use Rattle.hopper.proofs.Coupled.Laws as Coupled
 use Rattle.plan_inspections.proofs.PlanFinding.Laws as PlanFinding
-use Rattle.lent.proofs.LogEntry.Laws as LogEntry
 
 abbrev place : Option (Ty × ℕ) → ℕ
 place none = 0
@@ -107,6 +111,18 @@ recorder = refl
 
 finding : layout Finding.mir 4 ≡ 24 ∷ 0 ∷ 8 ∷ 16 ∷ 17 ∷ []
 finding = refl
+
+progress : layout Progress.mir 8 ≡ 32 ∷ 0 ∷ 8 ∷ 12 ∷ 16 ∷ 20 ∷ 24 ∷ 28 ∷ 29 ∷ []
+progress = refl
+
+kept-inspection : layout KeptInspection.mir 8 ≡ 2232 ∷ 0 ∷ 16 ∷ 20 ∷ 532 ∷ 1044 ∷ 1556 ∷ 2068 ∷ 2200 ∷ []
+kept-inspection = refl
+
+begun-inspection : layout BegunInspection.mir 2 ≡ 2240 ∷ 0 ∷ 2232 ∷ []
+begun-inspection = refl
+
+record-finding : layout RecordFinding.mir 5 ≡ 24 ∷ 0 ∷ 8 ∷ 12 ∷ 16 ∷ 17 ∷ []
+record-finding = refl
 
 stored-plan : layout StoredPlan.mir 2 ≡ 8 ∷ 0 ∷ 4 ∷ []
 stored-plan = refl

@@ -4,3 +4,5 @@ pub mod Plain
 pub mod Loans
 pub mod Apart
 pub mod LentWalk
+pub mod KeptApart
+pub mod KeptWalk

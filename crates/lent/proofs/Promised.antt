@@ -6,7 +6,8 @@ use borrow.Author.Tests.{ne-eqb}
 use Rattle.entries.specs.Entry.{blankEntry}
 use Rattle.entries.specs.declared.Entry.{Entry}
 use Rattle.entries.proofs.EntryLaws.{handed-visit, handed-mark, handed-none}
-use Rattle.lent.specs.Told.{noEntry, toldOf, told}
+use Rattle.inspection.specs.Kept.{toldOf}
+use Rattle.lent.specs.Told.{noEntry, told}
 use Rattle.lent.specs.Promised.{Promised}
 
 told-entry : (entry : Entry) (next : ℕ) → 0 < next → told (record { entry = entry; next = next }) ≡ toldOf entry next

@@ -1,4 +1,4 @@
-// What a host in C calls: sheets and logs on lent bytes, planning and opening by value, and the ring lent by the host, changed where it stands in the host's memory.
+// What a host in C calls: sheets and logs on lent bytes, planning and opening by value, and the ring and the inspection lent by the host, changed where they stand in the host's memory.
 // All are thin over the layers below; include/olivastrum.h declares them.
 ghost use mathlib.Core.Path.{_≡_};
 ghost use mathlib.Core.Bool.{true, false};
@@ -6,12 +6,13 @@ ghost use Rattle.plans.specs.Planned.{blankAlloc, planned};
 ghost use Rattle.sheets.specs.Reading.{readRequest, readPlan};
 ghost use Rattle.sheets.specs.Writing.{Wrote};
 ghost use Rattle.rings.specs.Opening.{opening};
-ghost use Rattle.lending.specs.Lent.{VisitLent, HandInLent, MarkLent, UnmarkLent};
+ghost use Rattle.lending.specs.Lent.{VisitLent, HandInLent, MarkLent, UnmarkLent, RecordLent};
 ghost use Rattle.entries.specs.Entry.{nextEntry};
-ghost use Rattle.lent.specs.Told.{toldOf, told};
+ghost use Rattle.lent.specs.Told.{told};
 ghost use Rattle.logs.specs.Reading.{readLog};
 ghost use Rattle.logs.specs.Writing.{Began, Added, AddedMark, EndedLog};
 ghost use Rattle.inspection.specs.Findings.{findingIn};
+ghost use Rattle.inspection.specs.Kept.{inspectionBegun, toldOf};
 ghost use Rattle.plan_inspections.specs.PlanFindings.{planFinding};
 ghost use Rattle.versions.specs.Answers.{Emptied, Stored, foundVersion, versionsIn};
 ghost use Rattle.hopper.specs.Wagons.{withMore, withoutLast};
@@ -20,12 +21,15 @@ ghost use Rattle.hopper.specs.Trains.{coupled, changedTrain, changedWagon};
 use entries::Entry;
 use entries::MarkEntry;
 use entries::NextEntry;
-use entries::VisitEntry;
 use hopper::Coupled;
 use hopper::Train;
 use hopper::Wagon;
 use hopper::WagonList;
+use inspection::BegunInspection;
 use inspection::Finding;
+use inspection::KeptInspection;
+use inspection::LogEntry;
+use inspection::RecordFinding;
 use logs::ReadLog;
 use logs::Recorder;
 use plan_inspections::PlanFinding;
@@ -47,16 +51,6 @@ use units::Station;
 use versions::FoundVersion;
 use versions::StoredPlan;
 use versions::VersionsIn;
-
-// What stands at a place of a log: an exported function returns no enum, so a number says the kind. It is the field's tag, 16 of a visit and 17 of a mark; 0 where no entry stands. The numbers of another kind are 0.
-#[repr(C)]
-pub struct LogEntry {
-    pub kind: u32,
-    pub visit: VisitEntry,
-    pub mark: MarkEntry,
-    // The place behind the entry; 0 where none stands.
-    pub next: usize,
-}
 
 // Reads a request sheet from the lent bytes.
 #[no_mangle]
@@ -391,6 +385,43 @@ pub extern "C" fn olivastrum_inspect_log_of(plan: &[u8], log: &[u8]) -> PlanFind
     ensures { λ r. ⌜ r ≡ planFinding (now (plan .entry)) (now (log .entry)) ⌝ }
 {
     plan_inspections::inspect_log_of(plan, log)
+}
+
+// Begins an inspection that the host keeps, with a ring's plan and before its first record; or a refusal with the blank one.
+#[no_mangle]
+pub extern "C" fn olivastrum_begin_inspection(set: Set, alloc: Alloc) -> BegunInspection
+    ensures { λ r. ⌜ r ≡ inspectionBegun set alloc ⌝ }
+{
+    inspection::keeping::begin_inspection(set, alloc)
+}
+
+// Inspects one record more, on the inspection that the host keeps.
+#[no_mangle]
+pub extern "C" fn olivastrum_inspect_record(
+    kept: &mut KeptInspection,
+    entry: LogEntry,
+) -> RecordFinding
+    ensures { λ answer. ⌜ RecordLent (now (kept .entry)) entry (now (kept .exit)) answer ⌝ }
+{
+    let head = kept.head;
+    let n = kept.n;
+    let progress = kept.progress;
+    let next = inspection::in_place::inspect_on(
+        &kept.w,
+        &kept.s,
+        &mut kept.base,
+        &mut kept.sent,
+        &mut kept.mark,
+        head,
+        n,
+        progress,
+        entry,
+    );
+    if next.number != 0 {
+        return next.answer;
+    }
+    kept.progress = next.progress;
+    next.answer
 }
 
 // Makes the lent area a store without a version.

@@ -1,5 +1,5 @@
 -- `told_of` is right because each kind is told as the definition has it.
-use Rattle.lent.specs.Told.{toldOf}
+use Rattle.inspection.specs.Kept.{toldOf}
 use mathlib.Core.Path.{refl}
 use borrow.Author.Needs.{needs}
 use Rattle.lent.proofs.told_of.Statement.{statement}
