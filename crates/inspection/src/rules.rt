@@ -88,7 +88,7 @@ fn mark_kept(due: Expected, mark: MarkEntry, rule: u8) -> bool
 }
 
 // The record keeps this one of the rules, from 1 to 5.
-fn rule_kept(due: Expected, entry: Entry, rule: u8) -> bool
+pub(crate) fn rule_kept(due: Expected, entry: Entry, rule: u8) -> bool
     requires { ⌜ (1 ≤ rule) × (rule ≤ 5) ⌝ }
     ensures { λ r. ⌜ r ≡ ruleKept due entry rule ⌝ }
 {

@@ -9,7 +9,7 @@ use Rattle.inspection.specs.Rules.{expected}
 use Rattle.inspection.specs.Records.{movedOn}
 use Rattle.inspection.specs.Kept.{standing}
 use Rattle.inspection.specs.declared.Inspection.{Inspection}
-use Rattle.inspection.proofs.RecordLaws.{asked-there, visit-stored, mark-stored}
+use Rattle.inspection.proofs.RecordLaws.{asked-there, visit-moved, mark-moved}
 use Rattle.inspection.proofs.KeptLaws.{step-stops, step-moves}
 use Rattle.inspection.proofs.in_place.step_on.Statement.{statement}
 use Rattle.inspection.proofs.in_place.step_on.Tie as tie
@@ -44,7 +44,7 @@ returns-2 c =
     let s = lent start in
     step-moves s (a .head) (a .n) (a .w .now) (a .s .now) (a .entry) refl _ (asked (ruled .before)) _ (ruled .broken-rule .ensures) none _ (λ x d p.
     let t = setOf (a .head) (a .n) (a .w .now) x d p in
-    visit-stored s t (allocOf (a .s .now)) _ (ruled .before .before .before .before .before .place .ensures) _ _ _ _ _ _ (leads .lead-of .ensures (a .n) (a .w .now) x d p) (c .before .before .before .base-after .ensures) (c .course-after .ensures) (counted .wrapping-add-u64 .ensures) none
+    visit-moved s t (allocOf (a .s .now)) _ (ruled .before .before .before .before .before .place .ensures) _ _ _ _ _ _ (leads .lead-of .ensures (a .n) (a .w .now) x d p) (c .before .before .before .base-after .ensures) (c .course-after .ensures) (counted .wrapping-add-u64 .ensures) none
     ∙ ap (movedOn s t (allocOf (a .s .now))) (sym (told .entry .given .1)))
 
 returns-3 : tie.Need-returns-3
@@ -57,7 +57,7 @@ returns-3 c =
     let none = counted .before .if1 .left in
     let s = lent start in
     step-moves s (a .head) (a .n) (a .w .now) (a .s .now) (a .entry) refl _ (asked (ruled .before)) _ (ruled .broken-rule .ensures) none _ (λ x d p.
-    mark-stored s _ _ _ _ _ (c .before .place2 .ensures) (c .mark-of .ensures) (counted .wrapping-add-u64 .ensures) none
+    mark-moved s _ _ _ _ _ (c .before .place2 .ensures) (c .mark-of .ensures) (counted .wrapping-add-u64 .ensures) none
     ∙ ap (movedOn s (setOf (a .head) (a .n) (a .w .now) x d p) (allocOf (a .s .now))) (sym (told .entry2 .given .1)))
 
 pub step-on-spec : {M : Type 1} → statement M
