@@ -45,6 +45,16 @@ unfoldable pub line : List (List ℕ) → List ℕ
 line [] = newline ∷ []
 line (word ∷ words) = word ++ lineOn words
 
+-- numbers as words
+unfoldable pub numberWords : List ℕ → List (List ℕ)
+numberWords [] = []
+numberWords (n ∷ ns) = decimalOf n ∷ numberWords ns
+
+-- numbers, a space before each
+unfoldable pub fieldsOf : List ℕ → List ℕ
+fieldsOf [] = []
+fieldsOf (n ∷ ns) = (space ∷ decimalOf n) ++ fieldsOf ns
+
 -- ---- the two lines that say why there is no answer
 
 -- "refused"

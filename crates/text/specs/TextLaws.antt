@@ -2,7 +2,7 @@
 use Prim.Native.Nat.{ℕ, zero, suc, _+_, _*_, _^_, _/_, _%_, _≤_, _<_, min}
 use mathlib.Core.Path.{_≡_, refl, sym, ap, _∙_}
 use mathlib.Core.Bool.{cond}
-use mathlib.Core.List.{List, [], _∷_, _++_, append-assoc}
+use mathlib.Core.List.{List, [], _∷_, _++_, append-assoc, append-nil}
 use mathlib.Core.Logic.{_≢_, ⊎-elim}
 use native.Mathlib.Nat.{mul-zero, mul-suc, pow-suc, div-lt-iff-lt-mul}
 use native.Mathlib.Omega.{arith}
@@ -14,7 +14,7 @@ use Rattle.units.specs.Numbers.{bufferTooShort}
 use Rattle.units.specs.SmallLaws.{below-or-not}
 use Rattle.fields.specs.Rows.{laid, rows}
 use Rattle.fields.specs.RowLaws.{laid-none, laid-length, laid-then, laid-first}
-use Rattle.text.specs.Text.{digit, decimalWithin, decimalOf, lineOn, line, newline, space, Put, PutShort, PutWithin, Printed, pageSize, pageWith, lengthOn, numberOn, Says, textOr, refusedWord, refusedLine, lineWord, cannotBeRead, unreadLine}
+use Rattle.text.specs.Text.{digit, decimalWithin, decimalOf, lineOn, line, numberWords, fieldsOf, newline, space, Put, PutShort, PutWithin, Printed, pageSize, pageWith, lengthOn, numberOn, Says, textOr, refusedWord, refusedLine, lineWord, cannotBeRead, unreadLine}
 use Rattle.text.specs.declared.Said.{Said}
 
 -- ---- text put into a page
@@ -197,6 +197,45 @@ line-end front = refl
 
 pub line-one : (word : List ℕ) → line (word ∷ []) ≡ word ++ (newline ∷ [])
 line-one word = line-first word [] ∙ line-end word
+
+-- one number more
+pub fields-next : (ns : List ℕ) (n : ℕ) → fieldsOf ns ++ (space ∷ decimalOf n) ≡ fieldsOf (ns ++ (n ∷ []))
+unfolding fieldsOf
+fields-next [] n = sym (append-nil (space ∷ decimalOf n))
+fields-next (m ∷ ns) n = append-assoc (space ∷ decimalOf m) (fieldsOf ns) (space ∷ decimalOf n) ∙ ap (λ (z : List ℕ). (space ∷ decimalOf m) ++ z) (fields-next ns n)
+
+-- the numbers, and the line's end
+fields-end : (ns : List ℕ) → fieldsOf ns ++ (newline ∷ []) ≡ lineOn (numberWords ns)
+unfolding fieldsOf numberWords lineOn
+fields-end [] = refl
+fields-end (n ∷ ns) = append-assoc (space ∷ decimalOf n) (fieldsOf ns) (newline ∷ []) ∙ ap (λ (z : List ℕ). (space ∷ decimalOf n) ++ z) (fields-end ns)
+
+-- a word, numbers, and the line's end
+pub line-fields : (word ns : List ℕ) → (word ++ fieldsOf ns) ++ (newline ∷ []) ≡ line (word ∷ numberWords ns)
+unfolding line
+line-fields word ns = append-assoc word (fieldsOf ns) (newline ∷ []) ∙ ap (λ (z : List ℕ). word ++ z) (fields-end ns)
+
+fields-short : (ns : List ℕ) → length (fieldsOf ns) ≤ 21 * length ns
+unfolding fieldsOf
+fields-short [] = omega arith
+fields-short (n ∷ ns) = omega (arith, length-append (space ∷ decimalOf n) (fieldsOf ns), field-short n, fields-short ns)
+
+line-short : (word ns : List ℕ) → length (line (word ∷ numberWords ns)) ≤ length word + (21 * length ns + 1)
+line-short word ns =
+    rw (← line-fields word ns)
+    (omega (arith, length-append (word ++ fieldsOf ns) (newline ∷ []), length-append word (fieldsOf ns), fields-short ns))
+
+-- a line of a word and numbers, put where it has room, or behind a segment
+pub line-put : {before after : List ℕ} {a r : ℕ} (word ns : List ℕ)
+    → PutWithin (length word + (21 * length ns + 1)) before a (line (word ∷ numberWords ns)) after r → a + (length word + (21 * length ns + 1)) ≤ length before
+    → PutShort (length word + (21 * length ns + 1)) before a (line (word ∷ numberWords ns)) after r
+line-put word ns k room = k .put room (line-short word ns)
+
+pub line-then : {before middle after s : List ℕ} {a r q most : ℕ} (word ns : List ℕ)
+    → PutShort most before a s middle r → PutWithin (length word + (21 * length ns + 1)) middle r (line (word ∷ numberWords ns)) after q
+    → a + most + (length word + (21 * length ns + 1)) ≤ length before
+    → PutShort (most + (length word + (21 * length ns + 1))) before a (s ++ line (word ∷ numberWords ns)) after q
+line-then word ns p k fits = within-then p k (line-short word ns) fits
 
 -- a line whose last word has two parts
 pub line-parts : (word part rest : List ℕ) → line (word ∷ (part ++ rest) ∷ []) ≡ ((word ++ (space ∷ part)) ++ rest) ++ (newline ∷ [])

@@ -1,9 +1,10 @@
 // Text put into a page. Each public function puts a text into the page from a place on, and answers the place behind it. If the page has no room for the most bytes that it may put, the page stays as it was and the answer is the place itself.
 ghost use mathlib.Core.Path.{_≡_};
 ghost use mathlib.Core.List.{[], _∷_};
-ghost use Prim.Native.Nat.{_+_, _-_, _<_, _≤_};
+ghost use Prim.Native.Nat.{_+_, _-_, _*_, _<_, _≤_};
+ghost use lib.Dec.{leb};
 ghost use lib.ListN.{length};
-ghost use Rattle.text.specs.Text.{Put, PutShort, PutWithin, Room, digit, decimalOf, space, newline, refusedLine, unreadLine};
+ghost use Rattle.text.specs.Text.{Put, PutShort, PutWithin, Room, digit, decimalOf, space, newline, fieldsOf, numberWords, line, refusedLine, unreadLine};
 
 // How many bytes a page must have, so that every text of the program fits.
 pub const PAGE_SIZE: usize = 65_536;
@@ -68,6 +69,20 @@ fn put_spaced(page: &mut [u8], at: usize, n: u64) -> usize
     put_decimal(page, next, n)
 }
 
+// The numbers, each with a space before it.
+fn put_fields(page: &mut [u8], at: usize, numbers: &[u64]) -> usize
+    requires { ⌜ at + 21 * length (now numbers) ≤ length (now page) ⌝ }
+    ensures { λ r. ⌜ PutShort (21 * length (now (numbers .entry))) (now (page .entry)) at (fieldsOf (now (numbers .entry))) (now (page .exit)) r ⌝ }
+{
+    let mut next = at;
+    let mut i: usize = 0;
+    while i < numbers.len() {
+        next = put_spaced(page, next, numbers[i]);
+        i += 1;
+    }
+    next
+}
+
 // How many bytes a page of this size has from the place on.
 fn left(size: usize, at: usize) -> usize
     ensures { λ r. ⌜ r ≡ size - at ⌝ }
@@ -76,6 +91,20 @@ fn left(size: usize, at: usize) -> usize
         return 0;
     }
     size - at
+}
+
+// A page of this size has room from the place on for a line of a word of so many bytes and of so many numbers.
+fn has_room(size: usize, at: usize, word: usize, numbers: usize) -> bool
+    ensures { λ r. ⌜ r ≡ leb (at + (word + (21 * numbers + 1))) size ⌝ }
+{
+    let room = left(left(size, at), word);
+    if room == 0 {
+        return false;
+    }
+    if (room - 1) / 21 < numbers {
+        return false;
+    }
+    true
 }
 
 // A word of at most 20 bytes.
@@ -121,6 +150,18 @@ pub fn put_end(page: &mut [u8], at: usize) -> usize
     put_byte(page, at, b'\n')
 }
 
+// A line: a word, the numbers with a space before each, and the line's end.
+pub fn put_line(page: &mut [u8], at: usize, word: &[u8], numbers: &[u64]) -> usize
+    ensures { λ r. ⌜ PutWithin (length (now (word .entry)) + (21 * length (now (numbers .entry)) + 1)) (now (page .entry)) at (line (now (word .entry) ∷ numberWords (now (numbers .entry)))) (now (page .exit)) r ⌝ }
+{
+    if !has_room(page.len(), at, word.len(), numbers.len()) {
+        return at;
+    }
+    let named = put_word(page, at, word);
+    let numbered = put_fields(page, named, numbers);
+    put_byte(page, numbered, b'\n')
+}
+
 // `refused`, and the number.
 pub fn put_refused(page: &mut [u8], at: usize, number: u8) -> usize
     ensures { λ r. ⌜ PutWithin 42 (now (page .entry)) at (refusedLine number) (now (page .exit)) r ⌝ }
@@ -128,9 +169,7 @@ pub fn put_refused(page: &mut [u8], at: usize, number: u8) -> usize
     if left(page.len(), at) < 42 {
         return at;
     }
-    let refused = put_word(page, at, b"refused");
-    let numbered = put_spaced(page, refused, number as u64);
-    put_byte(page, numbered, b'\n')
+    put_line(page, at, b"refused", &[number as u64])
 }
 
 // `line N: cannot be read`.
