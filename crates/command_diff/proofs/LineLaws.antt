@@ -1,5 +1,5 @@
 -- The lines of lists that are put together, for the proofs of what puts them. No rule stands here.
-use Prim.Native.Nat.{ℕ, zero, suc, _+_, _-_, _*_, _≤_, min}
+use Prim.Native.Nat.{ℕ, zero, suc, _+_, _-_, _*_, _≤_, _<_, min}
 use mathlib.Core.Path.{_≡_, refl, sym, ap, _∙_}
 use mathlib.Core.Bool.{Bool}
 use mathlib.Core.List.{List, [], _∷_, _++_, append-assoc, append-nil}
@@ -7,9 +7,9 @@ use mathlib.Core.Logic.{_≢_}
 use native.Mathlib.Numerals.{add-one}
 use native.Mathlib.Omega.{arith}
 use borrow.Author.Tests.{eq-eqb, ne-eqb}
-use lib.ListN.{length}
-use Rattle.text.specs.Text.{space, newline, decimalOf, lineOn, line, refusedLine}
-use Rattle.text.specs.TextLaws.{line-first, line-next, line-end}
+use lib.ListN.{length, getD}
+use Rattle.text.specs.Text.{space, decimalOf, lineOn, line, numberWords, refusedWord}
+use Rattle.text.specs.TextLaws.{line-first, line-next}
 use Rattle.differences.specs.Differences.{Difference, inHeader, inStation, oneSided, changed, gathered, headerChanged, headersChanged}
 use Rattle.command_diff.proofs.BackLaws.{line-some}
 use Rattle.command_diff.specs.DiffText.{letterWord, newWord, oldWord, sideWord, fiveWords, wordsOf, lineOf, linesOf, linesSize, sideRefused}
@@ -70,31 +70,29 @@ module _ (make : ℕ → ℕ → Difference) (old new : ℕ) where
 
 -- ---- the words of a line, put one behind another
 
-pub header-line : (tag old new : ℕ) → old ≢ new
-    → ((decimalOf tag ++ (space ∷ decimalOf old)) ++ (space ∷ decimalOf new)) ++ (newline ∷ []) ≡ linesOf (changed (inHeader tag) old new)
-unfolding wordsOf
-header-line tag old new n = rw (lines-changed (inHeader tag) old new n, line-first, line-next, line-next, line-end) refl
+pub header-line : (tag old new : ℕ) → old ≢ new → decimalOf tag ++ line ([] ∷ numberWords (old ∷ new ∷ [])) ≡ linesOf (changed (inHeader tag) old new)
+unfolding wordsOf line numberWords
+header-line tag old new n = rw (lines-changed (inHeader tag) old new n) refl
 
 pub number-line : (i j old new : ℕ) → old ≢ new
-    → (((decimalOf i ++ (space ∷ letterWord j)) ++ (space ∷ decimalOf old)) ++ (space ∷ decimalOf new)) ++ (newline ∷ []) ≡ linesOf (changed (inStation i j) old new)
-unfolding wordsOf
-number-line i j old new n = rw (lines-changed (inStation i j) old new n, line-first, line-next, line-next, line-next, line-end) refl
+    → (decimalOf i ++ (space ∷ letterWord j)) ++ line ([] ∷ numberWords (old ∷ new ∷ [])) ≡ linesOf (changed (inStation i j) old new)
+unfolding wordsOf line lineOn numberWords
+number-line i j old new n = rw (lines-changed (inStation i j) old new n) (append-assoc (decimalOf i) (space ∷ letterWord j) (lineOn (decimalOf old ∷ decimalOf new ∷ [])))
 
 pub alone-line : (new : Bool) (i w c d p s : ℕ) → (decimalOf i ++ (space ∷ sideWord new)) ++ lineOn (fiveWords w c d p s) ≡ lineOf (oneSided new i w c d p s)
 unfolding wordsOf
 alone-line new i w c d p s = sym (line-first (decimalOf i) (sideWord new ∷ fiveWords w c d p s) ∙ line-next (decimalOf i) (sideWord new) (fiveWords w c d p s))
 
-pub on-five : (v a b c d : List ℕ) → lineOn (v ∷ a ∷ b ∷ c ∷ d ∷ []) ≡ (((((space ∷ v) ++ (space ∷ a)) ++ (space ∷ b)) ++ (space ∷ c)) ++ (space ∷ d)) ++ (newline ∷ [])
-unfolding lineOn
-on-five v a b c d = simp append-assoc
+-- "new refused", "old refused"
+abbrev pub newRefused : List ℕ
+newRefused = newWord ++ (space ∷ refusedWord)
 
-pub new-refused : (n : ℕ) → (110 ∷ 101 ∷ 119 ∷ 32 ∷ []) ++ refusedLine n ≡ sideRefused newWord n
-unfolding line lineOn
-new-refused n = refl
+abbrev pub oldRefused : List ℕ
+oldRefused = oldWord ++ (space ∷ refusedWord)
 
-pub old-refused : (n : ℕ) → (111 ∷ 108 ∷ 100 ∷ 32 ∷ []) ++ refusedLine n ≡ sideRefused oldWord n
-unfolding line lineOn
-old-refused n = refl
+pub side-refused : (side : List ℕ) (n : ℕ) → line ((side ++ (space ∷ refusedWord)) ∷ numberWords (n ∷ [])) ≡ sideRefused side n
+unfolding line lineOn numberWords
+side-refused side n = append-assoc side (space ∷ refusedWord) (lineOn (decimalOf n ∷ []))
 
 -- ---- how much is put, of plans with n and m stations: the lines of the header, of the stations that both have, and of those that one has more
 
@@ -121,12 +119,20 @@ unfolding linesOf
 none-told [] e = refl
 none-told (d ∷ ds) e = absurd (line-some d (linesOf ds) (empty _ e))
 
--- ---- the last letter
+-- ---- the letters
 
-pub letter-last : (j : ℕ) → j ≢ 0 → j ≢ 1 → j ≢ 2 → j ≢ 3 → letterWord j ≡ 83 ∷ []
+pub letter-first : (j : ℕ) → j < 4 → getD (119 ∷ 67 ∷ 68 ∷ 80 ∷ []) j 0 ∷ [] ≡ letterWord j
 unfolding letterWord
-letter-last zero a b c d = absurd (a refl)
-letter-last (suc zero) a b c d = absurd (b refl)
-letter-last (suc (suc zero)) a b c d = absurd (c refl)
-letter-last (suc (suc (suc zero))) a b c d = absurd (d refl)
-letter-last (suc (suc (suc (suc j)))) a b c d = refl
+letter-first zero b = refl
+letter-first (suc zero) b = refl
+letter-first (suc (suc zero)) b = refl
+letter-first (suc (suc (suc zero))) b = refl
+letter-first (suc (suc (suc (suc j)))) b = absurd (omega (arith, b))
+
+pub letter-last : (j : ℕ) → 4 ≤ j → 83 ∷ [] ≡ letterWord j
+unfolding letterWord
+letter-last zero b = absurd (omega (arith, b))
+letter-last (suc zero) b = absurd (omega (arith, b))
+letter-last (suc (suc zero)) b = absurd (omega (arith, b))
+letter-last (suc (suc (suc zero))) b = absurd (omega (arith, b))
+letter-last (suc (suc (suc (suc j)))) b = refl

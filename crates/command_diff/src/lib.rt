@@ -44,11 +44,9 @@ fn put_refused(page: &mut [u8], new: bool, number: u8) -> usize
     ensures { λ r. ⌜ PutShort 62 (now (page .entry)) 0 (sideRefused (cond new newWord oldWord) number) (now (page .exit)) r ⌝ }
 {
     if new {
-        let side = text::put_short(page, 0, b"new ");
-        return text::put_refused(page, side, number);
+        return text::put_line(page, 0, b"new refused", &[number as u64]);
     }
-    let side = text::put_short(page, 0, b"old ");
-    text::put_refused(page, side, number)
+    text::put_line(page, 0, b"old refused", &[number as u64])
 }
 
 // `same`.
@@ -56,8 +54,7 @@ fn put_same(page: &mut [u8]) -> usize
     requires { ⌜ pageSize ≤ length (now page) ⌝ }
     ensures { λ r. ⌜ PutShort 21 (now (page .entry)) 0 (line (sameWord ∷ [])) (now (page .exit)) r ⌝ }
 {
-    let same = text::put_short(page, 0, b"same");
-    text::put_end(page, same)
+    text::put_line(page, 0, b"same", &[])
 }
 
 // What `diff` prints of the bytes of two files, put at the start of the page.

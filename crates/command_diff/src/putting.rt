@@ -1,6 +1,6 @@
 // The lines of differences, put into a page one behind another.
 ghost use mathlib.Core.Path.{_≡_};
-ghost use mathlib.Core.List.{_∷_};
+ghost use mathlib.Core.List.{[], _∷_};
 ghost use Prim.Native.Nat.{_+_, _-_, _*_, _≤_, _<_};
 ghost use lib.ListN.{length};
 ghost use Rattle.units.specs.Places.{at as placeAt};
@@ -23,9 +23,7 @@ fn put_header(page: &mut [u8], at: usize, tag: u64, old: u32, new: u32) -> usize
         return at;
     }
     let tagged = text::put_number(page, at, tag);
-    let before = text::put_field(page, tagged, units::wide(old));
-    let after = text::put_field(page, before, units::wide(new));
-    text::put_end(page, after)
+    text::put_line(page, tagged, b"", &[old as u64, new as u64])
 }
 
 // Tags 1, 4, 5 and 6.
@@ -41,24 +39,15 @@ fn put_headers(page: &mut [u8], at: usize, h: Head, k: Head) -> usize
 
 // ---- a station that both plans have
 
-// A space, and w, C, D, P or S.
-fn put_letter(page: &mut [u8], at: usize, letter: u8) -> usize
-    requires { ⌜ at + 20 ≤ length (now page) ⌝ }
-    ensures { λ r. ⌜ PutShort 20 (now (page .entry)) at (space ∷ letterWord letter) (now (page .exit)) r ⌝ }
+// w, C, D, P or S.
+fn letter_of(letter: u8) -> u8
+    ensures { λ r. ⌜ r ∷ [] ≡ letterWord letter ⌝ }
 {
-    if letter == 0 {
-        return text::put_short(page, at, b" w");
+    if letter < 4 {
+        let letters = [b'w', b'C', b'D', b'P'];
+        return letters[letter as usize];
     }
-    if letter == 1 {
-        return text::put_short(page, at, b" C");
-    }
-    if letter == 2 {
-        return text::put_short(page, at, b" D");
-    }
-    if letter == 3 {
-        return text::put_short(page, at, b" P");
-    }
-    text::put_short(page, at, b" S")
+    b'S'
 }
 
 // One of its numbers, if it differs: the station, the letter, old and new.
@@ -70,10 +59,8 @@ fn put_number(page: &mut [u8], at: usize, station: u64, letter: u8, old: u32, ne
         return at;
     }
     let numbered = text::put_number(page, at, station);
-    let named = put_letter(page, numbered, letter);
-    let was = text::put_field(page, named, units::wide(old));
-    let is = text::put_field(page, was, units::wide(new));
-    text::put_end(page, is)
+    let named = text::put_short(page, numbered, &[b' ', letter_of(letter)]);
+    text::put_line(page, named, b"", &[old as u64, new as u64])
 }
 
 // All five.
@@ -129,12 +116,18 @@ fn put_five(page: &mut [u8], at: usize, t: Set, a: Alloc, i: usize) -> usize
     requires { ⌜ (i < 128) × (at + 106 ≤ length (now page)) ⌝ }
     ensures { λ r. ⌜ PutShort 106 (now (page .entry)) at (lineOn (fiveWords (placeAt (t .w) i) (placeAt (t .c) i) (placeAt (t .d) i) (placeAt (t .p) i) (placeAt (a .s) i))) (now (page .exit)) r ⌝ }
 {
-    let walk = text::put_field(page, at, units::wide(t.w[i]));
-    let longest = text::put_field(page, walk, units::wide(t.c[i]));
-    let deadline = text::put_field(page, longest, units::wide(t.d[i]));
-    let gap = text::put_field(page, deadline, units::wide(t.p[i]));
-    let share = text::put_field(page, gap, units::wide(a.s[i]));
-    text::put_end(page, share)
+    text::put_line(
+        page,
+        at,
+        b"",
+        &[
+            units::wide(t.w[i]),
+            units::wide(t.c[i]),
+            units::wide(t.d[i]),
+            units::wide(t.p[i]),
+            units::wide(a.s[i]),
+        ],
+    )
 }
 
 // One of them: its number, the side, and its five numbers.

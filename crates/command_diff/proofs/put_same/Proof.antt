@@ -1,32 +1,17 @@
 -- `put_same` is right because the line has one word.
-use mathlib.Core.Path.{sym}
+use mathlib.Core.Path.{refl}
+use mathlib.Core.List.{[]}
 use native.Mathlib.Omega.{arith}
-use Rattle.text.specs.TextLaws.{end-then, line-one, put-as}
+use Rattle.text.specs.Text.{numberWords}
+use Rattle.text.specs.TextLaws.{line-put, put-as}
+use Rattle.command_diff.specs.DiffText.{sameWord}
 use borrow.Author.Needs.{needs}
 use Rattle.command_diff.proofs.put_same.Statement.{statement}
 use Rattle.command_diff.proofs.put_same.Tie as tie
 
-slice-aggregate-put-short : tie.Need-slice-aggregate-put-short
-slice-aggregate-put-short c = search needs
-
-put-short-requires : tie.Need-put-short-requires
-put-short-requires c κs = search needs
-
-put-end-requires : tie.Need-put-end-requires
-put-end-requires c κs = search needs
-
-same-length : tie.Need-same-length
-same-length c = search needs
-
 returns : tie.Need-returns
-returns c =
-    let second = c .before .before in
-    let first = second .before .before .before .before in
-    let room = first .before .before .before .before .pre in
-    let one = first .put-short .ensures .put (omega (arith, room)) (omega arith) in
-    put-as (end-then one (second .put-end .ensures) (omega (arith, room))) (sym (line-one _)) (omega arith)
+unfolding numberWords
+returns c = put-as (line-put sameWord [] (c .before .before .put-line .ensures) (omega arith)) refl (omega arith)
 
 pub put-same-spec : {M : Type 1} → statement M
-put-same-spec =
-    tie.close
-    (tie.spec slice-aggregate-put-short put-short-requires put-end-requires same-length returns)
+put-same-spec = tie.close (tie.spec (λ c. search needs) (λ c. search needs) (λ c κs. search needs) (λ c. search needs) returns)

@@ -7,18 +7,6 @@ use borrow.Author.Needs.{needs}
 use Rattle.command_diff.proofs.putting.put_alone.Statement.{statement}
 use Rattle.command_diff.proofs.putting.put_alone.Tie as tie
 
-put-number-requires : tie.Need-put-number-requires
-put-number-requires c κs = search needs
-
-put-side-requires : tie.Need-put-side-requires
-put-side-requires c κs = search needs
-
-put-five-requires : tie.Need-put-five-requires
-put-five-requires c κs = search needs
-
-same-length : tie.Need-same-length
-same-length c = search needs
-
 returns : tie.Need-returns
 unfolding nthOf
 returns c =
@@ -31,11 +19,4 @@ returns c =
     put-as (put-short-then two (third .put-five .ensures) (omega (arith, room))) (alone-line _ _ _ _ _ _ _) (omega arith)
 
 pub put-alone-spec : {M : Type 1} → statement M
-put-alone-spec =
-    tie.close
-    (tie.spec
-    put-number-requires
-    put-side-requires
-    put-five-requires
-    same-length
-    returns)
+put-alone-spec = tie.close (tie.spec (λ c κs. search needs) (λ c κs. search needs) (λ c κs. search needs) (λ c. search needs) returns)

@@ -23,18 +23,6 @@ abbrev μ-loop : tie.MeasureT-loop
 loop-holds : tie.Need-loop-holds Inv-loop μ-loop
 loop-holds c = (omega arith, refl, rw lines-none (record { put = put-none _ _; short = omega arith }))
 
-add-put-alone : tie.Need-add-put-alone Inv-loop μ-loop
-add-put-alone c = search needs
-
-put-alone-requires : tie.Need-put-alone-requires Inv-loop μ-loop
-put-alone-requires c κs = search needs
-
-add-k : tie.Need-add-k Inv-loop μ-loop
-add-k c = search needs
-
-loop-less : tie.Need-loop-less Inv-loop μ-loop
-loop-less c = search needs
-
 loop-again : tie.Need-loop-again Inv-loop μ-loop
 loop-again c =
     let called = c .before .before in
@@ -44,9 +32,6 @@ loop-again c =
       called .put-alone .kept .0 ∙ at-loop .loop .inv .1,
       rw lines-step (put-as more (rw lines-one refl) (omega arith)),
     )
-
-same-length : tie.Need-same-length Inv-loop μ-loop
-same-length c = search needs
 
 returns : tie.Need-returns Inv-loop μ-loop
 returns c =
@@ -58,14 +43,5 @@ returns c =
 pub put-alones-spec : {M : Type 1} → statement M
 put-alones-spec =
     tie.close
-    (tie.spec
-    Inv-loop
-    μ-loop
-    loop-holds
-    add-put-alone
-    put-alone-requires
-    add-k
-    loop-less
-    loop-again
-    same-length
-    returns)
+    (tie.spec Inv-loop μ-loop loop-holds (λ c. search needs) (λ c κs. search needs) (λ c. search needs) (λ c. search needs) loop-again
+    (λ c. search needs) returns)

@@ -7,36 +7,6 @@ use borrow.Author.Needs.{needs}
 use Rattle.command_diff.proofs.putting.put_differences.Statement.{statement}
 use Rattle.command_diff.proofs.putting.put_differences.Tie as tie
 
-places-requires : tie.Need-places-requires
-places-requires c κs = search needs
-
-places-requires-2 : tie.Need-places-requires-2
-places-requires-2 c κs = search needs
-
-beyond-requires : tie.Need-beyond-requires
-beyond-requires c κs = search needs
-
-beyond-requires-2 : tie.Need-beyond-requires-2
-beyond-requires-2 c κs = search needs
-
-sub-shared : tie.Need-sub-shared
-sub-shared c = search needs
-
-put-headers-requires : tie.Need-put-headers-requires
-put-headers-requires c κs = search needs
-
-put-stations-requires : tie.Need-put-stations-requires
-put-stations-requires c κs = search needs
-
-put-alones-requires : tie.Need-put-alones-requires
-put-alones-requires c κs = search needs
-
-put-alones-requires-2 : tie.Need-put-alones-requires-2
-put-alones-requires-2 c κs = search needs
-
-same-length : tie.Need-same-length
-same-length c = search needs
-
 returns : tie.Need-returns
 returns c =
     let fourth = c .before .before in
@@ -59,15 +29,5 @@ returns c =
 pub put-differences-spec : {M : Type 1} → statement M
 put-differences-spec =
     tie.close
-    (tie.spec
-    places-requires
-    places-requires-2
-    beyond-requires
-    beyond-requires-2
-    sub-shared
-    put-headers-requires
-    put-stations-requires
-    put-alones-requires
-    put-alones-requires-2
-    same-length
-    returns)
+    (tie.spec (λ c κs. search needs) (λ c κs. search needs) (λ c κs. search needs) (λ c κs. search needs) (λ c. search needs) (λ c κs. search needs)
+    (λ c κs. search needs) (λ c κs. search needs) (λ c κs. search needs) (λ c. search needs) returns)

@@ -9,21 +9,6 @@ use borrow.Author.Needs.{needs}
 use Rattle.command_diff.proofs.putting.put_headers.Statement.{statement}
 use Rattle.command_diff.proofs.putting.put_headers.Tie as tie
 
-put-header-requires : tie.Need-put-header-requires
-put-header-requires c κs = search needs
-
-put-header-requires-2 : tie.Need-put-header-requires-2
-put-header-requires-2 c κs = search needs
-
-put-header-requires-3 : tie.Need-put-header-requires-3
-put-header-requires-3 c κs = search needs
-
-put-header-requires-4 : tie.Need-put-header-requires-4
-put-header-requires-4 c κs = search needs
-
-same-length : tie.Need-same-length
-same-length c = search needs
-
 returns : tie.Need-returns
 unfolding headerOf headNumber
 returns c =
@@ -39,10 +24,4 @@ returns c =
 pub put-headers-spec : {M : Type 1} → statement M
 put-headers-spec =
     tie.close
-    (tie.spec
-    put-header-requires
-    put-header-requires-2
-    put-header-requires-3
-    put-header-requires-4
-    same-length
-    returns)
+    (tie.spec (λ c κs. search needs) (λ c κs. search needs) (λ c κs. search needs) (λ c κs. search needs) (λ c. search needs) returns)

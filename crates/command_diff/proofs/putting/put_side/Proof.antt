@@ -7,29 +7,11 @@ use borrow.Author.Needs.{needs}
 use Rattle.command_diff.proofs.putting.put_side.Statement.{statement}
 use Rattle.command_diff.proofs.putting.put_side.Tie as tie
 
-slice-aggregate-put-short : tie.Need-slice-aggregate-put-short
-slice-aggregate-put-short c = search needs
-
-put-short-requires : tie.Need-put-short-requires
-put-short-requires c κs = search needs
-
-same-length : tie.Need-same-length
-same-length c = search needs
-
 returns : tie.Need-returns
 unfolding sideWord
 returns c =
     let called = c .before .before in
     put-as (called .put-short .ensures .put (omega arith) (omega arith)) (rw (called .before .before .before .if1 .taken) refl) (omega arith)
-
-slice-aggregate-put-short-2 : tie.Need-slice-aggregate-put-short-2
-slice-aggregate-put-short-2 c = search needs
-
-put-short-requires-2 : tie.Need-put-short-requires-2
-put-short-requires-2 c κs = search needs
-
-same-length-2 : tie.Need-same-length-2
-same-length-2 c = search needs
 
 returns-2 : tie.Need-returns-2
 unfolding sideWord
@@ -40,12 +22,5 @@ returns-2 c =
 pub put-side-spec : {M : Type 1} → statement M
 put-side-spec =
     tie.close
-    (tie.spec
-    slice-aggregate-put-short
-    put-short-requires
-    same-length
-    returns
-    slice-aggregate-put-short-2
-    put-short-requires-2
-    same-length-2
+    (tie.spec (λ c. search needs) (λ c κs. search needs) (λ c. search needs) returns (λ c. search needs) (λ c κs. search needs) (λ c. search needs)
     returns-2)
