@@ -13,12 +13,7 @@ fn put_plan_line(page: &mut [u8], n: u64, ttrt: u64, tau: u64, spare: u64) -> us
     requires { ⌜ 105 ≤ length (now page) ⌝ }
     ensures { λ r. ⌜ PutShort 105 (now (page .entry)) 0 (planLine n ttrt tau spare) (now (page .exit)) r ⌝ }
 {
-    let plan = text::put_short(page, 0, b"plan");
-    let stations = text::put_field(page, plan, n);
-    let rotation = text::put_field(page, stations, ttrt);
-    let walk = text::put_field(page, rotation, tau);
-    let left = text::put_field(page, walk, spare);
-    text::put_end(page, left)
+    text::put_line(page, 0, b"plan", &[n, ttrt, tau, spare])
 }
 
 // A station's line: its number and S.
@@ -27,8 +22,7 @@ fn put_share_line(page: &mut [u8], at: usize, station: u64, s: u64) -> usize
     ensures { λ r. ⌜ PutShort 42 (now (page .entry)) at (shareLine station s) (now (page .exit)) r ⌝ }
 {
     let numbered = text::put_number(page, at, station);
-    let share = text::put_field(page, numbered, s);
-    text::put_end(page, share)
+    text::put_line(page, numbered, b"", &[s])
 }
 
 // A line for each of the first n stations.

@@ -7,27 +7,6 @@ use borrow.Author.Needs.{needs}
 use Rattle.command_plan.proofs.planning.put_plan.Statement.{statement}
 use Rattle.command_plan.proofs.planning.put_plan.Tie as tie
 
-wide-requires : tie.Need-wide-requires
-wide-requires c κs = search needs
-
-wide-requires-2 : tie.Need-wide-requires-2
-wide-requires-2 c κs = search needs
-
-walk-time-requires : tie.Need-walk-time-requires
-walk-time-requires c κs = search needs
-
-spare-requires : tie.Need-spare-requires
-spare-requires c κs = search needs
-
-put-plan-line-requires : tie.Need-put-plan-line-requires
-put-plan-line-requires c κs = search needs
-
-put-shares-requires : tie.Need-put-shares-requires
-put-shares-requires c κs = search needs
-
-same-length : tie.Need-same-length
-same-length c = search needs
-
 returns : tie.Need-returns
 unfolding planLines
 returns c =
@@ -45,12 +24,5 @@ returns c =
 pub put-plan-spec : {M : Type 1} → statement M
 put-plan-spec =
     tie.close
-    (tie.spec
-    wide-requires
-    wide-requires-2
-    walk-time-requires
-    spare-requires
-    put-plan-line-requires
-    put-shares-requires
-    same-length
-    returns)
+    (tie.spec (λ c κs. search needs) (λ c κs. search needs) (λ c κs. search needs) (λ c κs. search needs) (λ c κs. search needs)
+    (λ c κs. search needs) (λ c. search needs) returns)

@@ -20,29 +20,8 @@ Inv-loop page₀ at n s end next₀ i₀ page next i =
 abbrev μ-loop : tie.MeasureT-loop
 μ-loop page₀ at n s end next₀ i₀ page next i = end - i
 
-places-requires : tie.Need-places-requires Inv-loop μ-loop
-places-requires c κs = search needs
-
 loop-holds : tie.Need-loop-holds Inv-loop μ-loop
 loop-holds c = (omega arith, refl, rw rows-none (record { put = put-none _ _; short = omega arith }))
-
-mul-wide : tie.Need-mul-wide Inv-loop μ-loop
-mul-wide c = search needs
-
-array-read-wide : tie.Need-array-read-wide Inv-loop μ-loop
-array-read-wide c = search needs
-
-wide-requires : tie.Need-wide-requires Inv-loop μ-loop
-wide-requires c κs = search needs
-
-put-share-line-requires : tie.Need-put-share-line-requires Inv-loop μ-loop
-put-share-line-requires c κs = search needs
-
-add-i : tie.Need-add-i Inv-loop μ-loop
-add-i c = search needs
-
-loop-less : tie.Need-loop-less Inv-loop μ-loop
-loop-less c = search needs
 
 loop-again : tie.Need-loop-again Inv-loop μ-loop
 loop-again c =
@@ -57,9 +36,6 @@ loop-again c =
       rw rows-step (put-as more (rw one) (omega arith)),
     )
 
-same-length : tie.Need-same-length Inv-loop μ-loop
-same-length c = search needs
-
 returns : tie.Need-returns Inv-loop μ-loop
 returns c =
     let at-loop = c .before in
@@ -70,17 +46,5 @@ returns c =
 pub put-shares-spec : {M : Type 1} → statement M
 put-shares-spec =
     tie.close
-    (tie.spec
-    Inv-loop
-    μ-loop
-    places-requires
-    loop-holds
-    mul-wide
-    array-read-wide
-    wide-requires
-    put-share-line-requires
-    add-i
-    loop-less
-    loop-again
-    same-length
-    returns)
+    (tie.spec Inv-loop μ-loop (λ c κs. search needs) loop-holds (λ c. search needs) (λ c. search needs) (λ c κs. search needs) (λ c κs. search needs)
+    (λ c. search needs) (λ c. search needs) loop-again (λ c. search needs) returns)
