@@ -14,17 +14,9 @@ use Rattle.units.specs.Places.{at}
 use Rattle.units.specs.PlaceLaws.{all-of}
 use Rattle.units.specs.JudgingLaws.{true-and}
 use Rattle.units.specs.SmallLaws.{below-or-not}
-use Rattle.text.specs.Text.{digit, decimalWithin, decimalOf, line, lineOn}
+use Rattle.text.specs.Text.{digit, decimalWithin, decimalOf}
 use Rattle.text.specs.Promised.{valueOn}
-use Rattle.command_plan.specs.PlanText.{planWord}
-use Rattle.command_versions.specs.VersionsText.{lineWords}
 use Rattle.command_versions.specs.VersionWord.{isDigit, isWhole, grown, firstDigits}
-
--- a version's line is one line of words
-pub line-words : (version n ttrt τ spare : ℕ)
-    → lineWords version n ttrt τ spare ≡ line (decimalOf version ∷ planWord ∷ decimalOf n ∷ decimalOf ttrt ∷ decimalOf τ ∷ decimalOf spare ∷ [])
-unfolding line lineOn
-line-words version n ttrt τ spare = refl
 
 -- ---- digits
 

@@ -25,12 +25,7 @@ fn put_words(
     ensures { λ r. ⌜ PutShort 125 (now (page .entry)) at (lineWords version n ttrt tau spare) (now (page .exit)) r ⌝ }
 {
     let numbered = text::put_number(page, at, version);
-    let plan = text::put_short(page, numbered, b" plan");
-    let stations = text::put_field(page, plan, n);
-    let rotation = text::put_field(page, stations, ttrt);
-    let walk = text::put_field(page, rotation, tau);
-    let left = text::put_field(page, walk, spare);
-    text::put_end(page, left)
+    text::put_line(page, numbered, b" plan", &[n, ttrt, tau, spare])
 }
 
 // The line of a version: its number, and the first line of its plan.

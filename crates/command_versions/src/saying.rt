@@ -8,8 +8,5 @@ pub(crate) fn put_stored(page: &mut [u8], version: u32) -> usize
     requires { ⌜ 42 ≤ length (now page) ⌝ }
     ensures { λ r. ⌜ PutShort 42 (now (page .entry)) 0 (storedLine version) (now (page .exit)) r ⌝ }
 {
-    let number = units::wide(version);
-    let named = text::put_short(page, 0, b"version");
-    let numbered = text::put_field(page, named, number);
-    text::put_end(page, numbered)
+    text::put_line(page, 0, b"version", &[version as u64])
 }

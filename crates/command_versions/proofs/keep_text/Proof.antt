@@ -16,9 +16,6 @@ returns-2 c =
     says (called .put-refused .ensures .put (omega arith) (refused-short _)) (sym (text-refused _ _ (refused .if2 .taken))) refl
     (refused .before .if1 .left) (omega arith)
 
-put-stored-requires : tie.Need-put-stored-requires
-put-stored-requires c κs = search needs
-
 returns-3 : tie.Need-returns-3
 returns-3 c =
     let called = c .before .before in
@@ -26,6 +23,4 @@ returns-3 c =
     says (called .put-stored .ensures) (sym (text-accepted _ _ (accepted .if2 .left))) refl (accepted .before .if1 .left) (omega arith)
 
 pub keep-text-spec : {M : Type 1} → statement M
-keep-text-spec =
-    tie.close
-    (tie.spec returns (λ c κs. search needs) (λ c. search needs) returns-2 put-stored-requires (λ c. search needs) returns-3)
+keep-text-spec = tie.close (tie.spec returns (λ c κs. search needs) (λ c. search needs) returns-2 (λ c κs. search needs) (λ c. search needs) returns-3)

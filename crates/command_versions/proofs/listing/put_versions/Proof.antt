@@ -31,18 +31,6 @@ loop-holds c =
     let few = answer-few _ _ (start .pre .0) in
     (omega arith, rw (c .count-from .ensures) (few .1), rw (c .count-from .ensures) (count-top _ _ (few .0) (search needs)), refl, rw rows-none (record { put = put-none _ _; short = omega arith }))
 
-add-put-version : tie.Need-add-put-version Inv-loop μ-loop
-add-put-version c = search needs
-
-put-version-requires : tie.Need-put-version-requires Inv-loop μ-loop
-put-version-requires c κs = search needs
-
-add-i : tie.Need-add-i Inv-loop μ-loop
-add-i c = search needs
-
-loop-less : tie.Need-loop-less Inv-loop μ-loop
-loop-less c = search needs
-
 loop-again : tie.Need-loop-again Inv-loop μ-loop
 loop-again c =
     let called = c .before .before in
@@ -50,9 +38,6 @@ loop-again c =
     let inv = at-loop .loop .inv in
     let more = put-short-then (inv .4) (called .put-version .ensures) (omega arith) in
     (omega arith, inv .1, inv .2, called .put-version .kept .0 ∙ inv .3, rw rows-step (put-as more refl (omega arith)))
-
-same-length : tie.Need-same-length Inv-loop μ-loop
-same-length c = search needs
 
 returns : tie.Need-returns Inv-loop μ-loop
 returns c =
@@ -64,15 +49,5 @@ returns c =
 pub put-versions-spec : {M : Type 1} → statement M
 put-versions-spec =
     tie.close
-    (tie.spec
-    Inv-loop
-    μ-loop
-    count-from-requires
-    loop-holds
-    add-put-version
-    put-version-requires
-    add-i
-    loop-less
-    loop-again
-    same-length
-    returns)
+    (tie.spec Inv-loop μ-loop count-from-requires loop-holds (λ c. search needs) (λ c κs. search needs) (λ c. search needs) (λ c. search needs)
+    loop-again (λ c. search needs) returns)

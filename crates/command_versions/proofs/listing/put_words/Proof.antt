@@ -1,41 +1,25 @@
--- `put_words` is right because its words are put one behind another.
+-- `put_words` is right because the plan's first line stands behind the version's number.
+use mathlib.Core.Path.{refl}
+use mathlib.Core.List.{[], _∷_}
 use native.Mathlib.Omega.{arith}
-use Rattle.text.specs.TextLaws.{decimal-short, within-then, field-then, end-then, line-first, line-next, line-end}
-use Rattle.command_versions.proofs.WordLaws.{line-words}
+use Rattle.text.specs.Text.{space, line, numberWords}
+use Rattle.text.specs.TextLaws.{decimal-short, line-then, put-as}
+use Rattle.command_plan.specs.PlanText.{planWord}
 use borrow.Author.Needs.{needs}
 use Rattle.command_versions.proofs.listing.put_words.Statement.{statement}
 use Rattle.command_versions.proofs.listing.put_words.Tie as tie
 
 returns : tie.Need-returns
+unfolding line numberWords
 returns c =
-    let seventh = c .before .before in
-    let sixth = seventh .before .before .before .before in
-    let fifth = sixth .before .before .before .before in
-    let fourth = fifth .before .before .before .before in
-    let third = fourth .before .before .before .before in
-    let second = third .before .before .before .before in
-    let first = second .before .before .before .before .before in
-    let room = first .before .before .before .pre in
-    let one = first .put-number .ensures .put (omega (arith, room)) (decimal-short 20 _) in
-    let two = within-then one (second .put-short .ensures) (omega arith) (omega (arith, room)) in
-    let three = field-then _ two (third .put-field .ensures) (omega (arith, room)) in
-    let four = field-then _ three (fourth .put-field2 .ensures) (omega (arith, room)) in
-    let five = field-then _ four (fifth .put-field3 .ensures) (omega (arith, room)) in
-    let six = field-then _ five (sixth .put-field4 .ensures) (omega (arith, room)) in
-    rw (line-words, line-first, line-next, line-next, line-next, line-next, line-next, line-end)
-    (end-then six (seventh .put-end .ensures) (omega (arith, room)))
+    let second = c .before .before in
+    let first = second .before .before .before .before .before .before in
+    let start = first .before .before .before in
+    let one = first .put-number .ensures .put (omega (arith, start .pre)) (decimal-short 20 _) in
+    let args = start .args in
+    put-as (line-then (space ∷ planWord) (args .n ∷ args .ttrt ∷ args .tau ∷ args .spare ∷ []) one (second .put-line .ensures) (omega (arith, start .pre))) refl (omega arith)
 
 pub put-words-spec : {M : Type 1} → statement M
 put-words-spec =
     tie.close
-    (tie.spec
-    (λ c κs. search needs)
-    (λ c. search needs)
-    (λ c κs. search needs)
-    (λ c κs. search needs)
-    (λ c κs. search needs)
-    (λ c κs. search needs)
-    (λ c κs. search needs)
-    (λ c κs. search needs)
-    (λ c. search needs)
-    returns)
+    (tie.spec (λ c κs. search needs) (λ c. search needs) (λ c. search needs) (λ c κs. search needs) (λ c. search needs) returns)

@@ -1,30 +1,17 @@
 -- `put_stored` is right because the number stands behind the word.
 use mathlib.Core.Path.{refl}
+use mathlib.Core.List.{[], _∷_}
 use native.Mathlib.Omega.{arith}
-use Rattle.text.specs.TextLaws.{field-then, end-then, put-as, line-two}
+use Rattle.text.specs.Text.{numberWords}
+use Rattle.text.specs.TextLaws.{line-put, put-as}
+use Rattle.command_versions.specs.KeepText.{versionWord}
 use borrow.Author.Needs.{needs}
 use Rattle.command_versions.proofs.saying.put_stored.Statement.{statement}
 use Rattle.command_versions.proofs.saying.put_stored.Tie as tie
 
 returns : tie.Need-returns
-returns c =
-    let third = c .before .before in
-    let second = third .before .before .before .before in
-    let first = second .before .before .before .before in
-    let widened = first .before .before .before in
-    let room = widened .before .before .pre in
-    let one = first .put-short .ensures .put (omega (arith, room)) (omega arith) in
-    let two = field-then _ one (second .put-field .ensures) (omega (arith, room)) in
-    put-as (end-then two (third .put-end .ensures) (omega (arith, room))) (rw (widened .wide .ensures .same, line-two) refl) (omega arith)
+unfolding numberWords
+returns c = put-as (line-put versionWord (_ ∷ []) (c .before .before .put-line .ensures) (omega arith)) refl (omega arith)
 
 pub put-stored-spec : {M : Type 1} → statement M
-put-stored-spec =
-    tie.close
-    (tie.spec
-    (λ c κs. search needs)
-    (λ c. search needs)
-    (λ c κs. search needs)
-    (λ c κs. search needs)
-    (λ c κs. search needs)
-    (λ c. search needs)
-    returns)
+put-stored-spec = tie.close (tie.spec (λ c. search needs) (λ c. search needs) (λ c κs. search needs) (λ c. search needs) returns)

@@ -20,18 +20,6 @@ abbrev μ-loop : tie.MeasureT-loop
 loop-holds : tie.Need-loop-holds Inv-loop μ-loop
 loop-holds c = (omega arith, sym (digits-none _), omega arith)
 
-shared-slice-read-grow : tie.Need-shared-slice-read-grow Inv-loop μ-loop
-shared-slice-read-grow c = search needs
-
-grow-requires : tie.Need-grow-requires Inv-loop μ-loop
-grow-requires c κs = search needs
-
-add-i : tie.Need-add-i Inv-loop μ-loop
-add-i c = search needs
-
-loop-less : tie.Need-loop-less Inv-loop μ-loop
-loop-less c = search needs
-
 loop-again : tie.Need-loop-again Inv-loop μ-loop
 loop-again c =
     let at-loop = c .before .before .before in
@@ -59,15 +47,5 @@ returns-2 c =
 pub version-asked-spec : {M : Type 1} → statement M
 version-asked-spec =
     tie.close
-    (tie.spec
-    Inv-loop
-    μ-loop
-    loop-holds
-    shared-slice-read-grow
-    grow-requires
-    add-i
-    loop-less
-    loop-again
-    returns
-    cast-result
-    returns-2)
+    (tie.spec Inv-loop μ-loop loop-holds (λ c. search needs) (λ c κs. search needs) (λ c. search needs) (λ c. search needs) loop-again returns
+    cast-result returns-2)
