@@ -4,8 +4,8 @@ ghost use mathlib.Core.List.{[], _∷_};
 ghost use lib.ListN.{length};
 ghost use Rattle.fields.specs.Rows.{rows};
 ghost use Rattle.fields.specs.Header.{furtherCount};
-ghost use Rattle.text.specs.Text.{PutShort, decimalOf, lineOn, line};
-ghost use Rattle.outputs.specs.ShowText.{furtherLine, numberLine, headLines, shareWords, stationLine, sheetText};
+ghost use Rattle.text.specs.Text.{PutShort, decimalOf, line};
+ghost use Rattle.outputs.specs.ShowText.{furtherLine, numberLine, headLines, stationLine, sheetText};
 use plans::Alloc;
 use sets::Head;
 use sets::Set;
@@ -15,9 +15,7 @@ fn put_named(page: &mut [u8], at: usize, word: &[u8], number: u64) -> usize
     requires { ⌜ (length (now word) ≤ 20) × (at + 42 ≤ length (now page)) ⌝ }
     ensures { λ r. ⌜ PutShort 42 (now (page .entry)) at (line (now (word .entry) ∷ decimalOf number ∷ [])) (now (page .exit)) r ⌝ }
 {
-    let named = text::put_short(page, at, word);
-    let numbered = text::put_field(page, named, number);
-    text::put_end(page, numbered)
+    text::put_line(page, at, word, &[number])
 }
 
 // `mode M`, `frame F` or `grid G`, by the tag, if the number is not what its absence means.
@@ -62,29 +60,20 @@ fn put_header(page: &mut [u8], h: Head) -> usize
     put_numbers(page, first, h)
 }
 
-// S, in a plan; and the line's end.
-fn put_share(page: &mut [u8], at: usize, plan: bool, s: u64) -> usize
-    requires { ⌜ at + 22 ≤ length (now page) ⌝ }
-    ensures { λ r. ⌜ PutShort 22 (now (page .entry)) at (lineOn (shareWords plan s)) (now (page .exit)) r ⌝ }
-{
-    if plan {
-        let shared = text::put_field(page, at, s);
-        return text::put_end(page, shared);
-    }
-    text::put_end(page, at)
-}
-
 // The line of station i.
 fn put_station(page: &mut [u8], at: usize, plan: bool, t: Set, a: Alloc, i: usize) -> usize
     requires { ⌜ (i < 128) × (at + 126 ≤ length (now page)) ⌝ }
     ensures { λ r. ⌜ PutShort 126 (now (page .entry)) at (stationLine plan t a i) (now (page .exit)) r ⌝ }
 {
-    let named = text::put_short(page, at, b"station");
-    let walk = text::put_field(page, named, units::wide(t.w[i]));
-    let longest = text::put_field(page, walk, units::wide(t.c[i]));
-    let deadline = text::put_field(page, longest, units::wide(t.d[i]));
-    let gap = text::put_field(page, deadline, units::wide(t.p[i]));
-    put_share(page, gap, plan, units::wide(a.s[i]))
+    let w = units::wide(t.w[i]);
+    let c = units::wide(t.c[i]);
+    let d = units::wide(t.d[i]);
+    let p = units::wide(t.p[i]);
+    let s = units::wide(a.s[i]);
+    if plan {
+        return text::put_line(page, at, b"station", &[w, c, d, p, s]);
+    }
+    text::put_line(page, at, b"station", &[w, c, d, p])
 }
 
 // A line for each station.

@@ -32,9 +32,6 @@ put-sheet-requires c κs =
     let here = c .before in
     (here .if2 .left, omega (arith, here .before .before .if1 .left))
 
-same-length : tie.Need-same-length
-same-length c = search needs
-
 returns-3 : tie.Need-returns-3
 returns-3 c =
     let called = c .before .before in
@@ -42,4 +39,4 @@ returns-3 c =
     printed (called .put-sheet .ensures) (few-lines _ _ (here .if2 .left)) (here .before .before .if1 .left) (omega arith)
 
 pub plan-text-spec : {M : Type 1} → statement M
-plan-text-spec = tie.close (tie.spec returns returns-2 put-sheet-requires same-length returns-3)
+plan-text-spec = tie.close (tie.spec returns returns-2 put-sheet-requires (λ c. search needs) returns-3)

@@ -16,18 +16,6 @@ returns c =
     let nothing : PutShort 0 (args .page .now) (args .at) [] (args .page .now) (args .at) = record { put = put-none _ _; short = omega arith } in
     put-as nothing (sym (line-none (args .tag) (args .number) (c .if1 .taken))) (omega arith)
 
-slice-aggregate-put-named : tie.Need-slice-aggregate-put-named
-slice-aggregate-put-named c = search needs
-
-wide-requires : tie.Need-wide-requires
-wide-requires c κs = search needs
-
-put-named-requires : tie.Need-put-named-requires
-put-named-requires c κs = search needs
-
-same-length : tie.Need-same-length
-same-length c = search needs
-
 returns-2 : tie.Need-returns-2
 returns-2 c =
     let called = c .before .before in
@@ -37,18 +25,6 @@ returns-2 c =
     let line = word-line (args .tag) (args .number) modeWord (mode-named (args .tag) (mode .if2 .taken)) (some .if1 .left) in
     put-as (called .put-named .ensures) (rw (called .before .wide .ensures .same) line) (omega arith)
 
-slice-aggregate-put-named-2 : tie.Need-slice-aggregate-put-named-2
-slice-aggregate-put-named-2 c = search needs
-
-wide-requires-2 : tie.Need-wide-requires-2
-wide-requires-2 c κs = search needs
-
-put-named-requires-2 : tie.Need-put-named-requires-2
-put-named-requires-2 c κs = search needs
-
-same-length-2 : tie.Need-same-length-2
-same-length-2 c = search needs
-
 returns-3 : tie.Need-returns-3
 returns-3 c =
     let called = c .before .before in
@@ -57,18 +33,6 @@ returns-3 c =
     let args = some .before .before .args in
     let line = word-line (args .tag) (args .number) frameWord (frame-named (args .tag) (frame .if3 .taken)) (some .if1 .left) in
     put-as (called .put-named2 .ensures) (rw (called .before .wide2 .ensures .same) line) (omega arith)
-
-slice-aggregate-put-named-3 : tie.Need-slice-aggregate-put-named-3
-slice-aggregate-put-named-3 c = search needs
-
-wide-requires-3 : tie.Need-wide-requires-3
-wide-requires-3 c κs = search needs
-
-put-named-requires-3 : tie.Need-put-named-requires-3
-put-named-requires-3 c κs = search needs
-
-same-length-3 : tie.Need-same-length-3
-same-length-3 c = search needs
 
 returns-4 : tie.Need-returns-4
 returns-4 c =
@@ -83,20 +47,6 @@ returns-4 c =
 pub put-further-spec : {M : Type 1} → statement M
 put-further-spec =
     tie.close
-    (tie.spec
-    returns
-    slice-aggregate-put-named
-    wide-requires
-    put-named-requires
-    same-length
-    returns-2
-    slice-aggregate-put-named-2
-    wide-requires-2
-    put-named-requires-2
-    same-length-2
-    returns-3
-    slice-aggregate-put-named-3
-    wide-requires-3
-    put-named-requires-3
-    same-length-3
-    returns-4)
+    (tie.spec returns (λ c. search needs) (λ c κs. search needs) (λ c κs. search needs) (λ c. search needs) returns-2 (λ c. search needs)
+    (λ c κs. search needs) (λ c κs. search needs) (λ c. search needs) returns-3 (λ c. search needs) (λ c κs. search needs) (λ c κs. search needs)
+    (λ c. search needs) returns-4)

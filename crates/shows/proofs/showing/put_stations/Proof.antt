@@ -19,20 +19,8 @@ Inv-loop page₀ at plan t a end next₀ i₀ page next i =
 abbrev μ-loop : tie.MeasureT-loop
 μ-loop page₀ at plan t a end next₀ i₀ page next i = end - i
 
-places-requires : tie.Need-places-requires Inv-loop μ-loop
-places-requires c κs = search needs
-
 loop-holds : tie.Need-loop-holds Inv-loop μ-loop
 loop-holds c = (omega arith, refl, rw rows-none (record { put = put-none _ _; short = omega arith }))
-
-put-station-requires : tie.Need-put-station-requires Inv-loop μ-loop
-put-station-requires c κs = search needs
-
-add-i : tie.Need-add-i Inv-loop μ-loop
-add-i c = search needs
-
-loop-less : tie.Need-loop-less Inv-loop μ-loop
-loop-less c = search needs
 
 loop-again : tie.Need-loop-again Inv-loop μ-loop
 loop-again c =
@@ -44,9 +32,6 @@ loop-again c =
       rw rows-step (put-as more refl (omega arith)),
     )
 
-same-length : tie.Need-same-length Inv-loop μ-loop
-same-length c = search needs
-
 returns : tie.Need-returns Inv-loop μ-loop
 returns c =
     let at-loop = c .before in
@@ -57,14 +42,5 @@ returns c =
 pub put-stations-spec : {M : Type 1} → statement M
 put-stations-spec =
     tie.close
-    (tie.spec
-    Inv-loop
-    μ-loop
-    places-requires
-    loop-holds
-    put-station-requires
-    add-i
-    loop-less
-    loop-again
-    same-length
-    returns)
+    (tie.spec Inv-loop μ-loop (λ c κs. search needs) loop-holds (λ c κs. search needs) (λ c. search needs) (λ c. search needs) loop-again
+    (λ c. search needs) returns)
