@@ -29,8 +29,8 @@ use Rattle.logs.specs.declared.ReadLog.{ReadLog}
 use Rattle.pieces.specs.Pieces.{stepped, entryIn, entriesOf, readOver, handedOver}
 use Rattle.pieces.proofs.FieldLaws.{read-append, handed-append}
 use Rattle.pieces.specs.declared.Gathered.{Gathered}
-use Rattle.text.specs.Text.{newline, space, lineOn, line, textOr, pageSize, PutShort, Printed, numberOn}
-use Rattle.text.specs.TextLaws.{put-none, put-short-then, put-as, printed, not-printed, line-first, line-next, line-end, line-five}
+use Rattle.text.specs.Text.{textOr, pageSize, PutShort, Printed, numberOn}
+use Rattle.text.specs.TextLaws.{put-none, put-short-then, put-as, printed, not-printed}
 use Rattle.outputs.specs.ShowText.{sheetText, planLinesOf, showPrinted, shownNumber}
 use Rattle.outputs.specs.LogText.{entryLine, entryLines}
 use Rattle.log_shows.specs.LogShown.{isLog, planText, plainText, shownNumberOf, headText, firstNumber, linesFor, showAfter, shownOver, pieceSize, ShownPiece, pieceOf, ShownOn}
@@ -58,14 +58,6 @@ pub printed-none : (page : List ℕ) → pageSize ≤ length page → Printed []
 printed-none page large = printed (put-nothing page) refl large (omega arith)
 
 -- ---- the lines
-
-pub visit-words : (w a b c d e : List ℕ) → line (w ∷ a ∷ b ∷ c ∷ d ∷ e ∷ []) ≡ (((((w ++ (space ∷ a)) ++ (space ∷ b)) ++ (space ∷ c)) ++ (space ∷ d)) ++ (space ∷ e)) ++ (newline ∷ [])
-unfolding lineOn
-visit-words w a b c d e =
-    line-five w a b c d (e ∷ []) ∙ sym (append-assoc ((((w ++ (space ∷ a)) ++ (space ∷ b)) ++ (space ∷ c)) ++ (space ∷ d)) (space ∷ e) (newline ∷ []))
-
-pub mark-words : (w a b : List ℕ) → line (w ∷ a ∷ b ∷ []) ≡ ((w ++ (space ∷ a)) ++ (space ∷ b)) ++ (newline ∷ [])
-mark-words w a b = rw (line-first, line-next, line-next, line-end)
 
 pub lines-refused : (k : ℕ) (es : List Entry) → k ≢ 0 → linesFor k es ≡ []
 unfolding linesFor

@@ -52,13 +52,17 @@ fn put_visit_line(page: &mut [u8], at: usize, v: VisitEntry) -> usize
     requires { ⌜ at + 126 ≤ length (now page) ⌝ }
     ensures { λ r. ⌜ PutShort 126 (now (page .entry)) at (visitLine v) (now (page .exit)) r ⌝ }
 {
-    let named = text::put_short(page, at, b"visit");
-    let station = text::put_field(page, named, units::wide(v.station));
-    let start = text::put_field(page, station, units::wide(v.start));
-    let limit = text::put_field(page, start, units::wide(v.limit));
-    let synchronous = text::put_field(page, limit, units::wide(v.synchronous));
-    let asynchronous = text::put_field(page, synchronous, units::wide(v.asynchronous));
-    text::put_end(page, asynchronous)
+    let station = v.station as u64;
+    let start = v.start as u64;
+    let limit = v.limit as u64;
+    let synchronous = v.synchronous as u64;
+    let asynchronous = v.asynchronous as u64;
+    text::put_line(
+        page,
+        at,
+        b"visit",
+        &[station, start, limit, synchronous, asynchronous],
+    )
 }
 
 // The line of a mark.
@@ -66,10 +70,7 @@ fn put_mark_line(page: &mut [u8], at: usize, m: MarkEntry) -> usize
     requires { ⌜ at + 126 ≤ length (now page) ⌝ }
     ensures { λ r. ⌜ PutShort 126 (now (page .entry)) at (markLine m) (now (page .exit)) r ⌝ }
 {
-    let named = text::put_short(page, at, b"mark");
-    let station = text::put_field(page, named, units::wide(m.station));
-    let mark = text::put_field(page, station, units::wide(m.mark));
-    text::put_end(page, mark)
+    text::put_line(page, at, b"mark", &[m.station as u64, m.mark as u64])
 }
 
 // The line of an entry.

@@ -260,10 +260,6 @@ refused-short n = omega (arith, line-two-length refusedWord (decimalOf n), decim
 pub unread-short : (n : ℕ) → length (unreadLine n) ≤ 42
 unread-short n = omega (arith, line-two-length lineWord (decimalOf n ++ cannotBeRead), length-append (decimalOf n) cannotBeRead, decimal-short 20 n)
 
--- a line of five words and more
-pub line-five : (v a b c d : List ℕ) (rest : List (List ℕ)) → line (v ∷ a ∷ b ∷ c ∷ d ∷ rest) ≡ ((((v ++ (space ∷ a)) ++ (space ∷ b)) ++ (space ∷ c)) ++ (space ∷ d)) ++ lineOn rest
-line-five v a b c d rest = rw (line-first, line-next, line-next, line-next, line-next)
-
 -- ---- a text, or the refusal
 
 pub text-accepted : (k : ℕ) (text : List ℕ) → k ≡ 0 → textOr k text ≡ text

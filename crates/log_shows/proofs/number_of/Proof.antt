@@ -5,9 +5,6 @@ use borrow.Author.Needs.{needs}
 use Rattle.log_shows.proofs.number_of.Statement.{statement}
 use Rattle.log_shows.proofs.number_of.Tie as tie
 
-number-of-requires : tie.Need-number-of-requires
-number-of-requires c κs = search needs
-
 returns : tie.Need-returns
 returns c =
     let same = c .before .number-of .ensures in
@@ -19,4 +16,4 @@ returns-2 c =
     sym (then-rest _ _ (sym same ∙ c .if1 .left))
 
 pub number-of-spec : {M : Type 1} → statement M
-number-of-spec = tie.close (tie.spec number-of-requires returns returns-2)
+number-of-spec = tie.close (tie.spec (λ c κs. search needs) returns returns-2)

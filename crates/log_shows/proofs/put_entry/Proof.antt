@@ -13,12 +13,6 @@ returns c = put-as {most = 0} (record { put = put-none _ _; short = omega arith 
 returns-2 : tie.Need-returns-2
 returns-2 c = put-as {most = 0} (record { put = put-none _ _; short = omega arith }) (sym (lines-none _ _ (c .before .before .if1 .left) (c .if2 .taken))) (omega arith)
 
-put-entry-line-requires : tie.Need-put-entry-line-requires
-put-entry-line-requires c κs = search needs
-
-same-length : tie.Need-same-length
-same-length c = search needs
-
 returns-3 : tie.Need-returns-3
 returns-3 c =
     let called = c .before .before in
@@ -26,5 +20,4 @@ returns-3 c =
     put-as (called .put-entry-line .ensures) (sym (lines-one _ _ (here .before .before .if1 .left) (here .if2 .left))) (omega arith)
 
 pub put-entry-spec : {M : Type 1} → statement M
-put-entry-spec =
-    tie.close (tie.spec returns returns-2 put-entry-line-requires same-length returns-3)
+put-entry-spec = tie.close (tie.spec returns returns-2 (λ c κs. search needs) (λ c. search needs) returns-3)

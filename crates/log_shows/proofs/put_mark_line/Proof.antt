@@ -1,31 +1,21 @@
--- `put_mark_line` is right because its words are put one behind another.
-use mathlib.Core.Path.{sym}
+-- `put_mark_line` is right because its line has the word and the two numbers.
+use mathlib.Core.Path.{refl}
+use mathlib.Core.List.{[], _∷_}
 use native.Mathlib.Omega.{arith}
 use Rattle.outputs.specs.LogText.{markLine}
-use Rattle.text.specs.TextLaws.{field-then, end-then, put-as}
-use Rattle.log_shows.proofs.ShowLaws.{mark-words}
+use Rattle.drafts.specs.Compose.{markWord}
+use Rattle.text.specs.Text.{numberWords}
+use Rattle.text.specs.TextLaws.{line-put, put-as}
 use borrow.Author.Needs.{needs}
 use Rattle.log_shows.proofs.put_mark_line.Statement.{statement}
 use Rattle.log_shows.proofs.put_mark_line.Tie as tie
 
 returns : tie.Need-returns
-unfolding markLine
-returns c =
-    let done = c .before .before in
-    let second = done .before .before .before .before in
-    let first = second .before .before .before .before .before in
-    let named = first .before .before .before .before .before in
-    let start = named .before .before .before .before in
-    let room = start .pre in
-    let one = named .put-short .ensures .put (omega (arith, room)) (omega arith) in
-    let two = field-then _ one (first .put-field .ensures) (omega (arith, room)) in
-    let three = field-then _ two (second .put-field2 .ensures) (omega (arith, room)) in
-    put-as (end-then three (done .put-end .ensures) (omega (arith, room)))
-    (rw (first .before .wide .ensures .same, second .before .wide2 .ensures .same) (sym (mark-words _ _ _)))
-    (omega arith)
+unfolding numberWords markLine
+returns c = put-as (line-put markWord (_ ∷ _ ∷ []) (c .before .before .put-line .ensures) (omega arith)) refl (omega arith)
 
 pub put-mark-line-spec : {M : Type 1} → statement M
 put-mark-line-spec =
     tie.close
-    (tie.spec (λ c. search needs) (λ c κs. search needs) (λ c κs. search needs) (λ c κs. search needs) (λ c κs. search needs) (λ c κs. search needs)
+    (tie.spec (λ c. search needs) (λ c. search needs) (λ c. search needs) (λ c. search needs)
     (λ c κs. search needs) (λ c. search needs) returns)

@@ -7,15 +7,6 @@ use Rattle.log_shows.proofs.show_on.Tie as tie
 returns : tie.Need-returns
 returns c = shown-none _ _ _ (c .if1 .taken)
 
-piece-length-requires : tie.Need-piece-length-requires
-piece-length-requires c κs = search needs
-
-show-piece-requires : tie.Need-show-piece-requires
-show-piece-requires c κs = search needs
-
-same-length : tie.Need-same-length
-same-length c = search needs
-
 returns-2 : tie.Need-returns-2
 returns-2 c =
     let called = c .before .before in
@@ -23,5 +14,4 @@ returns-2 c =
     shown-piece _ _ _ _ _ _ (counted .piece-length .ensures) (counted .before .if1 .left) (called .show-piece .ensures)
 
 pub show-on-spec : {M : Type 1} → statement M
-show-on-spec =
-    tie.close (tie.spec returns piece-length-requires show-piece-requires same-length returns-2)
+show-on-spec = tie.close (tie.spec returns (λ c κs. search needs) (λ c κs. search needs) (λ c. search needs) returns-2)

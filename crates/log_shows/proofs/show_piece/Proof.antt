@@ -33,15 +33,6 @@ loop-holds : tie.Need-loop-holds Inv-loop μ-loop
 unfolding readOver handedOver
 loop-holds c = (omega arith, refl, refl, put-as {most = 0} (record { put = put-none _ _; short = omega arith }) (sym (no-lines _)) (omega arith))
 
-shared-slice-read-byte : tie.Need-shared-slice-read-byte Inv-loop μ-loop
-shared-slice-read-byte c = search needs
-
-step-requires : tie.Need-step-requires Inv-loop μ-loop
-step-requires c κs = search needs
-
-entry-in-requires : tie.Need-entry-in-requires Inv-loop μ-loop
-entry-in-requires c κs = search needs
-
 put-entry-requires : tie.Need-put-entry-requires Inv-loop μ-loop
 put-entry-requires c κs =
     let in-loop = c .before .before .before .before in
@@ -50,12 +41,6 @@ put-entry-requires c κs =
     let inv = at-loop .loop .inv in
     let more : at-loop .loop .i < start .args .end = in-loop .loop-test .taken in
     omega (arith, start .pre .few, start .pre .large, inv .1, inv .3 .put .next, inv .3 .short)
-
-add-i : tie.Need-add-i Inv-loop μ-loop
-add-i c = search needs
-
-loop-less : tie.Need-loop-less Inv-loop μ-loop
-loop-less c = search needs
 
 loop-again : tie.Need-loop-again Inv-loop μ-loop
 loop-again c =
@@ -77,9 +62,6 @@ loop-again c =
     (at-loop .loop .gathered) (moved .step .result) i (at-loop .loop .next) (called .put-entry .result) inside room (inv .2) (inv .3) (moved .step .ensures) q in
     (omega arith, called .put-entry .kept .0 ∙ inv .1, t .0, t .1)
 
-same-length : tie.Need-same-length Inv-loop μ-loop
-same-length c = search needs
-
 returns : tie.Need-returns Inv-loop μ-loop
 returns c =
     let at-loop = c .before in
@@ -94,16 +76,5 @@ returns c =
 pub show-piece-spec : {M : Type 1} → statement M
 show-piece-spec =
     tie.close
-    (tie.spec
-    Inv-loop
-    μ-loop
-    loop-holds
-    shared-slice-read-byte
-    step-requires
-    entry-in-requires
-    put-entry-requires
-    add-i
-    loop-less
-    loop-again
-    same-length
-    returns)
+    (tie.spec Inv-loop μ-loop loop-holds (λ c. search needs) (λ c κs. search needs) (λ c κs. search needs) put-entry-requires (λ c. search needs)
+    (λ c. search needs) loop-again (λ c. search needs) returns)

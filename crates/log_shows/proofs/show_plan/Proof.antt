@@ -8,16 +8,10 @@ use Rattle.log_shows.proofs.show_plan.Tie as tie
 returns : tie.Need-returns
 returns c = rw (ne-eqb _ 0 (c .if1 .taken)) (printed-none _ (c .before .before .pre))
 
-plan-text-requires : tie.Need-plan-text-requires
-plan-text-requires c κs = search needs
-
-same-length : tie.Need-same-length
-same-length c = search needs
-
 returns-2 : tie.Need-returns-2
 returns-2 c =
     let called = c .before .before in
     rw (eq-eqb _ 0 (called .before .before .if1 .left)) (called .plan-text .ensures)
 
 pub show-plan-spec : {M : Type 1} → statement M
-show-plan-spec = tie.close (tie.spec returns plan-text-requires same-length returns-2)
+show-plan-spec = tie.close (tie.spec returns (λ c κs. search needs) (λ c. search needs) returns-2)

@@ -21,15 +21,6 @@ kept c =
     ap (λ (v : Gathered). record { gathered = v; number = start .read-start .result .number }) (c .begin .ensures)
     ∙ ap (λ (p : PlanStart). record { gathered = _; number = p .number }) (start .read-start .ensures)
 
-read-start-requires : tie.Need-read-start-requires
-read-start-requires c κs = search needs
-
-log-entry-requires : tie.Need-log-entry-requires
-log-entry-requires c κs = search needs
-
-begin-requires : tie.Need-begin-requires
-begin-requires c κs = search needs
-
 returns : tie.Need-returns
 returns c =
     let begun = c .before in
@@ -45,9 +36,6 @@ show-plain-requires c κs =
     let begun = here .before .before in
     let start = begun .before .before .before .before in
     (here .before .if1 .left, ap (λ (p : PlanStart). p .passed) (start .read-start .ensures))
-
-same-length : tie.Need-same-length
-same-length c = search needs
 
 returns-2 : tie.Need-returns-2
 returns-2 c =
@@ -66,9 +54,6 @@ show-plan-requires : tie.Need-show-plan-requires
 show-plan-requires c κs =
     let here = c .before .before .before in
     here .before .if1 .left
-
-same-length-2 : tie.Need-same-length-2
-same-length-2 c = search needs
 
 returns-3 : tie.Need-returns-3
 returns-3 c =
@@ -91,14 +76,5 @@ returns-3 c =
 pub show-start-spec : {M : Type 1} → statement M
 show-start-spec =
     tie.close
-    (tie.spec
-    read-start-requires
-    log-entry-requires
-    begin-requires
-    returns
-    show-plain-requires
-    same-length
-    returns-2
-    show-plan-requires
-    same-length-2
-    returns-3)
+    (tie.spec (λ c κs. search needs) (λ c κs. search needs) (λ c κs. search needs) returns show-plain-requires (λ c. search needs) returns-2
+    show-plan-requires (λ c. search needs) returns-3)
