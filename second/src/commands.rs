@@ -20,6 +20,8 @@ usage: second [--planted K] [COMMAND]
                 second plan < ring.request
   compose     a request, a plan or a log as text in, its bytes out
                 second compose < ring.txt > ring.request
+  explain     a request sheet or a plan sheet in, why it is accepted or refused out
+                second explain < ring.request
   show        a request sheet, a plan sheet or a log in, its text out
                 second show < ring.request
   plan-sheet  a request sheet in, its plan sheet out

@@ -49,10 +49,11 @@ pub enum Kind {
     Departures,
     Returns,
     Orders,
+    Explanations,
 }
 
 impl Kind {
-    pub const ALL: [Kind; 24] = [
+    pub const ALL: [Kind; 25] = [
         Kind::Requests,
         Kind::Plans,
         Kind::Planning,
@@ -77,6 +78,7 @@ impl Kind {
         Kind::Departures,
         Kind::Returns,
         Kind::Orders,
+        Kind::Explanations,
     ];
 
     pub fn name(self) -> &'static str {
@@ -105,6 +107,7 @@ impl Kind {
             Kind::Departures => "departures",
             Kind::Returns => "returns",
             Kind::Orders => "orders",
+            Kind::Explanations => "explanations",
         }
     }
 
@@ -140,6 +143,9 @@ impl Kind {
             Kind::Edges => edge_cases(random, sort),
             Kind::Openings => vec![opening_case(random, sort)],
             Kind::Orders => vec![order_case(random, sort)],
+            Kind::Explanations => {
+                vec![format!("command explain;{}", to_hex(&sheet_to_explain(random, sort)))]
+            }
             Kind::Commands => vec![command_case(random, sort)],
             Kind::Logs => vec![format!("log {}", to_hex(&logs::log(random, sort)))],
             Kind::Records => vec![record_case(random, sort)],
@@ -291,9 +297,10 @@ fn edge_cases(random: &mut Random, sort: Sort) -> Vec<String> {
 }
 
 fn command_case(random: &mut Random, sort: Sort) -> String {
-    const NAMES: [&str; 11] = [
+    const NAMES: [&str; 12] = [
         "plan",
         "plan-sheet",
+        "explain",
         "show",
         "compose",
         "run",
@@ -309,6 +316,7 @@ fn command_case(random: &mut Random, sort: Sort) -> String {
     let of_log = random.once_in(3);
     let input = match name {
         "plan" | "plan-sheet" => to_hex(&sheets::sheet(random, SheetKind::Request, sort)),
+        "explain" => to_hex(&sheet_to_explain(random, sort)),
         "inspect" if of_log => departure_input(random, sort),
         "inspect" => to_hex(&logs::to_inspect(random, sort)),
         "show" if of_log => to_hex(&logs::log(random, sort)),
@@ -321,6 +329,24 @@ fn command_case(random: &mut Random, sort: Sort) -> String {
         _ => run_input(random, sort),
     };
     format!("command {name};{input}")
+}
+
+/// A request or a plan, sound or damaged, one that breaks several rules at once, or has any numbers
+/// out of range; now and then a log.
+fn sheet_to_explain(random: &mut Random, sort: Sort) -> Vec<u8> {
+    let kind = random.pick(&[SheetKind::Request, SheetKind::Plan]);
+    match random.between(0, 19) {
+        0..=6 => sheets::sheet(random, kind, sort),
+        7..=9 => sheets::sheet_of(kind, &sets::broken_plan(random, sort)),
+        10..=12 => sheets::sheet_of(kind, &sets::overstepped(random, sort)),
+        13 | 14 if sort.is_fddi() => {
+            sheets::sheet_of(SheetKind::Plan, &sets::pushed_plan(random, sort))
+        }
+        13 | 14 => sheets::sheet_of(SheetKind::Plan, &sets::plan(random, sort)),
+        15 => sheets::sheet_of(SheetKind::Plan, &sets::crowded(random, sort)),
+        16..=18 => fields(&sets::request(random, sort), &[]).concat(),
+        _ => logs::log(random, sort),
+    }
 }
 
 /// A script for its plan; now and then the plan's sheet is damaged, or a log.

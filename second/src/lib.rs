@@ -4,6 +4,7 @@ pub mod check;
 pub mod commands;
 pub mod compose;
 pub mod differences;
+pub mod explain;
 pub mod frames;
 pub mod gen;
 pub mod hopper;

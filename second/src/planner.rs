@@ -35,13 +35,13 @@ fn passed(plan: &Plan, planted: Planted) -> bool {
 }
 
 /// A timely-token station's rule looks at its own S alone.
-fn each_smallest(request: &Request, planted: Planted) -> Vec<u32> {
+pub fn each_smallest(request: &Request, planted: Planted) -> Vec<u32> {
     let smallest = |station: &Station| smallest(&request.head, station, planted);
     request.stations.iter().map(smallest).collect()
 }
 
 /// The smallest S that meets the deadline rule of a station in range.
-fn smallest(head: &Head, station: &Station, planted: Planted) -> u32 {
+pub fn smallest(head: &Head, station: &Station, planted: Planted) -> u32 {
     let step = u64::from(head.grid);
     let found = misjudged(head.ttrt, station, planted).unwrap_or_else(|| match planted {
         Planted::DownToTheGrid => searched(head.ttrt, 1, station) / step * step,

@@ -118,10 +118,16 @@ pub enum Planted {
     OpenRingUnsound,
     /// 57: an FDDI log is refused with 16.
     LogRetired,
+    /// 58: of the numbers out of range P is left out where D is out of its range too.
+    GapNotListed,
+    /// 59: the missing ticks with F in the place of F − 1.
+    OneTickMoreMissing,
+    /// 60: the place of a fault is the one behind its field.
+    FaultBehindField,
 }
 
 impl Planted {
-    pub const ALL: [Planted; 57] = [
+    pub const ALL: [Planted; 60] = [
         Planted::TimeForNobody,
         Planted::RoundedDown,
         Planted::LimitWithoutUnused,
@@ -179,6 +185,9 @@ impl Planted {
         Planted::EarlierRetired,
         Planted::OpenRingUnsound,
         Planted::LogRetired,
+        Planted::GapNotListed,
+        Planted::OneTickMoreMissing,
+        Planted::FaultBehindField,
     ];
 
     /// Whether the error is one of states, and a ring on its time line does not have it.

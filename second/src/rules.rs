@@ -303,7 +303,7 @@ impl Plan {
     }
 
     /// X of a station, in the mode of a judged set.
-    fn least_time(&self, index: usize, planted: Planted) -> u64 {
+    pub fn least_time(&self, index: usize, planted: Planted) -> u64 {
         let (ttrt, deadline) = (self.request.head.ttrt, self.request.stations[index].deadline);
         let s = u64::from(self.allocation[index]);
         match self.request.mode() {

@@ -8,7 +8,7 @@ use crate::rules::{Head, Plan, Refusal, Request, Station};
 
 const TTRT_TAG: u8 = 1;
 pub const STATION_TAG: u8 = 2;
-const ALLOCATION_TAG: u8 = 3;
+pub const ALLOCATION_TAG: u8 = 3;
 const MODE_TAG: u8 = 4;
 pub const FRAME_TAG: u8 = 5;
 pub const GRID_TAG: u8 = 6;
@@ -50,12 +50,12 @@ enum Place {
 /// What the fields so far held.
 #[derive(Default)]
 pub struct Contents {
-    ttrt: u32,
-    mode: Option<u32>,
-    frame: Option<u32>,
-    grid: Option<u32>,
-    stations: Vec<Station>,
-    allocation: Vec<u32>,
+    pub ttrt: u32,
+    pub mode: Option<u32>,
+    pub frame: Option<u32>,
+    pub grid: Option<u32>,
+    pub stations: Vec<Station>,
+    pub allocation: Vec<u32>,
     pub entries: Vec<Entry>,
 }
 
@@ -65,11 +65,13 @@ impl Contents {
         Head { ttrt: self.ttrt, mode, frame, grid }
     }
 
-    fn request(&self) -> Request {
+    /// The set, unjudged.
+    pub fn request(&self) -> Request {
         Request { head: self.head(), stations: self.stations.clone() }
     }
 
-    fn plan(&self) -> Plan {
+    /// The plan, unjudged.
+    pub fn plan(&self) -> Plan {
         Plan { request: self.request(), allocation: self.allocation.clone() }
     }
 
@@ -217,10 +219,10 @@ const LOG_END: Row = Row {
     then: Place::Done,
 };
 
-const REQUEST_TABLE: &[Row] =
+pub const REQUEST_TABLE: &[Row] =
     &[TTRT_FIELD, MODE_FIELD, FRAME_FIELD, GRID_FIELD, STATION_FIELD, REQUEST_END];
 
-const PLAN_TABLE: &[Row] = &[
+pub const PLAN_TABLE: &[Row] = &[
     TTRT_FIELD,
     MODE_FIELD,
     FRAME_FIELD,
@@ -328,21 +330,52 @@ impl Passage {
         (row.keep)(&mut self.contents, body);
         self.place = row.then;
     }
+
+    /// The fields that may stand here: tag and length of each, by rising tags.
+    pub fn allowed(&self) -> Vec<(u8, usize)> {
+        let here = |row: &&Row| row.at.contains(&self.place) && (row.when)(&self.contents);
+        let mut heads: Vec<_> =
+            self.table.iter().filter(here).map(|row| (row.tag, row.length)).collect();
+        heads.sort();
+        heads
+    }
+}
+
+/// How far a sheet can be read: the fields that passed, what is left behind them, and why no more.
+pub struct Walk<'a> {
+    pub passage: Passage,
+    pub rest: &'a [u8],
+    pub fault: Result<(), Refusal>,
+}
+
+/// Reads field after field up to the first fault, or to the end.
+pub fn walked<'a>(sheet: &'a [u8], table: &'static [Row]) -> Walk<'a> {
+    let mut walk = Walk { passage: Passage::new(table), rest: sheet, fault: Ok(()) };
+    while !walk.passage.is_done() && walk.fault.is_ok() {
+        walk.fault = walk.step();
+    }
+    if walk.fault.is_ok() {
+        walk.fault = require(walk.rest.is_empty(), Refusal::TrailingByte);
+    }
+    walk
+}
+
+impl Walk<'_> {
+    /// Takes the next field; a fault leaves all as it is.
+    fn step(&mut self) -> Result<(), Refusal> {
+        let (head, after) = self.rest.split_first_chunk::<3>().ok_or(Refusal::EndsEarly)?;
+        let row = self.passage.row(head)?;
+        let (body, after) = after.split_at_checked(row.length).ok_or(Refusal::EndsEarly)?;
+        self.passage.take(row, body);
+        self.rest = after;
+        Ok(())
+    }
 }
 
 /// What is on a sheet; the first fault decides.
 fn contents(sheet: &[u8], table: &'static [Row]) -> Result<Contents, Refusal> {
-    let mut passage = Passage::new(table);
-    let mut rest = sheet;
-    while !passage.is_done() {
-        let (head, after) = rest.split_first_chunk::<3>().ok_or(Refusal::EndsEarly)?;
-        let row = passage.row(head)?;
-        let (body, after) = after.split_at_checked(row.length).ok_or(Refusal::EndsEarly)?;
-        passage.take(row, body);
-        rest = after;
-    }
-    require(rest.is_empty(), Refusal::TrailingByte)?;
-    Ok(passage.contents)
+    let walk = walked(sheet, table);
+    walk.fault.map(|()| walk.passage.contents)
 }
 
 /// The set of a request sheet, or number 1 to 5.

@@ -5,6 +5,7 @@ use std::io::{self, Read, Write};
 use crate::check::WatchedRing;
 use crate::compose::compose;
 use crate::differences;
+use crate::explain;
 use crate::hopper::{self, Train};
 use crate::inspect::{judge_to_inspect, Inspector};
 use crate::lines::Lines;
@@ -51,6 +52,10 @@ impl<O: Write, E: Write> Streams<O, E> {
             "plan-sheet" => {
                 let plan = planned(&at_most(input, REQUEST_READ)?, planted);
                 self.sheet(plan.and_then(|plan| write_plan(&plan, PLAN_READ)))?;
+            }
+            "explain" => {
+                let sheet = at_most(input, PLAN_READ)?;
+                self.text(&explain::explained(&sheet, planted))?;
             }
             "show" => self.show(input)?,
             "inspect" => {

@@ -508,6 +508,37 @@ fn out_of_range(random: &mut Random, plan: &mut Plan, index: usize) {
     }
 }
 
+/// A plan whose S are together just what the token rule lets them be, or a tick or two more.
+pub fn crowded(random: &mut Random, sort: Sort) -> Plan {
+    let mut plan = sound_plan(random, sort);
+    let (index, left) = (random.index(plan.allocation.len()), plan.left_over() as u32);
+    plan.allocation[index] += left + random.between32(0, 2);
+    plan
+}
+
+/// A plan of which any of its numbers are at an end of a range, past it or anywhere: some of them, or
+/// all.
+pub fn overstepped(random: &mut Random, sort: Sort) -> Plan {
+    let mut plan = plan(random, sort);
+    let times = random.pick(&[1, 2, 4, 10]);
+    let mut overstep = |number: &mut u32| {
+        if random.once_in(times) {
+            let any = random.between32(0, u32::MAX);
+            let ends = [0, 1_000_000, 1_000_001, MOST_TICKS, MOST_TICKS + 1, u32::MAX, any];
+            *number = random.pick(&ends);
+        }
+    };
+    let Plan { request: Request { head, stations }, allocation } = &mut plan;
+    overstep(&mut head.ttrt);
+    let further = [&mut head.mode, &mut head.frame, &mut head.grid];
+    further.into_iter().filter(|number| **number != 1).for_each(&mut overstep);
+    for Station { walk, longest, deadline, gap } in stations {
+        [walk, longest, deadline, gap].into_iter().for_each(&mut overstep);
+    }
+    allocation.iter_mut().for_each(overstep);
+    plan
+}
+
 /// A plan of any kind, in range or not, now and then of a wrong count of stations.
 pub fn any_plan(random: &mut Random, sort: Sort) -> Plan {
     let mut plan = if random.once_in(3) { plan_at_edge(random, sort) } else { plan(random, sort) };

@@ -46,6 +46,11 @@ fn fields_of(kind: SheetKind, plan: &Plan) -> Vec<Vec<u8>> {
     }
 }
 
+/// The sheet of a plan, or of its request, unjudged.
+pub fn sheet_of(kind: SheetKind, plan: &Plan) -> Vec<u8> {
+    fields_of(kind, plan).concat()
+}
+
 fn sound_fields(random: &mut Random, kind: SheetKind, sort: Sort) -> Vec<Vec<u8>> {
     match kind {
         SheetKind::Request => fields(&sets::request(random, sort), &[]),

@@ -5,6 +5,7 @@ mod cases;
 mod departures;
 mod differences;
 mod earlier;
+mod explain;
 mod fddi_plans;
 mod fddi_rings;
 mod fddi_sheets;

@@ -102,6 +102,9 @@ fn shown_by(planted: Planted) -> (Kind, &'static [Sort]) {
         Planted::EarlierRetired => (Kind::Orders, EARLIER),
         Planted::OpenRingUnsound => (Kind::Runs, FDDI),
         Planted::LogRetired => (Kind::Inspections, FDDI),
+        Planted::GapNotListed | Planted::OneTickMoreMissing | Planted::FaultBehindField => {
+            (Kind::Explanations, &Sort::ALL)
+        }
         _ => (Kind::Runs, TIMELY),
     }
 }
@@ -119,20 +122,23 @@ fn comparing_finds_every_planted_error() {
         Kind::Versions,
         Kind::Trains,
         Kind::Departures,
+        Kind::Explanations,
     ];
-    let retired = &Planted::ALL[52..];
+    let retired = &Planted::ALL[52..57];
     let every = kinds.map(|kind| Sort::ALL.map(|sort| (kind, sort))).concat();
     let sorted = |(kind, sort): &(Kind, Sort)| kind.has_sorts() || *sort == Sort::TIMELY;
     for (kind, sort) in every.into_iter().filter(sorted) {
         let answered = answered(kind, sort);
         for planted in Planted::ALL {
-            let elsewhere = [Kind::Openings, Kind::Departures, Kind::Orders].contains(&kind)
+            let elsewhere = [Kind::Openings, Kind::Departures, Kind::Orders, Kind::Explanations]
+                .contains(&kind)
                 || planted == Planted::MarkedLimitByTimers
                 || retired.contains(&planted);
             if elsewhere && shown_by(planted).0 != kind {
                 // An error in the ring may show in the one that is opened, too, and the limits of
                 // marked visits in logs; errors in the inspection and in `diff` show in logs beside
-                // their plans. A wrong 16 shows wherever a ring is planned, opened or looked at.
+                // their plans, and errors in planning and in the rules of a plan in what is explained. A
+                // wrong 16 shows wherever a ring is planned, opened or looked at.
                 continue;
             }
             let differs = |(case, right): &&(String, String)| answer(case, planted) != *right;
@@ -146,7 +152,7 @@ fn comparing_finds_every_planted_error() {
             assert!(as_expected, "{planted:?}: {found} in {kind:?} of {sort:?}");
         }
     }
-    assert_eq!([0, 58].map(Planted::from_number), [None, None]);
+    assert_eq!([0, 61].map(Planted::from_number), [None, None]);
     assert_eq!(Planted::from_number(20), Some(Planted::FirstStartCompared));
     assert_eq!(Planted::from_number(24), Some(Planted::LogByTheLaterEdition));
     assert_eq!(Planted::from_number(27), Some(Planted::OffGridOutOfRange));
@@ -159,6 +165,7 @@ fn comparing_finds_every_planted_error() {
     assert_eq!(Planted::from_number(52), Some(Planted::OtherGridAccepted));
     assert_eq!(Planted::from_number(53), Some(Planted::RetiredBeforeWalkSum));
     assert_eq!(Planted::from_number(57), Some(Planted::LogRetired));
+    assert_eq!(Planted::from_number(60), Some(Planted::FaultBehindField));
 }
 
 /// Every promise that the runs with the error break.

@@ -244,6 +244,7 @@ fn usage_for_anything_else() {
         "plan",
         "compose",
         "show",
+        "explain",
         "plan-sheet",
         "run PLAN",
         "log PLAN",
