@@ -41,7 +41,7 @@ fn plan_sheet() -> u8 {
 
 // `version`: the version, here and nowhere else in the sources.
 fn version() -> u8 {
-    ending::answer(b"0.16.1\n", status::DONE)
+    ending::answer(b"0.16.2\n", status::DONE)
 }
 
 // Does what the words from this one on ask for.
