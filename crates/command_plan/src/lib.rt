@@ -14,7 +14,7 @@ use text::Said;
 use units::numbers;
 
 // The plan of a request that was read, with the first refusal of reading and planning.
-fn plan_of(request: ReadRequest) -> ReadPlan
+pub fn plan_of(request: ReadRequest) -> ReadPlan
     ensures { λ r. ⌜ r ≡ planOf request ⌝ }
 {
     let set = request.set;

@@ -1,10 +1,12 @@
 // Text put into a page. Each public function puts a text into the page from a place on, and answers the place behind it. If the page has no room for the most bytes that it may put, the page stays as it was and the answer is the place itself.
 ghost use mathlib.Core.Path.{_≡_};
 ghost use mathlib.Core.List.{[], _∷_};
-ghost use Prim.Native.Nat.{_+_, _-_, _*_, _<_, _≤_};
+ghost use Prim.Native.Nat.{_+_, _-_, _*_, _^_, _<_, _≤_};
 ghost use lib.Dec.{leb};
 ghost use lib.ListN.{length};
+ghost use Rattle.units.specs.Places.{at as placeAt};
 ghost use Rattle.text.specs.Text.{Put, PutShort, PutWithin, Room, digit, decimalOf, space, newline, fieldsOf, numberWords, line, refusedLine, unreadLine};
+ghost use Rattle.text.specs.Filled.{pieceOf, usedBy, filled, PutFilled};
 
 // How many bytes a page must have, so that every text of the program fits.
 pub const PAGE_SIZE: usize = 65_536;
@@ -183,4 +185,69 @@ pub fn put_unread(page: &mut [u8], at: usize, line: u64) -> usize
     let numbered = put_spaced(page, named, line);
     let told = put_word(page, numbered, b": cannot be read");
     put_byte(page, told, b'\n')
+}
+
+// ---- words with numbers among them
+
+// What a byte of the words stands for: `#` for a number, any other byte for itself.
+fn put_piece(page: &mut [u8], at: usize, byte: u8, n: u64) -> usize
+    requires { ⌜ at + 20 ≤ length (now page) ⌝ }
+    ensures { λ r. ⌜ PutShort 20 (now (page .entry)) at (pieceOf byte n) (now (page .exit)) r ⌝ }
+{
+    if byte == b'#' {
+        return put_decimal(page, at, n);
+    }
+    put_byte(page, at, byte)
+}
+
+// How many numbers are used behind a byte, where so many were before it.
+fn used_by(used: usize, byte: u8) -> usize
+    requires { ⌜ used + 1 < 2 ^ 64 ⌝ }
+    ensures { λ r. ⌜ r ≡ usedBy used byte ⌝ }
+{
+    if byte == b'#' {
+        return used + 1;
+    }
+    used
+}
+
+// Number k of these; 0 behind them.
+fn number_of(numbers: [u64; 6], k: usize) -> u64
+    ensures { λ r. ⌜ r ≡ placeAt numbers k ⌝ }
+{
+    if k < 6 {
+        return numbers[k];
+    }
+    0
+}
+
+// The words, byte after byte.
+fn put_pieces(page: &mut [u8], at: usize, words: &[u8], numbers: [u64; 6]) -> usize
+    requires { ⌜ at + 20 * length (now words) ≤ length (now page) ⌝ }
+    ensures { λ r. ⌜ PutShort (20 * length (now (words .entry))) (now (page .entry)) at (filled (now (words .entry)) numbers) (now (page .exit)) r ⌝ }
+{
+    let mut next = at;
+    let mut used: usize = 0;
+    let mut i: usize = 0;
+    while i < words.len() {
+        let byte = words[i];
+        let n = number_of(numbers, used);
+        next = put_piece(page, next, byte, n);
+        used = used_by(used, byte);
+        i += 1;
+    }
+    next
+}
+
+// Words of at most 100 bytes, with a number in the place of each `#`: the first number for the first, and so on.
+pub fn put_filled(page: &mut [u8], at: usize, words: &[u8], numbers: [u64; 6]) -> usize
+    ensures { λ r. ⌜ PutFilled (now (words .entry)) numbers (now (page .entry)) at (now (page .exit)) r ⌝ }
+{
+    if words.len() > 100 {
+        return at;
+    }
+    if left(page.len(), at) < 2_000 {
+        return at;
+    }
+    put_pieces(page, at, words, numbers)
 }
