@@ -11,6 +11,7 @@ ghost use Rattle.commands.specs.Asked.{commandOf, countedFor, askedFor};
 pub enum Command {
     Plan,
     PlanSheet,
+    Explain,
     Compose,
     Show,
     Run,
@@ -30,7 +31,7 @@ pub enum Command {
 }
 
 // How many commands there are.
-pub const COUNT: usize = 17;
+pub const COUNT: usize = 18;
 
 // The commands in the order of the table; behind the last of them there is none.
 pub fn command_at(place: usize) -> Command
@@ -39,21 +40,22 @@ pub fn command_at(place: usize) -> Command
     match place {
         0 => Command::Plan,
         1 => Command::PlanSheet,
-        2 => Command::Compose,
-        3 => Command::Show,
-        4 => Command::Run,
-        5 => Command::Log,
-        6 => Command::Inspect,
-        7 => Command::Diff,
-        8 => Command::Hopper,
-        9 => Command::HopperSheet,
-        10 => Command::Refit,
-        11 => Command::EmptyStore,
-        12 => Command::Keep,
-        13 => Command::Kept,
-        14 => Command::Versions,
-        15 => Command::Version,
-        16 => Command::Help,
+        2 => Command::Explain,
+        3 => Command::Compose,
+        4 => Command::Show,
+        5 => Command::Run,
+        6 => Command::Log,
+        7 => Command::Inspect,
+        8 => Command::Diff,
+        9 => Command::Hopper,
+        10 => Command::HopperSheet,
+        11 => Command::Refit,
+        12 => Command::EmptyStore,
+        13 => Command::Keep,
+        14 => Command::Kept,
+        15 => Command::Versions,
+        16 => Command::Version,
+        17 => Command::Help,
         _ => Command::Unknown,
     }
 }
@@ -65,6 +67,7 @@ fn has_word(command: Command, word: &[u8]) -> bool
     match command {
         Command::Plan => words::same_bytes(word, b"plan"),
         Command::PlanSheet => words::same_bytes(word, b"plan-sheet"),
+        Command::Explain => words::same_bytes(word, b"explain"),
         Command::Compose => words::same_bytes(word, b"compose"),
         Command::Show => words::same_bytes(word, b"show"),
         Command::Run => words::same_bytes(word, b"run"),
@@ -97,6 +100,7 @@ fn following(command: Command) -> Range
     match command {
         Command::Plan => Range { least: 0, most: 0 },
         Command::PlanSheet => Range { least: 0, most: 0 },
+        Command::Explain => Range { least: 0, most: 0 },
         Command::Compose => Range { least: 0, most: 0 },
         Command::Show => Range { least: 0, most: 0 },
         Command::Run => Range { least: 1, most: 1 },

@@ -18,6 +18,10 @@ pub fn put_line(to: i32, command: Command) -> bool {
             to,
             b"olivastrum plan-sheet < REQUEST   write the plan sheet of a request sheet\n",
         ),
+        Command::Explain => io::write_all(
+            to,
+            b"olivastrum explain < SHEET        say why a request sheet or plan sheet is accepted or refused, in numbers that can be checked by hand\n",
+        ),
         Command::Compose => io::write_all(
             to,
             b"olivastrum compose < TEXT         write the request sheet, plan sheet or log of a text\n",
