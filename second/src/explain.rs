@@ -197,7 +197,7 @@ fn accepted_lines(plan: &Plan) -> Vec<String> {
     lines.push(format!("the token is back within {within}"));
     lines.push("no station sends more than its S in a visit".to_string());
     if request.mode() == Mode::Fddi {
-        lines.push("FDDI is retired, and it promises no deadline".to_string());
+        lines.push("it meets the rules of FDDI, which is retired and promises no deadline".to_string());
         return lines;
     }
     let (count, most) = (request.stations.len(), spare + overrun);

@@ -39,7 +39,7 @@ fn put_promises(page: &mut [u8], form: Form, numbers: [u64; 6]) -> usize {
         Form::NoDeadline => text::put_filled(
             page,
             0,
-            b"FDDI is retired, and it promises no deadline\n",
+            b"it meets the rules of FDDI, which is retired and promises no deadline\n",
             numbers,
         ),
         _ => 0,

@@ -79,7 +79,7 @@ fn accepted_plans() {
          station 0 C 20 D 300 q 3 r 0 S 20 X(S) 40\nstation 1 C 20 D 250 q 2 r 50 S 20 X(S) 40\n\
          sum of S 40 tau 2 F-1 4 TTRT 100\navailable 94 A* 58\nthe token is back within 144\n\
          no station sends more than its S in a visit\n\
-         FDDI is retired, and it promises no deadline\n";
+         it meets the rules of FDDI, which is retired and promises no deadline\n";
     assert_eq!(of_text(older), expected);
 }
 
