@@ -17,7 +17,7 @@ import tempfile
 
 ROOT = os.path.dirname(os.path.dirname(os.path.abspath(__file__)))
 SECOND = os.path.join(ROOT, "second", "target", "release", "second")
-ARCHIVE = os.path.join(ROOT, "target", "staticlib", "liblent.a")
+ARCHIVE = os.path.join(ROOT, "target", "staticlib", "libhost.a")
 BUILT = os.path.join(ROOT, "target", "tests")
 
 # The emulator's machine without the instruction that the C library likes to copy by: the emulator does it byte by byte.
@@ -155,12 +155,12 @@ def sum_of(name):
 
 
 def build_archive():
-    """`rt staticlib` proves `lent` at every call, which takes ten seconds: here only if something changed."""
-    mark = os.path.join(BUILT, "liblent.sum")
-    total = sum_of("lent")
+    """`rt staticlib` proves `host` at every call, which takes ten seconds: here only if something changed."""
+    mark = os.path.join(BUILT, "libhost.sum")
+    total = sum_of("host")
     if os.path.exists(ARCHIVE) and os.path.exists(mark) and open(mark).read() == total:
         return
-    made(["rt", "staticlib", "lent"], ROOT)
+    made(["rt", "staticlib", "host"], ROOT)
     os.makedirs(BUILT, exist_ok=True)
     with open(mark, "w") as file:
         file.write(total)

@@ -25,7 +25,7 @@ FILES += [*(f"libexec/olivastrum/{name}" for name in PROGRAMS), "share/man/man1/
 
 def archived(project, folder="an installed one", **how):
     """./archive of the project with its own table: the folder, and status, standard output and standard error."""
-    crates = "lent:\n" + "".join(f"{name}: lent io\n" for name in PROGRAMS)
+    crates = "host:\n" + "".join(f"{name}: host io\n" for name in PROGRAMS)
     project.change("crates.txt", crates)
     project.change("commands.txt", content("commands.txt"))
     for name in PROGRAMS:
@@ -63,7 +63,7 @@ def what_is_written(project):
     found = [] if done[:2] == (0, b"") else [f"./archive ended with {done}"]
     found += [] if listed(folder) == FILES else [f"./archive wrote {listed(folder)}"]
     found += [] if b"the prover's own" not in done[2] else ["./archive says what the prover says"]
-    calls = ["staticlib lent", *(f"check {name}" for name in PROGRAMS)]
+    calls = ["staticlib host", *(f"check {name}" for name in PROGRAMS)]
     expected = [f"{when} {call}" for call in calls for when in ["begin", "end"]]
     said = project.calls()
     return found + ([] if said == expected else [f"the prover's calls are {said}"])
@@ -136,7 +136,7 @@ def nothing_is_written_of_what_is_not_proved(project):
     archived(project)
     found = []
     for does, why in [
-        ("echo 'rt: lent NOT PROVED (exit 1, 1 s)'\nexit 1\n", rb"lent is not proved"),
+        ("echo 'rt: host NOT PROVED (exit 1, 1 s)'\nexit 1\n", rb"host is not proved"),
         (f"[ $1 = staticlib ] || {{ echo 'rt: {PROGRAMS[-1]} NOT PROVED (exit 1, 1 s)'; exit 1; }}\n", PROGRAMS[-1].encode() + rb" is not proved"),
     ]:
         for name in PROGRAMS:

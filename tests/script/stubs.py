@@ -74,7 +74,7 @@ units:
 sets: units
 plans: units sets # and one here
 others: units
-lent: units
+host: units
 planner: plans io libc
 ringer: others units io
 """
@@ -124,7 +124,7 @@ class Project:
                 shutil.copy(os.path.join(ROOT, name), os.path.join(self.root, name))
         write(os.path.join(self.root, "crates.txt"), CRATES)
         write(os.path.join(self.root, "commands.txt"), COMMANDS)
-        for crate in ["units", "sets", "plans", "others", "lent", "planner", "ringer"]:
+        for crate in ["units", "sets", "plans", "others", "host", "planner", "ringer"]:
             self.change(f"crates/{crate}/src/lib.rt", "one")
         write(os.path.join(self.kit, "bin", "rt"), RT, 0o755)
         write(os.path.join(self.kit, "program"), PROGRAM, 0o755)

@@ -6,17 +6,17 @@ use mathlib.Core.Logic.{⊎-elim}
 use mathlib.Core.Option.{none, some}
 use native.Mathlib.Omega.{arith}
 use Rattle.units.specs.Places.{at}
-use Rattle.units.specs.SmallLaws.{one-more}
+use Rattle.units.proofs.SmallLaws.{one-more}
 use Rattle.sets.specs.declared.Set.{Set}
 use Rattle.plans.specs.Rules.{spareTime}
 use Rattle.plans.specs.Planned.{judgedPlan}
-use Rattle.plans.specs.PlanLaws.{spare-timely}
+use Rattle.plans.proofs.PlanLaws.{spare-timely}
 use Rattle.plans.specs.declared.Alloc.{Alloc}
-use Rattle.entries.specs.declared.VisitEntry.{VisitEntry}
-use Rattle.entries.specs.declared.Entry.{Entry}
-use Rattle.entries.specs.declared.Entry.the-variants.{Visit}
+use Rattle.log_records.specs.declared.VisitEntry.{VisitEntry}
+use Rattle.log_records.specs.declared.Entry.{Entry}
+use Rattle.log_records.specs.declared.Entry.the-variants.{Visit}
 use Rattle.rings.specs.Timers.{Fddi, silentTrt}
-use Rattle.rings.specs.TimerLaws.{fddi-or-not, fddi-true, fddi-false}
+use Rattle.rings.proofs.TimerLaws.{fddi-or-not, fddi-true, fddi-false}
 use Rattle.rings.specs.Opening.{openedRing}
 use Rattle.rings.specs.Steps.{recordOf}
 use Rattle.rings.specs.declared.Ring.{Ring}

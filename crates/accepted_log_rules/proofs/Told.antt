@@ -4,9 +4,9 @@ use mathlib.Core.Path.{_≡_, subst, subst₂, _∙_}
 use mathlib.Core.List.{List, [], _∷_}
 use Rattle.sets.specs.declared.Set.{Set}
 use Rattle.plans.specs.declared.Alloc.{Alloc}
-use Rattle.entries.specs.declared.VisitEntry.{VisitEntry}
-use Rattle.entries.specs.declared.Entry.{Entry}
-use Rattle.entries.specs.declared.Entry.the-variants.{Visit, Mark}
+use Rattle.log_records.specs.declared.VisitEntry.{VisitEntry}
+use Rattle.log_records.specs.declared.Entry.{Entry}
+use Rattle.log_records.specs.declared.Entry.the-variants.{Visit, Mark}
 use Rattle.rings.specs.Timers.{Fddi}
 use Rattle.rings.specs.declared.Ring.{Ring}
 use Rattle.rings.specs.declared.VisitRecord.{VisitRecord}

@@ -6,7 +6,7 @@ use lib.ListN.{length}
 use Rattle.sets.specs.declared.Set.{Set}
 use Rattle.plans.specs.Planned.{judgedPlan}
 use Rattle.plans.specs.declared.Alloc.{Alloc}
-use Rattle.entries.specs.declared.Entry.{Entry}
+use Rattle.log_records.specs.declared.Entry.{Entry}
 use Rattle.fields.specs.Bytes.{AllBytes}
 use Rattle.logs.specs.Reading.{readLog, entriesIn}
 use Rattle.inspection.specs.Findings.{findingIn}

@@ -8,9 +8,9 @@ use Rattle.units.specs.Places.{at}
 use Rattle.sets.specs.declared.Set.{Set}
 use Rattle.plans.specs.Rules.{isFddi, spareTime}
 use Rattle.plans.specs.declared.Alloc.{Alloc}
-use Rattle.entries.specs.declared.VisitEntry.{VisitEntry}
-use Rattle.entries.specs.declared.Entry.{Entry}
-use Rattle.entries.specs.declared.Entry.the-variants.{Visit, Mark}
+use Rattle.log_records.specs.declared.VisitEntry.{VisitEntry}
+use Rattle.log_records.specs.declared.Entry.{Entry}
+use Rattle.log_records.specs.declared.Entry.the-variants.{Visit, Mark}
 use Rattle.rings.specs.Timers.{Fddi, lead, silentTrt}
 use Rattle.promises.specs.History.{overrunOf}
 use Rattle.promises.specs.Valid.{allShares}
@@ -75,13 +75,20 @@ pub record Next (es before : List Entry) (u : VisitEntry) (between : List Entry)
 
 pub record Shows (t : Set) (a : Alloc) (es : List Entry) : Type 0 where
   -- two successive visits of a station are at most the longest wait apart
-  pub apart : (before between : List Entry) (u v : VisitEntry) → Next es before u between v → moment t (before ++ Visit u ∷ between) ≤ moment t before + longestGap t a
+  pub apart : (before between : List Entry) (u v : VisitEntry)
+      → Next es before u between v → moment t (before ++ Visit u ∷ between) ≤ moment t before + longestGap t a
   -- and the wrapping difference of their starts is just that distance
-  pub starts : (before between : List Entry) (u v : VisitEntry) → Next es before u between v → moment t (before ++ Visit u ∷ between) ≡ moment t before + ticksBetween (u .start) (v .start)
+  pub starts : (before between : List Entry) (u v : VisitEntry)
+      → Next es before u between v
+      → moment t (before ++ Visit u ∷ between) ≡ moment t before + ticksBetween (u .start) (v .start)
   -- a station's first visit is at most the longest wait after the silent rotation passed it
-  pub first : (before : List Entry) (v : VisitEntry) → Behind es before v → visitsOf (v .station) before ≡ 0 → silentTrt t (v .station) + moment t before ≤ longestGap t a
+  pub first : (before : List Entry) (v : VisitEntry)
+      → Behind es before v → visitsOf (v .station) before ≡ 0
+      → silentTrt t (v .station) + moment t before ≤ longestGap t a
   -- when the log ends, no station has waited longer for its next visit, nor for its first
-  pub since : (before behind : List Entry) (u : VisitEntry) → es ≡ before ++ Visit u ∷ behind → visitsOf (u .station) behind ≡ 0 → moment t es ≤ moment t before + longestGap t a
+  pub since : (before behind : List Entry) (u : VisitEntry)
+      → es ≡ before ++ Visit u ∷ behind → visitsOf (u .station) behind ≡ 0
+      → moment t es ≤ moment t before + longestGap t a
   pub since-first : (i : ℕ) → i < t .n → visitsOf i es ≡ 0 → silentTrt t i + moment t es ≤ longestGap t a
   -- each visit is of a station of the plan, and sends at most its S synchronously
   pub known : (before : List Entry) (v : VisitEntry) → Behind es before v → v .station < t .n
@@ -90,7 +97,10 @@ pub record Shows (t : Set) (a : Alloc) (es : List Entry) : Type 0 where
   pub through : (before : List Entry) (v : VisitEntry) → Behind es before v → 0 < markAfter (v .station) before
       → (v .limit ≡ 0) × ((v .synchronous ≡ 0) × (v .asynchronous ≡ 0))
   -- timely-token, both editions: any N successive visits send at most A* + (F − 1) asynchronously
-  pub window : ¬ Fddi t → (before during behind : List Entry) → es ≡ before ++ during ++ behind → visitsIn during ≤ t .n → asyncIn during ≤ spareTime t (at (a .s)) + overrunOf t
+  pub window : ¬ Fddi t
+      → (before during behind : List Entry) → es ≡ before ++ during ++ behind → visitsIn during ≤ t .n
+      → asyncIn during ≤ spareTime t (at (a .s)) + overrunOf t
   -- timely-token, both editions: from the end of a station's synchronous part its j-th next one begins by j·TTRT − S; between stand j − 1 of its visits
   pub synchronous : ¬ Fddi t → (before between : List Entry) (u v : VisitEntry) → Later es before u between v
-      → syncBegan t (before ++ Visit u ∷ between) v + at (a .s) (u .station) ≤ syncEnded t before u + (visitsOf (u .station) between + 1) * t .head .ttrt
+      → syncBegan t (before ++ Visit u ∷ between) v + at (a .s) (u .station)
+      ≤ syncEnded t before u + (visitsOf (u .station) between + 1) * t .head .ttrt

@@ -9,16 +9,16 @@ use borrow.Author.Tests.{eq-eqb, ne-eqb, leb-true, le-leb, lt-leb}
 use lib.Dec.{leb}
 use lib.ListN.{length}
 use Rattle.units.specs.Numbers.{mostStations}
-use Rattle.units.specs.JudgingLaws.{and-true, true-and}
+use Rattle.units.proofs.JudgingLaws.{and-true, true-and}
 use Rattle.sets.specs.declared.Set.{Set}
 use Rattle.plans.specs.declared.Alloc.{Alloc}
 use Rattle.fields.specs.Rows.{laid}
-use Rattle.fields.specs.RowLaws.{laid-none}
+use Rattle.fields.proofs.RowLaws.{laid-none}
 use Rattle.sheets.specs.Reading.{readPlan}
-use Rattle.sheets.specs.ReadLaws.{read-few}
+use Rattle.sheets.proofs.ReadLaws.{read-few}
 use Rattle.sheets.specs.declared.ReadPlan.{ReadPlan}
 use Rattle.text.specs.Text.{line, pageSize, PutShort}
-use Rattle.text.specs.TextLaws.{printed, not-printed}
+use Rattle.text.proofs.TextLaws.{printed, not-printed}
 use Rattle.differences.specs.Differences.{Difference, differences, isNone}
 use Rattle.command_diff.specs.declared.Diffed.{Diffed}
 use Rattle.command_diff.specs.DiffText.{oldWord, newWord, sameWord, linesOf, diffText, sideRefused, sideOr, comparedText, linesSize, LinesPut, DiffedOn}

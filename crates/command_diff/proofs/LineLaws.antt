@@ -9,7 +9,7 @@ use native.Mathlib.Omega.{arith}
 use borrow.Author.Tests.{eq-eqb, ne-eqb}
 use lib.ListN.{length, getD}
 use Rattle.text.specs.Text.{space, decimalOf, lineOn, line, numberWords, refusedWord}
-use Rattle.text.specs.TextLaws.{line-first, line-next}
+use Rattle.text.proofs.TextLaws.{line-first, line-next}
 use Rattle.differences.specs.Differences.{Difference, inHeader, inStation, oneSided, changed, gathered, headerChanged, headersChanged}
 use Rattle.command_diff.proofs.BackLaws.{line-some}
 use Rattle.command_diff.specs.DiffText.{letterWord, newWord, oldWord, sideWord, fiveWords, wordsOf, lineOf, linesOf, linesSize, sideRefused}

@@ -10,8 +10,8 @@ use lib.Dec.{eqb}
 use lib.ListN.{length, take, drop, getD, length-append}
 use lib.Seq.{take-at}
 use Rattle.units.specs.Numbers.{mostStations}
-use Rattle.units.specs.SmallLaws.{below-or-not}
-use Rattle.units.specs.JudgingLaws.{true-or-false, and-true}
+use Rattle.units.proofs.SmallLaws.{below-or-not}
+use Rattle.units.proofs.JudgingLaws.{true-or-false, and-true}
 use Rattle.sets.specs.Rules.{HeadInRange}
 use Rattle.sets.specs.declared.Head.{Head}
 use Rattle.sets.specs.declared.Set.{Set}
@@ -20,7 +20,7 @@ use Rattle.fields.specs.Bytes.{AllBytes}
 use Rattle.sets.specs.Header.{headNumber}
 use Rattle.sheets.specs.Layout.{planRead}
 use Rattle.sheets.specs.Reading.{setIn, readAnswer, readSheet, readPlan}
-use Rattle.sheets.specs.ReadLaws.{Kept, judged-kept, then-none, read-accepted, read-number}
+use Rattle.sheets.proofs.ReadLaws.{Kept, judged-kept, then-none, read-accepted, read-number}
 use Rattle.sheets.specs.declared.ReadPlan.{ReadPlan}
 use Rattle.sheets.specs.declared.Written.{Written}
 use Rattle.sheet_rules.specs.Promised.{There}

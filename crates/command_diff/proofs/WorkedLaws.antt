@@ -13,8 +13,8 @@ use Rattle.plans.specs.Planned.{judgedPlan}
 use Rattle.fields.specs.Bytes.{shortAt, numberAt, bodyAt}
 use Rattle.fields.specs.Header.{headerNumber, behindTag, furtherPlace}
 use Rattle.fields.specs.Fields.{furtherSize, isAllowed, fieldNumber, handedOut}
-use Rattle.scan.specs.Cursor.{cursorAfter}
-use Rattle.scan.specs.Scanned.{withField, stopsAt, stopNumber, scanFrom, scanned}
+use Rattle.field_reader.specs.Cursor.{cursorAfter}
+use Rattle.field_reader.specs.Scanned.{withField, stopsAt, stopNumber, scanFrom, scanned}
 use Rattle.sheets.specs.Reading.{readPlan, thenNumber, judgedSheet, readAnswer, readSheet}
 use Rattle.sheets.specs.declared.ReadPlan.{ReadPlan}
 use Rattle.text.specs.Text.{decimalWithin, lineOn, line}

@@ -65,7 +65,9 @@ linesSize = 60_000
 
 -- the lines of two plans were put into a page from the place on, if they have as many stations as there are and the page has room; else it is as it was, and r is the place itself
 pub record LinesPut (t : Set) (a : Alloc) (u : Set) (b : Alloc) (before : List ℕ) (place : ℕ) (after : List ℕ) (r : ℕ) : Type 0 where
-  pub put : t .n ≤ mostStations → u .n ≤ mostStations → place + linesSize ≤ length before → PutShort linesSize before place (linesOf (differences t a u b)) after r
+  pub put : t .n ≤ mostStations
+      → u .n ≤ mostStations → place + linesSize ≤ length before
+      → PutShort linesSize before place (linesOf (differences t a u b)) after r
   pub old-many : mostStations < t .n → (after ≡ before) × (r ≡ place)
   pub new-many : mostStations < u .n → (after ≡ before) × (r ≡ place)
   pub full : length before < place + linesSize → (after ≡ before) × (r ≡ place)
@@ -90,7 +92,9 @@ sideOr side (suc k) text = sideRefused side (suc k)
 
 -- of two sheets that were read: the old one's refusal, the new one's, or the differences
 abbrev pub comparedText : ReadPlan → ReadPlan → List ℕ
-comparedText p q = sideOr oldWord (p .number) (sideOr newWord (q .number) (diffText (differences (p .set) (p .alloc) (q .set) (q .alloc))))
+comparedText p q =
+    sideOr oldWord (p .number)
+    (sideOr newWord (q .number) (diffText (differences (p .set) (p .alloc) (q .set) (q .alloc))))
 
 -- of the bytes of two files, whatever they are
 abbrev pub diffPrinted : List ℕ → List ℕ → List ℕ

@@ -6,7 +6,7 @@ use mathlib.Core.List.{List}
 use Rattle.sets.specs.declared.Set.{Set}
 use Rattle.plans.specs.Planned.{planned}
 use Rattle.plans.specs.declared.Alloc.{Alloc}
-use Rattle.scan.specs.Scanned.{scanned}
+use Rattle.field_reader.specs.Scanned.{scanned}
 use Rattle.sheets.specs.Reading.{thenNumber, judgedSheet, readAnswer, readSheet, givenAnswer, givenSheet, setIn, allocIn, readRequest, readPlan}
 use Rattle.command_plan.specs.PlanSheet.{planningNumber}
 use Rattle.command_explain.specs.Sheet.{isPlan, judgedAs, explained}

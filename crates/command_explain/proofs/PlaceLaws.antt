@@ -8,8 +8,8 @@ use lib.Dec.{leb}
 use borrow.Author.Tests.{lt-leb, le-leb}
 use Rattle.fields.specs.Fields.{left}
 use Rattle.fields.specs.declared.Passed.{Passed}
-use Rattle.scan.specs.FirstFault.{Fault, no-start, not-allowed, cut-body, follows, FirstFault}
-use Rattle.scan.proofs.ScanLaws.{fault-there}
+use Rattle.field_reader.specs.FirstFault.{Fault, no-start, not-allowed, cut-body, follows, FirstFault}
+use Rattle.field_reader.proofs.ScannedLaws.{fault-there}
 use Rattle.command_explain.specs.declared.Place.{Place}
 use Rattle.command_explain.specs.Sheet.{skippedBy, placeAt, placeIn}
 

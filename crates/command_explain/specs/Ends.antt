@@ -32,10 +32,12 @@ unfoldable pub deadlinePromise : ℕ → Phrase
 deadlinePromise mode = cond (eqb mode fddi) (bare form.NoDeadline) (bare form.InTime)
 
 unfoldable pub burstPromise : Explained → Phrase
-burstPromise e = cond (eqb (e .set .head .mode) fddi) nothing (phrase form.Burst (e .set .n ∷ e .sums .burst ∷ 0 ∷ 0 ∷ 0 ∷ 0 ∷ []))
+burstPromise e =
+    cond (eqb (e .set .head .mode) fddi) nothing (phrase form.Burst (e .set .n ∷ e .sums .burst ∷ 0 ∷ 0 ∷ 0 ∷ 0 ∷ []))
 
 unfoldable pub offeredPromise : ℕ → ℕ → Phrase
-offeredPromise mode spare = cond (eqb mode earlier) (bare form.NotOffered) (cond (eqb mode timely && leb 1 spare) (bare form.Offered) nothing)
+offeredPromise mode spare =
+    cond (eqb mode earlier) (bare form.NotOffered) (cond (eqb mode timely && leb 1 spare) (bare form.Offered) nothing)
 
 abbrev pub backPromise : Explained → Phrase
 backPromise e = phrase form.Back (e .sums .back ∷ 0 ∷ 0 ∷ 0 ∷ 0 ∷ 0 ∷ [])
@@ -60,4 +62,6 @@ accountPhrase e j = cond (eqb j 0) (sumPhrase e) (cond (eqb j 1) (againstPhrase 
 
 -- of a first fault, of numbers out of range and of a bad walk time there is none
 unfoldable pub lastPhrase : Explained → ℕ → Phrase
-lastPhrase e j = cond (eqb (e .number) retired) (bare (retiredForm j)) (cond (between 1 badWalkTime (e .number)) nothing (accountPhrase e j))
+lastPhrase e j =
+    cond (eqb (e .number) retired) (bare (retiredForm j))
+    (cond (between 1 badWalkTime (e .number)) nothing (accountPhrase e j))

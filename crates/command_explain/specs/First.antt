@@ -38,7 +38,8 @@ verdictForm plan = cond plan Accepted Planned
 
 unfoldable pub verdict : Explained → Phrase
 verdict e =
-    cond (eqb (e .number) accepted) (phrase (verdictForm (e .plan)) (e .set .n ∷ e .set .head .ttrt ∷ e .sums .tau ∷ e .sums .spare ∷ 0 ∷ 0 ∷ []))
+    cond (eqb (e .number) accepted)
+    (phrase (verdictForm (e .plan)) (e .set .n ∷ e .set .head .ttrt ∷ e .sums .tau ∷ e .sums .spare ∷ 0 ∷ 0 ∷ []))
     (phrase Refused (e .number ∷ 0 ∷ 0 ∷ 0 ∷ 0 ∷ 0 ∷ []))
 
 -- ---- 1, 2, 3
@@ -63,7 +64,9 @@ kindAt k = getD kinds k endKind
 
 -- kind k, if it may stand behind the fields that passed: its tag and its length
 unfoldable pub mayStand : Passed → ℕ → Phrase
-mayStand p k = cond (isAllowed p (kindAt k .tag) (kindAt k .size)) (phrase (kindAt k .form) (kindAt k .tag ∷ kindAt k .size ∷ 0 ∷ 0 ∷ 0 ∷ 0 ∷ [])) nothing
+mayStand p k =
+    cond (isAllowed p (kindAt k .tag) (kindAt k .size))
+    (phrase (kindAt k .form) (kindAt k .tag ∷ kindAt k .size ∷ 0 ∷ 0 ∷ 0 ∷ 0 ∷ [])) nothing
 
 -- behind the end field nothing may stand
 unfoldable pub mayStandBy : ℕ → Passed → ℕ → Phrase
@@ -79,7 +82,9 @@ stands number place =
     (phrase Start (place .byte ∷ place .tag ∷ place .size ∷ place .left ∷ 0 ∷ 0 ∷ []))
 
 unfoldable pub faultPhrase : Explained → ℕ → Phrase
-faultPhrase e j = cond (eqb j 0) (readAs (e .plan)) (cond (eqb j 1) (stands (e .number) (e .place)) (mayStandBy (e .number) (e .place .passed) (j - 2)))
+faultPhrase e j =
+    cond (eqb j 0) (readAs (e .plan))
+    (cond (eqb j 1) (stands (e .number) (e .place)) (mayStandBy (e .number) (e .place .passed) (j - 2)))
 
 -- ---- 4
 
@@ -88,7 +93,10 @@ gridRow = record { tag = 6; low = 2; out = GridOut; one = GridOne }
 
 -- the header's fields: TTRT, and those that may be absent, which mean 1 then and so may not say it
 abbrev pub rows : List Row
-rows = record { tag = 1; low = 1; out = TtrtOut; one = TtrtOut } ∷ record { tag = 4; low = 2; out = ModeOut; one = ModeOne } ∷ record { tag = 5; low = 2; out = FrameOut; one = FrameOne } ∷ []
+rows =
+    record { tag = 1; low = 1; out = TtrtOut; one = TtrtOut } ∷
+    record { tag = 4; low = 2; out = ModeOut; one = ModeOne } ∷
+    record { tag = 5; low = 2; out = FrameOut; one = FrameOne } ∷ []
 
 abbrev pub rowAt : ℕ → Row
 rowAt k = getD rows k gridRow
@@ -100,7 +108,8 @@ outForm row value = cond (eqb value absent) (row .one) (row .out)
 unfoldable pub headerOut : Head → Head → ℕ → Phrase
 headerOut h said k =
     cond (headerRange h (rowAt k .tag) .out)
-    (phrase (outForm (rowAt k) (headerRange said (rowAt k .tag) .value)) (headerRange said (rowAt k .tag) .value ∷ rowAt k .low ∷ headerRange h (rowAt k .tag) .high ∷ 0 ∷ 0 ∷ 0 ∷ []))
+    (phrase (outForm (rowAt k) (headerRange said (rowAt k .tag) .value))
+    (headerRange said (rowAt k .tag) .value ∷ rowAt k .low ∷ headerRange h (rowAt k .tag) .high ∷ 0 ∷ 0 ∷ 0 ∷ []))
     nothing
 
 unfoldable pub headerPhrase : Explained → ℕ → Phrase
@@ -121,7 +130,9 @@ oneLine e j = cond (eqb j 0) (cond (eqb (e .number) badWalkTime) (tauOut e) (hea
 -- ---- all of them
 
 unfoldable pub secondPhrase : Explained → ℕ → Phrase
-secondPhrase e j = cond (between 1 runsOn (e .number)) (faultPhrase e j) (cond (eqb (e .number) outOfRange) (headerPhrase e j) (oneLine e j))
+secondPhrase e j =
+    cond (between 1 runsOn (e .number)) (faultPhrase e j)
+    (cond (eqb (e .number) outOfRange) (headerPhrase e j) (oneLine e j))
 
 unfoldable pub firstPhrase : Explained → ℕ → Phrase
 firstPhrase e j = cond (eqb j 0) (verdict e) (secondPhrase e (j - 1))

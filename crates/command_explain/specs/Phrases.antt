@@ -27,7 +27,9 @@ phraseCount e = firstCount + stationCount * stationsOf e + lastCount
 
 -- phrase k behind the first ten
 unfoldable pub phraseBehind : Explained → ℕ → Phrase
-phraseBehind e k = cond (ltb (k / stationCount) (stationsOf e)) (stationPhrase e (k / stationCount) (k % stationCount)) (lastPhrase e (k - stationCount * stationsOf e))
+phraseBehind e k =
+    cond (ltb (k / stationCount) (stationsOf e)) (stationPhrase e (k / stationCount) (k % stationCount))
+    (lastPhrase e (k - stationCount * stationsOf e))
 
 unfoldable pub phraseAt : Explained → ℕ → Phrase
 phraseAt e k = cond (ltb k firstCount) (firstPhrase e k) (phraseBehind e (k - firstCount))

@@ -14,7 +14,7 @@ use Rattle.plans.specs.declared.Alloc.{Alloc}
 use Rattle.fields.specs.Fields.{allocationTag, left, tagAt, sizeAt}
 use Rattle.fields.specs.Header.{furtherPlace}
 use Rattle.fields.specs.declared.Passed.{Passed}
-use Rattle.scan.specs.Scanned.{scanned}
+use Rattle.field_reader.specs.Scanned.{scanned}
 use Rattle.sheets.specs.Reading.{givenSheet}
 use Rattle.sheets.specs.declared.ReadPlan.{ReadPlan}
 use Rattle.command_plan.specs.PlanSheet.{planOf}
@@ -48,7 +48,8 @@ skippedBy number = cond (eqb number runsOn) 3 0
 -- what stands at a, where so many bytes are passed over; a tag and a length where three bytes are left
 unfoldable pub placeAt : List ℕ → ℕ → ℕ → Passed → Place
 placeAt bs a skipped p =
-    cond (leb 3 (left bs a)) (record { byte = a + skipped; left = left bs a - skipped; tag = tagAt bs a; size = sizeAt bs a; passed = p })
+    cond (leb 3 (left bs a))
+    (record { byte = a + skipped; left = left bs a - skipped; tag = tagAt bs a; size = sizeAt bs a; passed = p })
     (record { byte = a; left = left bs a; tag = 0; size = 0; passed = p })
 
 abbrev pub placeIn : Bool → List ℕ → Place
@@ -73,11 +74,14 @@ saidHead bs h =
 
 -- within how many ticks the token is back: TTRT; in FDDI TTRT, the sum of S and F − 1
 unfoldable pub backWithin : Set → Alloc → ℕ
-backWithin t a = cond (eqb (t .head .mode) fddi) (t .head .ttrt + sumBelow (t .n) (at (a .s)) + (t .head .frame - 1)) (t .head .ttrt)
+backWithin t a =
+    cond (eqb (t .head .mode) fddi) (t .head .ttrt + sumBelow (t .n) (at (a .s)) + (t .head .frame - 1)) (t .head .ttrt)
 
 -- the sum, what there is for it, and what is missing: of a plan sheet with its S, of a request sheet with the smallest
 unfoldable pub accountOf : Bool → Set → Alloc → Token
-accountOf plan t a = cond plan (tokenOf t a) (record { sum = shortageOf t .sum; available = shortageOf t .available; over = shortageOf t .missing })
+accountOf plan t a =
+    cond plan (tokenOf t a)
+    (record { sum = shortageOf t .sum; available = shortageOf t .available; over = shortageOf t .missing })
 
 abbrev pub sumsWith : Token → Set → Alloc → Sums
 sumsWith account t a =

@@ -31,7 +31,8 @@ outForm j = getD outForms j form.ShareOut
 
 -- number j of station i, if it is out of its range: the number, and the range
 unfoldable pub rangedOut : ℕ → ℕ → Ranged → Phrase
-rangedOut i j range = cond (range .out) (phrase (outForm j) (i ∷ range .value ∷ range .low ∷ range .high ∷ 0 ∷ 0 ∷ [])) nothing
+rangedOut i j range =
+    cond (range .out) (phrase (outForm j) (i ∷ range .value ∷ range .low ∷ range .high ∷ 0 ∷ 0 ∷ [])) nothing
 
 abbrev pub stationOut : Explained → ℕ → ℕ → Phrase
 stationOut e i j = rangedOut i j (rangeAt (e .set) (e .alloc) i j)
@@ -63,7 +64,8 @@ times rests largest =
 
 -- what is said behind the smallest S
 unfoldable pub behindSmallest : Explained → Grounds → ℕ → Phrase
-behindSmallest e rests largest = cond (eqb (e .number) noAllocation) (tooMuchPhrase (e .sums .available) (rests .smallest)) (times rests largest)
+behindSmallest e rests largest =
+    cond (eqb (e .number) noAllocation) (tooMuchPhrase (e .sums .available) (rests .smallest)) (times rests largest)
 
 unfoldable pub smallestPhrase : Explained → ℕ → ℕ → Phrase
 smallestPhrase e i j =
@@ -89,7 +91,8 @@ held h = phrase (heldForm h) (h .time ∷ h .excess ∷ 0 ∷ 0 ∷ 0 ∷ 0 ∷ 
 unfoldable pub givenBy : Explained → ℕ → ℕ → Holding → Phrase
 givenBy e i j h =
     cond (named (e .number) h)
-    (cond (eqb j 0) (grounds (e .set .head) i (at (e .set .c) i) (at (e .set .d) i) (at (e .alloc .s) i)) (cond (eqb j 1) (held h) nothing))
+    (cond (eqb j 0) (grounds (e .set .head) i (at (e .set .c) i) (at (e .set .d) i) (at (e .alloc .s) i))
+    (cond (eqb j 1) (held h) nothing))
     nothing
 
 abbrev pub givenPhrase : Explained → ℕ → ℕ → Phrase

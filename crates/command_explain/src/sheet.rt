@@ -35,7 +35,7 @@ fn byte_or_zero(bs: &[u8], at: usize) -> u32
 pub(crate) fn is_plan(bs: &[u8]) -> bool
     ensures { λ r. ⌜ r ≡ isPlan (now (bs .entry)) ⌝ }
 {
-    let scanned = scan::scan_sheet(bs, false);
+    let scanned = field_reader::scan_sheet(bs, false);
     let tag = byte_or_zero(bs, scanned.at);
     let share = fields::bytes::wide(fields::ALLOCATION_TAG);
     let passed = scanned.passed;
@@ -99,7 +99,7 @@ fn skipped_by(number: u8) -> usize
 pub(crate) fn place_of(bs: &[u8], plan: bool) -> Place
     ensures { λ r. ⌜ r ≡ placeIn plan (now (bs .entry)) ⌝ }
 {
-    let scanned = scan::scan_sheet(bs, plan);
+    let scanned = field_reader::scan_sheet(bs, plan);
     let passed = scanned.passed;
     place_at(bs, scanned.at, skipped_by(scanned.number), passed)
 }

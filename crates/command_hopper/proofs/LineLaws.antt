@@ -7,14 +7,14 @@ use native.Mathlib.Omega.{arith}
 use lib.Dec.{ltb, eqb}
 use borrow.Author.Tests.{ltb-true, eq-eqb, ne-eqb}
 use Rattle.units.specs.Places.{at}
-use Rattle.units.specs.JudgingLaws.{and-true}
+use Rattle.units.proofs.JudgingLaws.{and-true}
 use Rattle.hopper.specs.Wagons.{withMore, withoutLast}
 use Rattle.hopper.specs.Trains.{changedTrain, changedWagon}
 use Rattle.hopper.specs.declared.Train.{Train}
 use Rattle.hopper.specs.declared.Coupled.{Coupled}
-use Rattle.lines.specs.Scan.{isReadable, isEmptyLine}
-use Rattle.lines.specs.declared.Scan.{Scan}
-use Rattle.drafts.specs.Compose.{allFit, isLine}
+use Rattle.line_reader.specs.Scan.{isReadable, isEmptyLine}
+use Rattle.line_reader.specs.declared.Scan.{Scan}
+use Rattle.command_compose.specs.Compose.{allFit, isLine}
 use Rattle.command_hopper.specs.Lists.{isWagon, wagonIn, Narrow, onNextLine, firstUnread, lineListed}
 use Rattle.command_hopper.specs.Refits.{isChange, isCouple, isUncouple, toldOf, lineChanged}
 use Rattle.command_hopper.specs.declared.Change.the-variants.{Nothing, Unread}

@@ -6,7 +6,7 @@ use mathlib.Core.List.{List, [], _∷_}
 use mathlib.Core.Logic.{_≢_, ⊎-elim}
 use lib.Dec.{eqb}
 use Rattle.text.specs.Text.{newline, refusedLine}
-use Rattle.text.specs.TextLaws.{text-accepted, text-refused}
+use Rattle.text.proofs.TextLaws.{text-accepted, text-refused}
 use Rattle.plans.specs.declared.Planned.{Planned}
 use Rattle.hopper.specs.Wagons.{ListFits, judgedList, withWagon, withMore}
 use Rattle.hopper.specs.Requests.{setOf, listSheet, listPlanned}
@@ -19,11 +19,11 @@ use Rattle.hopper_rules.proofs.ChangeLaws.{kept-by, refused-stays}
 use Rattle.hopper_rules.proofs.SheetLaws.{read-back}
 use Rattle.hopper_rules.proofs.AnswerLaws.{same-or-not}
 use Rattle.sheets.specs.Reading.{thenNumber}
-use Rattle.sheets.specs.ReadLaws.{then-keeps}
+use Rattle.sheets.proofs.ReadLaws.{then-keeps}
 use Rattle.units.specs.Places.{at}
 use Rattle.plans.specs.Planned.{planned}
-use Rattle.lines.specs.Scan.{isEmptyLine, letterRead, numberBegun, digitRead, characterRead, stepped}
-use Rattle.lines.specs.declared.Scan.{Scan}
+use Rattle.line_reader.specs.Scan.{isEmptyLine, letterRead, numberBegun, digitRead, characterRead, stepped}
+use Rattle.line_reader.specs.declared.Scan.{Scan}
 use Rattle.command_plan.specs.PlanText.{planLines, requestText, planPrinted}
 use Rattle.command_plan.specs.PlanSheet.{planningNumber}
 use Rattle.command_hopper.specs.Lists.{isWagon, wagonIn, onNextLine, firstUnread, lineListed, listOn, listOver, listIn}

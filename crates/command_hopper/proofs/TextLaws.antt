@@ -11,8 +11,8 @@ use lib.Seq.{take-suc}
 use borrow.Author.Tests.{eq-eqb, ne-eqb, lt-ltb, le-ltb}
 use Rattle.units.specs.Places.{at}
 use Rattle.text.specs.Text.{newline, pageSize, Printed}
-use Rattle.text.specs.TextLaws.{put-none, printed, not-printed}
-use Rattle.lines.specs.Scan.{freshScan, stepped, nextLine}
+use Rattle.text.proofs.TextLaws.{put-none, printed, not-printed}
+use Rattle.line_reader.specs.Scan.{freshScan, stepped, nextLine}
 use Rattle.command_hopper.specs.Lists.{lineListed, listOn, listOver}
 use Rattle.command_hopper.specs.Refits.{lineChanged, changeText, refitOn, refitSaid, refitUnread, EndedLine, RefitRead, refitOver, refitText}
 use Rattle.command_hopper.specs.declared.Changed.{Changed}

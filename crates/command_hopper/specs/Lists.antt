@@ -8,9 +8,9 @@ use Rattle.hopper.specs.Wagons.{blankList, withMore}
 use Rattle.hopper.specs.declared.Wagon.{Wagon}
 use Rattle.hopper.specs.declared.WagonList.{WagonList}
 use Rattle.text.specs.Text.{newline}
-use Rattle.lines.specs.Scan.{freshScan, stepped, isEmptyLine, codeOf, nextLine}
-use Rattle.lines.specs.declared.Scan.{Scan}
-use Rattle.drafts.specs.Compose.{isLine}
+use Rattle.line_reader.specs.Scan.{freshScan, stepped, isEmptyLine, codeOf, nextLine}
+use Rattle.line_reader.specs.declared.Scan.{Scan}
+use Rattle.command_compose.specs.Compose.{isLine}
 use Rattle.command_hopper.specs.declared.Listing.{Listing}
 
 -- "wagon"
@@ -50,11 +50,14 @@ firstUnread u = cond (eqb (u .unread) 0) (u .line) (u .unread)
 unfoldable pub lineListed : Listing → Listing
 lineListed u =
     cond (isEmptyLine (u .scan)) (onNextLine u (u .list) (u .unread))
-    (cond (isWagon (u .scan)) (onNextLine u (withMore (u .list) (wagonIn (u .scan) 0)) (u .unread)) (onNextLine u (u .list) (firstUnread u)))
+    (cond (isWagon (u .scan)) (onNextLine u (withMore (u .list) (wagonIn (u .scan) 0)) (u .unread))
+    (onNextLine u (u .list) (firstUnread u)))
 
 -- one byte more: a newline ends the line
 unfoldable pub listOn : Listing → ℕ → Listing
-listOn u b = cond (eqb b newline) (lineListed u) (record { list = u .list; scan = stepped (u .scan) b; line = u .line; unread = u .unread })
+listOn u b =
+    cond (eqb b newline) (lineListed u)
+    (record { list = u .list; scan = stepped (u .scan) b; line = u .line; unread = u .unread })
 
 -- all bytes of a text
 unfoldable pub listOver : Listing → List ℕ → Listing

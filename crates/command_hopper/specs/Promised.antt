@@ -11,8 +11,8 @@ use Rattle.hopper.specs.Requests.{setOf, listSheet, listPlanned}
 use Rattle.hopper.specs.declared.WagonList.{WagonList}
 use Rattle.hopper.specs.declared.Train.{Train}
 use Rattle.hopper_rules.specs.Changes.{Change, newWagon, oneMore, lastOff, after, PlanInForce}
-use Rattle.lines.specs.Scan.{isEmptyLine}
-use Rattle.lines.specs.declared.Scan.{Scan}
+use Rattle.line_reader.specs.Scan.{isEmptyLine}
+use Rattle.line_reader.specs.declared.Scan.{Scan}
 use Rattle.command_plan.specs.PlanText.{planLines, planPrinted}
 use Rattle.command_hopper.specs.Lists.{isWagon, lineListed, listOver, listIn}
 use Rattle.command_hopper.specs.Refits.{hopperText, hopperNumber, lineChanged, answeredText, refitFrom, refitOver, refitText}
@@ -28,7 +28,8 @@ twoWagons =
 
 -- the list that it says
 abbrev pub twoListed : WagonList
-twoListed = record { n = 2; boxes = 8 ∷ 0 ∷ replicate 10 0; brake = 1 ∷ 0 ∷ replicate 10 0; door = 1 ∷ 1 ∷ replicate 10 0 }
+twoListed =
+    record { n = 2; boxes = 8 ∷ 0 ∷ replicate 10 0; brake = 1 ∷ 0 ∷ replicate 10 0; door = 1 ∷ 1 ∷ replicate 10 0 }
 
 -- a text of three changes: `change 1 8 1 0`, `couple 4 0 1`, `uncouple`
 abbrev pub threeChanges : List ℕ
@@ -40,7 +41,8 @@ threeChanges =
 -- what it asks for
 abbrev pub threeAsked : List Change
 threeAsked =
-    newWagon (record { 0 = 1 }) (record { boxes = 8; brake = 1; door = 0 }) ∷ oneMore (record { boxes = 4; brake = 0; door = 1 }) ∷ lastOff ∷ []
+    newWagon (record { 0 = 1 }) (record { boxes = 8; brake = 1; door = 0 }) ∷
+    oneMore (record { boxes = 4; brake = 0; door = 1 }) ∷ lastOff ∷ []
 
 pub record Promised : Type 0 where
   -- `hopper` prints of a list what `plan` prints of its sheet, byte for byte
@@ -50,7 +52,8 @@ pub record Promised : Type 0 where
   -- the number beside it is that of the list's answer
   pub list-number : (l : WagonList) → hopperNumber l ≡ listPlanned l .number
   -- where it is 0 the text is the plan's
-  pub list-plan : (l : WagonList) → listPlanned l .number ≡ 0 → hopperText l ≡ planLines (setOf l) (listPlanned l .alloc)
+  pub list-plan : (l : WagonList)
+      → listPlanned l .number ≡ 0 → hopperText l ≡ planLines (setOf l) (listPlanned l .alloc)
   -- `refit` answers an accepted change with the plan in force
   pub in-force : (t : Train) → PlanInForce t → answeredText 0 t ≡ planLines (setOf (t .list)) (t .plan)
   -- and a refused one with its number
@@ -62,12 +65,15 @@ pub record Promised : Type 0 where
   -- a piece of a text may end anywhere: wagons
   pub list-pieces : (u : Listing) (first rest : List ℕ) → listOver u (first ++ rest) ≡ listOver (listOver u first) rest
   -- and changes, and what is printed of them
-  pub refit-pieces : (u : Refit) (first rest : List ℕ) → refitOver u (first ++ rest) ≡ refitOver (refitOver u first) rest
-  pub said-pieces : (u : Refit) (first rest : List ℕ) → refitText u (first ++ rest) ≡ refitText u first ++ refitText (refitOver u first) rest
+  pub refit-pieces : (u : Refit) (first rest : List ℕ)
+      → refitOver u (first ++ rest) ≡ refitOver (refitOver u first) rest
+  pub said-pieces : (u : Refit) (first rest : List ℕ)
+      → refitText u (first ++ rest) ≡ refitText u first ++ refitText (refitOver u first) rest
   -- the line that is named is the first that cannot be read: once there is one it stays
   pub first-unread : (u : Listing) (text : List ℕ) → u .unread ≢ 0 → listOver u text .unread ≡ u .unread
   -- and where there is none yet, a line that is neither empty nor a wagon is it
-  pub named-unread : (u : Listing) → u .unread ≡ 0 → isEmptyLine (u .scan) ≡ false → isWagon (u .scan) ≡ false → lineListed u .unread ≡ u .line
+  pub named-unread : (u : Listing)
+      → u .unread ≡ 0 → isEmptyLine (u .scan) ≡ false → isWagon (u .scan) ≡ false → lineListed u .unread ≡ u .line
   -- a text of two wagons says their list, and no line of it cannot be read
   pub two-wagons : (listIn twoWagons .list ≡ twoListed) × (listIn twoWagons .unread ≡ 0)
   -- a text of three changes asks of any train just what its lines say, one behind another

@@ -13,9 +13,9 @@ use Rattle.hopper.specs.declared.WagonList.{WagonList}
 use Rattle.hopper.specs.declared.Train.{Train}
 use Rattle.hopper.specs.declared.Coupled.{Coupled}
 use Rattle.text.specs.Text.{newline, pageSize, textOr, unreadLine, Printed}
-use Rattle.lines.specs.Scan.{freshScan, stepped, isEmptyLine, codeOf, nextLine}
-use Rattle.lines.specs.declared.Scan.{Scan}
-use Rattle.drafts.specs.Compose.{isLine}
+use Rattle.line_reader.specs.Scan.{freshScan, stepped, isEmptyLine, codeOf, nextLine}
+use Rattle.line_reader.specs.declared.Scan.{Scan}
+use Rattle.command_compose.specs.Compose.{isLine}
 use Rattle.command_plan.specs.PlanText.{requestText}
 use Rattle.command_plan.specs.PlanSheet.{planningNumber}
 use Rattle.command_hopper.specs.Lists.{wagonIn}
@@ -71,7 +71,8 @@ lineChanged t s =
     cond (isEmptyLine s) (record { train = t; change = Nothing; unread = false })
     (cond (isChange s) (toldOf (changedWagon t (record { 0 = at (s .values) 0 }) (wagonIn s 1)))
     (cond (isCouple s) (toldOf (changedTrain t (withMore (t .list) (wagonIn s 0))))
-    (cond (isUncouple s) (toldOf (changedTrain t (withoutLast (t .list)))) (record { train = t; change = Unread; unread = true }))))
+    (cond (isUncouple s) (toldOf (changedTrain t (withoutLast (t .list))))
+    (record { train = t; change = Unread; unread = true }))))
 
 -- the plan now in force, or the refusal
 abbrev pub answeredText : ℕ → Train → List ℕ
@@ -95,7 +96,9 @@ lineRefit u = record { train = lineChanged (u .train) (u .scan) .train; scan = f
 
 pub record EndedLine (u : Refit) (before after : List ℕ) (r : Refitted) : Type 0 where
   pub behind : r .refit ≡ lineRefit u
-  pub said : Printed (changeText (lineChanged (u .train) (u .scan) .change) (lineChanged (u .train) (u .scan) .train) (u .line)) before after (r .length)
+  pub said : Printed
+      (changeText (lineChanged (u .train) (u .scan) .change) (lineChanged (u .train) (u .scan) .train) (u .line))
+      before after (r .length)
   pub unread : r .unread ≡ lineChanged (u .train) (u .scan) .unread
 
 -- one byte more: a newline ends the line

@@ -11,7 +11,7 @@ use crate::Refitted;
 use crate::wagon_lines;
 use hopper::Coupled;
 use hopper::Train;
-use lines::Scan;
+use line_reader::Scan;
 use units::Station;
 use units::numbers;
 
@@ -38,24 +38,24 @@ fn told_of(answer: Coupled) -> Changed
 fn line_changed(train: Train, s: Scan) -> Changed
     ensures { λ r. ⌜ r ≡ lineChanged train s ⌝ }
 {
-    if lines::is_empty_line(s) {
+    if line_reader::is_empty_line(s) {
         return Changed {
             train,
             change: Change::Nothing,
             unread: false,
         };
     }
-    if drafts::is_line(s, CHANGE, 4) {
+    if command_compose::is_line(s, CHANGE, 4) {
         let values = s.values;
         let place = values[0];
         let wagon = wagon_lines::wagon_in(s, 1);
         return told_of(hopper::change_wagon(train, Station(place), wagon));
     }
-    if drafts::is_line(s, COUPLE, 3) {
+    if command_compose::is_line(s, COUPLE, 3) {
         let wagon = wagon_lines::wagon_in(s, 0);
         return told_of(hopper::couple_wagon(train, wagon));
     }
-    if drafts::is_line(s, UNCOUPLE, 0) {
+    if command_compose::is_line(s, UNCOUPLE, 0) {
         return told_of(hopper::uncouple_wagon(train));
     }
     Changed {
@@ -101,12 +101,12 @@ pub(crate) fn end_line(refit: Refit, page: &mut [u8]) -> Refitted
     let behind = done.train;
     let change = done.change;
     let length = put_change(page, change, behind, refit.line);
-    let scan = lines::fresh();
+    let scan = line_reader::fresh();
     Refitted {
         refit: Refit {
             train: behind,
             scan,
-            line: lines::next_line(refit.line),
+            line: line_reader::next_line(refit.line),
         },
         length,
         unread: done.unread,

@@ -8,7 +8,7 @@ ghost use Rattle.command_hopper.specs.Lists.{listStart, listOn, listOver
 ghost use Rattle.command_hopper.specs.Refits.{hopperText, hopperNumber, refitFrom, RefitRead};
 use hopper::Train;
 use hopper::WagonList;
-use lines::Scan;
+use line_reader::Scan;
 use text::PAGE_SIZE;
 use text::Said;
 
@@ -63,7 +63,7 @@ pub fn begin_list() -> Listing
     ensures { λ r. ⌜ r ≡ listStart ⌝ }
 {
     let list = hopper::blank_list();
-    let scan = lines::fresh();
+    let scan = line_reader::fresh();
     Listing {
         list,
         scan,
@@ -81,7 +81,7 @@ pub fn list_byte(listing: Listing, byte: u8) -> Listing
     }
     let read = listing.scan;
     let list = listing.list;
-    let scan = lines::step(read, byte);
+    let scan = line_reader::step(read, byte);
     Listing {
         list,
         scan,
@@ -117,7 +117,7 @@ pub fn hopper_text(list: WagonList, page: &mut [u8]) -> Said
 pub fn begin_refit(train: Train) -> Refit
     ensures { λ r. ⌜ r ≡ refitFrom train ⌝ }
 {
-    let scan = lines::fresh();
+    let scan = line_reader::fresh();
     Refit {
         train,
         scan,
@@ -141,7 +141,7 @@ pub fn refit_byte(refit: Refit, byte: u8, page: &mut [u8]) -> Refitted
     }
     let read = refit.scan;
     let train = refit.train;
-    let scan = lines::step(read, byte);
+    let scan = line_reader::step(read, byte);
     Refitted {
         refit: Refit {
             train,

@@ -4,7 +4,7 @@ ghost use Rattle.command_hopper.specs.Lists.{wagonIn, Narrow, onNextLine
 use crate::Listing;
 use hopper::Wagon;
 use hopper::WagonList;
-use lines::Scan;
+use line_reader::Scan;
 
 // The letters of `wagon` as one number to base 256.
 const WAGON: u64 = 512_735_276_910;
@@ -29,11 +29,11 @@ pub(crate) fn wagon_in(s: Scan, first: usize) -> Wagon
 fn on_next_line(listing: Listing, list: WagonList, unread: u64) -> Listing
     ensures { λ r. ⌜ r ≡ onNextLine listing list unread ⌝ }
 {
-    let scan = lines::fresh();
+    let scan = line_reader::fresh();
     Listing {
         list,
         scan,
-        line: lines::next_line(listing.line),
+        line: line_reader::next_line(listing.line),
         unread,
     }
 }
@@ -55,10 +55,10 @@ pub(crate) fn end_line(listing: Listing) -> Listing
 {
     let read = listing.scan;
     let list = listing.list;
-    if lines::is_empty_line(read) {
+    if line_reader::is_empty_line(read) {
         return on_next_line(listing, list, listing.unread);
     }
-    if drafts::is_line(read, WAGON, 3) {
+    if command_compose::is_line(read, WAGON, 3) {
         let longer = hopper::with_more(list, wagon_in(read, 0));
         return on_next_line(listing, longer, listing.unread);
     }

@@ -1,2 +1,3 @@
--- The laws of what is printed of a plan sheet and a log.
-pub mod AnswerLaws
+-- The laws of what is printed of a finding, and the promises of this layer, proved.
+pub mod LineLaws
+pub mod Promised

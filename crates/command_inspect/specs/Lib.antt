@@ -1,3 +1,5 @@
--- What `inspect PLAN` prints.
---     InspectText   the lines, in their order
-pub mod InspectText
+-- What `inspect` prints.
+--     FindingText   the lines
+--     Promised      that they are those of the whole log's finding
+pub mod FindingText
+pub mod Promised

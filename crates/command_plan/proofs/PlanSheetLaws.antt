@@ -11,7 +11,7 @@ use Rattle.plans.specs.Planned.{planned}
 use Rattle.plans.specs.declared.Planned.{Planned}
 use Rattle.sheets.specs.Reading.{thenNumber}
 use Rattle.sheets.specs.Writing.{refusedWriting, Wrote}
-use Rattle.sheets.specs.WriteLaws.{written-fits}
+use Rattle.sheets.proofs.WriteLaws.{written-fits}
 use Rattle.sheets.specs.declared.ReadRequest.{ReadRequest}
 use Rattle.sheets.specs.declared.ReadPlan.{ReadPlan}
 use Rattle.sheets.specs.declared.Written.{Written}

@@ -5,12 +5,12 @@ use mathlib.Core.List.{List}
 use mathlib.Core.Logic.{_≢_}
 use Rattle.plans.proofs.Promised.{promised as of-plans}
 use Rattle.sheets.specs.Reading.{thenNumber}
-use Rattle.sheets.specs.ReadLaws.{then-none}
+use Rattle.sheets.proofs.ReadLaws.{then-none}
 use Rattle.sheets.specs.declared.ReadRequest.{ReadRequest}
 use Rattle.sheets.specs.declared.ReadPlan.{ReadPlan}
 use Rattle.text.specs.Text.{textOr, refusedLine, Says}
 use Rattle.text.specs.declared.Said.{Said}
-use Rattle.text.specs.TextLaws.{text-accepted, text-refused}
+use Rattle.text.proofs.TextLaws.{text-accepted, text-refused}
 use Rattle.command_plan.specs.PlanText.{planLines, requestText}
 use Rattle.command_plan.specs.PlanSheet.{planningNumber, planOf}
 

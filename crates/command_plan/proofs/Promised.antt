@@ -16,13 +16,13 @@ use Rattle.fields.specs.Rows.{rows}
 use Rattle.fields.specs.Bytes.{shortAt, numberAt, bodyAt}
 use Rattle.fields.specs.Header.{headerNumber, behindTag, furtherPlace}
 use Rattle.fields.specs.Fields.{furtherSize, isAllowed, fieldNumber, handedOut}
-use Rattle.scan.specs.Cursor.{cursorAfter}
-use Rattle.scan.specs.Scanned.{withField, stopsAt, stopNumber, scanFrom, scanned}
+use Rattle.field_reader.specs.Cursor.{cursorAfter}
+use Rattle.field_reader.specs.Scanned.{withField, stopsAt, stopNumber, scanFrom, scanned}
 use Rattle.sheets.specs.Reading.{readRequest, thenNumber, judgedSheet, readAnswer, readSheet}
 use Rattle.sheets.specs.Writing.{writeAnswer, bufferAfter}
 use Rattle.sheets.specs.declared.Written.{Written}
 use Rattle.text.specs.Text.{decimalWithin, lineOn, line, textOr, refusedLine, Tells}
-use Rattle.text.specs.TextLaws.{text-accepted, text-refused}
+use Rattle.text.proofs.TextLaws.{text-accepted, text-refused}
 use Rattle.text.proofs.RefusalLaws.{countU, Plain, plain-append, plain-end, plain-field, plain-line, plain-number-line, plain-rows, tells-or}
 use Rattle.command_plan.specs.PlanText.{planWord, planLine, shareLine, planLines, plannedText, requestText, planPrinted}
 use Rattle.command_plan.specs.PlanSheet.{planningNumber, planOf, answerOr, bufferOr}

@@ -21,7 +21,8 @@ workedSheet =
 
 abbrev pub workedText : List ℕ
 workedText =
-    112 ∷ 108 ∷ 97 ∷ 110 ∷ 32 ∷ 52 ∷ 32 ∷ 49 ∷ 48 ∷ 48 ∷ 32 ∷ 50 ∷ 32 ∷ 49 ∷ 56 ∷ 10 ∷ 48 ∷ 32 ∷ 50 ∷ 48 ∷ 10 ∷ 49 ∷ 32 ∷ 50 ∷
+    112 ∷ 108 ∷ 97 ∷ 110 ∷ 32 ∷ 52 ∷ 32 ∷ 49 ∷ 48 ∷ 48 ∷ 32 ∷ 50 ∷ 32 ∷ 49 ∷ 56 ∷ 10 ∷ 48 ∷ 32 ∷ 50 ∷ 48 ∷ 10 ∷ 49 ∷
+    32 ∷ 50 ∷
     48 ∷ 10 ∷ 50 ∷ 32 ∷ 50 ∷ 48 ∷ 10 ∷ 51 ∷ 32 ∷ 50 ∷ 48 ∷ 10 ∷ []
 
 pub record Promised : Type 0 where
@@ -38,6 +39,7 @@ pub record Promised : Type 0 where
   -- and what is refused is refused alike: the same number, and no byte of a sheet
   pub same-refusal : (sheet out : List ℕ) → planningNumber (readRequest sheet) ≢ 0
       → (planPrinted sheet ≡ refusedLine (planningNumber (readRequest sheet)))
-      × ((planSheetAnswer (readRequest sheet) out .number ≡ planningNumber (readRequest sheet)) × (planSheetBuffer (readRequest sheet) out ≡ out))
+      × ((planSheetAnswer (readRequest sheet) out .number ≡ planningNumber (readRequest sheet))
+      × (planSheetBuffer (readRequest sheet) out ≡ out))
   -- the status of `plan` goes by that number: what is printed ends with `refused N` if the number N is not 0, and with no refusal if it is
   pub plan-refused : (sheet : List ℕ) → Tells (planPrinted sheet) (planningNumber (readRequest sheet))

@@ -8,7 +8,7 @@ use native.Mathlib.Omega.{arith}
 use borrow.Author.Tests.{eq-eqb, ne-eqb}
 use lib.Dec.{eqb}
 use lib.ListN.{length, take, drop}
-use Rattle.units.specs.SmallLaws.{below-or-not}
+use Rattle.units.proofs.SmallLaws.{below-or-not}
 use Rattle.sheets.specs.Reading.{readPlan}
 use Rattle.versions.specs.Layout.{mostKept}
 use Rattle.versions.specs.Area.{beforeIn, keptAt, countIn, areaNumber}

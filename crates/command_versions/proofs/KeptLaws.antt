@@ -6,10 +6,10 @@ use mathlib.Core.Logic.{_≢_, ⊎-elim}
 use native.Mathlib.Omega.{arith}
 use borrow.Author.Tests.{eq-eqb, ne-eqb}
 use lib.ListN.{length}
-use Rattle.units.specs.SmallLaws.{below-or-not}
+use Rattle.units.proofs.SmallLaws.{below-or-not}
 use Rattle.fields.specs.Rows.{rows}
 use Rattle.text.specs.Text.{textOr, refusedLine}
-use Rattle.text.specs.TextLaws.{text-accepted, text-refused}
+use Rattle.text.proofs.TextLaws.{text-accepted, text-refused}
 use Rattle.versions.specs.declared.FoundVersion.{FoundVersion}
 use Rattle.versions.specs.declared.VersionsIn.{VersionsIn}
 use Rattle.versions.specs.Answers.{foundVersion, versionsIn}

@@ -5,9 +5,9 @@ use mathlib.Core.List.{List, []}
 use native.Mathlib.Omega.{arith}
 use borrow.Author.Tests.{eq-eqb, ne-eqb}
 use lib.ListN.{length}
-use Rattle.fields.specs.RowLaws.{rows-none}
+use Rattle.fields.proofs.RowLaws.{rows-none}
 use Rattle.text.specs.Text.{decimalOf}
-use Rattle.text.specs.TextLaws.{text-accepted, text-refused}
+use Rattle.text.proofs.TextLaws.{text-accepted, text-refused}
 use Rattle.text.specs.Promised.{valueOn}
 use Rattle.text.proofs.Promised.{promised as text-promised}
 use Rattle.versions.specs.Layout.{lastVersion}

@@ -11,9 +11,9 @@ use lib.Dec.{leb}
 use lib.ListN.{length, length-append, List·getD-append}
 use lib.Seq.{getD-append-seam}
 use Rattle.units.specs.Places.{at}
-use Rattle.units.specs.PlaceLaws.{all-of}
-use Rattle.units.specs.JudgingLaws.{true-and}
-use Rattle.units.specs.SmallLaws.{below-or-not}
+use Rattle.units.proofs.PlaceLaws.{all-of}
+use Rattle.units.proofs.JudgingLaws.{true-and}
+use Rattle.units.proofs.SmallLaws.{below-or-not}
 use Rattle.text.specs.Text.{digit, decimalWithin, decimalOf}
 use Rattle.text.specs.Promised.{valueOn}
 use Rattle.command_versions.specs.VersionWord.{isDigit, isWhole, grown, firstDigits}

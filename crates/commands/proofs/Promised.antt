@@ -10,8 +10,8 @@ use lib.Dec.{eqb}
 use lib.ListN.{length}
 use lib.Seq.{ext-getD}
 use Rattle.units.specs.Places.{at, allBelow}
-use Rattle.units.specs.PlaceLaws.{all-at}
-use Rattle.units.specs.JudgingLaws.{and-true}
+use Rattle.units.proofs.PlaceLaws.{all-at}
+use Rattle.units.proofs.JudgingLaws.{and-true}
 use Rattle.commands.specs.Table.{commands, wordOf, leastOf, mostOf}
 use Rattle.commands.specs.Words.{sameBytes}
 use Rattle.commands.specs.Asked.{whose, commandOf, takes, countedFor, askedFor}

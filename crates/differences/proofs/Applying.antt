@@ -7,7 +7,7 @@ use mathlib.Core.Logic.{_⊎_, inl, inr, ⊎-elim}
 use native.Mathlib.Omega.{arith}
 use borrow.Author.Tests.{eqb-true, eq-eqb}
 use lib.Dec.{eqb}
-use Rattle.units.specs.JudgingLaws.{true-or-false, and-true}
+use Rattle.units.proofs.JudgingLaws.{true-or-false, and-true}
 use Rattle.differences.specs.Views.{View, nthOf}
 use Rattle.differences.specs.Differences.{Difference, inHeader, inStation, oneSided, alone, apply, applyAll, Differs, In}
 

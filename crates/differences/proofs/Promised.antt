@@ -7,7 +7,7 @@ use mathlib.Core.Logic.{_≢_, ⊎-elim, _↔_}
 use native.Mathlib.Omega.{arith}
 use borrow.Author.Tests.{eqb-true, eqb-false, le-leb}
 use lib.Dec.{eqb, leb}
-use Rattle.units.specs.JudgingLaws.{true-or-false, and-true, true-and}
+use Rattle.units.proofs.JudgingLaws.{true-or-false, and-true, true-and}
 use Rattle.units.specs.Numbers.{mostStations}
 use Rattle.sets.specs.declared.Set.{Set}
 use Rattle.plans.specs.declared.Alloc.{Alloc}

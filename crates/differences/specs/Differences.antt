@@ -53,7 +53,8 @@ aloneFrom new f i k = gathered k (λ j. alone new f (i + j) ∷ [])
 abbrev pub listed : ℕ → ℕ → View → View → List Difference
 listed n m v w =
     headersChanged (v .header) (w .header)
-    ++ (gathered (min n m) (stationChanged (v .number) (w .number)) ++ (aloneFrom true (w .number) n (m - n) ++ aloneFrom false (v .number) m (n - m)))
+    ++ (gathered (min n m) (stationChanged (v .number) (w .number))
+    ++ (aloneFrom true (w .number) n (m - n) ++ aloneFrom false (v .number) m (n - m)))
 
 -- the differences of the old plan, t and a, and the new plan, u and b
 abbrev pub differences : Set → Alloc → Set → Alloc → List Difference
@@ -72,10 +73,16 @@ isSamePlan t a u b = leb (t .n) mostStations && isNone (differences t a u b)
 
 -- the new number takes the old one's place; a station of the new plan comes, and one of the old plan goes
 unfoldable pub apply : Difference → View → View
-apply (inHeader tag old new) v = record { header = λ k. cond (eqb k tag) new (v .header k); has = v .has; number = v .number }
-apply (inStation i j old new) v = record { header = v .header; has = v .has; number = λ k l. cond (eqb k i && eqb l j) new (v .number k l) }
+apply (inHeader tag old new) v =
+    record { header = λ k. cond (eqb k tag) new (v .header k); has = v .has; number = v .number }
+apply (inStation i j old new) v =
+    record { header = v .header; has = v .has; number = λ k l. cond (eqb k i && eqb l j) new (v .number k l) }
 apply (oneSided new i w c d p s) v =
-    record { header = v .header; has = λ k. cond (eqb k i) new (v .has k); number = λ k l. cond (new && eqb k i) (nthOf w c d p s l) (v .number k l) }
+    record {
+      header = v .header;
+      has = λ k. cond (eqb k i) new (v .has k);
+      number = λ k l. cond (new && eqb k i) (nthOf w c d p s l) (v .number k l);
+    }
 
 -- one after another
 unfoldable pub applyAll : List Difference → View → View
@@ -87,9 +94,12 @@ applyAll (d ∷ ds) v = applyAll ds (apply d v)
 -- it stands at a place at which the plans differ, its old numbers are those of v and its new ones those of w
 abbrev pub Differs : View → View → Difference → Type 0
 Differs v w (inHeader tag old new) = HeaderTag tag × ((old ≡ v .header tag) × (new ≡ w .header tag)) × (old ≢ new)
-Differs v w (inStation i j old new) = ((v .has i ≡ true) × (w .has i ≡ true)) × (j < 5) × ((old ≡ v .number i j) × (new ≡ w .number i j)) × (old ≢ new)
-Differs v w (oneSided true i a b c d e) = ((v .has i ≡ false) × (w .has i ≡ true)) × (oneSided true i a b c d e ≡ alone true (w .number) i)
-Differs v w (oneSided false i a b c d e) = ((v .has i ≡ true) × (w .has i ≡ false)) × (oneSided false i a b c d e ≡ alone false (v .number) i)
+Differs v w (inStation i j old new) =
+    ((v .has i ≡ true) × (w .has i ≡ true)) × (j < 5) × ((old ≡ v .number i j) × (new ≡ w .number i j)) × (old ≢ new)
+Differs v w (oneSided true i a b c d e) =
+    ((v .has i ≡ false) × (w .has i ≡ true)) × (oneSided true i a b c d e ≡ alone true (w .number) i)
+Differs v w (oneSided false i a b c d e) =
+    ((v .has i ≡ true) × (w .has i ≡ false)) × (oneSided false i a b c d e ≡ alone false (v .number) i)
 
 -- where it stands in the order: the header by its tags, 1 to 6; the stations of both from 10 to 649, at most 128 of them with five numbers each; those of one side from 1,000 on
 unfoldable pub position : Difference → ℕ

@@ -22,15 +22,20 @@ pub record Lists (t : Set) (a : Alloc) (u : Set) (b : Alloc) (ds : List Differen
 
 pub record Promised : Type 0 where
   -- what is listed is such a list
-  pub lists : (t : Set) (a : Alloc) (u : Set) (b : Alloc) → t .n ≤ 128 → u .n ≤ 128 → Lists t a u b (differences t a u b)
+  pub lists : (t : Set) (a : Alloc) (u : Set) (b : Alloc)
+      → t .n ≤ 128 → u .n ≤ 128 → Lists t a u b (differences t a u b)
   -- and there is no other
-  pub one-list : (t : Set) (a : Alloc) (u : Set) (b : Alloc) (ds : List Difference) → t .n ≤ 128 → u .n ≤ 128 → Lists t a u b ds → ds ≡ differences t a u b
+  pub one-list : (t : Set) (a : Alloc) (u : Set) (b : Alloc) (ds : List Difference)
+      → t .n ≤ 128 → u .n ≤ 128 → Lists t a u b ds → ds ≡ differences t a u b
   -- all that differs is listed
-  pub all-listed : (t : Set) (a : Alloc) (u : Set) (b : Alloc) (d : Difference) → t .n ≤ 128 → u .n ≤ 128 → Differs (viewOf t a) (viewOf u b) d → In d (differences t a u b)
+  pub all-listed : (t : Set) (a : Alloc) (u : Set) (b : Alloc) (d : Difference)
+      → t .n ≤ 128 → u .n ≤ 128 → Differs (viewOf t a) (viewOf u b) d → In d (differences t a u b)
   -- equal plans and only they give none
-  pub none-listed : (t : Set) (a : Alloc) (u : Set) (b : Alloc) → t .n ≤ 128 → u .n ≤ 128 → (differences t a u b ≡ []) ↔ SamePlan (viewOf t a) (viewOf u b)
+  pub none-listed : (t : Set) (a : Alloc) (u : Set) (b : Alloc)
+      → t .n ≤ 128 → u .n ≤ 128 → (differences t a u b ≡ []) ↔ SamePlan (viewOf t a) (viewOf u b)
   -- so what is answered of two plans tells whether they are the same
-  pub same-told : (t : Set) (a : Alloc) (u : Set) (b : Alloc) → t .n ≤ 128 → (isSamePlan t a u b ≡ true) ↔ SamePlan (viewOf t a) (viewOf u b)
+  pub same-told : (t : Set) (a : Alloc) (u : Set) (b : Alloc)
+      → t .n ≤ 128 → (isSamePlan t a u b ≡ true) ↔ SamePlan (viewOf t a) (viewOf u b)
   -- and equal plans are those with the same set and the same S, over the first N stations
   pub same-plan : (t : Set) (a : Alloc) (u : Set) (b : Alloc)
       → SamePlan (viewOf t a) (viewOf u b) ↔ (SameSet t u × ((i : ℕ) → i < t .n → at (a .s) i ≡ at (b .s) i))

@@ -8,19 +8,20 @@ use native.Mathlib.Omega.{arith}
 use borrow.Author.Tests.{ltb-true, lt-ltb, leb-false, not-true, ne-eqb}
 use Rattle.units.specs.Numbers.{mostStations}
 use Rattle.units.specs.Grid.{MultipleOf, onGrid, onGridAt, allOnGrid}
-use Rattle.units.specs.GridLaws.{decides-grid, decides-grids}
-use Rattle.units.specs.JudgingLaws.{Decides, decides-both, decides-le, decides-not, true-or-false}
+use Rattle.units.proofs.GridLaws.{decides-grid, decides-grids}
+use Rattle.units.proofs.JudgingLaws.{decides-both, decides-le, decides-not, true-or-false}
 use Rattle.units.specs.Places.{at, sumBelow, allBelow}
-use Rattle.units.specs.PlaceLaws.{sum-split, from-step}
+use Rattle.units.proofs.PlaceLaws.{sum-split, from-step}
 use Rattle.units.specs.Vectors.{deadlineKeptAt, deadlinesKept, tokenKept}
-use Rattle.units.specs.VectorLaws.{decides-token, decides-deadlines}
+use Rattle.units.proofs.VectorLaws.{decides-token, decides-deadlines}
+use Rattle.units.specs.Judging.{Decides}
 use Rattle.sets.specs.Rules.{CountAllowed, WalkTimeAllowed}
-use Rattle.sets.specs.SetLaws.{allowed}
+use Rattle.sets.proofs.SetLaws.{allowed}
 use Rattle.sets.specs.declared.Set.{Set}
 use Rattle.fddi.specs.Rules as fddi-rules
 use Rattle.plans.specs.Rules.{lost, isFddi, leastTime, timeAt, termsOf, InRange, KeepsRules, Retired}
 use Rattle.plans.specs.Planned.{smallestFor, smallestAt, judgedPlan, planned}
-use Rattle.plans.specs.PlanLaws.{smallest-is, time-timely, given-seven, given-none}
+use Rattle.plans.proofs.PlanLaws.{smallest-is, time-timely, given-seven, given-none}
 use Rattle.plans.specs.declared.Alloc.{Alloc}
 use Rattle.reasons.specs.Shortages.{Plannable}
 use Rattle.reasons.proofs.PlanningLaws.{exists-is, plan-is, plan-s}

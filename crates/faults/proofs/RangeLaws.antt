@@ -7,19 +7,19 @@ use native.Mathlib.Omega.{arith}
 use borrow.Author.Tests.{not-true, not-false}
 use Rattle.units.specs.Numbers.{timely, lastMode, mostTtrt, mostFrame, mostGrid, mostWalk, mostC, mostD, mostP, mostS}
 use Rattle.units.specs.Judging.{between}
-use Rattle.units.specs.JudgingLaws.{decides-between, true-or-false}
-use Rattle.units.specs.SmallLaws.{below-or-not}
+use Rattle.units.proofs.JudgingLaws.{decides-between, true-or-false}
+use Rattle.units.proofs.SmallLaws.{below-or-not}
 use Rattle.units.specs.Places.{at, allBelow}
-use Rattle.units.specs.PlaceLaws.{all-at}
+use Rattle.units.proofs.PlaceLaws.{all-at}
 use Rattle.sets.specs.Header.{headNumber}
 use Rattle.sets.specs.Rules.{CountAllowed, HeadInRange, StationInRange, NumbersAllowed}
 use Rattle.sets.specs.Judged.{judged}
-use Rattle.sets.specs.SetLaws.{judged-four}
+use Rattle.sets.proofs.SetLaws.{judged-four}
 use Rattle.sets.specs.declared.Head.{Head}
 use Rattle.sets.specs.declared.Set.{Set}
 use Rattle.plans.specs.Rules.{InRange}
 use Rattle.plans.specs.Planned.{judgedPlan}
-use Rattle.plans.specs.PlanLaws.{given-four}
+use Rattle.plans.proofs.PlanLaws.{given-four}
 use Rattle.plans.specs.declared.Alloc.{Alloc}
 use Rattle.differences.specs.Views.{HeaderTag, nthOf, headerOf}
 use Rattle.faults.specs.Ranges.{headerHigh, headerRange, stationRange, rangeAt, NoneOut, SomeOut}

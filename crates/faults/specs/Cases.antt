@@ -22,22 +22,35 @@ headOf mode grid = record { ttrt = 100; mode = mode; frame = 1; grid = grid }
 -- two stations of C 20, τ 2: the mode, the grid, and both stations' D and P
 abbrev pub two : ℕ → ℕ → ℕ → Set
 two mode grid d =
-    record { head = headOf mode grid; n = 2; w = places (2 ∷ 0 ∷ []); c = places (20 ∷ 20 ∷ []); d = places (d ∷ d ∷ []); p = places (d ∷ d ∷ []) }
+    record {
+      head = headOf mode grid;
+      n = 2;
+      w = places (2 ∷ 0 ∷ []);
+      c = places (20 ∷ 20 ∷ []);
+      d = places (d ∷ d ∷ []);
+      p = places (d ∷ d ∷ []);
+    }
 
 abbrev pub given : ℕ → ℕ → Alloc
 given s₀ s₁ = record { s = places (s₀ ∷ s₁ ∷ []) }
 
 pub record Cases : Type 0 where
   -- D 100 and C 20 need an S of 20: 25 is 5 more, 19 is short
-  pub larger : holdingAt (two timely 1 100) (given 25 19) 0 ≡ record { time = 25; short = false; «off_grid» = false; excess = 5 }
-  pub short : holdingAt (two timely 1 100) (given 25 19) 1 ≡ record { time = 19; short = true; «off_grid» = false; excess = 0 }
+  pub larger : holdingAt (two timely 1 100) (given 25 19) 0
+      ≡ record { time = 25; short = false; «off_grid» = false; excess = 5 }
+  pub short : holdingAt (two timely 1 100) (given 25 19) 1
+      ≡ record { time = 19; short = true; «off_grid» = false; excess = 0 }
   -- on a grid of 4 the smallest is 20 too, and 25 is off it
-  pub off-grid : holdingAt (two timely 4 100) (given 25 20) 0 ≡ record { time = 25; short = false; «off_grid» = true; excess = 5 }
+  pub off-grid : holdingAt (two timely 4 100) (given 25 20) 0
+      ≡ record { time = 25; short = false; «off_grid» = true; excess = 5 }
   -- there is no third station
-  pub none : holdingAt (two timely 1 100) (given 25 19) 2 ≡ record { time = 0; short = false; «off_grid» = false; excess = 0 }
+  pub none : holdingAt (two timely 1 100) (given 25 19) 2
+      ≡ record { time = 0; short = false; «off_grid» = false; excess = 0 }
   -- FDDI, D 150: of the rest of 50 τ 2 and the other's 20 leave 28, so 20 of S 20; with 40 at the other it is 8
-  pub fddi-kept : holdingAt (two fddi 1 150) (given 20 20) 0 ≡ record { time = 20; short = false; «off_grid» = false; excess = 0 }
-  pub fddi-short : holdingAt (two fddi 1 150) (given 20 40) 0 ≡ record { time = 8; short = true; «off_grid» = false; excess = 0 }
+  pub fddi-kept : holdingAt (two fddi 1 150) (given 20 20) 0
+      ≡ record { time = 20; short = false; «off_grid» = false; excess = 0 }
+  pub fddi-short : holdingAt (two fddi 1 150) (given 20 40) 0
+      ≡ record { time = 8; short = true; «off_grid» = false; excess = 0 }
   -- 60 + 40 is 2 more than the 98 that there are
   pub over : tokenOf (two timely 1 100) (given 60 40) ≡ record { sum = 100; available = 98; over = 2 }
   pub just-fits : tokenOf (two timely 1 100) (given 58 40) ≡ record { sum = 98; available = 98; over = 0 }

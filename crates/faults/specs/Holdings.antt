@@ -26,7 +26,8 @@ excessOf h c d s = cond (eqb (h .mode) fddi) 0 (s - smallestFor (h .grid) (h .tt
 
 -- what a station with C, D and S holds, where X is so large: whether that is below C, whether S is off the grid, and what it has more than need be
 abbrev pub holdingWith : Head → ℕ → ℕ → ℕ → ℕ → Holding
-holdingWith h c d s time = record { time = time; short = ltb time c; «off_grid» = not (onGrid (h .grid) s); excess = excessOf h c d s }
+holdingWith h c d s time =
+    record { time = time; short = ltb time c; «off_grid» = not (onGrid (h .grid) s); excess = excessOf h c d s }
 
 -- what station i holds, with X by the mode; nothing where there is no such station
 unfoldable pub holdingAt : Set → Alloc → ℕ → Holding
@@ -49,7 +50,8 @@ AtSome t fault = (i : ℕ) × ((i < t .n) × (fault i ≡ true))
 
 -- the plan has a fault: X below C at some station, an S off the grid, or too large a sum
 abbrev pub Faulty : Set → Alloc → Type 0
-Faulty t a = AtSome t (λ i. holdingAt t a i .short) ⊎ (AtSome t (λ i. holdingAt t a i .«off_grid») ⊎ (0 < tokenOf t a .over))
+Faulty t a =
+    AtSome t (λ i. holdingAt t a i .short) ⊎ (AtSome t (λ i. holdingAt t a i .«off_grid») ⊎ (0 < tokenOf t a .over))
 
 -- ---- X over plain numbers, as the code asks for it
 

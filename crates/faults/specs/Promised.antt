@@ -29,10 +29,14 @@ pub record Held (t : Set) (a : Alloc) (i : ℕ) : Type 0 where
 pub record Promised : Type 0 where
   pub held : (t : Set) (a : Alloc) (i : ℕ) → CountAllowed t → i < t .n → Held t a i
   -- 7 is given for a given plan exactly if nothing else is wrong and one of these faults is there
-  pub seven : (t : Set) (a : Alloc) → (judgedPlan t a ≡ 7) ↔ (CountAllowed t × (InRange t a × (WalkTimeAllowed t × Faulty t a)))
+  pub seven : (t : Set) (a : Alloc)
+      → (judgedPlan t a ≡ 7) ↔ (CountAllowed t × (InRange t a × (WalkTimeAllowed t × Faulty t a)))
   -- where a given plan meets the rules in mode 1 or 3, planning finds one too, and no S of it is larger than need be exactly if it is that one
   pub planned-too : (t : Set) (a : Alloc) → judgedPlan t a ≡ 0 → ¬ Retired t → planned t .number ≡ 0
-  pub planned-same : (t : Set) (a : Alloc) → judgedPlan t a ≡ 0 → ¬ Retired t → ((i : ℕ) → i < t .n → holdingAt t a i .excess ≡ 0) ↔ ((i : ℕ) → i < t .n → at (a .s) i ≡ at (planned t .alloc .s) i)
+  pub planned-same : (t : Set) (a : Alloc)
+      → judgedPlan t a ≡ 0 → ¬ Retired t
+      → ((i : ℕ) → i < t .n → holdingAt t a i .excess ≡ 0)
+      ↔ ((i : ℕ) → i < t .n → at (a .s) i ≡ at (planned t .alloc .s) i)
   -- every number of a set is in its range exactly if none of its places is listed
   pub none-listed : (t : Set) (a : Alloc) → NumbersAllowed t ↔ NoneOut t a 4
   -- with every S, of a plan

@@ -20,7 +20,8 @@ ranged low high x = record { value = x; low = low; high = high; out = not (betwe
 
 -- the largest that a number of the header may be; the least is 1
 unfoldable pub headerHigh : ℕ → ℕ
-headerHigh tag = cond (eqb tag headTag) mostTtrt (cond (eqb tag modeTag) lastMode (cond (eqb tag frameTag) mostFrame mostGrid))
+headerHigh tag =
+    cond (eqb tag headTag) mostTtrt (cond (eqb tag modeTag) lastMode (cond (eqb tag frameTag) mostFrame mostGrid))
 
 -- the number of a header's field
 abbrev pub headerRange : Head → ℕ → Ranged
@@ -41,4 +42,6 @@ pub record NoneOut (t : Set) (a : Alloc) (k : ℕ) : Type 0 where
 
 -- some number is
 abbrev pub SomeOut : Set → Alloc → ℕ → Type 0
-SomeOut t a k = ((tag : ℕ) × (HeaderTag tag × (headerRange (t .head) tag .out ≡ true))) ⊎ ((i : ℕ) × ((j : ℕ) × ((i < t .n) × ((j < k) × (rangeAt t a i j .out ≡ true)))))
+SomeOut t a k =
+    ((tag : ℕ) × (HeaderTag tag × (headerRange (t .head) tag .out ≡ true)))
+    ⊎ ((i : ℕ) × ((j : ℕ) × ((i < t .n) × ((j < k) × (rangeAt t a i j .out ≡ true)))))

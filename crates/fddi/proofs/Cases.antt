@@ -4,9 +4,9 @@ use mathlib.Core.Bool.{Bool, true, not, _&&_}
 use mathlib.Core.List.{List, [], _∷_}
 use borrow.Author.Tests.{not-true}
 use Rattle.units.specs.Places.{at, sumBelow, allBelow}
-use Rattle.units.specs.JudgingLaws.{and-true, decides-not}
+use Rattle.units.proofs.JudgingLaws.{and-true, decides-not}
 use Rattle.units.specs.Vectors.{rulesKept}
-use Rattle.units.specs.VectorLaws.{decides-rules}
+use Rattle.units.proofs.VectorLaws.{decides-rules}
 use Rattle.fddi.specs.Rules.{timeWith, termsOf}
 use Rattle.fddi.specs.Cases.{Case, Meets, Breaks, Every, Cases, meeting, breaking}
 

@@ -3,7 +3,7 @@ use Prim.Native.Nat.{ℕ, zero, suc, _+_, _-_, _*_, _<_, min}
 use mathlib.Core.Path.{_≡_}
 use native.Mathlib.Omega.{arith}
 use Rattle.units.specs.Places.{sumBelow}
-use Rattle.units.specs.PlaceLaws.{sum-split, from-step}
+use Rattle.units.proofs.PlaceLaws.{sum-split, from-step}
 use Rattle.fddi.specs.Rules.{timeWith, others}
 
 -- ---- X

@@ -4,7 +4,7 @@ use mathlib.Core.Path.{_≡_, refl}
 use native.Mathlib.Omega.{arith}
 use native.Mathlib.Nat.{suc-mul}
 use Rattle.units.specs.Places.{sumBelow}
-use Rattle.units.specs.PlaceLaws.{sum-same}
+use Rattle.units.proofs.PlaceLaws.{sum-same}
 use Rattle.units.specs.Vectors.{wholeRotations, SameTerms}
 use Rattle.fddi.specs.Rules.{stations, rest, timeWith, others, termsOf, SameLoad}
 use Rattle.fddi.specs.Promised.{Regions, Promised}

@@ -38,7 +38,8 @@ two s₀ s₁ = case (loadOf 100 2 1 1 (20 ∷ 20 ∷ []) (150 ∷ 250 ∷ [])) 
 
 -- 003's example: τ 0, five stations of q 6, r 24, C 30, all of the same S
 abbrev five : ℕ → Case
-five s = case (loadOf 30 0 1 1 (30 ∷ 30 ∷ 30 ∷ 30 ∷ 30 ∷ []) (204 ∷ 204 ∷ 204 ∷ 204 ∷ 204 ∷ [])) (s ∷ s ∷ s ∷ s ∷ s ∷ [])
+five s =
+    case (loadOf 30 0 1 1 (30 ∷ 30 ∷ 30 ∷ 30 ∷ 30 ∷ []) (204 ∷ 204 ∷ 204 ∷ 204 ∷ 204 ∷ [])) (s ∷ s ∷ s ∷ s ∷ s ∷ [])
 
 -- these meet the rules
 abbrev pub meeting : List Case

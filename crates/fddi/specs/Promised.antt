@@ -12,7 +12,8 @@ pub record Regions (ttrt d away s : ℕ) : Type 0 where
   -- the rest of D has room for all that is taken: q whole shares
   pub first : away + s ≤ rest ttrt d → leastTime ttrt d away s ≡ wholeRotations ttrt d * s
   -- it has room for a part of the station's own: X = (q − 1)·S + r − away, written without the second difference
-  pub second : away < rest ttrt d → rest ttrt d < away + s → leastTime ttrt d away s + away ≡ (wholeRotations ttrt d - 1) * s + rest ttrt d
+  pub second : away < rest ttrt d
+      → rest ttrt d < away + s → leastTime ttrt d away s + away ≡ (wholeRotations ttrt d - 1) * s + rest ttrt d
   -- it has none: q − 1 shares
   pub third : rest ttrt d ≤ away → leastTime ttrt d away s ≡ (wholeRotations ttrt d - 1) * s
 
@@ -22,7 +23,8 @@ pub record Promised : Type 0 where
   -- for q = 0, X is 0
   pub no-rotation : (ttrt d away s : ℕ) → wholeRotations ttrt d ≡ 0 → leastTime ttrt d away s ≡ 0
   -- the others' S and the station's own are all S
-  pub all-stations : (l : Load) (s : ℕ → ℕ) (i : ℕ) → i < stations l → others (stations l) s i + s i ≡ sumBelow (stations l) s
+  pub all-stations : (l : Load) (s : ℕ → ℕ) (i : ℕ)
+      → i < stations l → others (stations l) s i + s i ≡ sumBelow (stations l) s
   -- places from N on are never looked at, in what a vector is held to: so neither in the rules nor in their test
   pub first-places-terms : (a b : Load) → SameLoad a b → SameTerms (termsOf a) (termsOf b)
   -- given vectors that a person can check by hand meet the rules or break one, as their table says

@@ -35,7 +35,8 @@ timeAt l s i = leastTime (l .ttrt) (at (l .d) i) (l .lost + others (stations l) 
 
 -- what a vector is held to
 abbrev pub termsOf : Load → Terms
-termsOf l = record { n = stations l; ttrt = l .ttrt; lost = l .lost; grid = l .grid; longest = at (l .c); time = timeAt l }
+termsOf l =
+    record { n = stations l; ttrt = l .ttrt; lost = l .lost; grid = l .grid; longest = at (l .c); time = timeAt l }
 
 -- the rules, of any vector of numbers whatever
 abbrev pub MeetsFddi : Load → (ℕ → ℕ) → Type 0

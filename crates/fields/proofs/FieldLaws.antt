@@ -8,7 +8,7 @@ use native.Mathlib.Omega.{arith}
 use lib.Dec.{eqb}
 use lib.ListN.{length}
 use borrow.Author.Tests.{le-leb, lt-leb, leb-true, lt-ltb, ltb-true, eq-eqb, ne-eqb, eqb-true}
-use Rattle.units.specs.JudgingLaws.{held, failed, passed, and-true, true-and, true-or-false}
+use Rattle.units.proofs.JudgingLaws.{held, failed, passed, and-true, true-and, true-or-false}
 use Rattle.fields.specs.Fields.{headTag, headSize, stationTag, stationSize, allocationTag, allocationSize, modeTag, gridTag, endTag, endSize}
 use Rattle.fields.specs.Fields.{allocationsFor, due, headed, row, furtherSize, isFurther, inHeader, isAllowed, left, tagAt, sizeAt, behind, allowedAt, fieldNumber, handedOut, fieldAt, FieldWhole}
 use Rattle.fields.specs.declared.Passed.{Passed}

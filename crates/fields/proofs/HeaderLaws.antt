@@ -10,8 +10,8 @@ use lib.Dec.{eqb}
 use lib.ListN.{length}
 use borrow.Author.Tests.{eq-eqb, ne-eqb, eqb-true, eqb-false}
 use Rattle.units.specs.Places.{at}
-use Rattle.units.specs.JudgingLaws.{true-or-false}
-use Rattle.units.specs.SmallLaws.{below-or-not}
+use Rattle.units.proofs.JudgingLaws.{true-or-false}
+use Rattle.units.proofs.SmallLaws.{below-or-not}
 use Rattle.fields.specs.Bytes.{bytesOf, bodyAt, bodyOf, AllBytes}
 use Rattle.fields.specs.Fields.{modeTag, furtherSize, tagAt}
 use Rattle.fields.specs.Header.{absent, headerNumber, behindTag, furtherPlace, placeOf, givenAt, saidAt}

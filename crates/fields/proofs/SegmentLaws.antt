@@ -8,9 +8,9 @@ use native.Mathlib.Omega.{arith}
 use lib.ListN.{length, set, length-append, List·getD-append}
 use lib.Seq.{sets-eq, getD-append-add, ext-getD}
 use Rattle.units.specs.Places.{at}
-use Rattle.units.specs.SmallLaws.{below-or-not}
+use Rattle.units.proofs.SmallLaws.{below-or-not}
 use Rattle.fields.specs.Rows.{rows, laid}
-use Rattle.fields.specs.RowLaws.{rows-step, laid-then}
+use Rattle.fields.proofs.RowLaws.{rows-step, laid-then}
 
 -- ---- rows
 

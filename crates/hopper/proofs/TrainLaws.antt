@@ -5,7 +5,7 @@ use mathlib.Core.Bool.{true, false}
 use mathlib.Core.Logic.{_≢_}
 use lib.Dec.{ltb}
 use borrow.Author.Tests.{eq-eqb, ne-eqb}
-use Rattle.units.specs.JudgingLaws.{held, failed}
+use Rattle.units.proofs.JudgingLaws.{held, failed}
 use Rattle.units.specs.declared.Station.{Station}
 use Rattle.hopper.specs.Wagons.{wagonFits, judgedList, withWagon}
 use Rattle.hopper.specs.Requests.{listPlanned}

@@ -6,8 +6,9 @@ use mathlib.Core.Logic.{_↔_}
 use native.Mathlib.Omega.{arith}
 use lib.ListN.{set}
 use borrow.Author.Tests.{le-leb, lt-leb}
-use Rattle.units.specs.JudgingLaws.{Decides, decides-le, decides-both, decides-between, held, failed, given-later, iff-then, iff-under}
-use Rattle.units.specs.PlaceLaws.{decides-all}
+use Rattle.units.proofs.JudgingLaws.{decides-le, decides-both, decides-between, held, failed, given-later, iff-then, iff-under}
+use Rattle.units.proofs.PlaceLaws.{decides-all}
+use Rattle.units.specs.Judging.{Decides}
 use Rattle.hopper.specs.Wagons.{mostWagons, WagonFits, CountFits, WagonsFit, ListFits, wagonFits, wagonFitsAt, countFits, wagonsFit, judgedList, withWagon, withCount, withMore}
 use Rattle.hopper.specs.declared.Wagon.{Wagon}
 use Rattle.hopper.specs.declared.WagonList.{WagonList}

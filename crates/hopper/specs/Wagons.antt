@@ -80,7 +80,12 @@ blankList = record { n = 0; boxes = replicate 12 0; brake = replicate 12 0; door
 unfoldable pub withWagon : WagonList → ℕ → Wagon → WagonList
 withWagon l i v =
     cond (leb 12 i) l
-    (record { n = l .n; boxes = set (l .boxes) i (v .boxes); brake = set (l .brake) i (v .brake); door = set (l .door) i (v .door) })
+    (record {
+      n = l .n;
+      boxes = set (l .boxes) i (v .boxes);
+      brake = set (l .brake) i (v .brake);
+      door = set (l .door) i (v .door);
+    })
 
 -- the same places with another count
 abbrev pub withCount : WagonList → ℕ → WagonList

@@ -7,7 +7,7 @@ use native.Mathlib.Omega.{arith}
 use lib.ListN.{length, take, drop}
 use lib.Dec.{eqb}
 use borrow.Author.Tests.{eqb-true, eqb-false}
-use Rattle.units.specs.JudgingLaws.{true-or-false, given, given-later, not-given, iff-then, iff-under}
+use Rattle.units.proofs.JudgingLaws.{true-or-false, given, given-later, not-given, iff-then, iff-under}
 use Rattle.sets.specs.Judged.{judged}
 use Rattle.sets.specs.declared.Set.{Set}
 use Rattle.sets.proofs.Promised.{promised as of-sets}

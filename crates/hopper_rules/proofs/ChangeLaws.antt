@@ -7,9 +7,9 @@ use native.Mathlib.Omega.{arith}
 use lib.Dec.{ltb}
 use lib.Seq.{getD-set-same, getD-set-other}
 use borrow.Author.Tests.{lt-ltb, ltb-true, eq-eqb}
-use Rattle.units.specs.SmallLaws.{below-or-not}
-use Rattle.units.specs.Judging.{orElse}
-use Rattle.units.specs.JudgingLaws.{Decides, held, given, given-later, not-given, iff-then, iff-under, passed}
+use Rattle.units.proofs.SmallLaws.{below-or-not}
+use Rattle.units.specs.Judging.{orElse, Decides}
+use Rattle.units.proofs.JudgingLaws.{held, given, given-later, not-given, iff-then, iff-under, passed}
 use Rattle.units.specs.declared.Station.{Station}
 use Rattle.hopper.specs.Wagons.{Shaped, WagonFits, CountFits, WagonsFit, ListFits, wagonFits, judgedList, withWagon, withMore, withoutLast}
 use Rattle.hopper.specs.Requests.{listPlanned}

@@ -7,7 +7,7 @@ use native.Mathlib.Omega.{arith}
 use borrow.Author.Tests.{le-leb}
 use Rattle.units.specs.Small.{roundedUp}
 use Rattle.units.specs.Places.{at, fill, zeros, sumBelow}
-use Rattle.units.specs.PlaceLaws.{fill-inside, sum-same}
+use Rattle.units.proofs.PlaceLaws.{fill-inside, sum-same}
 use Rattle.plans.specs.Rules.{lost, leastTime, timeAt, MeetsRules}
 use Rattle.plans.specs.Planned.{planned, smallestFor, smallestWith}
 use Rattle.plans.specs.declared.Planned.{Planned}

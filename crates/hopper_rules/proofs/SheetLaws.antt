@@ -8,7 +8,7 @@ use lib.Dec.{eqb}
 use lib.ListN.{length, take, drop}
 use lib.Seq.{take-at}
 use Rattle.units.specs.Places.{at, fill, zeros, sumBelow}
-use Rattle.units.specs.PlaceLaws.{fill-inside, fill-same, sum-same}
+use Rattle.units.proofs.PlaceLaws.{fill-inside, fill-same, sum-same}
 use Rattle.sets.specs.Header.{headOf, headNumber}
 use Rattle.sets.specs.Rules.{tau, CountAllowed, NumbersAllowed}
 use Rattle.sets.specs.Judged.{judged}

@@ -87,12 +87,17 @@ pub record Promised : Type 0 where
   -- 6 exactly if all that is right and no allocation exists
   pub six : (l : WagonList) → (listPlanned l .number ≡ 6) ↔ (ListFits l × ¬ AllocationExists (setOf l))
   -- no other number is ever given
-  pub only : (l : WagonList) → (listPlanned l .number ≡ 0) ⊎ (listPlanned l .number ≡ 2) ⊎ (listPlanned l .number ≡ 4) ⊎ (listPlanned l .number ≡ 6)
+  pub only : (l : WagonList)
+      → (listPlanned l .number ≡ 0)
+      ⊎ (listPlanned l .number ≡ 2)
+      ⊎ (listPlanned l .number ≡ 4)
+      ⊎ (listPlanned l .number ≡ 6)
   -- the request of a list has just 02's numbers
   pub numbers : (l : WagonList) → ListFits l → HopperNumbers l (setOf l)
   pub fitted : Fitted
   -- the sheet of a list, byte by byte: TTRT 250, a station for each wagon in the list's order, the end
-  pub bytes : (l : WagonList) → ListFits l → listSheet l ≡ mark 1 4 ++ bytesOf 250 ++ rows (l .n) (wagonBytes l) ++ mark 255 0
+  pub bytes : (l : WagonList)
+      → ListFits l → listSheet l ≡ mark 1 4 ++ bytesOf 250 ++ rows (l .n) (wagonBytes l) ++ mark 255 0
   -- reading it gives the list's request
   pub read : (l : WagonList) → ListFits l → readRequest (listSheet l) ≡ record { set = setOf l; number = 0 }
   -- that is what `request_of` gives
@@ -102,10 +107,12 @@ pub record Promised : Type 0 where
       → (sheetAnswer (judgedList l) l out ≡ record { length = listLength l; number = 0 })
       × (sheetBuffer (judgedList l) l out ≡ listSheet l ++ drop (listLength l) out)
   -- 14 exactly if the list is right and the buffer is shorter than its sheet
-  pub short : (l : WagonList) (out : List ℕ) → (sheetAnswer (judgedList l) l out .number ≡ 14) ↔ (ListFits l × (length out < listLength l))
+  pub short : (l : WagonList) (out : List ℕ)
+      → (sheetAnswer (judgedList l) l out .number ≡ 14) ↔ (ListFits l × (length out < listLength l))
   -- a list without a sheet gives no byte, and the number of its answer
   pub no-sheet : (l : WagonList) (out : List ℕ) → ¬ ListFits l
-      → (sheetAnswer (judgedList l) l out ≡ record { length = 0; number = listPlanned l .number }) × (sheetBuffer (judgedList l) l out ≡ out)
+      → (sheetAnswer (judgedList l) l out ≡ record { length = 0; number = listPlanned l .number })
+      × (sheetBuffer (judgedList l) l out ≡ out)
   -- its answer is blank
   pub no-plan : (l : WagonList) → listPlanned l .number ≢ 0 → listPlanned l .alloc ≡ blankAlloc
   -- the answer for a list is the planner's on its sheet, number and plan: the sheet is read, then planned
@@ -114,11 +121,14 @@ pub record Promised : Type 0 where
   pub planners-written : (l : WagonList) (out : List ℕ) → ListFits l → listLength l ≤ length out
       → listPlanned l ≡ plannerOn (take (sheetAnswer (judgedList l) l out .length) (sheetBuffer (judgedList l) l out))
   -- each wagon gets half of its C, rounded up
-  pub shares : (l : WagonList) → listPlanned l .number ≡ 0 → (i : ℕ) → i < l .n → at (listPlanned l .alloc .s) i ≡ roundedUp (longestAt l i) 2
+  pub shares : (l : WagonList)
+      → listPlanned l .number ≡ 0 → (i : ℕ) → i < l .n → at (listPlanned l .alloc .s) i ≡ roundedUp (longestAt l i) 2
   -- and a list has a plan exactly if these and a tick for each wagon are at most 250
-  pub room : (l : WagonList) → (listPlanned l .number ≡ 0) ↔ (ListFits l × (sumBelow (l .n) (λ i. roundedUp (longestAt l i) 2) + l .n ≤ 250))
+  pub room : (l : WagonList)
+      → (listPlanned l .number ≡ 0) ↔ (ListFits l × (sumBelow (l .n) (λ i. roundedUp (longestAt l i) 2) + l .n ≤ 250))
   -- a coupled train has the list, and the planner's plan for it
-  pub coupled-train : (l : WagonList) → coupled l .number ≡ 0 → (coupled l .train .list ≡ l) × PlanInForce (coupled l .train)
+  pub coupled-train : (l : WagonList)
+      → coupled l .number ≡ 0 → (coupled l .train .list ≡ l) × PlanInForce (coupled l .train)
   -- the number is that of the list, and a refused one is blank
   pub coupled-number : (l : WagonList) → coupled l .number ≡ listPlanned l .number
   pub coupled-blank : (l : WagonList) → coupled l .number ≢ 0 → coupled l .train ≡ blankTrain
@@ -127,27 +137,35 @@ pub record Promised : Type 0 where
   -- a refused change leaves list and plan
   pub refused-change : (t : Train) (c : Change) → answerTo t c .number ≢ 0 → answerTo t c .train ≡ t
   -- an accepted one gives the list that was asked for with the planner's plan for it, whatever train it was asked of
-  pub accepted-change : (t : Train) (c : Change) → answerTo t c .number ≡ 0 → (answerTo t c .train .list ≡ listAsked (t .list) c) × PlanInForce (answerTo t c .train)
+  pub accepted-change : (t : Train) (c : Change)
+      → answerTo t c .number ≡ 0
+      → (answerTo t c .train .list ≡ listAsked (t .list) c) × PlanInForce (answerTo t c .train)
   -- one wagon changed: as many wagons as before, that one is the new one, and every other is as it was
   pub wagon-changed : (t : Train) (p : Station) (v : Wagon) → Shaped (t .list) → changedWagon t p v .number ≡ 0
-      → (changedWagon t p v .train .list .n ≡ t .list .n) × ChangedAt (t .list .n) (p .0) v (t .list) (changedWagon t p v .train .list)
+      → (changedWagon t p v .train .list .n ≡ t .list .n)
+      × ChangedAt (t .list .n) (p .0) v (t .list) (changedWagon t p v .train .list)
   -- its numbers: 2 for a bad count
   pub wagon-two : (t : Train) (p : Station) (v : Wagon) → (changedWagon t p v .number ≡ 2) ↔ ¬ CountFits (t .list)
   -- 4 for a bad wagon: the new one, or one of the list with it
   pub wagon-four : (t : Train) (p : Station) (v : Wagon)
-      → (changedWagon t p v .number ≡ 4) ↔ (CountFits (t .list) × ¬ (WagonsFit (withWagon (t .list) (p .0) v) × WagonFits (v .boxes) (v .brake) (v .door)))
+      → (changedWagon t p v .number ≡ 4)
+      ↔ (CountFits (t .list) × ¬ (WagonsFit (withWagon (t .list) (p .0) v) × WagonFits (v .boxes) (v .brake) (v .door)))
   -- 9 for a place that is not below the count
   pub wagon-nine : (t : Train) (p : Station) (v : Wagon)
-      → (changedWagon t p v .number ≡ 9) ↔ (ListFits (withWagon (t .list) (p .0) v) × (WagonFits (v .boxes) (v .brake) (v .door) × ¬ (p .0 < t .list .n)))
+      → (changedWagon t p v .number ≡ 9)
+      ↔ (ListFits (withWagon (t .list) (p .0) v) × (WagonFits (v .boxes) (v .brake) (v .door) × ¬ (p .0 < t .list .n)))
   -- then the planner's
-  pub wagon-planned : (t : Train) (p : Station) (v : Wagon) → p .0 < t .list .n → WagonFits (v .boxes) (v .brake) (v .door)
+  pub wagon-planned : (t : Train) (p : Station) (v : Wagon)
+      → p .0 < t .list .n → WagonFits (v .boxes) (v .brake) (v .door)
       → changedWagon t p v .number ≡ listPlanned (withWagon (t .list) (p .0) v) .number
   -- one wagon more: it stands behind the others, which are as they were
-  pub one-more : (l : WagonList) (v : Wagon) → Shaped l → l .n < 12 → (withMore l v .n ≡ l .n + 1) × ChangedAt (l .n) (l .n) v l (withMore l v)
+  pub one-more : (l : WagonList) (v : Wagon)
+      → Shaped l → l .n < 12 → (withMore l v .n ≡ l .n + 1) × ChangedAt (l .n) (l .n) v l (withMore l v)
   -- a thirteenth is 2
   pub thirteenth : (l : WagonList) (v : Wagon) → 12 ≤ l .n → listPlanned (withMore l v) .number ≡ 2
   -- the last one off: one wagon fewer, and the others are as they were
-  pub last-off : (l : WagonList) (i : ℕ) → 1 ≤ l .n → (withoutLast l .n + 1 ≡ l .n) × (wagonAt (withoutLast l) i ≡ wagonAt l i)
+  pub last-off : (l : WagonList) (i : ℕ)
+      → 1 ≤ l .n → (withoutLast l .n + 1 ≡ l .n) × (wagonAt (withoutLast l) i ≡ wagonAt l i)
   -- the only one off is 2
   pub only-one-off : (l : WagonList) → l .n ≤ 1 → listPlanned (withoutLast l) .number ≡ 2
   -- twelve full wagons need 252 of 250: 6

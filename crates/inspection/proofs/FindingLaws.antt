@@ -6,8 +6,8 @@ use mathlib.Core.Logic.{_≢_}
 use native.Mathlib.Nat.{mod-eq-of-lt}
 use borrow.Author.Tests.{eq-eqb, ne-eqb}
 use lib.ListN.{length}
-use Rattle.entries.specs.Entry.{nextEntry}
-use Rattle.entries.specs.declared.VisitEntry.{VisitEntry}
+use Rattle.log_records.specs.Entry.{nextEntry}
+use Rattle.log_records.specs.declared.VisitEntry.{VisitEntry}
 use Rattle.logs.specs.Reading.{readLog, handedFrom}
 use Rattle.logs.specs.declared.ReadLog.{ReadLog}
 use Rattle.inspection.specs.Counter.{ticksBetween}

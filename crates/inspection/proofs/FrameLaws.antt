@@ -8,8 +8,8 @@ use native.Mathlib.Nat.{le-trans, zero-mul, mul-le-mul-left, mul-le-mul-right, m
 use borrow.Author.Tests.{eqb-true, eq-eqb, ne-eqb, leb-true, le-leb, lt-leb, lt-ltb, le-ltb}
 use lib.Dec.{leb, ltb, eqb}
 use Rattle.units.specs.Judging.{between}
-use Rattle.units.specs.JudgingLaws.{true-or-false, and-true, true-and}
-use Rattle.units.specs.SmallLaws.{below-or-not}
+use Rattle.units.proofs.JudgingLaws.{true-or-false, and-true, true-and}
+use Rattle.units.proofs.SmallLaws.{below-or-not}
 use Rattle.inspection.specs.Frames.{anyBelow, givenBy, framesFit, dividedBetween}
 
 -- ---- some place

@@ -10,7 +10,7 @@ use Rattle.sets.specs.declared.Head.{Head}
 use Rattle.sets.specs.declared.Set.{Set}
 use Rattle.plans.specs.Lent.{allocOf}
 use Rattle.plans.specs.declared.Alloc.{Alloc}
-use Rattle.entries.specs.declared.Entry.{Entry}
+use Rattle.log_records.specs.declared.Entry.{Entry}
 use Rattle.inspection.specs.Rules.{expected, brokenRule}
 use Rattle.inspection.specs.Records.{movedOn, stoppedAt, inspected}
 use Rattle.inspection.specs.Findings.{comparedBy, compared}

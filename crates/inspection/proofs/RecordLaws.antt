@@ -11,12 +11,12 @@ use Rattle.units.specs.Places.{at}
 use Rattle.sets.specs.declared.Head.{Head}
 use Rattle.sets.specs.declared.Set.{Set}
 use Rattle.plans.specs.declared.Alloc.{Alloc}
-use Rattle.entries.specs.declared.VisitEntry.{VisitEntry}
-use Rattle.entries.specs.declared.MarkEntry.{MarkEntry}
-use Rattle.entries.specs.declared.Entry.{Entry}
-use Rattle.entries.specs.declared.Entry.the-variants.{Visit, Mark}
-use Rattle.entries.specs.Entry.{nextEntry}
-use Rattle.entries.specs.declared.NextEntry.{NextEntry}
+use Rattle.log_records.specs.declared.VisitEntry.{VisitEntry}
+use Rattle.log_records.specs.declared.MarkEntry.{MarkEntry}
+use Rattle.log_records.specs.declared.Entry.{Entry}
+use Rattle.log_records.specs.declared.Entry.the-variants.{Visit, Mark}
+use Rattle.log_records.specs.Entry.{nextEntry}
+use Rattle.log_records.specs.declared.NextEntry.{NextEntry}
 use Rattle.rings.specs.Timers.{lead}
 use Rattle.logs.specs.Reading.{handedFrom}
 use Rattle.inspection.specs.Counter.{ticksLater, ticksBetween}

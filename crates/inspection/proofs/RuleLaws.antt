@@ -7,10 +7,10 @@ use mathlib.Core.Logic.{⊎-elim}
 use native.Mathlib.Omega.{arith}
 use lib.ListN.{length, getD, drop, drop-of-length-le, List·getD-eq-default}
 use lib.Seq.{drop-cons}
-use Rattle.units.specs.JudgingLaws.{held, failed}
-use Rattle.units.specs.SmallLaws.{below-or-not}
-use Rattle.entries.specs.declared.Entry.{Entry}
-use Rattle.entries.specs.declared.Entry.the-variants.{Visit, Mark}
+use Rattle.units.proofs.JudgingLaws.{held, failed}
+use Rattle.units.proofs.SmallLaws.{below-or-not}
+use Rattle.log_records.specs.declared.Entry.{Entry}
+use Rattle.log_records.specs.declared.Entry.the-variants.{Visit, Mark}
 use Rattle.inspection.specs.Rules.{rulesKept, firstFailed}
 use Rattle.inspection.specs.declared.Expected.{Expected}
 

@@ -5,9 +5,9 @@ use mathlib.Core.List.{List}
 use lib.Dec.{eqb}
 use Rattle.sets.specs.declared.Set.{Set}
 use Rattle.plans.specs.declared.Alloc.{Alloc}
-use Rattle.entries.specs.declared.VisitEntry.{VisitEntry}
-use Rattle.entries.specs.declared.Entry.{Entry}
-use Rattle.entries.specs.declared.Entry.the-variants.{Visit, Mark}
+use Rattle.log_records.specs.declared.VisitEntry.{VisitEntry}
+use Rattle.log_records.specs.declared.Entry.{Entry}
+use Rattle.log_records.specs.declared.Entry.the-variants.{Visit, Mark}
 use Rattle.logs.specs.Reading.{readLog, entriesIn}
 use Rattle.inspection.specs.Counter.{ticksBetween}
 use Rattle.inspection.specs.Rules.{expected}
@@ -25,7 +25,8 @@ visitCompared k x v =
     cond (eqb k 1) (record { expected = x .station; found = v .station })
     (cond (eqb k 2) (record { expected = x .span; found = ticksBetween (x .last) (v .start) })
     (cond (eqb k 3) (record { expected = x .limit; found = v .limit })
-    (cond (eqb k 4) (record { expected = x .share; found = v .synchronous }) (record { expected = x .limit; found = v .asynchronous }))))
+    (cond (eqb k 4) (record { expected = x .share; found = v .synchronous })
+    (record { expected = x .limit; found = v .asynchronous }))))
 
 -- of a mark: N, below which its station must be, and its station
 abbrev pub comparedBy : ℕ → Expected → Entry → Compared

@@ -13,10 +13,10 @@ use Rattle.sets.specs.declared.Set.{Set}
 use Rattle.plans.specs.Lent.{allocOf}
 use Rattle.plans.specs.Planned.{judgedPlan}
 use Rattle.plans.specs.declared.Alloc.{Alloc}
-use Rattle.entries.specs.Visit.{visitTag, blankVisit}
-use Rattle.entries.specs.Mark.{markTag, blankMark}
-use Rattle.entries.specs.declared.Entry.{Entry}
-use Rattle.entries.specs.declared.Entry.the-variants.{Visit, Mark}
+use Rattle.log_records.specs.Visit.{visitTag, blankVisit}
+use Rattle.log_records.specs.Mark.{markTag, blankMark}
+use Rattle.log_records.specs.declared.Entry.{Entry}
+use Rattle.log_records.specs.declared.Entry.the-variants.{Visit, Mark}
 use Rattle.inspection.specs.Opening.{begun}
 use Rattle.inspection.specs.Records.{inspected}
 use Rattle.inspection.specs.Findings.{compared}
@@ -32,7 +32,8 @@ use Rattle.inspection.specs.declared.RecordFinding.{RecordFinding}
 
 -- the inspection of its parts
 abbrev pub standing : List ℕ → List ℕ → List ℕ → Course → ℕ → ℕ → Inspection
-standing base sent mark course records rule = record { base = base; sent = sent; mark = mark; course = course; records = records; rule = rule }
+standing base sent mark course records rule =
+    record { base = base; sent = sent; mark = mark; course = course; records = records; rule = rule }
 
 -- ---- the numbers that a record is answered
 
@@ -79,7 +80,8 @@ progressOf c records rule =
 
 -- what was lent: w and S; then the arrays that a record changes; the header and the numbers
 abbrev pub keptOf : List ℕ → List ℕ → List ℕ → List ℕ → List ℕ → Head → ℕ → Progress → KeptInspection
-keptOf w s base sent mark head n progress = record { head = head; n = n; w = w; s = s; base = base; sent = sent; mark = mark; progress = progress }
+keptOf w s base sent mark head n progress =
+    record { head = head; n = n; w = w; s = s; base = base; sent = sent; mark = mark; progress = progress }
 
 -- the plan that it goes by: C, D and P were judged when it began, and no record is held to them
 abbrev pub setIn : KeptInspection → Set
@@ -90,11 +92,13 @@ allocIn k = allocOf (k .s)
 
 -- the inspection that is kept
 abbrev pub inspectionIn : KeptInspection → Inspection
-inspectionIn k = standing (k .base) (k .sent) (k .mark) (courseIn (k .progress)) (k .progress .records) (k .progress .rule)
+inspectionIn k =
+    standing (k .base) (k .sent) (k .mark) (courseIn (k .progress)) (k .progress .records) (k .progress .rule)
 
 -- an inspection as it is kept, with its plan
 abbrev pub keeping : Set → Alloc → Inspection → KeptInspection
-keeping t a s = keptOf (t .w) (a .s) (s .base) (s .sent) (s .mark) (t .head) (t .n) (progressOf (s .course) (s .records) (s .rule))
+keeping t a s =
+    keptOf (t .w) (a .s) (s .base) (s .sent) (s .mark) (t .head) (t .n) (progressOf (s .course) (s .records) (s .rule))
 
 -- ---- beginning
 
@@ -133,7 +137,9 @@ inField (Mark m) = ltb (m .station) 256 && ltb (m .mark) 256
 
 -- 8: no inspection was begun there; 2: neither a visit nor a mark; 4: no field of a log holds its numbers
 unfoldable pub recordNumber : ℕ → LogEntry → ℕ
-recordNumber n x = orElse (between 1 mostStations n) unsound (orElse (isRecord x) wrongShape (orElse (inField (entryOf x)) outOfRange accepted))
+recordNumber n x =
+    orElse (between 1 mostStations n) unsound
+    (orElse (isRecord x) wrongShape (orElse (inField (entryOf x)) outOfRange accepted))
 
 -- ---- what a record makes of it
 
@@ -156,14 +162,16 @@ unfoldable pub comparedAt : Inspection → Inspection → Set → Alloc → Entr
 comparedAt s s′ t a e = cond (eqb (s .rule) 0) (comparedWhere (s′ .rule) (compared s′ t a e)) noneCompared
 
 abbrev pub answerOf : ℕ → ℕ → Compared → RecordFinding
-answerOf records rule x = record { «record» = lastRecord records rule; expected = x .expected; found = x .found; rule = rule; number = 0 }
+answerOf records rule x =
+    record { «record» = lastRecord records rule; expected = x .expected; found = x .found; rule = rule; number = 0 }
 
 -- the numbers and the answer of an accepted record
 abbrev pub nextOf : Course → ℕ → ℕ → Compared → KeptNext
 nextOf c records rule x = record { progress = progressOf c records rule; number = 0; answer = answerOf records rule x }
 
 abbrev pub recordFinding : Inspection → Set → Alloc → Entry → RecordFinding
-recordFinding s t a e = answerOf (inspected s t a e .records) (inspected s t a e .rule) (comparedAt s (inspected s t a e) t a e)
+recordFinding s t a e =
+    answerOf (inspected s t a e .records) (inspected s t a e .rule) (comparedAt s (inspected s t a e) t a e)
 
 abbrev pub refusedRecord : ℕ → RecordFinding
 refusedRecord number = record { «record» = 0; expected = 0; found = 0; rule = 0; number = number }

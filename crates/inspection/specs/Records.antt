@@ -11,10 +11,10 @@ use Rattle.sets.specs.Lent.{setOf}
 use Rattle.sets.specs.declared.Head.{Head}
 use Rattle.sets.specs.declared.Set.{Set}
 use Rattle.plans.specs.declared.Alloc.{Alloc}
-use Rattle.entries.specs.declared.VisitEntry.{VisitEntry}
-use Rattle.entries.specs.declared.MarkEntry.{MarkEntry}
-use Rattle.entries.specs.declared.Entry.{Entry}
-use Rattle.entries.specs.declared.Entry.the-variants.{Visit, Mark}
+use Rattle.log_records.specs.declared.VisitEntry.{VisitEntry}
+use Rattle.log_records.specs.declared.MarkEntry.{MarkEntry}
+use Rattle.log_records.specs.declared.Entry.{Entry}
+use Rattle.log_records.specs.declared.Entry.the-variants.{Visit, Mark}
 use Rattle.rings.specs.State.{following}
 use Rattle.rings.specs.Timers.{lead}
 use Rattle.inspection.specs.Counter.{ticksLater, ticksBetween}
@@ -32,7 +32,8 @@ LeadIn head asynchronous x = (n : ℕ) (w c d p : List ℕ) → x ≡ lead (setO
 -- where the clock stands when the token station's timer is at 0, now that the token has come: when its synchronous part starts, but an FDDI timer that has run for TTRT or longer loses just that
 unfoldable pub baseWith : Head → ℕ → ℕ → ℕ → ℕ
 baseWith h clock base lead =
-    cond (eqb (h .mode) fddi) (cond (leb (h .ttrt) (ticksBetween base clock)) (ticksLater base (h .ttrt)) clock) (ticksLater clock lead)
+    cond (eqb (h .mode) fddi) (cond (leb (h .ttrt) (ticksBetween base clock)) (ticksLater base (h .ttrt)) clock)
+    (ticksLater clock lead)
 
 -- u falls by S − s of before and rises by S − s of now
 abbrev pub unusedWith : ℕ → ℕ → ℕ → ℕ → ℕ
@@ -57,7 +58,8 @@ courseWith c n share before walk v =
 unfoldable pub visitedOn : Inspection → Set → Alloc → VisitEntry → Inspection
 visitedOn s t a v =
     record {
-      base = set (s .base) (place s) (baseWith (t .head) (s .course .clock) (at (s .base) (place s)) (lead t (v .asynchronous)));
+      base = set (s .base) (place s)
+          (baseWith (t .head) (s .course .clock) (at (s .base) (place s)) (lead t (v .asynchronous)));
       sent = set (s .sent) (place s) (v .synchronous);
       mark = s .mark;
       course = courseWith (s .course) (t .n) (at (a .s) (place s)) (at (s .sent) (place s)) (at (t .w) (place s)) v;

@@ -10,10 +10,10 @@ use Rattle.units.specs.Judging.{orElse}
 use Rattle.sets.specs.declared.Head.{Head}
 use Rattle.sets.specs.declared.Set.{Set}
 use Rattle.plans.specs.declared.Alloc.{Alloc}
-use Rattle.entries.specs.declared.VisitEntry.{VisitEntry}
-use Rattle.entries.specs.declared.MarkEntry.{MarkEntry}
-use Rattle.entries.specs.declared.Entry.{Entry}
-use Rattle.entries.specs.declared.Entry.the-variants.{Visit, Mark}
+use Rattle.log_records.specs.declared.VisitEntry.{VisitEntry}
+use Rattle.log_records.specs.declared.MarkEntry.{MarkEntry}
+use Rattle.log_records.specs.declared.Entry.{Entry}
+use Rattle.log_records.specs.declared.Entry.the-variants.{Visit, Mark}
 use Rattle.inspection.specs.Counter.{ticksBetween}
 use Rattle.inspection.specs.Frames.{framesFit}
 use Rattle.inspection.specs.declared.Course.{Course}
@@ -51,7 +51,8 @@ dueWith c h n mark base share =
 
 -- the same, with the mark, the moment and S that the arrays have at the station's place
 abbrev pub expected : Inspection → Set → Alloc → Expected
-expected s t a = dueWith (s .course) (t .head) (t .n) (at (s .mark) (place s)) (at (s .base) (place s)) (at (a .s) (place s))
+expected s t a =
+    dueWith (s .course) (t .head) (t .n) (at (s .mark) (place s)) (at (s .base) (place s)) (at (a .s) (place s))
 
 -- ---- the five rules of a visit
 
@@ -81,7 +82,8 @@ markKept x m = ltb (m .station) (x .count) && ltb (m .mark) 2
 
 -- ---- the rules of a record, in their order
 abbrev pub rulesKept : Expected → Entry → List Bool
-rulesKept x (Visit v) = stationKept x v ∷ startKept x v ∷ limitKept x v ∷ synchronousKept x v ∷ asynchronousKept x v ∷ []
+rulesKept x (Visit v) =
+    stationKept x v ∷ startKept x v ∷ limitKept x v ∷ synchronousKept x v ∷ asynchronousKept x v ∷ []
 rulesKept x (Mark m) = markKept x m ∷ []
 
 -- rule k, from 1 on; one that the record does not have is kept

@@ -8,7 +8,7 @@ use super::Step;
 use super::keeping;
 use super::moving;
 use super::rules;
-use entries::Entry;
+use log_records::Entry;
 use sets::Head;
 use units::numbers;
 ghost use Rattle.inspection.specs.Kept.{standing, SteppedOn, keptOf, InspectedOn};

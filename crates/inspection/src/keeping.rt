@@ -8,7 +8,7 @@ use super::KeptNext;
 use super::LogEntry;
 use super::Progress;
 use super::RecordFinding;
-use entries::Entry;
+use log_records::Entry;
 use plans::Alloc;
 use sets::Head;
 use sets::Set;
@@ -122,7 +122,7 @@ pub fn begin_inspection(set: Set, alloc: Alloc) -> BegunInspection
 pub(crate) fn entry_of(told: LogEntry) -> Entry
     ensures { λ r. ⌜ r ≡ entryOf told ⌝ }
 {
-    if told.kind == entries::VISIT_TAG as u32 {
+    if told.kind == log_records::VISIT_TAG as u32 {
         let visit = told.visit;
         return Entry::Visit(visit);
     }
@@ -148,7 +148,8 @@ pub(crate) fn record_number(n: u32, told: LogEntry) -> u8
     if !begun {
         return numbers::UNSOUND;
     }
-    let known = (told.kind == entries::VISIT_TAG as u32) | (told.kind == entries::MARK_TAG as u32);
+    let known = (told.kind == log_records::VISIT_TAG as u32)
+        | (told.kind == log_records::MARK_TAG as u32);
     if !known {
         return numbers::WRONG_SHAPE;
     }

@@ -2,7 +2,7 @@
 use super::Course;
 use super::counter;
 use super::rules;
-use entries::VisitEntry;
+use log_records::VisitEntry;
 use sets::Head;
 use units::numbers;
 ghost use mathlib.Core.Path.{_≡_};

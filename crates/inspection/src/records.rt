@@ -2,7 +2,7 @@
 use super::Inspection;
 use super::moving;
 use super::rules;
-use entries::Entry;
+use log_records::Entry;
 use plans::Alloc;
 use sets::Set;
 ghost use mathlib.Core.Path.{_≡_};

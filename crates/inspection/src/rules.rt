@@ -3,14 +3,14 @@ use super::Course;
 use super::Expected;
 use super::counter;
 use super::frames;
-use entries::Entry;
-use entries::MarkEntry;
-use entries::VisitEntry;
+use log_records::Entry;
+use log_records::MarkEntry;
+use log_records::VisitEntry;
 use sets::Head;
 use units::numbers;
 ghost use mathlib.Core.Path.{_≡_};
 ghost use Prim.Native.Nat.{_-_, _≤_};
-ghost use Rattle.entries.specs.declared.Entry.the-variants.{Visit, Mark};
+ghost use Rattle.log_records.specs.declared.Entry.the-variants.{Visit, Mark};
 ghost use Rattle.inspection.specs.Rules.{placeOf, limitWith, unlessMarked, dueWith, ruleKept, brokenRule};
 
 // The larger of a − b and 0.

@@ -8,11 +8,12 @@ use native.Mathlib.Nat.{mod-eq-zero-of-dvd, dvd-of-mod-eq-zero}
 use native.Mathlib.Omega.{arith}
 use borrow.Author.Tests.{eqb-true, eq-eqb, ltb-true, lt-ltb}
 use lib.Dec.{eqb}
-use Rattle.units.specs.JudgingLaws.{Decides, true-or-false, and-true, true-and}
+use Rattle.units.proofs.JudgingLaws.{true-or-false, and-true, true-and}
+use Rattle.units.specs.Judging.{Decides}
 use Rattle.sets.specs.declared.Set.{Set}
 use Rattle.plans.specs.Planned.{judgedPlan}
 use Rattle.plans.specs.declared.Alloc.{Alloc}
-use Rattle.entries.specs.declared.Entry.{Entry}
+use Rattle.log_records.specs.declared.Entry.{Entry}
 use Rattle.rings.specs.Timers.{limit}
 use Rattle.rings.specs.Opening.{openedRing}
 use Rattle.inspection.specs.Frames.{anyBelow, givenBy, framesFit}

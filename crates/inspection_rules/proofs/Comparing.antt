@@ -8,14 +8,14 @@ use native.Mathlib.Omega.{arith}
 use borrow.Author.Tests.{eqb-false, lt-ltb}
 use lib.Dec.{eqb, leb}
 use lib.ListN.{length, getD}
-use Rattle.units.specs.SmallLaws.{below-or-not}
-use Rattle.units.specs.JudgingLaws.{true-and, decides-not, decides-le}
+use Rattle.units.proofs.SmallLaws.{below-or-not}
+use Rattle.units.proofs.JudgingLaws.{true-and, decides-not, decides-le}
 use Rattle.sets.specs.declared.Set.{Set}
 use Rattle.plans.specs.declared.Alloc.{Alloc}
-use Rattle.entries.specs.declared.VisitEntry.{VisitEntry}
-use Rattle.entries.specs.declared.MarkEntry.{MarkEntry}
-use Rattle.entries.specs.declared.Entry.{Entry}
-use Rattle.entries.specs.declared.Entry.the-variants.{Visit, Mark}
+use Rattle.log_records.specs.declared.VisitEntry.{VisitEntry}
+use Rattle.log_records.specs.declared.MarkEntry.{MarkEntry}
+use Rattle.log_records.specs.declared.Entry.{Entry}
+use Rattle.log_records.specs.declared.Entry.the-variants.{Visit, Mark}
 use Rattle.promises.proofs.Course.{same-or-not}
 use Rattle.inspection.specs.Counter.{ticksBetween}
 use Rattle.inspection.specs.Frames.{framesFit}

@@ -9,14 +9,15 @@ use native.Mathlib.Nat.{mod-eq-of-lt, mod-add-mod}
 use native.Mathlib.Omega.{arith}
 use lib.ListN.{length, getD, length-append}
 use lib.Seq.{append-snoc}
-use Rattle.units.specs.JudgingLaws.{Decides, decides-not}
+use Rattle.units.proofs.JudgingLaws.{decides-not}
 use Rattle.units.specs.Places.{at}
+use Rattle.units.specs.Judging.{Decides}
 use Rattle.sets.specs.declared.Set.{Set}
 use Rattle.plans.specs.Planned.{judgedPlan}
 use Rattle.plans.specs.declared.Alloc.{Alloc}
-use Rattle.entries.specs.declared.VisitEntry.{VisitEntry}
-use Rattle.entries.specs.declared.Entry.{Entry}
-use Rattle.entries.specs.declared.Entry.the-variants.{Visit, Mark}
+use Rattle.log_records.specs.declared.VisitEntry.{VisitEntry}
+use Rattle.log_records.specs.declared.Entry.{Entry}
+use Rattle.log_records.specs.declared.Entry.the-variants.{Visit, Mark}
 use Rattle.rings.specs.Opening.{openedRing}
 use Rattle.rings.specs.declared.Ring.{Ring}
 use Rattle.promises.proofs.Course.{same-or-not}

@@ -8,15 +8,15 @@ use native.Mathlib.Omega.{arith}
 use lib.ListN.{set}
 use Rattle.units.specs.Places.{at}
 use Rattle.sets.specs.declared.Set.{Set}
-use Rattle.entries.specs.declared.VisitEntry.{VisitEntry}
-use Rattle.entries.specs.declared.MarkEntry.{MarkEntry}
-use Rattle.entries.specs.declared.Entry.{Entry}
-use Rattle.entries.specs.declared.Entry.the-variants.{Visit, Mark}
+use Rattle.log_records.specs.declared.VisitEntry.{VisitEntry}
+use Rattle.log_records.specs.declared.MarkEntry.{MarkEntry}
+use Rattle.log_records.specs.declared.Entry.{Entry}
+use Rattle.log_records.specs.declared.Entry.the-variants.{Visit, Mark}
 use Rattle.rings.specs.State.{Marked, Unmarked, Messages, messagesOf, withMessages}
-use Rattle.rings.specs.TimerLaws.{marked-or-not}
+use Rattle.rings.proofs.TimerLaws.{marked-or-not}
 use Rattle.rings.specs.Steps.{moved}
 use Rattle.rings.specs.Marking.{switchedThrough, switchedIn}
-use Rattle.rings.specs.MarkLaws.{ring-marked, ring-unmarked}
+use Rattle.rings.proofs.MarkLaws.{ring-marked, ring-unmarked}
 use Rattle.rings.specs.declared.Ring.{Ring}
 use Rattle.inspection_rules.specs.Gives.{CouldVisit, Could, switched, ringWith, ringAfter, GivesFrom}
 use Rattle.inspection_rules.specs.Broken.{lastFrom, lastOf, took}

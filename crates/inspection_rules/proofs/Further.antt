@@ -8,8 +8,8 @@ use lib.ListN.{length, length-append}
 use lib.Seq.{append-snoc}
 use Rattle.sets.specs.declared.Set.{Set}
 use Rattle.plans.specs.declared.Alloc.{Alloc}
-use Rattle.entries.specs.declared.Entry.{Entry}
-use Rattle.entries.specs.declared.Entry.the-variants.{Visit, Mark}
+use Rattle.log_records.specs.declared.Entry.{Entry}
+use Rattle.log_records.specs.declared.Entry.the-variants.{Visit, Mark}
 use Rattle.promises.proofs.Course.{same-or-not}
 use Rattle.inspection.specs.Opening.{begun}
 use Rattle.inspection.specs.Rules.{expected, brokenRule}

@@ -11,16 +11,17 @@ use borrow.Author.Tests.{eqb-true, eq-eqb, ne-eqb, ltb-true, lt-ltb}
 use lib.Dec.{eqb}
 use lib.ListN.{length, getD}
 use Rattle.units.specs.Small.{roundedUp}
-use Rattle.units.specs.SmallLaws.{below-or-not, one-more, shares-enough}
-use Rattle.units.specs.JudgingLaws.{Decides, true-or-false, and-true, true-and, decides-le, held, failed, passed}
-use Rattle.plans.specs.PlanLaws.{given-none}
-use Rattle.entries.specs.declared.VisitEntry.{VisitEntry}
-use Rattle.entries.specs.declared.MarkEntry.{MarkEntry}
-use Rattle.entries.specs.declared.Entry.{Entry}
-use Rattle.entries.specs.declared.Entry.the-variants.{Visit, Mark}
+use Rattle.units.proofs.SmallLaws.{below-or-not, one-more, shares-enough}
+use Rattle.units.proofs.JudgingLaws.{true-or-false, and-true, true-and, decides-le, held, failed, passed}
+use Rattle.units.specs.Judging.{Decides}
+use Rattle.plans.proofs.PlanLaws.{given-none}
+use Rattle.log_records.specs.declared.VisitEntry.{VisitEntry}
+use Rattle.log_records.specs.declared.MarkEntry.{MarkEntry}
+use Rattle.log_records.specs.declared.Entry.{Entry}
+use Rattle.log_records.specs.declared.Entry.the-variants.{Visit, Mark}
 use Rattle.rings.specs.Timers.{limit}
 use Rattle.rings.specs.Frames.{framesFrom, framesSent, framesTime}
-use Rattle.rings.specs.FrameLaws.{frames-sent, frames-within}
+use Rattle.rings.proofs.FrameLaws.{frames-sent, frames-within}
 use Rattle.rings.specs.Steps.{Ask}
 use Rattle.rings.specs.declared.Ring.{Ring}
 use Rattle.inspection.specs.Counter.{ticksLater, ticksBetween}

@@ -6,14 +6,14 @@ use mathlib.Core.Logic.{⊎-elim}
 use native.Mathlib.Omega.{arith}
 use lib.ListN.{length, length-map, take}
 use lib.Seq.{take-at}
-use Rattle.units.specs.SmallLaws.{below-or-not}
+use Rattle.units.proofs.SmallLaws.{below-or-not}
 use Rattle.sets.specs.declared.Set.{Set}
 use Rattle.plans.specs.Planned.{judgedPlan}
 use Rattle.plans.specs.declared.Alloc.{Alloc}
-use Rattle.fields.specs.RowLaws.{laid-length}
-use Rattle.entries.specs.Mark.{markBytes}
-use Rattle.entries.specs.declared.Entry.{Entry}
-use Rattle.entries.proofs.MarkLaws.{mark-length}
+use Rattle.fields.proofs.RowLaws.{laid-length}
+use Rattle.log_records.specs.Mark.{markBytes}
+use Rattle.log_records.specs.declared.Entry.{Entry}
+use Rattle.log_records.proofs.MarkLaws.{mark-length}
 use Rattle.sheets.specs.declared.Written.{Written}
 use Rattle.sheet_rules.specs.Promised.{planLength}
 use Rattle.rings.specs.State.{count}

@@ -6,11 +6,11 @@ use native.Mathlib.Omega.{arith}
 use lib.ListN.{length}
 use Rattle.sets.specs.declared.Set.{Set}
 use Rattle.plans.specs.Planned.{judgedPlan}
-use Rattle.plans.specs.PlanLaws.{given-none}
+use Rattle.plans.proofs.PlanLaws.{given-none}
 use Rattle.plans.specs.declared.Alloc.{Alloc}
 use Rattle.fields.specs.Bytes.{AllBytes}
-use Rattle.entries.specs.declared.Entry.{Entry}
-use Rattle.entries.specs.declared.Entry.the-variants.{Visit, Mark}
+use Rattle.log_records.specs.declared.Entry.{Entry}
+use Rattle.log_records.specs.declared.Entry.the-variants.{Visit, Mark}
 use Rattle.sheet_rules.specs.Promised.{planLength, firstPlaces, firstAllocations}
 use Rattle.sheet_rules.proofs.Promised.{promised as sheets-promised}
 use Rattle.logs.specs.Layout.{entriesBytes, logOf, AllFit}

@@ -10,23 +10,23 @@ use lib.Dec.{eqb}
 use lib.ListN.{set}
 use lib.Seq.{getD-set-same, getD-set-other}
 use Rattle.units.specs.Places.{at}
-use Rattle.units.specs.PlaceLaws.{zero-at}
+use Rattle.units.proofs.PlaceLaws.{zero-at}
 use Rattle.sets.specs.declared.Set.{Set}
 use Rattle.plans.specs.Planned.{judgedPlan}
 use Rattle.plans.specs.declared.Alloc.{Alloc}
-use Rattle.entries.specs.declared.VisitEntry.{VisitEntry}
-use Rattle.entries.specs.declared.MarkEntry.{MarkEntry}
-use Rattle.entries.specs.declared.Entry.{Entry}
-use Rattle.entries.specs.declared.Entry.the-variants.{Visit, Mark}
+use Rattle.log_records.specs.declared.VisitEntry.{VisitEntry}
+use Rattle.log_records.specs.declared.MarkEntry.{MarkEntry}
+use Rattle.log_records.specs.declared.Entry.{Entry}
+use Rattle.log_records.specs.declared.Entry.the-variants.{Visit, Mark}
 use Rattle.rings.specs.State.{share, Marked, Unmarked, Shaped, Messages, withMessages}
 use Rattle.rings.specs.Timers.{timersOffer, limit}
-use Rattle.rings.specs.TimerLaws.{marked-or-not, limit-marked, limit-unmarked}
+use Rattle.rings.proofs.TimerLaws.{marked-or-not, limit-marked, limit-unmarked}
 use Rattle.rings.specs.Opening.{openedRing}
 use Rattle.rings.specs.Steps.{mostSent, moved}
-use Rattle.rings.specs.RingLaws.{most-marked, most-unmarked}
-use Rattle.rings.specs.FrameLaws.{frames-none}
+use Rattle.rings.proofs.RingLaws.{most-marked, most-unmarked}
+use Rattle.rings.proofs.FrameLaws.{frames-none}
 use Rattle.rings.specs.Marking.{switchedThrough, switchedIn}
-use Rattle.rings.specs.MarkLaws.{ring-marked, ring-unmarked}
+use Rattle.rings.proofs.MarkLaws.{ring-marked, ring-unmarked}
 use Rattle.rings.specs.declared.Ring.{Ring}
 use Rattle.promises.proofs.Course.{same-or-not}
 use Rattle.promises.proofs.Opening.{plan-of}

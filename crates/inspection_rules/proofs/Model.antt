@@ -11,20 +11,20 @@ use Rattle.units.specs.declared.Station.{Station}
 use Rattle.sets.specs.declared.Set.{Set}
 use Rattle.plans.specs.Planned.{judgedPlan}
 use Rattle.plans.specs.declared.Alloc.{Alloc}
-use Rattle.entries.specs.declared.VisitEntry.{VisitEntry}
-use Rattle.entries.specs.declared.Entry.{Entry}
-use Rattle.entries.specs.declared.Entry.the-variants.{Visit, Mark}
+use Rattle.log_records.specs.declared.VisitEntry.{VisitEntry}
+use Rattle.log_records.specs.declared.Entry.{Entry}
+use Rattle.log_records.specs.declared.Entry.the-variants.{Visit, Mark}
 use Rattle.sets.specs.Judged.{zeros}
 use Rattle.rings.specs.State.{count, Marked, Unmarked, withMessages}
 use Rattle.rings.specs.Timers.{timersOffer, limit, timersAfter, timelyAfter}
-use Rattle.rings.specs.TimerLaws.{marked-or-not}
+use Rattle.rings.proofs.TimerLaws.{marked-or-not}
 use Rattle.rings.specs.Opening.{openedRing}
 use Rattle.rings.specs.Sound.{Sound}
 use Rattle.rings.specs.Steps.{Ask, syncSent, asyncSent, mostSent, moved, recordOf, blankRecord, visitNumber}
 use Rattle.rings.specs.HandingIn.{holding, handInNumber}
 use Rattle.rings.specs.Marking.{switchedThrough, markedRing, marked, switchedIn, unmarked}
-use Rattle.rings.specs.MarkLaws.{ring-marked, ring-unmarked, marked-accepted, unmarked-accepted}
-use Rattle.rings.specs.RingLaws.{sync-most, visit-passed, taken-passed, taken-accepted, taken-refused}
+use Rattle.rings.proofs.MarkLaws.{ring-marked, ring-unmarked, marked-accepted, unmarked-accepted}
+use Rattle.rings.proofs.RingLaws.{sync-most, visit-passed, taken-passed, taken-accepted, taken-refused}
 use Rattle.rings.specs.declared.Ring.{Ring}
 use Rattle.rings.specs.declared.Message.{Message}
 use Rattle.rings.specs.declared.Taken.{Taken}

@@ -5,11 +5,11 @@ use mathlib.Core.List.{List, [], _∷_, _++_}
 use mathlib.Core.Logic.{_⊎_, inl, inr, ⊎-elim}
 use native.Mathlib.Omega.{arith}
 use lib.ListN.{length}
-use Rattle.units.specs.SmallLaws.{below-or-not}
+use Rattle.units.proofs.SmallLaws.{below-or-not}
 use Rattle.sets.specs.declared.Set.{Set}
 use Rattle.plans.specs.Planned.{judgedPlan}
 use Rattle.plans.specs.declared.Alloc.{Alloc}
-use Rattle.entries.specs.declared.Entry.{Entry}
+use Rattle.log_records.specs.declared.Entry.{Entry}
 use Rattle.rings.specs.Opening.{openedRing}
 use Rattle.inspection_rules.specs.Gives.{GivesFrom, Gives}
 use Rattle.inspection_rules.specs.Broken.{Rule, FirstBroken}

@@ -9,9 +9,9 @@ use lib.ListN.{length, length-append, take}
 use Rattle.sets.specs.declared.Set.{Set}
 use Rattle.plans.specs.Planned.{judgedPlan}
 use Rattle.plans.specs.declared.Alloc.{Alloc}
-use Rattle.entries.specs.declared.MarkEntry.{MarkEntry}
-use Rattle.entries.specs.declared.Entry.{Entry}
-use Rattle.entries.specs.declared.Entry.the-variants.{Visit, Mark}
+use Rattle.log_records.specs.declared.MarkEntry.{MarkEntry}
+use Rattle.log_records.specs.declared.Entry.{Entry}
+use Rattle.log_records.specs.declared.Entry.the-variants.{Visit, Mark}
 use Rattle.rings.specs.Opening.{openedRing}
 use Rattle.fields.specs.Bytes.{AllBytes}
 use Rattle.sheet_rules.specs.Promised.{planLength}

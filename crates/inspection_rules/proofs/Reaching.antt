@@ -8,24 +8,24 @@ use native.Mathlib.Omega.{arith}
 use lib.ListN.{length, set, length-set}
 use lib.Seq.{getD-set-same, getD-set-other}
 use Rattle.units.specs.Places.{at, raise}
-use Rattle.units.specs.PlaceLaws.{zero-at, sum-part, raise-inside, raise-length}
+use Rattle.units.proofs.PlaceLaws.{zero-at, sum-part, raise-inside, raise-length}
 use Rattle.sets.specs.Judged.{zeros}
 use Rattle.sets.specs.declared.Set.{Set}
 use Rattle.plans.specs.Planned.{judgedPlan}
 use Rattle.plans.specs.declared.Alloc.{Alloc}
-use Rattle.entries.specs.declared.VisitEntry.{VisitEntry}
-use Rattle.timers.specs.Kept.{Visit}
-use Rattle.timers.proofs.Promised.{promised as timers-promised}
+use Rattle.log_records.specs.declared.VisitEntry.{VisitEntry}
+use Rattle.fddi_timer_rules.specs.Kept.{Visit}
+use Rattle.fddi_timer_rules.proofs.Promised.{promised as timers-promised}
 use Rattle.rings.specs.State.{count, ttrt, overrun, share, unusedAt, Marked, Unmarked, Shaped, timersOf, Messages, withMessages, withCourse, noMessages}
 use Rattle.rings.specs.Timers.{Fddi, hasRun, timersOffer, limit, lead, rise, timersAfter, timelyAfter}
-use Rattle.rings.specs.TimerLaws.{fddi-or-not, marked-or-not, lead-within, limit-within, limit-marked, limit-unmarked, offer-timely, after-timely}
+use Rattle.rings.proofs.TimerLaws.{fddi-or-not, marked-or-not, lead-within, limit-within, limit-marked, limit-unmarked, offer-timely, after-timely}
 use Rattle.rings.specs.Opening.{openedRing}
 use Rattle.rings.specs.Sound.{Sound}
 use Rattle.rings.specs.Steps.{syncStart, moved, recordOf}
-use Rattle.rings.specs.RingLaws.{most-within}
+use Rattle.rings.proofs.RingLaws.{most-within}
 use Rattle.rings.specs.Marking.{switchedThrough, switchedIn}
-use Rattle.rings.specs.MarkLaws.{ring-marked, ring-unmarked}
-use Rattle.rings.specs.FrameLaws.{frames-within, frames-none}
+use Rattle.rings.proofs.MarkLaws.{ring-marked, ring-unmarked}
+use Rattle.rings.proofs.FrameLaws.{frames-within, frames-none}
 use Rattle.rings.specs.declared.Ring.{Ring}
 use Rattle.rings.specs.declared.VisitRecord.{VisitRecord}
 use Rattle.rings.proofs.ShapeLaws.{messages-shaped, course-shaped, moved-shaped}

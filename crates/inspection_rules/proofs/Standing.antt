@@ -10,23 +10,23 @@ use lib.Dec.{ltb, eqb}
 use lib.ListN.{length, set, length-set}
 use lib.Seq.{getD-set-same, getD-set-other}
 use Rattle.units.specs.Places.{at, sumBelow}
-use Rattle.units.specs.PlaceLaws.{sum-split, fill-inside, fill-length}
-use Rattle.units.specs.SmallLaws.{below-or-not}
+use Rattle.units.proofs.PlaceLaws.{sum-split, fill-inside, fill-length}
+use Rattle.units.proofs.SmallLaws.{below-or-not}
 use Rattle.sets.specs.Rules.{tau}
 use Rattle.sets.specs.Judged.{zeros}
 use Rattle.sets.specs.declared.Set.{Set}
 use Rattle.plans.specs.Rules.{isFddi}
 use Rattle.plans.specs.Planned.{judgedPlan}
 use Rattle.plans.specs.declared.Alloc.{Alloc}
-use Rattle.entries.specs.declared.VisitEntry.{VisitEntry}
-use Rattle.entries.specs.declared.MarkEntry.{MarkEntry}
+use Rattle.log_records.specs.declared.VisitEntry.{VisitEntry}
+use Rattle.log_records.specs.declared.MarkEntry.{MarkEntry}
 use Rattle.rings.specs.State.{count, ttrt, Marked, Unmarked, isMarked, timersOf, Messages, messagesOf, withMessages}
 use Rattle.rings.specs.Timers.{Fddi, hasRun, timersOffer, limit, lead, rise}
-use Rattle.rings.specs.TimerLaws.{fddi-or-not, fddi-true, fddi-false, marked-true, marked-or-not, offer-timely, lead-within}
+use Rattle.rings.proofs.TimerLaws.{fddi-or-not, fddi-true, fddi-false, marked-true, marked-or-not, offer-timely, lead-within}
 use Rattle.rings.specs.Opening.{openedRing}
 use Rattle.rings.specs.Steps.{mostSent, moved}
 use Rattle.rings.specs.Marking.{switchedThrough, switchedIn}
-use Rattle.rings.specs.MarkLaws.{ring-marked, ring-unmarked}
+use Rattle.rings.proofs.MarkLaws.{ring-marked, ring-unmarked}
 use Rattle.rings.specs.declared.Ring.{Ring}
 use Rattle.rings.proofs.StationLaws.{opened-ran}
 use Rattle.ring_rules.proofs.OpenedLaws.{fresh}

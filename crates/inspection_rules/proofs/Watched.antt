@@ -5,17 +5,17 @@ use mathlib.Core.Bool.{Bool, true, false, cond}
 use mathlib.Core.List.{List, [], _∷_, _++_}
 use borrow.Author.Tests.{lt-ltb}
 use lib.Dec.{eqb}
-use Rattle.units.specs.JudgingLaws.{held, true-and, decides-between}
+use Rattle.units.proofs.JudgingLaws.{held, true-and, decides-between}
 use Rattle.fields.specs.Bytes.{AllBytes}
 use Rattle.sets.specs.Judged.{zeros}
 use Rattle.sets.specs.Lent.{setOf}
 use Rattle.sets.specs.declared.Set.{Set}
 use Rattle.plans.specs.Planned.{judgedPlan}
-use Rattle.plans.specs.PlanLaws.{given-none}
+use Rattle.plans.proofs.PlanLaws.{given-none}
 use Rattle.plans.specs.declared.Alloc.{Alloc}
-use Rattle.entries.specs.Entry.{EntryFits}
-use Rattle.entries.specs.declared.Entry.{Entry}
-use Rattle.entries.specs.declared.Entry.the-variants.{Visit, Mark}
+use Rattle.log_records.specs.Entry.{EntryFits}
+use Rattle.log_records.specs.declared.Entry.{Entry}
+use Rattle.log_records.specs.declared.Entry.the-variants.{Visit, Mark}
 use Rattle.rings.specs.Timers.{lead}
 use Rattle.logs.specs.Layout.{AllFit}
 use Rattle.logs.specs.Reading.{readLog, entriesIn}

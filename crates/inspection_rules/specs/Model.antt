@@ -1,7 +1,7 @@
 -- The record of a visit of the published steps, as our recorder writes it down.
 use Prim.Native.Nat.{ℕ, _^_, _≤_, _<_}
 use mathlib.Core.Path.{_≡_}
-use Rattle.entries.specs.declared.VisitEntry.{VisitEntry}
+use Rattle.log_records.specs.declared.VisitEntry.{VisitEntry}
 use Rattle.rings.specs.Steps.{Ask, LengthNamed, asyncSent, mostSent, recordOf}
 use Rattle.rings.specs.declared.Ring.{Ring}
 use Rattle.logs.specs.Writing.{visitOf}

@@ -2,7 +2,7 @@
 use mathlib.Core.Path.{_≡_}
 use mathlib.Core.List.{List, [], _∷_, _++_}
 use Prim.Native.Nat.{ℕ}
-use Rattle.entries.specs.declared.Entry.{Entry}
+use Rattle.log_records.specs.declared.Entry.{Entry}
 use Rattle.logs.specs.Reading.{readLog, entriesIn}
 use Rattle.inspection.specs.Records.{inspectionOf}
 use Rattle.inspection.specs.Findings.{findingOf, findingIn}
@@ -27,9 +27,11 @@ pub record Watched (bs : List ℕ) : Type 0 where
   -- an inspection begins with its plan
   pub begins : inspectionBegun (readLog bs .set) (readLog bs .alloc) .number ≡ 0
   -- whatever records have come, and whatever are to come: what is kept is the inspection of those that have
-  pub keeps : (come rest : List Entry) → entriesIn bs ≡ come ++ rest → inspectionIn (keptBehind bs come) ≡ inspectedBehind bs come
+  pub keeps : (come rest : List Entry)
+      → entriesIn bs ≡ come ++ rest → inspectionIn (keptBehind bs come) ≡ inspectedBehind bs come
   -- and the record that comes next is answered by it: its number, the rule that it breaks, and what was expected and found by that rule
   pub answers : (come rest : List Entry) (e : Entry) (next : ℕ) → entriesIn bs ≡ come ++ e ∷ rest
-      → answered (keptBehind bs come) (toldOf e next) ≡ recordFinding (inspectedBehind bs come) (readLog bs .set) (readLog bs .alloc) e
+      → answered (keptBehind bs come) (toldOf e next)
+      ≡ recordFinding (inspectedBehind bs come) (readLog bs .set) (readLog bs .alloc) e
   -- behind all of them the finding is that of the whole log
   pub finding : findingOf (inspectionIn (keptBehind bs (entriesIn bs))) (readLog bs .records) ≡ findingIn bs

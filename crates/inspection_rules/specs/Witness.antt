@@ -4,8 +4,8 @@ use mathlib.Core.Path.{_≡_}
 use mathlib.Core.List.{List, [], _∷_, _++_}
 use Rattle.units.specs.Numbers.{timely, fddi, earlier}
 use Rattle.plans.specs.Planned.{judgedPlan}
-use Rattle.entries.specs.declared.Entry.{Entry}
-use Rattle.entries.specs.declared.Entry.the-variants.{Visit, Mark}
+use Rattle.log_records.specs.declared.Entry.{Entry}
+use Rattle.log_records.specs.declared.Entry.the-variants.{Visit, Mark}
 use Rattle.promises.specs.Witness.{pairOf, pair, shares}
 use Rattle.promises.specs.FddiWitness.{older}
 use Rattle.promises.specs.MarkWitness.{again}
@@ -50,7 +50,9 @@ marked =
 
 -- the next visit, of station 0, by its limit and what it sends
 abbrev pub then : ℕ → ℕ → ℕ → List Entry
-then limit synchronous asynchronous = marked ++ Visit (record { station = 0; start = 737; limit = limit; synchronous = synchronous; asynchronous = asynchronous }) ∷ []
+then limit synchronous asynchronous =
+    marked
+    ++ Visit (record { station = 0; start = 737; limit = limit; synchronous = synchronous; asynchronous = asynchronous }) ∷ []
 
 -- the records so far and the rule
 abbrev pub found : List Entry → Inspection
@@ -64,7 +66,9 @@ pub record MarkedLog : Type 0 where
   pub sends : (found (then 0 15 0) .rule ≡ 4) × (found (then 0 15 0) .records ≡ 4)
   pub sends-frames : (found (then 0 0 1) .rule ≡ 5) × (found (then 0 0 1) .records ≡ 4)
   -- in again, it is offered that, and may send
-  pub again-in : (found (marked ++ through 0 0 ∷ Visit (record { station = 0; start = 737; limit = 63; synchronous = 15; asynchronous = 63 }) ∷ []) .rule ≡ 0)
+  pub again-in : (found
+      (marked ++ through 0 0 ∷ Visit (record { station = 0; start = 737; limit = 63; synchronous = 15; asynchronous = 63 }) ∷ []) .rule
+      ≡ 0)
   -- a mark is 1 or 0, of a station below N
   pub two : found (through 1 2 ∷ []) .rule ≡ 1
   pub beyond : found (through 2 1 ∷ []) .rule ≡ 1

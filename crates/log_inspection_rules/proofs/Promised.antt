@@ -7,27 +7,27 @@ use lib.ListN.{length, length-map, length-reverse}
 use Rattle.plans.specs.Planned.{judgedPlan}
 use Rattle.fields.specs.Bytes.{AllBytes}
 use Rattle.sheets.specs.Reading.{readPlan}
-use Rattle.sheets.specs.ReadLaws.{then-none}
+use Rattle.sheets.proofs.ReadLaws.{then-none}
 use Rattle.logs.specs.Layout.{logOf}
 use Rattle.logs.specs.Reading.{readLog, entriesIn}
 use Rattle.promises.specs.Run.{eventsOf}
 use Rattle.promises.proofs.Promised as runs
 use Rattle.log_rules.specs.Recorded.{says, toldIn, entriesOf}
-use Rattle.calls.specs.Runs.{openedRun}
-use Rattle.recorded_logs.specs.Calls.{callsOf}
-use Rattle.recorded_logs.specs.Promised.{setFrom, allocFrom, written, entriesFor}
-use Rattle.recorded_logs.proofs.Promised as records
-use Rattle.pieces.specs.Pieces.{readOver, handedOver}
+use Rattle.command_run.specs.Runs.{openedRun}
+use Rattle.command_log_rules.specs.Calls.{callsOf}
+use Rattle.command_log_rules.specs.Promised.{setFrom, allocFrom, written, entriesFor}
+use Rattle.command_log_rules.proofs.Promised as records
+use Rattle.log_stream.specs.Pieces.{readOver, handedOver}
 use Rattle.inspection.specs.Findings.{findingIn}
 use Rattle.inspection.specs.declared.Finding.{Finding}
 use Rattle.inspection_rules.proofs.Promised as inspections
 use Rattle.accepted_log_rules.specs.Shows.{Shows}
 use Rattle.accepted_log_rules.proofs.Promised as logs
-use Rattle.piece_inspections.specs.Inspecting.{lookedAll, inspectOver, inspectStart}
-use Rattle.piece_inspections.specs.declared.Inspecting.{Inspecting}
-use Rattle.piece_inspections.proofs.Promised as in-pieces
-use Rattle.finding_texts.specs.FindingText.{acceptedLine, findingText, isAccepted}
-use Rattle.finding_texts.proofs.Promised as texts
+use Rattle.inspection_stream.specs.Inspecting.{lookedAll, inspectOver, inspectStart}
+use Rattle.inspection_stream.specs.declared.Inspecting.{Inspecting}
+use Rattle.inspection_stream.proofs.Promised as in-pieces
+use Rattle.command_inspect.specs.FindingText.{acceptedLine, findingText, isAccepted}
+use Rattle.command_inspect.proofs.Promised as texts
 use Rattle.log_inspection_rules.specs.Promised.{joined, inspectPieces, ComesIn, Promised}
 
 -- ---- pieces

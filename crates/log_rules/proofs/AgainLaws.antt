@@ -14,14 +14,14 @@ use Rattle.fields.specs.Fields.{sizeAt}
 use Rattle.fields.proofs.FieldLaws.{Whole}
 use Rattle.fields.proofs.SegmentLaws.{Stands, stands-whole, stands-join}
 use Rattle.fields.specs.declared.Passed.{Passed}
-use Rattle.scan.specs.Scanned.{scanned}
-use Rattle.scan.specs.FirstFault.{WellFormed}
-use Rattle.scan.proofs.ScanLaws.{stopped}
-use Rattle.scan.proofs.PassedLaws.{AllPassed, all-passed, end-short}
-use Rattle.entries.specs.Entry.{entryBytes, nextEntry}
+use Rattle.field_reader.specs.Scanned.{scanned}
+use Rattle.field_reader.specs.FirstFault.{WellFormed}
+use Rattle.field_reader.proofs.ScannedLaws.{stopped}
+use Rattle.field_reader.proofs.PassedLaws.{AllPassed, all-passed, end-short}
+use Rattle.log_records.specs.Entry.{entryBytes, nextEntry}
 use Rattle.sheets.specs.Layout.{fieldsOf, endBytes}
 use Rattle.sheets.specs.Reading.{planPassed, headIn, setIn, allocIn, judgedSheet}
-use Rattle.sheets.specs.ReadLaws.{then-none, judged-kept}
+use Rattle.sheets.proofs.ReadLaws.{then-none, judged-kept}
 use Rattle.sheets.proofs.ReadingLaws.{head-ranges}
 use Rattle.sheet_rules.proofs.StandLaws.{mark-stands}
 use Rattle.sheet_rules.proofs.BackLaws.{fields-together, fields-behind}

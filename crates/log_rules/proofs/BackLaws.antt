@@ -16,14 +16,14 @@ use Rattle.fields.specs.Fields.{behind}
 use Rattle.fields.proofs.FieldLaws.{Whole, an-end, kind-allowed}
 use Rattle.fields.proofs.SegmentLaws.{Stands, stands-itself, stands-left, stands-right}
 use Rattle.fields.specs.declared.Passed.{Passed}
-use Rattle.scan.specs.Scanned.{scanned}
-use Rattle.scan.specs.FirstFault.{WellFormed}
-use Rattle.scan.proofs.PassedLaws.{passedAll}
-use Rattle.entries.specs.Entry.{entryBytes, nextEntry}
-use Rattle.entries.specs.declared.Entry.{Entry}
+use Rattle.field_reader.specs.Scanned.{scanned}
+use Rattle.field_reader.specs.FirstFault.{WellFormed}
+use Rattle.field_reader.proofs.PassedLaws.{passedAll}
+use Rattle.log_records.specs.Entry.{entryBytes, nextEntry}
+use Rattle.log_records.specs.declared.Entry.{Entry}
 use Rattle.sheets.specs.Layout.{fieldsOf, endBytes}
 use Rattle.sheets.specs.Reading.{planPassed, setOf, allocOf, setIn, allocIn, judgedSheet}
-use Rattle.sheets.specs.ReadLaws.{judged-kept}
+use Rattle.sheets.proofs.ReadLaws.{judged-kept}
 use Rattle.sheet_rules.specs.Promised.{firstPlaces, firstAllocations, Numbers32}
 use Rattle.sheet_rules.proofs.StandLaws.{whole-stands}
 use Rattle.sheet_rules.proofs.BackLaws.{behindHead, behindAll, FieldParts, fields-apart, fields-behind, fields-pass, parts-set, parts-alloc, judged-first, kept-small, kept-allocations}

@@ -4,7 +4,7 @@ use mathlib.Core.Path.{_≡_}
 use mathlib.Core.Logic.{⊎-elim}
 use native.Mathlib.Nat.{div-add-mod'}
 use native.Mathlib.Omega.{arith}
-use Rattle.units.specs.SmallLaws.{below-or-not}
+use Rattle.units.proofs.SmallLaws.{below-or-not}
 use Rattle.logs.specs.Writing.{low, rise, counterAt}
 
 pub counter-rises : (counter clock later : ℕ) → clock ≤ later → counterAt counter clock later ≡ (counter + (later - clock)) % 2 ^ 32

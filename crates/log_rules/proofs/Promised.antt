@@ -11,39 +11,39 @@ use lib.Seq.{take-at}
 use borrow.Author.Tests.{leb-true}
 use Rattle.units.specs.Numbers.{timely}
 use Rattle.units.specs.Places.{at, fill}
-use Rattle.units.specs.JudgingLaws.{true-or-false, passed}
-use Rattle.units.specs.SmallLaws.{below-or-not}
+use Rattle.units.proofs.JudgingLaws.{true-or-false, passed}
+use Rattle.units.proofs.SmallLaws.{below-or-not}
 use Rattle.sets.specs.Header.{headNumber}
 use Rattle.sets.specs.Rules.{CountAllowed, numbersAllowed, walkTimeAllowed}
 use Rattle.sets.specs.Judged.{zeros}
-use Rattle.sets.specs.SetLaws.{decides-count}
+use Rattle.sets.proofs.SetLaws.{decides-count}
 use Rattle.sets.specs.declared.Set.{Set}
 use Rattle.plans.specs.Rules.{rulesFit, allocInRange}
 use Rattle.plans.specs.Planned.{judgedPlan}
-use Rattle.plans.specs.PlanLaws.{given-0, given-4, given-5, given-7}
+use Rattle.plans.proofs.PlanLaws.{given-0, given-4, given-5, given-7}
 use Rattle.plans.specs.declared.Alloc.{Alloc}
 use Rattle.fields.specs.Rows.{rows}
 use Rattle.fields.specs.Bytes.{bytesOf, bodyOf, AllBytes}
 use Rattle.fields.specs.Fields.{furtherSize, tagAt, sizeAt, allowedAt}
 use Rattle.fields.proofs.SegmentLaws.{stands-itself}
 use Rattle.fields.specs.declared.Passed.{Passed}
-use Rattle.scan.specs.FirstFault.{WellFormed, WholeSheet, not-allowed as not-allowed-in-plan}
-use Rattle.scan.specs.declared.Scanned.{Scanned}
-use Rattle.scan.proofs.ScanLaws.{zero-or-not, end-there}
-use Rattle.scan.proofs.PassedLaws.{through}
-use Rattle.entries.specs.Visit.{visitBytes, visitAt, VisitFits}
-use Rattle.entries.specs.Mark.{markBytes, markAt, MarkFits}
-use Rattle.entries.specs.Entry.{entryBytes, EntryFits, nextEntry}
-use Rattle.entries.specs.declared.VisitEntry.{VisitEntry}
-use Rattle.entries.specs.declared.MarkEntry.{MarkEntry}
-use Rattle.entries.specs.declared.Entry.{Entry}
-use Rattle.entries.specs.declared.Entry.the-variants.{Visit, Mark}
-use Rattle.entries.proofs.VisitLaws.{visit-length, visit-there, there-visit, stands-visit, stands-read}
-use Rattle.entries.proofs.MarkLaws.{mark-length, mark-there, there-mark, stands-mark, mark-read}
-use Rattle.entries.proofs.EntryLaws.{Standing, a-visit, a-mark, nothing, standing, handed-visit, handed-mark, handed-none}
+use Rattle.field_reader.specs.FirstFault.{WellFormed, WholeSheet, not-allowed as not-allowed-in-plan}
+use Rattle.field_reader.specs.declared.Scanned.{Scanned}
+use Rattle.field_reader.proofs.ScannedLaws.{zero-or-not, end-there}
+use Rattle.field_reader.proofs.PassedLaws.{through}
+use Rattle.log_records.specs.Visit.{visitBytes, visitAt, VisitFits}
+use Rattle.log_records.specs.Mark.{markBytes, markAt, MarkFits}
+use Rattle.log_records.specs.Entry.{entryBytes, EntryFits, nextEntry}
+use Rattle.log_records.specs.declared.VisitEntry.{VisitEntry}
+use Rattle.log_records.specs.declared.MarkEntry.{MarkEntry}
+use Rattle.log_records.specs.declared.Entry.{Entry}
+use Rattle.log_records.specs.declared.Entry.the-variants.{Visit, Mark}
+use Rattle.log_records.proofs.VisitLaws.{visit-length, visit-there, there-visit, stands-visit, stands-read}
+use Rattle.log_records.proofs.MarkLaws.{mark-length, mark-there, there-mark, stands-mark, mark-read}
+use Rattle.log_records.proofs.EntryLaws.{Standing, a-visit, a-mark, nothing, standing, handed-visit, handed-mark, handed-none}
 use Rattle.sheets.specs.Layout.{mark, headUpTo, furtherBytes, stationWith, allocationWith, fieldsOf, fieldsLength, endBytes, sheetOf, planSheet, sheetLength}
 use Rattle.sheets.specs.Reading.{setIn, allocIn, judgedSheet, readPlan}
-use Rattle.sheets.specs.ReadLaws.{then-none, sheet-accepted}
+use Rattle.sheets.proofs.ReadLaws.{then-none, sheet-accepted}
 use Rattle.sheets.specs.Writing.{writeAnswer, planWritten}
 use Rattle.sheets.specs.declared.Written.{Written}
 use Rattle.sheets.proofs.WritingLaws.{fields-long, answer-number, answer-refused, buffer-refused}

@@ -7,18 +7,18 @@ use native.Mathlib.Nat.{mod-eq-of-lt}
 use native.Mathlib.Omega.{arith}
 use Rattle.units.specs.Places.{at}
 use Rattle.units.specs.declared.Station.{Station}
-use Rattle.units.specs.SmallLaws.{below-or-not}
+use Rattle.units.proofs.SmallLaws.{below-or-not}
 use Rattle.sets.specs.declared.Set.{Set}
 use Rattle.plans.specs.declared.Alloc.{Alloc}
-use Rattle.entries.specs.Visit.{VisitFits}
-use Rattle.entries.specs.Mark.{MarkFits}
+use Rattle.log_records.specs.Visit.{VisitFits}
+use Rattle.log_records.specs.Mark.{MarkFits}
 use Rattle.rings.specs.State.{count, ttrt}
 use Rattle.rings.specs.Timers.{Fddi, limit}
 use Rattle.rings.specs.Steps.{Ask, syncSent, asyncSent, recordOf, visitNumber, visitedWith, visited}
 use Rattle.rings.specs.Sound.{Sound}
-use Rattle.rings.specs.RingLaws.{sync-within, visit-accepted, visit-passed, visit-safe, sound-plan}
-use Rattle.rings.specs.FrameLaws.{frames-within}
-use Rattle.rings.specs.TimerLaws.{fddi-or-not, limit-within as limit-offered, offer-fddi, offer-timely, offered-late, offered-early}
+use Rattle.rings.proofs.RingLaws.{sync-within, visit-accepted, visit-passed, visit-safe, sound-plan}
+use Rattle.rings.proofs.FrameLaws.{frames-within}
+use Rattle.rings.proofs.TimerLaws.{fddi-or-not, limit-within as limit-offered, offer-fddi, offer-timely, offered-late, offered-early}
 use Rattle.rings.specs.HandingIn.{handedIn}
 use Rattle.rings.specs.Marking.{marked, unmarked}
 use Rattle.rings.specs.declared.Ring.{Ring}

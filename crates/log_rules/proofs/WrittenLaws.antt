@@ -7,22 +7,22 @@ use mathlib.Core.Logic.{⊎-elim}
 use native.Mathlib.Omega.{arith}
 use lib.ListN.{length, drop, length-append}
 use borrow.Author.Tests.{le-leb, lt-leb}
-use Rattle.units.specs.JudgingLaws.{held, failed}
-use Rattle.units.specs.SmallLaws.{below-or-not}
+use Rattle.units.proofs.JudgingLaws.{held, failed}
+use Rattle.units.proofs.SmallLaws.{below-or-not}
 use Rattle.sets.specs.declared.Set.{Set}
 use Rattle.plans.specs.Planned.{judgedPlan}
 use Rattle.plans.specs.declared.Alloc.{Alloc}
 use Rattle.fields.specs.Rows.{laid}
-use Rattle.fields.specs.RowLaws.{laid-length, laid-first}
+use Rattle.fields.proofs.RowLaws.{laid-length, laid-first}
 use Rattle.fields.proofs.SegmentLaws.{laid-more}
-use Rattle.entries.specs.Visit.{visitBytes}
-use Rattle.entries.specs.Mark.{markBytes}
-use Rattle.entries.specs.Entry.{entryBytes}
-use Rattle.entries.specs.declared.MarkEntry.{MarkEntry}
-use Rattle.entries.specs.declared.Entry.{Entry}
-use Rattle.entries.specs.declared.Entry.the-variants.{Visit, Mark}
-use Rattle.entries.proofs.VisitLaws.{visit-length}
-use Rattle.entries.proofs.MarkLaws.{mark-length}
+use Rattle.log_records.specs.Visit.{visitBytes}
+use Rattle.log_records.specs.Mark.{markBytes}
+use Rattle.log_records.specs.Entry.{entryBytes}
+use Rattle.log_records.specs.declared.MarkEntry.{MarkEntry}
+use Rattle.log_records.specs.declared.Entry.{Entry}
+use Rattle.log_records.specs.declared.Entry.the-variants.{Visit, Mark}
+use Rattle.log_records.proofs.VisitLaws.{visit-length}
+use Rattle.log_records.proofs.MarkLaws.{mark-length}
 use Rattle.sheets.specs.Layout.{fieldsOf, fieldsLength, endBytes, sheetLength}
 use Rattle.sheets.specs.Reading.{judgedSheet}
 use Rattle.sheets.specs.Writing.{roomNumber, laidAfter}

@@ -4,10 +4,10 @@ use mathlib.Core.List.{List, [], _∷_, map, reverse}
 use lib.IntN.{pos}
 use Rattle.sets.specs.declared.Set.{Set}
 use Rattle.plans.specs.declared.Alloc.{Alloc}
-use Rattle.entries.specs.declared.VisitEntry.{VisitEntry}
-use Rattle.entries.specs.declared.MarkEntry.{MarkEntry}
-use Rattle.entries.specs.declared.Entry.{Entry}
-use Rattle.entries.specs.declared.Entry.the-variants.{Visit, Mark}
+use Rattle.log_records.specs.declared.VisitEntry.{VisitEntry}
+use Rattle.log_records.specs.declared.MarkEntry.{MarkEntry}
+use Rattle.log_records.specs.declared.Entry.{Entry}
+use Rattle.log_records.specs.declared.Entry.the-variants.{Visit, Mark}
 use Rattle.sheets.specs.declared.Written.{Written}
 use Rattle.rings.specs.declared.VisitRecord.{VisitRecord}
 use Rattle.logs.specs.Writing.{begun, begunBuffer, visitOf, added, addedBuffer, addedMark, markedBuffer, ended, endedBuffer}
@@ -32,8 +32,10 @@ beginning t a counter clock out = record { recorder = begun t a counter clock ou
 
 -- one visit or mark more, accepted or not
 abbrev pub oneMore : Recording → Told → Recording
-oneMore s (aVisit v) = record { recorder = added (s .recorder) v (s .buffer); buffer = addedBuffer (s .recorder) v (s .buffer) }
-oneMore s (aMark m) = record { recorder = addedMark (s .recorder) (s .buffer); buffer = markedBuffer (s .recorder) m (s .buffer) }
+oneMore s (aVisit v) =
+    record { recorder = added (s .recorder) v (s .buffer); buffer = addedBuffer (s .recorder) v (s .buffer) }
+oneMore s (aMark m) =
+    record { recorder = addedMark (s .recorder) (s .buffer); buffer = markedBuffer (s .recorder) m (s .buffer) }
 
 -- all that is told in a list, the first one first
 unfoldable pub recorded : Recording → List Told → Recording

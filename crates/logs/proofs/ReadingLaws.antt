@@ -4,14 +4,14 @@ use mathlib.Core.Path.{_≡_, refl, sym, ap, _∙_}
 use mathlib.Core.Bool.{true, false}
 use mathlib.Core.List.{List}
 use mathlib.Core.Logic.{⊎-elim, _≢_}
-use Rattle.units.specs.JudgingLaws.{true-or-false}
+use Rattle.units.proofs.JudgingLaws.{true-or-false}
 use Rattle.sets.specs.Judged.{blankSet}
 use Rattle.sets.specs.declared.Set.{Set}
 use Rattle.plans.specs.Planned.{judgedPlan, blankAlloc}
 use Rattle.plans.specs.declared.Alloc.{Alloc}
-use Rattle.scan.specs.Scanned.{scanned}
+use Rattle.field_reader.specs.Scanned.{scanned}
 use Rattle.sheets.specs.Reading.{setIn, allocIn, planPassed, planStart}
-use Rattle.sheets.specs.ReadLaws.{then-rest, then-keeps}
+use Rattle.sheets.proofs.ReadLaws.{then-rest, then-keeps}
 use Rattle.sheets.specs.declared.PlanStart.{PlanStart}
 use Rattle.logs.specs.Walked.{walked, logWalked}
 use Rattle.logs.specs.Reading.{logNumber, refusedLog, logAnswer, readLog}

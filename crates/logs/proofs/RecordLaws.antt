@@ -6,21 +6,21 @@ use mathlib.Core.List.{List}
 use mathlib.Core.Logic.{_⊎_, inl, inr, ⊎-elim, _≢_}
 use native.Mathlib.Omega.{arith}
 use lib.ListN.{length}
-use Rattle.units.specs.SmallLaws.{below-or-not}
+use Rattle.units.proofs.SmallLaws.{below-or-not}
 use Rattle.fields.specs.Bytes.{AllBytes}
 use Rattle.fields.specs.Fields.{tagAt, sizeAt, behind}
 use Rattle.fields.proofs.SegmentLaws.{Stands}
-use Rattle.scan.proofs.ScanLaws.{zero-or-not}
-use Rattle.entries.specs.Visit.{visitAt, isVisit, visitStands}
-use Rattle.entries.specs.Mark.{markAt, isMark, markStands}
-use Rattle.entries.specs.Entry.{entryBytes, EntryFits, nextEntry}
-use Rattle.entries.specs.declared.Entry.{Entry}
-use Rattle.entries.specs.declared.Entry.the-variants.{Visit, Mark}
-use Rattle.entries.specs.declared.NextEntry.{NextEntry}
-use Rattle.entries.proofs.FieldLaws.{FieldThere, field-says, field-begins}
-use Rattle.entries.proofs.VisitLaws.{visit-length, visit-there, there-visit, stands-visit, stands-read, visit-bytes, visit-fits}
-use Rattle.entries.proofs.MarkLaws.{mark-length, mark-there, there-mark, stands-mark, mark-read, mark-bytes, mark-fits}
-use Rattle.entries.proofs.EntryLaws.{mark-no-visit, Standing, a-visit, a-mark, nothing, standing, handed-visit, handed-mark}
+use Rattle.field_reader.proofs.ScannedLaws.{zero-or-not}
+use Rattle.log_records.specs.Visit.{visitAt, isVisit, visitStands}
+use Rattle.log_records.specs.Mark.{markAt, isMark, markStands}
+use Rattle.log_records.specs.Entry.{entryBytes, EntryFits, nextEntry}
+use Rattle.log_records.specs.declared.Entry.{Entry}
+use Rattle.log_records.specs.declared.Entry.the-variants.{Visit, Mark}
+use Rattle.log_records.specs.declared.NextEntry.{NextEntry}
+use Rattle.log_records.proofs.FieldLaws.{FieldThere, field-says, field-begins}
+use Rattle.log_records.proofs.VisitLaws.{visit-length, visit-there, there-visit, stands-visit, stands-read, visit-bytes, visit-fits}
+use Rattle.log_records.proofs.MarkLaws.{mark-length, mark-there, there-mark, stands-mark, mark-read, mark-bytes, mark-fits}
+use Rattle.log_records.proofs.EntryLaws.{mark-no-visit, Standing, a-visit, a-mark, nothing, standing, handed-visit, handed-mark}
 use Rattle.logs.specs.Records.{isRecord, recordSize}
 
 -- ---- either of two tests

@@ -7,16 +7,16 @@ use mathlib.Core.Logic.{_⊎_, inl, inr, ⊎-elim, _≢_}
 use native.Mathlib.Omega.{arith}
 use lib.ListN.{length}
 use borrow.Author.Tests.{eq-eqb, eqb-true, ne-eqb, le-leb, lt-leb}
-use Rattle.units.specs.JudgingLaws.{true-or-false, held, failed, and-true, true-and}
-use Rattle.units.specs.SmallLaws.{below-or-not}
+use Rattle.units.proofs.JudgingLaws.{true-or-false, held, failed, and-true, true-and}
+use Rattle.units.proofs.SmallLaws.{below-or-not}
 use Rattle.fields.specs.Fields.{endTag, endSize, allocationsFor, isAllowed, left, tagAt, sizeAt, behind, allowedAt, FieldWhole}
 use Rattle.fields.proofs.FieldLaws.{Kind, a-head, a-station, an-allocation, an-end, a-further, allowed-kind}
 use Rattle.fields.specs.declared.Passed.{Passed}
-use Rattle.scan.specs.Scanned.{scanned}
-use Rattle.scan.specs.FirstFault.{WellFormed, Fault, no-start as no-start-in-plan, not-allowed as not-allowed-in-plan, cut-body as cut-body-in-plan, follows as follows-in-plan}
-use Rattle.scan.specs.declared.Scanned.{Scanned}
-use Rattle.scan.proofs.ScanLaws.{zero-or-not, fault-there, end-there, stopped, AtEnd}
-use Rattle.scan.proofs.PassedLaws.{through, end-short}
+use Rattle.field_reader.specs.Scanned.{scanned}
+use Rattle.field_reader.specs.FirstFault.{WellFormed, Fault, no-start as no-start-in-plan, not-allowed as not-allowed-in-plan, cut-body as cut-body-in-plan, follows as follows-in-plan}
+use Rattle.field_reader.specs.declared.Scanned.{Scanned}
+use Rattle.field_reader.proofs.ScannedLaws.{zero-or-not, fault-there, end-there, stopped, AtEnd}
+use Rattle.field_reader.proofs.PassedLaws.{through, end-short}
 use Rattle.sheets.specs.Reading.{planPassed}
 use Rattle.logs.specs.Records.{isRecord, recordSize}
 use Rattle.logs.specs.Walked.{logAllowedAt, isEnd, stopNumber, walkFrom, walked, logWalked}

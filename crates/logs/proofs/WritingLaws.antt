@@ -7,14 +7,14 @@ use mathlib.Core.Logic.{_≢_}
 use native.Mathlib.Omega.{arith}
 use lib.ListN.{length}
 use borrow.Author.Tests.{leb-true}
-use Rattle.units.specs.JudgingLaws.{passed}
+use Rattle.units.proofs.JudgingLaws.{passed}
 use Rattle.sets.specs.declared.Set.{Set}
 use Rattle.plans.specs.declared.Alloc.{Alloc}
-use Rattle.entries.specs.Visit.{visitBytes}
-use Rattle.entries.specs.Mark.{markBytes}
-use Rattle.entries.specs.declared.MarkEntry.{MarkEntry}
-use Rattle.entries.proofs.VisitLaws.{visit-length}
-use Rattle.entries.proofs.MarkLaws.{mark-length}
+use Rattle.log_records.specs.Visit.{visitBytes}
+use Rattle.log_records.specs.Mark.{markBytes}
+use Rattle.log_records.specs.declared.MarkEntry.{MarkEntry}
+use Rattle.log_records.proofs.VisitLaws.{visit-length}
+use Rattle.log_records.proofs.MarkLaws.{mark-length}
 use Rattle.sheets.specs.Layout.{fieldsLength, endBytes}
 use Rattle.sheets.specs.Writing.{WroteFields, roomNumber, laidAfter, PutAt}
 use Rattle.sheets.specs.declared.Written.{Written}

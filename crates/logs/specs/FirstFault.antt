@@ -1,4 +1,4 @@
--- 1, 2 and 3 of a log go by the first fault from the left of the whole log: as `scan/specs/FirstFault.antt` has it for sheets, with the records behind the plan's fields.
+-- 1, 2 and 3 of a log go by the first fault from the left of the whole log: as `field_reader/specs/FirstFault.antt` has it for sheets, with the records behind the plan's fields.
 use Prim.Native.Nat.{ℕ, _+_, _≤_, _<_}
 use mathlib.Core.Path.{_≡_}
 use mathlib.Core.Bool.{true, false}
@@ -6,7 +6,7 @@ use mathlib.Core.List.{List}
 use lib.ListN.{length}
 use Rattle.fields.specs.Fields.{endTag, left, tagAt, sizeAt, behind, FieldWhole}
 use Rattle.fields.specs.declared.Passed.{Passed}
-use Rattle.scan.specs.FirstFault.{WellFormed}
+use Rattle.field_reader.specs.FirstFault.{WellFormed}
 use Rattle.sheets.specs.Reading.{planPassed}
 use Rattle.logs.specs.Records.{isRecord}
 use Rattle.logs.specs.Walked.{logAllowedAt}
@@ -14,7 +14,9 @@ use Rattle.logs.specs.Walked.{logAllowedAt}
 -- the fields from the start of the log up to the place are all whole, and each was allowed at its place; `Passed` says which of the plan's they are, and n how many records stand behind them
 pub data LogFormed (bs : List ℕ) (p : Passed) : ℕ → ℕ → Type 0 where
   in-plan : {a : ℕ} → WellFormed true bs p a → LogFormed bs p 0 a
-  a-record : {n a : ℕ} → LogFormed bs p n a → planPassed p ≡ true → isRecord bs a ≡ true → behind bs a ≤ length bs → LogFormed bs p (n + 1) (behind bs a)
+  a-record : {n a : ℕ}
+      → LogFormed bs p n a → planPassed p ≡ true → isRecord bs a ≡ true → behind bs a ≤ length bs
+      → LogFormed bs p (n + 1) (behind bs a)
 
 -- the fault at a place, with its number
 pub data LogFault (bs : List ℕ) (a : ℕ) (p : Passed) : ℕ → Type 0 where

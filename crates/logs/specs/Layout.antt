@@ -5,8 +5,8 @@ use Rattle.sets.specs.declared.Set.{Set}
 use Rattle.plans.specs.declared.Alloc.{Alloc}
 use mathlib.Core.Bool.{true}
 use lib.ListN.{length}
-use Rattle.entries.specs.Entry.{entryBytes, EntryFits}
-use Rattle.entries.specs.declared.Entry.{Entry}
+use Rattle.log_records.specs.Entry.{entryBytes, EntryFits}
+use Rattle.log_records.specs.declared.Entry.{Entry}
 use Rattle.sheets.specs.Layout.{fieldsOf, endBytes, sheetLength}
 
 -- the fields of the records, the first one first

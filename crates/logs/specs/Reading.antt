@@ -6,9 +6,9 @@ use Rattle.sets.specs.Judged.{blankSet}
 use Rattle.sets.specs.declared.Set.{Set}
 use Rattle.plans.specs.Planned.{judgedPlan, blankAlloc}
 use Rattle.plans.specs.declared.Alloc.{Alloc}
-use Rattle.scan.specs.Scanned.{scanned}
-use Rattle.entries.specs.Entry.{nextEntry}
-use Rattle.entries.specs.declared.Entry.{Entry}
+use Rattle.field_reader.specs.Scanned.{scanned}
+use Rattle.log_records.specs.Entry.{nextEntry}
+use Rattle.log_records.specs.declared.Entry.{Entry}
 use Rattle.sheets.specs.Reading.{thenNumber, setIn, allocIn}
 use Rattle.logs.specs.Walked.{logWalked}
 use Rattle.logs.specs.declared.ReadLog.{ReadLog}

@@ -2,8 +2,8 @@
 use Prim.Native.Nat.{ℕ}
 use mathlib.Core.Bool.{Bool, cond, _||_}
 use mathlib.Core.List.{List}
-use Rattle.entries.specs.Visit.{visitLength, isVisit, visitStands}
-use Rattle.entries.specs.Mark.{markLength, isMark, markStands}
+use Rattle.log_records.specs.Visit.{visitLength, isVisit, visitStands}
+use Rattle.log_records.specs.Mark.{markLength, isMark, markStands}
 
 -- a record's field begins at the place a
 abbrev pub isRecord : List ℕ → ℕ → Bool

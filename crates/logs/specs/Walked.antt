@@ -8,7 +8,7 @@ use Rattle.units.specs.Numbers.{accepted, cutShort, wrongShape, runsOn}
 use Rattle.units.specs.Judging.{orElse}
 use Rattle.fields.specs.Fields.{endTag, endSize, left, tagAt, sizeAt, allowedAt}
 use Rattle.fields.specs.declared.Passed.{Passed}
-use Rattle.scan.specs.Scanned.{scanned}
+use Rattle.field_reader.specs.Scanned.{scanned}
 use Rattle.sheets.specs.Reading.{planPassed}
 use Rattle.logs.specs.Records.{isRecord, recordSize}
 use Rattle.logs.specs.declared.Walked.{Walked}
@@ -38,7 +38,8 @@ stopNumber bs a =
 unfoldable pub walkFrom : ℕ → List ℕ → ℕ → ℕ → Walked
 walkFrom zero bs n a = record { number = cutShort; records = n; at = a }
 walkFrom (suc most) bs n a =
-    cond (eqb (recordSize bs a) 0) (record { number = stopNumber bs a; records = n; at = a }) (walkFrom most bs (n + 1) (a + recordSize bs a))
+    cond (eqb (recordSize bs a) 0) (record { number = stopNumber bs a; records = n; at = a })
+    (walkFrom most bs (n + 1) (a + recordSize bs a))
 
 -- all of them. They are fewer than the bytes, so one more than these is never reached
 unfoldable pub walked : List ℕ → ℕ → Walked

@@ -6,10 +6,10 @@ use mathlib.Core.List.{List}
 use lib.ListN.{length}
 use Rattle.sets.specs.declared.Set.{Set}
 use Rattle.plans.specs.declared.Alloc.{Alloc}
-use Rattle.entries.specs.Visit.{visitLength, visitBytes}
-use Rattle.entries.specs.Mark.{markLength, markBytes}
-use Rattle.entries.specs.declared.VisitEntry.{VisitEntry}
-use Rattle.entries.specs.declared.MarkEntry.{MarkEntry}
+use Rattle.log_records.specs.Visit.{visitLength, visitBytes}
+use Rattle.log_records.specs.Mark.{markLength, markBytes}
+use Rattle.log_records.specs.declared.VisitEntry.{VisitEntry}
+use Rattle.log_records.specs.declared.MarkEntry.{MarkEntry}
 use Rattle.sheets.specs.Layout.{fieldsOf, fieldsLength, endBytes}
 use Rattle.sheets.specs.Writing.{writeNumber, writeAnswer, bufferAfter, roomNumber, laidAfter}
 use Rattle.sheets.specs.declared.Written.{Written}
@@ -78,7 +78,13 @@ abbrev pub notAdded : Recorder → ℕ → Recorder
 notAdded r number = record { at = r .at; clock = r .clock; counter = r .counter; number = number }
 
 unfoldable pub addedWith : ℕ → Recorder → VisitRecord → Recorder
-addedWith zero r v = record { at = r .at + visitLength; clock = v .start .0; counter = counterAt (r .counter) (r .clock) (v .start .0); number = 0 }
+addedWith zero r v =
+    record {
+      at = r .at + visitLength;
+      clock = v .start .0;
+      counter = counterAt (r .counter) (r .clock) (v .start .0);
+      number = 0;
+    }
 addedWith (suc k) r v = notAdded r (suc k)
 
 abbrev pub added : Recorder → VisitRecord → List ℕ → Recorder

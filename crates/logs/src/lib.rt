@@ -3,12 +3,12 @@ pub mod reading;
 mod writing;
 
 ghost use mathlib.Core.Path.{_≡_};
-ghost use Rattle.entries.specs.Entry.{nextEntry};
+ghost use Rattle.log_records.specs.Entry.{nextEntry};
 ghost use Rattle.logs.specs.Reading.{readLog};
 ghost use Rattle.logs.specs.Writing.{Began, Added, AddedMark, EndedLog};
-use entries::Entry;
-use entries::MarkEntry;
-use entries::NextEntry;
+use log_records::Entry;
+use log_records::MarkEntry;
+use log_records::NextEntry;
 use plans::Alloc;
 use rings::VisitRecord;
 use sets::Set;
@@ -74,17 +74,17 @@ pub fn log_entry(log: &[u8], at: usize) -> NextEntry
     if reading::visit_stands(log, at) {
         return NextEntry {
             entry: Entry::Visit(sheets::records::visit_at(log, at)),
-            next: at + entries::VISIT_LENGTH,
+            next: at + log_records::VISIT_LENGTH,
         };
     }
     if reading::mark_stands(log, at) {
         return NextEntry {
             entry: Entry::Mark(sheets::records::mark_at(log, at)),
-            next: at + entries::MARK_LENGTH,
+            next: at + log_records::MARK_LENGTH,
         };
     }
     NextEntry {
-        entry: Entry::Visit(entries::blank_visit()),
+        entry: Entry::Visit(log_records::blank_visit()),
         next: 0,
     }
 }
@@ -115,7 +115,7 @@ pub fn add_visit(recorder: Recorder, visit: VisitRecord, out: &mut [u8]) -> Reco
         return writing::stopped(recorder.at, recorder.clock, recorder.counter, number);
     }
     Recorder {
-        at: recorder.at + entries::VISIT_LENGTH,
+        at: recorder.at + log_records::VISIT_LENGTH,
         clock: visit.start.0,
         counter: entry.start,
         number: 0,
@@ -131,7 +131,7 @@ pub fn add_mark(recorder: Recorder, mark: MarkEntry, out: &mut [u8]) -> Recorder
         return writing::stopped(recorder.at, recorder.clock, recorder.counter, number);
     }
     Recorder {
-        at: recorder.at + entries::MARK_LENGTH,
+        at: recorder.at + log_records::MARK_LENGTH,
         clock: recorder.clock,
         counter: recorder.counter,
         number: 0,

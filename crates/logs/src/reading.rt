@@ -5,8 +5,8 @@ ghost use Prim.Native.Nat.{_+_, _≤_};
 ghost use lib.Dec.{eqb};
 ghost use lib.ListN.{length};
 ghost use Rattle.fields.specs.Fields.{tagAt, sizeAt};
-ghost use Rattle.entries.specs.Visit.{visitStands};
-ghost use Rattle.entries.specs.Mark.{markStands};
+ghost use Rattle.log_records.specs.Visit.{visitStands};
+ghost use Rattle.log_records.specs.Mark.{markStands};
 ghost use Rattle.logs.specs.Records.{recordSize};
 ghost use Rattle.logs.specs.Walked.{stopNumber, walked};
 ghost use Rattle.logs.specs.Reading.{refusedLog};
@@ -29,20 +29,20 @@ fn begins(bs: &[u8], at: usize, tag: u8, size: u32) -> bool
 pub(crate) fn visit_stands(bs: &[u8], at: usize) -> bool
     ensures { λ r. ⌜ r ≡ visitStands (now (bs .entry)) at ⌝ }
 {
-    if left(bs.len(), at) < entries::VISIT_LENGTH {
+    if left(bs.len(), at) < log_records::VISIT_LENGTH {
         return false;
     }
-    begins(bs, at, entries::VISIT_TAG, entries::VISIT_SIZE)
+    begins(bs, at, log_records::VISIT_TAG, log_records::VISIT_SIZE)
 }
 
 // A whole field of a mark stands at the place.
 pub(crate) fn mark_stands(bs: &[u8], at: usize) -> bool
     ensures { λ r. ⌜ r ≡ markStands (now (bs .entry)) at ⌝ }
 {
-    if left(bs.len(), at) < entries::MARK_LENGTH {
+    if left(bs.len(), at) < log_records::MARK_LENGTH {
         return false;
     }
-    begins(bs, at, entries::MARK_TAG, entries::MARK_SIZE)
+    begins(bs, at, log_records::MARK_TAG, log_records::MARK_SIZE)
 }
 
 // How many bytes the field of the whole record has that stands at the place; 0 where none stands there.
@@ -50,10 +50,10 @@ pub fn record_size(bs: &[u8], at: usize) -> usize
     ensures { λ r. ⌜ r ≡ recordSize (now (bs .entry)) at ⌝ }
 {
     if visit_stands(bs, at) {
-        return entries::VISIT_LENGTH;
+        return log_records::VISIT_LENGTH;
     }
     if mark_stands(bs, at) {
-        return entries::MARK_LENGTH;
+        return log_records::MARK_LENGTH;
     }
     0
 }
@@ -65,10 +65,10 @@ fn stop_number(bs: &[u8], at: usize) -> u8
     if left(bs.len(), at) < 3 {
         return numbers::CUT_SHORT;
     }
-    if begins(bs, at, entries::VISIT_TAG, entries::VISIT_SIZE) {
+    if begins(bs, at, log_records::VISIT_TAG, log_records::VISIT_SIZE) {
         return numbers::CUT_SHORT;
     }
-    if begins(bs, at, entries::MARK_TAG, entries::MARK_SIZE) {
+    if begins(bs, at, log_records::MARK_TAG, log_records::MARK_SIZE) {
         return numbers::CUT_SHORT;
     }
     if !begins(bs, at, fields::END_TAG, 0) {

@@ -2,8 +2,8 @@
 ghost use mathlib.Core.Path.{_≡_};
 ghost use Rattle.logs.specs.Writing.{low, counterAt, visitBy};
 use crate::Recorder;
-use entries::VisitEntry;
 use fields::bytes::wide;
+use log_records::VisitEntry;
 use rings::VisitRecord;
 
 // The low 32 bits of a number.

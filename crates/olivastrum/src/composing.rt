@@ -1,7 +1,7 @@
 // `compose`: the sheet of the text on standard input, or the log; a log's bytes go out as its lines come.
+use command_compose::Composing;
+use command_compose::Draft;
 use commands::status;
-use drafts::Composing;
-use drafts::Draft;
 use libc::STDIN_FILENO;
 use streams::ending;
 
@@ -15,7 +15,7 @@ struct Read {
 // Takes these bytes of the text, and writes what they let out.
 fn take(c: Composing, text: &[u8]) -> Read {
     let mut page = io::large_buffer();
-    let composed = drafts::compose_on(c, text, &mut page);
+    let composed = command_compose::compose_on(c, text, &mut page);
     let length = composed.length;
     let wrote = ending::say(&page[..length]);
     let behind = composed.composing;
@@ -69,7 +69,7 @@ fn all(c: Composing) -> Read {
 // Writes the sheet or the end of the log, or says why there is none.
 fn write(draft: Draft) -> u8 {
     let mut out = io::large_buffer();
-    let written = drafts::compose_end(draft, &mut out);
+    let written = command_compose::compose_end(draft, &mut out);
     let length = written.length;
     let number = written.number;
     if number != 0 {
@@ -79,7 +79,7 @@ fn write(draft: Draft) -> u8 {
 }
 
 pub(crate) fn compose() -> u8 {
-    let begun = drafts::begin();
+    let begun = command_compose::begin();
     let read = all(begun);
     if read.failed {
         return status::FAILED;

@@ -1,8 +1,8 @@
 // `inspect`: whether a run could have given the records of the log on standard input, or its first fault; `inspect PLAN`: whether its plan is the one in PLAN, too.
 use crate::loading;
 use commands::status;
+use inspection_stream::Inspecting;
 use libc::STDIN_FILENO;
-use piece_inspections::Inspecting;
 use streams::ending;
 use streams::reading;
 use streams::words;
@@ -27,7 +27,7 @@ fn turn(inspecting: Inspecting) -> Looked {
         };
     }
     let length = filled.length;
-    let behind = piece_inspections::inspect_on(inspecting, &bytes[..length]);
+    let behind = inspection_stream::inspect_on(inspecting, &bytes[..length]);
     let sound = behind.gathered.number == 0;
     Looked {
         inspecting: behind,
@@ -58,14 +58,14 @@ fn look_on(inspecting: Inspecting) -> Looked {
 
 // The whole log. The first 3,400 bytes are enough for every plan: what they say of it is what the whole log says.
 fn look() -> Looked {
-    let mut head: [u8; pieces::FIRST_SIZE] = [0; pieces::FIRST_SIZE];
+    let mut head: [u8; log_stream::FIRST_SIZE] = [0; log_stream::FIRST_SIZE];
     let filled = reading::fill(STDIN_FILENO, &mut head);
     let read = filled.length;
-    let begun = piece_inspections::inspect_start(&head[..read]);
+    let begun = inspection_stream::inspect_start(&head[..read]);
     if filled.failed {
         ending::unread_input();
     }
-    if read < pieces::FIRST_SIZE {
+    if read < log_stream::FIRST_SIZE {
         return Looked {
             inspecting: begun,
             more: false,
@@ -86,7 +86,7 @@ fn say(page: &[u8], accepted: bool) -> u8 {
 // Says what was found.
 fn finish(inspecting: Inspecting) -> u8 {
     let mut page = io::large_buffer();
-    let found = finding_texts::put_finding(inspecting, &mut page);
+    let found = command_inspect::put_finding(inspecting, &mut page);
     let length = found.length;
     say(&page[..length], found.accepted)
 }
@@ -94,7 +94,7 @@ fn finish(inspecting: Inspecting) -> u8 {
 // Says what the log is against the plan sheet in a file.
 fn finish_against(plan: &[u8], inspecting: Inspecting) -> u8 {
     let mut page = io::large_buffer();
-    let found = command_inspect::inspect_text(plan, inspecting, &mut page);
+    let found = command_inspect_plan::inspect_text(plan, inspecting, &mut page);
     let length = found.length;
     say(&page[..length], found.accepted)
 }

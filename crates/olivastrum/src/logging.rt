@@ -1,7 +1,7 @@
 // `log PLAN`: the log of the run that the calls on standard input make.
+use command_log::Recording;
 use commands::status;
 use libc::STDIN_FILENO;
-use recordings::Recording;
 use streams::ending;
 
 // The recording behind one reading: whether the input goes on, and whether reading or writing failed.
@@ -14,7 +14,7 @@ struct Heard {
 // Writes the fields of the visits and marks in the lines that end in these bytes.
 fn hear(recording: Recording, text: &[u8]) -> Heard {
     let mut page = io::large_buffer();
-    let recorded = recordings::record_on(recording, text, &mut page);
+    let recorded = command_log::record_on(recording, text, &mut page);
     let length = recorded.length;
     let wrote = ending::say(&page[..length]);
     let behind = recorded.recording;
@@ -81,7 +81,7 @@ fn finish(unread: u64) -> u8 {
 // Opens the ring of a plan sheet, and records the calls.
 pub(crate) fn start(sheet: &[u8]) -> u8 {
     let mut out = io::large_buffer();
-    let opened = recordings::open_log(sheet, &mut out);
+    let opened = command_log::open_log(sheet, &mut out);
     let number = opened.number;
     if number != 0 {
         return ending::refuse_sheet(number);

@@ -1,5 +1,5 @@
 // `run PLAN`: the calls on standard input, answered line by line.
-use calls::Run;
+use command_run::Run;
 use commands::status;
 use libc::STDIN_FILENO;
 use streams::ending;
@@ -15,7 +15,7 @@ struct Heard {
 // Answers the lines that end in these bytes.
 fn hear(run: Run, text: &[u8]) -> Heard {
     let mut page = io::large_buffer();
-    let ran = calls::run_on(run, text, &mut page);
+    let ran = command_run::run_on(run, text, &mut page);
     let length = ran.length;
     let wrote = ending::say(&page[..length]);
     let behind = ran.run;
@@ -77,7 +77,7 @@ fn hear_all(run: Run) -> Heard {
 
 // Opens the ring of a plan sheet, and answers the calls.
 pub(crate) fn start(sheet: &[u8]) -> u8 {
-    let opened = calls::open_run(sheet);
+    let opened = command_run::open_run(sheet);
     let number = opened.number;
     if number != 0 {
         return ending::refuse(number);

@@ -1,7 +1,7 @@
 // `show`: the text of the sheet or log on standard input, or the refusal.
+use command_show_log::Showing;
 use commands::status;
 use libc::STDIN_FILENO;
-use log_shows::Showing;
 use streams::ending;
 use streams::reading;
 
@@ -15,7 +15,7 @@ struct Seen {
 // Writes the lines of the records that end in these bytes.
 fn see(showing: Showing, bytes: &[u8], more: bool) -> Seen {
     let mut page = io::large_buffer();
-    let shown = log_shows::show_on(showing, bytes, &mut page);
+    let shown = command_show_log::show_on(showing, bytes, &mut page);
     let length = shown.length;
     let wrote = ending::say(&page[..length]);
     let behind = shown.showing;
@@ -85,7 +85,7 @@ fn see_head(showing: Showing, head: &[u8], from: usize) -> Seen {
 // The refusal, if there is one.
 fn finish(showing: Showing) -> u8 {
     let mut page = io::large_buffer();
-    let said = log_shows::show_end(showing, &mut page);
+    let said = command_show_log::show_end(showing, &mut page);
     let length = said.length;
     ending::answer(&page[..length], status::status_of(said.number))
 }
@@ -110,14 +110,14 @@ fn show_log(showing: Showing, head: &[u8], from: usize, more: bool) -> u8 {
 
 // The longest plan has 3,353 bytes without its end, and a record at most 20: both lie in the first 3,400, if the input has them.
 pub(crate) fn show() -> u8 {
-    let mut head: [u8; pieces::FIRST_SIZE] = [0; pieces::FIRST_SIZE];
+    let mut head: [u8; log_stream::FIRST_SIZE] = [0; log_stream::FIRST_SIZE];
     let filled = reading::fill(STDIN_FILENO, &mut head);
     if filled.failed {
         return ending::unread_input();
     }
     let read = filled.length;
     let mut page = io::large_buffer();
-    let begun = log_shows::show_start(&head[..read], &mut page);
+    let begun = command_show_log::show_start(&head[..read], &mut page);
     let length = begun.length;
     if !begun.log {
         return ending::answer(&page[..length], status::status_of(begun.number));
@@ -126,5 +126,10 @@ pub(crate) fn show() -> u8 {
         return status::FAILED;
     }
     let showing = begun.showing;
-    show_log(showing, &head[..read], begun.at, read == pieces::FIRST_SIZE)
+    show_log(
+        showing,
+        &head[..read],
+        begun.at,
+        read == log_stream::FIRST_SIZE,
+    )
 }

@@ -10,18 +10,18 @@ use lib.Dec.{eqb}
 use lib.ListN.{length}
 use Rattle.units.specs.Numbers.{mostStations}
 use Rattle.units.specs.Places.{at}
-use Rattle.units.specs.JudgingLaws.{true-or-false, and-true, true-and}
+use Rattle.units.proofs.JudgingLaws.{true-or-false, and-true, true-and}
 use Rattle.sets.specs.Rules.{SameSet}
 use Rattle.sets.specs.declared.Set.{Set}
 use Rattle.plans.specs.Planned.{judgedPlan}
-use Rattle.plans.specs.PlanLaws.{given-none}
+use Rattle.plans.proofs.PlanLaws.{given-none}
 use Rattle.plans.specs.declared.Alloc.{Alloc}
 use Rattle.fields.specs.Bytes.{AllBytes}
 use Rattle.sheets.specs.Reading.{readPlan}
-use Rattle.sheets.specs.ReadLaws.{read-few}
+use Rattle.sheets.proofs.ReadLaws.{read-few}
 use Rattle.sheets.specs.declared.ReadPlan.{ReadPlan}
 use Rattle.sheet_rules.proofs.Promised as sheet-rules
-use Rattle.entries.specs.declared.Entry.{Entry}
+use Rattle.log_records.specs.declared.Entry.{Entry}
 use Rattle.logs.specs.Reading.{readLog, entriesIn}
 use Rattle.promises.proofs.Promised as runs
 use Rattle.inspection.specs.Records.{inspectionOf}
@@ -43,14 +43,14 @@ use Rattle.command_diff.proofs.AnswerLaws.{or-refused, or-accepted}
 use Rattle.plan_inspections.specs.PlanFindings.{visitsIn, notInspected, withVisits, planFinding}
 use Rattle.plan_inspections.specs.declared.PlanFinding.{PlanFinding}
 use Rattle.plan_inspections.proofs.FindingLaws.{plan-refused as plan-side, log-refused as log-side, another-plan as other-plan, same-plan as no-other-plan}
-use Rattle.piece_inspections.specs.Inspecting.{inspectNumber, inspectStart}
-use Rattle.piece_inspections.specs.declared.Inspecting.{Inspecting}
-use Rattle.piece_inspections.proofs.Promised as in-pieces
-use Rattle.finding_texts.specs.FindingText.{acceptedLine, findingText, isAccepted}
-use Rattle.finding_texts.specs.Promised.{Names}
-use Rattle.finding_texts.specs.declared.Found.{Found}
-use Rattle.finding_texts.proofs.Promised as texts
-use Rattle.command_inspect.specs.InspectText.{planWord, anotherLine, isAnother, linesTo, anotherText, logText, answerText, isKept, isAnswered, AnsweredOn}
+use Rattle.inspection_stream.specs.Inspecting.{inspectNumber, inspectStart}
+use Rattle.inspection_stream.specs.declared.Inspecting.{Inspecting}
+use Rattle.inspection_stream.proofs.Promised as in-pieces
+use Rattle.command_inspect.specs.FindingText.{acceptedLine, findingText, isAccepted}
+use Rattle.command_inspect.specs.Promised.{Names}
+use Rattle.command_inspect.specs.declared.Found.{Found}
+use Rattle.command_inspect.proofs.Promised as texts
+use Rattle.command_inspect_plan.specs.InspectText.{planWord, anotherLine, isAnother, linesTo, anotherText, logText, answerText, isKept, isAnswered, AnsweredOn}
 use Rattle.log_inspection_rules.specs.Promised.{inspectPieces, ComesIn}
 use Rattle.log_inspection_rules.proofs.Promised.{kept-whole}
 use Rattle.plan_inspection_rules.specs.Promised.{printedOf, BothRead, SamePlans, differencesTo, ListsTo, Kept, anotherSaid, planRefused, Promised}

@@ -19,11 +19,11 @@ use Rattle.differences.specs.Differences.{Difference, differences}
 use Rattle.differences.specs.Promised.{Lists}
 use Rattle.command_diff.specs.DiffText.{linesOf, diffPrinted}
 use Rattle.plan_inspections.specs.PlanFindings.{visitsIn, notInspected, withVisits, planFinding}
-use Rattle.piece_inspections.specs.Inspecting.{inspectStart}
-use Rattle.finding_texts.specs.FindingText.{acceptedLine, findingText}
-use Rattle.finding_texts.specs.Promised.{Names}
-use Rattle.finding_texts.specs.declared.Found.{Found}
-use Rattle.command_inspect.specs.InspectText.{planWord, anotherLine, answerText, isAnswered, AnsweredOn}
+use Rattle.inspection_stream.specs.Inspecting.{inspectStart}
+use Rattle.command_inspect.specs.FindingText.{acceptedLine, findingText}
+use Rattle.command_inspect.specs.Promised.{Names}
+use Rattle.command_inspect.specs.declared.Found.{Found}
+use Rattle.command_inspect_plan.specs.InspectText.{planWord, anotherLine, answerText, isAnswered, AnsweredOn}
 use Rattle.log_inspection_rules.specs.Promised.{inspectPieces, ComesIn}
 
 -- ---- of the bytes of PLAN and of the log
@@ -38,7 +38,8 @@ BothRead plan log = (readPlan plan .number ≡ 0) × (readLog log .number ≡ 0)
 
 -- the plan of PLAN and the log's are the same in every number of the header and of each station
 abbrev pub SamePlans : List ℕ → List ℕ → Type 0
-SamePlans plan log = SamePlan (viewOf (readPlan plan .set) (readPlan plan .alloc)) (viewOf (readLog log .set) (readLog log .alloc))
+SamePlans plan log =
+    SamePlan (viewOf (readPlan plan .set) (readPlan plan .alloc)) (viewOf (readLog log .set) (readLog log .alloc))
 
 -- the differences from the plan of PLAN to the log's
 abbrev pub differencesTo : List ℕ → List ℕ → List Difference
@@ -68,42 +69,63 @@ planRefused = 112 ∷ 108 ∷ 97 ∷ 110 ∷ 32 ∷ 114 ∷ 101 ∷ 102 ∷ 117 
 pub record Promised : Type 0 where
   -- ---- one answer, in this order
   -- the refusal of PLAN, whatever the log is
-  pub plan-refused : (plan log : List ℕ) → readPlan plan .number ≢ 0 → printedOf plan log ≡ line (planWord ∷ refusedWord ∷ decimalOf (readPlan plan .number) ∷ [])
+  pub plan-refused : (plan log : List ℕ)
+      → readPlan plan .number ≢ 0
+      → printedOf plan log ≡ line (planWord ∷ refusedWord ∷ decimalOf (readPlan plan .number) ∷ [])
   -- the refusal of the log
-  pub log-refused : (plan log : List ℕ) → readPlan plan .number ≡ 0 → readLog log .number ≢ 0 → printedOf plan log ≡ refusedLine (readLog log .number)
+  pub log-refused : (plan log : List ℕ)
+      → readPlan plan .number ≡ 0 → readLog log .number ≢ 0 → printedOf plan log ≡ refusedLine (readLog log .number)
   -- `another plan` and the lines of what differs, from PLAN's plan to the log's
   pub another : (plan log : List ℕ) → AllBytes log → length log < 2 ^ 64 → BothRead plan log → ¬ SamePlans plan log
-      → (printedOf plan log ≡ anotherLine ++ linesOf (differencesTo plan log)) × ListsTo plan log (differencesTo plan log)
+      → (printedOf plan log ≡ anotherLine ++ linesOf (differencesTo plan log))
+      × ListsTo plan log (differencesTo plan log)
   -- which are the lines that `diff` prints, where a sheet holds the log's plan
-  pub as-diff : (plan log sheet : List ℕ) → AllBytes log → length log < 2 ^ 64 → BothRead plan log → ¬ SamePlans plan log → readPlan sheet .number ≡ 0
-      → readPlan sheet .set ≡ readLog log .set → readPlan sheet .alloc ≡ readLog log .alloc → printedOf plan log ≡ anotherLine ++ diffPrinted plan sheet
+  pub as-diff : (plan log sheet : List ℕ)
+      → AllBytes log → length log < 2 ^ 64 → BothRead plan log → ¬ SamePlans plan log → readPlan sheet .number ≡ 0
+      → readPlan sheet .set ≡ readLog log .set
+      → readPlan sheet .alloc ≡ readLog log .alloc → printedOf plan log ≡ anotherLine ++ diffPrinted plan sheet
   -- what `inspect` prints without PLAN
-  pub as-ever : (plan log : List ℕ) → BothRead plan log → SamePlans plan log → printedOf plan log ≡ findingText (inspectStart log)
+  pub as-ever : (plan log : List ℕ)
+      → BothRead plan log → SamePlans plan log → printedOf plan log ≡ findingText (inspectStart log)
   -- to the byte
   pub another-worded : anotherLine ≡ anotherSaid
   pub refused-worded : line (planWord ∷ refusedWord ∷ decimalOf 1 ∷ []) ≡ planRefused
   -- ---- when the log is accepted
   -- exactly if both are read, the plans do not differ, and a run of the plan in PLAN could give the records
-  pub accepted : (plan log : List ℕ) → AllBytes log → length log < 2 ^ 64 → (isAnswered (readPlan plan) (inspectStart log) ≡ true) ↔ Kept plan log
+  pub accepted : (plan log : List ℕ)
+      → AllBytes log → length log < 2 ^ 64 → (isAnswered (readPlan plan) (inspectStart log) ≡ true) ↔ Kept plan log
   -- and then `accepted` is printed, with the number of the records
-  pub said : (plan log : List ℕ) → AllBytes log → length log < 2 ^ 64 → Kept plan log → printedOf plan log ≡ acceptedLine (length (entriesIn log))
+  pub said : (plan log : List ℕ)
+      → AllBytes log → length log < 2 ^ 64 → Kept plan log → printedOf plan log ≡ acceptedLine (length (entriesIn log))
   -- and its records then show, of the plan in PLAN, what those of an accepted log show
   pub shows : (plan log : List ℕ) → Kept plan log → Shows (readPlan plan .set) (readPlan plan .alloc) (entriesIn log)
   -- where only the records are at fault, the first that breaks a rule is named, with that rule of a run of the plan in PLAN
-  pub broken : (plan log : List ℕ) → AllBytes log → length log < 2 ^ 64 → BothRead plan log → SamePlans plan log → ¬ Kept plan log
-      → Names log (printedOf plan log) × FirstBroken (readPlan plan .set) (readPlan plan .alloc) (entriesIn log) (findingIn log .«record») (findingIn log .rule)
+  pub broken : (plan log : List ℕ)
+      → AllBytes log → length log < 2 ^ 64 → BothRead plan log → SamePlans plan log → ¬ Kept plan log
+      → Names log (printedOf plan log)
+      × FirstBroken (readPlan plan .set) (readPlan plan .alloc) (entriesIn log) (findingIn log .«record»)
+      (findingIn log .rule)
   -- ---- a log of any length
   -- in whatever pieces it comes, what is printed is that of its bytes as a whole
-  pub pieces : (plan log first : List ℕ) (pieces : List (List ℕ)) → ComesIn log first pieces → answerText (readPlan plan) (inspectPieces (inspectStart first) pieces) ≡ printedOf plan log
+  pub pieces : (plan log first : List ℕ) (pieces : List (List ℕ))
+      → ComesIn log first pieces
+      → answerText (readPlan plan) (inspectPieces (inspectStart first) pieces) ≡ printedOf plan log
   -- and what is handed back, by which the status goes, tells whether it is accepted, on any page on which the text has room
-  pub told : (plan log first : List ℕ) (pieces : List (List ℕ)) (before after : List ℕ) (r : Found) → AllBytes log → length log < 2 ^ 64 → ComesIn log first pieces
+  pub told : (plan log first : List ℕ) (pieces : List (List ℕ)) (before after : List ℕ) (r : Found)
+      → AllBytes log → length log < 2 ^ 64 → ComesIn log first pieces
       → AnsweredOn (readPlan plan) (inspectPieces (inspectStart first) pieces) before after r → pageSize ≤ length before
       → ((r .accepted ≡ true) ↔ Kept plan log) × Printed (printedOf plan log) before after (r .length)
   -- ---- for a host: the same answer as numbers
-  pub host-plan-refused : (plan log : List ℕ) → readPlan plan .number ≢ 0 → planFinding plan log ≡ notInspected 1 (readPlan plan .number) 0
-  pub host-log-refused : (plan log : List ℕ) → readPlan plan .number ≡ 0 → readLog log .number ≢ 0 → planFinding plan log ≡ notInspected 2 (readLog log .number) 0
-  pub host-another : (plan log : List ℕ) → BothRead plan log → ¬ SamePlans plan log → planFinding plan log ≡ notInspected 0 0 1
-  pub host-found : (plan log : List ℕ) → BothRead plan log → SamePlans plan log → planFinding plan log ≡ withVisits (findingIn log) (visitsIn (entriesIn log))
+  pub host-plan-refused : (plan log : List ℕ)
+      → readPlan plan .number ≢ 0 → planFinding plan log ≡ notInspected 1 (readPlan plan .number) 0
+  pub host-log-refused : (plan log : List ℕ)
+      → readPlan plan .number ≡ 0 → readLog log .number ≢ 0
+      → planFinding plan log ≡ notInspected 2 (readLog log .number) 0
+  pub host-another : (plan log : List ℕ)
+      → BothRead plan log → ¬ SamePlans plan log → planFinding plan log ≡ notInspected 0 0 1
+  pub host-found : (plan log : List ℕ)
+      → BothRead plan log → SamePlans plan log
+      → planFinding plan log ≡ withVisits (findingIn log) (visitsIn (entriesIn log))
   -- none is refused, the plan is no other one and no rule is named exactly where the log is accepted
   pub host-accepted : (plan log : List ℕ) → AllBytes log → length log < 2 ^ 64
       → let f = planFinding plan log in ((f .refused ≡ 0) × (f .another ≡ 0) × (f .rule ≡ 0)) ↔ Kept plan log

@@ -8,10 +8,10 @@ use native.Mathlib.Omega.{arith}
 use borrow.Author.Tests.{eq-eqb, ne-eqb}
 use Rattle.sheets.specs.Reading.{readPlan}
 use Rattle.sheets.specs.declared.ReadPlan.{ReadPlan}
-use Rattle.entries.specs.Entry.{nextEntry}
-use Rattle.entries.specs.declared.Entry.{Entry}
-use Rattle.entries.specs.declared.Entry.the-variants.{Visit, Mark}
-use Rattle.entries.specs.declared.NextEntry.{NextEntry}
+use Rattle.log_records.specs.Entry.{nextEntry}
+use Rattle.log_records.specs.declared.Entry.{Entry}
+use Rattle.log_records.specs.declared.Entry.the-variants.{Visit, Mark}
+use Rattle.log_records.specs.declared.NextEntry.{NextEntry}
 use Rattle.logs.specs.Reading.{readLog, handedFrom}
 use Rattle.logs.specs.declared.ReadLog.{ReadLog}
 use Rattle.differences.specs.Differences.{isSamePlan}

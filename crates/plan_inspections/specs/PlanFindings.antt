@@ -4,8 +4,8 @@ use mathlib.Core.Bool.{cond}
 use mathlib.Core.List.{List, [], _∷_}
 use lib.Dec.{eqb}
 use Rattle.sheets.specs.Reading.{readPlan}
-use Rattle.entries.specs.declared.Entry.{Entry}
-use Rattle.entries.specs.declared.Entry.the-variants.{Visit, Mark}
+use Rattle.log_records.specs.declared.Entry.{Entry}
+use Rattle.log_records.specs.declared.Entry.the-variants.{Visit, Mark}
 use Rattle.logs.specs.Reading.{readLog, entriesIn}
 use Rattle.differences.specs.Differences.{isSamePlan}
 use Rattle.inspection.specs.Findings.{foundIn}
@@ -26,18 +26,31 @@ visitsIn (e ∷ es) = visitCount e + visitsIn es
 
 -- nothing was inspected: a side is refused with a number, or the plan is another one
 abbrev pub notInspected : ℕ → ℕ → ℕ → PlanFinding
-notInspected side number another = record { records = 0; visits = 0; «record» = 0; rule = 0; refused = side; number = number; another = another }
+notInspected side number another =
+    record { records = 0; visits = 0; «record» = 0; rule = 0; refused = side; number = number; another = another }
 
 -- a finding, and how many of the records are visits
 abbrev pub withVisits : Finding → ℕ → PlanFinding
-withVisits f visits = record { records = f .records; visits = visits; «record» = f .«record»; rule = f .rule; refused = 0; number = 0; another = 0 }
+withVisits f visits =
+    record {
+      records = f .records;
+      visits = visits;
+      «record» = f .«record»;
+      rule = f .rule;
+      refused = 0;
+      number = 0;
+      another = 0;
+    }
 
 -- both are read: the finding of the log, if its plan is the plan sheet's
 unfoldable pub comparedFinding : List ℕ → List ℕ → PlanFinding
 comparedFinding plan log =
-    cond (isSamePlan (readPlan plan .set) (readPlan plan .alloc) (readLog log .set) (readLog log .alloc)) (withVisits (foundIn log) (visitsIn (entriesIn log))) (notInspected 0 0 1)
+    cond (isSamePlan (readPlan plan .set) (readPlan plan .alloc) (readLog log .set) (readLog log .alloc))
+    (withVisits (foundIn log) (visitsIn (entriesIn log))) (notInspected 0 0 1)
 
 -- the plan sheet's refusal (side 1), the log's (side 2), another plan, or the finding
 unfoldable pub planFinding : List ℕ → List ℕ → PlanFinding
 planFinding plan log =
-    cond (eqb (readPlan plan .number) 0) (cond (eqb (readLog log .number) 0) (comparedFinding plan log) (notInspected 2 (readLog log .number) 0)) (notInspected 1 (readPlan plan .number) 0)
+    cond (eqb (readPlan plan .number) 0)
+    (cond (eqb (readLog log .number) 0) (comparedFinding plan log) (notInspected 2 (readLog log .number) 0))
+    (notInspected 1 (readPlan plan .number) 0)

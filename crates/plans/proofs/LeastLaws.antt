@@ -6,20 +6,20 @@ use mathlib.Core.Logic.{_≢_}
 use native.Mathlib.Omega.{arith}
 use lib.ListN.{length}
 use Rattle.units.specs.Places.{at, allBelow}
-use Rattle.units.specs.PlaceLaws.{zero-at, sum-mono, all-same, fill-length, fill-inside, fill-outside}
+use Rattle.units.proofs.PlaceLaws.{zero-at, sum-mono, all-same, fill-length, fill-inside, fill-outside}
 use Rattle.units.specs.Judging.{orElse}
-use Rattle.units.specs.JudgingLaws.{true-and, same-test, held, failed}
+use Rattle.units.proofs.JudgingLaws.{true-and, same-test, held, failed}
 use Rattle.units.specs.Vectors.{wholeRotations, SameTerms, deadlineKeptAt, deadlinesKept, rulesKept}
-use Rattle.units.specs.VectorLaws.{decides-token, decides-rules, within-ttrt, terms-back, rules-same, test-same}
+use Rattle.units.proofs.VectorLaws.{decides-token, decides-rules, within-ttrt, terms-back, rules-same, test-same}
 use Rattle.sets.specs.Judged.{judged, zeros}
-use Rattle.sets.specs.SetLaws.{decides-count, decides-numbers, decides-walk, allowed, judged-rest, judged-keeps}
+use Rattle.sets.proofs.SetLaws.{decides-count, decides-numbers, decides-walk, allowed, judged-rest, judged-keeps}
 use Rattle.sets.specs.declared.Set.{Set}
 use Rattle.fddi.specs.Rules as fddi-rules
 use Rattle.fddi.proofs.Promised as fddi-proofs
 use Rattle.plans.specs.Rules.{lost, alpha, isFddi, inUse, loadOf, termsOf, MeetsToken, MeetsRules, IsSmallest, AllocInRange, tokenFits, rulesFit, timelyFitsAt}
 use Rattle.plans.specs.Planned.{smallestAt, smallestAlloc, smallestFits, judgedPlan, blankAlloc, planNumber, answered, planned}
 use Rattle.plans.specs.Answer.{IsPlan}
-use Rattle.plans.specs.PlanLaws.{smallest-is, smallest-least, time-timely, time-fddi, decides-alloc, given-0, answered-refused, answered-plan}
+use Rattle.plans.proofs.PlanLaws.{smallest-is, smallest-least, time-timely, time-fddi, decides-alloc, given-0, answered-refused, answered-plan}
 
 -- ---- timely-token: the smallest S at each station by itself
 

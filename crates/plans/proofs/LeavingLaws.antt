@@ -4,17 +4,17 @@ use mathlib.Core.Path.{_≡_, refl}
 use mathlib.Core.Bool.{true}
 use native.Mathlib.Omega.{arith}
 use Rattle.units.specs.Places.{at}
-use Rattle.units.specs.SmallLaws.{one-more}
+use Rattle.units.proofs.SmallLaws.{one-more}
 use Rattle.units.specs.Vectors.{wholeRotations}
 use Rattle.sets.specs.Rules.{NumbersAllowed}
-use Rattle.sets.specs.SetLaws.{allowed}
+use Rattle.sets.proofs.SetLaws.{allowed}
 use Rattle.sets.specs.declared.Set.{Set}
 use Rattle.fddi.specs.Rules as fddi-rules
 use Rattle.fddi.specs.Rules.{timeWith}
 use Rattle.plans.specs.Rules.{loadOf, timeAt, MeetsRules, Retired, timelyOf}
 use Rattle.plans.specs.Planned.{judgedPlan, smallestFits}
 use Rattle.plans.specs.Promised.{PlannedAnew}
-use Rattle.plans.specs.PlanLaws.{time-timely, time-fddi, given-none}
+use Rattle.plans.proofs.PlanLaws.{time-timely, time-fddi, given-none}
 use Rattle.plans.proofs.LeastLaws.{smallest-needed, plan-found, is-plan}
 use Rattle.plans.specs.declared.Alloc.{Alloc}
 

@@ -10,22 +10,22 @@ use borrow.Author.Tests.{ne-eqb}
 use Rattle.units.specs.Numbers.{fddi}
 use Rattle.units.specs.Small.{roundedUp}
 use Rattle.units.specs.Grid.{stepped}
-use Rattle.units.specs.GridLaws.{every-multiple, step-enough, step-least}
+use Rattle.units.proofs.GridLaws.{every-multiple, step-enough, step-least}
 use Rattle.units.specs.Places.{at}
 use Rattle.units.specs.Judging.{orElse}
-use Rattle.units.specs.JudgingLaws.{true-or-false, decides-not, held, not-given, given, given-later}
+use Rattle.units.proofs.JudgingLaws.{true-or-false, decides-not, held, not-given, given, given-later}
 use Rattle.sets.specs.Rules.{CountAllowed, NumbersAllowed, WalkTimeAllowed, countAllowed, numbersAllowed, walkTimeAllowed}
 use Rattle.sets.specs.Judged.{judged, judgedThen}
-use Rattle.sets.specs.SetLaws.{decides-count, decides-numbers, decides-walk, allowed, judged-two, judged-four, judged-five, judged-later}
+use Rattle.sets.proofs.SetLaws.{decides-count, decides-numbers, decides-walk, allowed, judged-two, judged-four, judged-five, judged-later}
 use Rattle.sets.specs.declared.Set.{Set}
 use Rattle.units.specs.Vectors.{wholeRotations}
-use Rattle.units.specs.VectorLaws.{decides-rules, least-one}
+use Rattle.units.proofs.VectorLaws.{decides-rules, least-one}
 use Rattle.plans.specs.Rules.{alpha, leastTime, timeAt, termsOf, MeetsDeadline, MeetsDeadlines, MeetsToken, MeetsRules, IsSmallest, isFddi, Retired, inUse}
 use Rattle.plans.specs.Planned.{smallestFor, smallestAlloc, smallestFits, blankAlloc, planNumber, answered, planned}
 use Rattle.plans.specs.Answer.{IsPlan, Fitting}
 use Rattle.plans.specs.Promised.{fddiTime, SmallestOfAll, KeptBy, Promised}
-use Rattle.plans.specs.PlanLaws as laws
-use Rattle.plans.specs.PlanLaws.{smallest-multiple, smallest-meets, smallest-least, smallest-is, smallest-one, decides-fddi, decides-in-use, use-timely, given-sixteen, past-sixteen, answered-number, answered-refused, given-two, given-four, given-five, given-seven, given-none}
+use Rattle.plans.proofs.PlanLaws as laws
+use Rattle.plans.proofs.PlanLaws.{smallest-multiple, smallest-meets, smallest-least, smallest-is, smallest-one, decides-fddi, decides-in-use, use-timely, given-sixteen, past-sixteen, answered-number, answered-refused, given-two, given-four, given-five, given-seven, given-none}
 use Rattle.plans.proofs.LeastLaws.{from-load, to-load, smallest-stands, smallest-needed, plan-refused-set, plan-retired, plan-none, plan-found, plan-judged, is-plan}
 use Rattle.plans.proofs.LeavingLaws.{leaves-fddi}
 use Rattle.plans.proofs.SameLaws.{planned-same, judged-plan-same}

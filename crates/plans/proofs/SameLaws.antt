@@ -7,20 +7,20 @@ use native.Mathlib.Omega.{arith}
 use lib.Dec.{eqb}
 use Rattle.units.specs.Numbers.{fddi}
 use Rattle.units.specs.Places.{at, allBelow, fill}
-use Rattle.units.specs.PlaceLaws.{all-same, fill-same, sum-same}
+use Rattle.units.proofs.PlaceLaws.{all-same, fill-same, sum-same}
 use Rattle.units.specs.Judging.{orElse}
-use Rattle.units.specs.JudgingLaws.{true-or-false}
+use Rattle.units.proofs.JudgingLaws.{true-or-false}
 use Rattle.units.specs.Vectors.{SameTerms}
-use Rattle.units.specs.VectorLaws.{test-same}
+use Rattle.units.proofs.VectorLaws.{test-same}
 use Rattle.sets.specs.Rules.{SameSet}
 use Rattle.sets.specs.Judged.{zeros}
-use Rattle.sets.specs.SetLaws.{judged-same, tau-same, stations-same}
+use Rattle.sets.proofs.SetLaws.{judged-same, tau-same, stations-same}
 use Rattle.sets.specs.declared.Head.{Head}
 use Rattle.sets.specs.declared.Set.{Set}
 use Rattle.fddi.specs.Rules as fddi-rules
 use Rattle.plans.specs.Rules.{isFddi, inUse, loadOf, lost, timeAt, termsOf, inRangeS, rulesFit, allocInRange}
 use Rattle.plans.specs.Planned.{smallestAt, smallestAlloc, smallestFits, judgedPlan, planned}
-use Rattle.plans.specs.PlanLaws.{time-timely, time-fddi}
+use Rattle.plans.proofs.PlanLaws.{time-timely, time-fddi}
 use Rattle.plans.specs.declared.Alloc.{Alloc}
 
 module _ (a b : Set) (same : SameSet a b) where

@@ -73,7 +73,8 @@ timeAt t s i = cond (isFddi t) (fddi-rules.timeAt (loadOf t) s i) (leastTime (t 
 
 -- what a vector is held to, in every mode
 abbrev pub termsOf : Set → Terms
-termsOf t = record { n = t .n; ttrt = t .head .ttrt; lost = lost t; grid = t .head .grid; longest = at (t .c); time = timeAt t }
+termsOf t =
+    record { n = t .n; ttrt = t .head .ttrt; lost = lost t; grid = t .head .grid; longest = at (t .c); time = timeAt t }
 
 -- the rules, of any vector of numbers whatever
 abbrev pub MeetsRules : Set → (ℕ → ℕ) → Type 0

@@ -8,7 +8,7 @@ use Rattle.units.specs.Places.{at}
 use Rattle.sets.specs.declared.Set.{Set}
 use Rattle.plans.specs.declared.Alloc.{Alloc}
 use Rattle.rings.specs.Timers.{Earlier}
-use Rattle.rings.specs.TimerLaws.{lead-within, lead-all}
+use Rattle.rings.proofs.TimerLaws.{lead-within, lead-all}
 use Rattle.rings.specs.declared.Ring.{Ring}
 use Rattle.rings.specs.declared.Message.{Message}
 use Rattle.rings.specs.declared.VisitRecord.{VisitRecord}

@@ -11,7 +11,7 @@ use Rattle.sets.specs.declared.Set.{Set}
 use Rattle.plans.specs.declared.Alloc.{Alloc}
 use Rattle.rings.specs.Steps.{Ask, visitNumber, visited}
 use Rattle.rings.specs.HandingIn.{handedIn}
-use Rattle.rings.specs.RingLaws.{sound-sentences}
+use Rattle.rings.proofs.RingLaws.{sound-sentences}
 use Rattle.rings.specs.declared.Message.{Message}
 use Rattle.rings.specs.declared.VisitRecord.{VisitRecord}
 use Rattle.ring_rules.proofs.NumberLaws.{visited-number}

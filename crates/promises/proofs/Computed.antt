@@ -6,7 +6,7 @@ use Rattle.sets.specs.Judged.{judgedThen}
 use Rattle.fddi.specs.Rules.{timeWith}
 use Rattle.plans.specs.Rules.{timeAt, spareTime}
 use Rattle.plans.specs.Planned.{smallestWith, answered, judgedPlan}
-use Rattle.timers.specs.Timers.{later, startedAt, visited, offered}
+use Rattle.fddi_timer_rules.specs.Timers.{later, startedAt, visited, offered}
 use Rattle.rings.specs.Opening.{openedRing, openedWith, openingNumber}
 use Rattle.rings.specs.Sound.{isSound}
 use Rattle.rings.specs.State.{following}

@@ -13,8 +13,8 @@ use borrow.Author.Tests.{lt-ltb, le-ltb, eq-eqb, ne-eqb}
 use lib.ListN.{length}
 use Rattle.units.specs.Numbers.{mostClock, mostTtrt, mostStations}
 use Rattle.units.specs.Places.{at, sumBelow}
-use Rattle.units.specs.PlaceLaws.{sum-step, sum-none}
-use Rattle.units.specs.SmallLaws.{below-or-not, one-more}
+use Rattle.units.proofs.PlaceLaws.{sum-step, sum-none}
+use Rattle.units.proofs.SmallLaws.{below-or-not, one-more}
 use Rattle.sets.specs.Rules.{tau}
 use Rattle.sets.specs.declared.Set.{Set}
 use Rattle.plans.specs.Rules.{leastTime}

@@ -4,10 +4,10 @@ use mathlib.Core.Path.{_≡_}
 use mathlib.Core.Logic.{⊎-elim}
 use native.Mathlib.Omega.{arith}
 use native.Mathlib.Nat.{mul-le-mul-left}
-use Rattle.units.specs.SmallLaws.{below-or-not, one-more}
+use Rattle.units.proofs.SmallLaws.{below-or-not, one-more}
 use Rattle.units.specs.Vectors.{wholeRotations}
 use Rattle.plans.specs.Rules.{alpha, timeWith, leastTime}
-use Rattle.plans.specs.PlanLaws.{rotations-within}
+use Rattle.plans.proofs.PlanLaws.{rotations-within}
 
 -- k visits to come are enough for the remainder, and the last of them ends its synchronous part by the deadline: `clock + sent` less `trt` is when the last synchronous part ended
 pub record Enough (ttrt s clock trt sent rest deadline k : ℕ) : Type 0 where

@@ -1,4 +1,4 @@
--- What every visit of an FDDI ring keeps of its timers, proved of the visit's facts alone: `timers` has it of plain numbers, and here it is put to the stations of a ring and to the records.
+-- What every visit of an FDDI ring keeps of its timers, proved of the visit's facts alone: `fddi_timer_rules` has it of plain numbers, and here it is put to the stations of a ring and to the records.
 use Prim.Native.Nat.{ℕ, _+_, _*_, _≤_, _<_}
 use mathlib.Core.Path.{_≡_, refl, sym, ap, _∙_}
 use mathlib.Core.List.{List, _∷_}
@@ -6,14 +6,14 @@ use mathlib.Core.Logic.{_≢_, ⊎-elim}
 use mathlib.Core.Option.{none, some}
 use native.Mathlib.Omega.{arith}
 use Rattle.units.specs.Places.{at}
-use Rattle.units.specs.PlaceLaws.{sum-part}
+use Rattle.units.proofs.PlaceLaws.{sum-part}
 use Rattle.sets.specs.declared.Set.{Set}
 use Rattle.plans.specs.declared.Alloc.{Alloc}
-use Rattle.timers.specs.Kept.{TokenRule, Kept, Since as NumbersSince}
-use Rattle.timers.proofs.Promised.{promised as timers-promised}
+use Rattle.fddi_timer_rules.specs.Kept.{TokenRule, Kept, Since as NumbersSince}
+use Rattle.fddi_timer_rules.proofs.Promised.{promised as timers-promised}
 use Rattle.rings.specs.State.{timersOf}
 use Rattle.rings.specs.Timers.{Fddi, lead, timerOf, hasRun, silentTrt}
-use Rattle.rings.specs.TimerLaws.{lead-none}
+use Rattle.rings.proofs.TimerLaws.{lead-none}
 use Rattle.rings.specs.declared.VisitRecord.{VisitRecord}
 use Rattle.promises.specs.History.{overrunOf, syncStartOf, latestOf}
 use Rattle.promises.specs.Facts.{Timing, VisitCourse, VisitLaps, timerPlan, rises}
@@ -26,7 +26,7 @@ pub record Lapped (t : Set) (a : Alloc) (r : Timing) (h : List VisitRecord) : Ty
   pub mode : Fddi t
   pub course : Course t a r h
   pub below : (i : ℕ) → i < t .n → at (r .trt) i < t .head .ttrt
-  -- the stations' numbers are as `timers` keeps them
+  -- the stations' numbers are as `fddi_timer_rules` keeps them
   pub kept : Kept (timerPlan t a) (hasRun t (timersOf r)) (r .token)
   -- before a station's first visit its number is the time since the silent rotation passed it
   pub silent : (i : ℕ) → i < t .n → latestOf i h ≡ none → hasRun t (timersOf r) i ≡ silentTrt t i + r .clock
@@ -37,7 +37,7 @@ pub record Lapped (t : Set) (a : Alloc) (r : Timing) (h : List VisitRecord) : Ty
 first : (t : Set) → Fddi t → (async : ℕ) → lead t async ≡ 0
 first t m async = lead-none t (λ e. omega arith) async
 
--- the token rule, as `timers` has it
+-- the token rule, as `fddi_timer_rules` has it
 token-rule : (t : Set) (a : Alloc) → Plan t a → TokenRule (timerPlan t a)
 token-rule t a P = omega (arith, P .token)
 

@@ -7,7 +7,7 @@ use mathlib.Core.Logic.{inl, inr, ⊎-elim}
 use native.Mathlib.Omega.{arith}
 use borrow.Author.Tests.{ne-eqb}
 use lib.Dec.{eqb}
-use Rattle.units.specs.JudgingLaws.{true-or-false}
+use Rattle.units.proofs.JudgingLaws.{true-or-false}
 use Rattle.rings.specs.declared.Message.{Message}
 use Rattle.rings.specs.declared.VisitRecord.{VisitRecord}
 use Rattle.promises.specs.Run.{Event, aVisit, aMessage, aMarking, anUnmarking, noted, recordsIn}

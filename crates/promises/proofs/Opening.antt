@@ -5,17 +5,17 @@ use mathlib.Core.List.{[]}
 use mathlib.Core.Logic.{inl}
 use native.Mathlib.Omega.{arith}
 use Rattle.units.specs.Places.{at, sumBelow}
-use Rattle.units.specs.PlaceLaws.{zero-at, sum-none, sum-split}
+use Rattle.units.proofs.PlaceLaws.{zero-at, sum-none, sum-split}
 use Rattle.sets.specs.Judged.{zeros}
 use Rattle.sets.specs.declared.Set.{Set}
 use Rattle.plans.specs.Rules.{leastTime, timeAt}
 use Rattle.plans.specs.Planned.{judgedPlan}
-use Rattle.plans.specs.PlanLaws.{given-none}
+use Rattle.plans.proofs.PlanLaws.{given-none}
 use Rattle.plans.specs.declared.Alloc.{Alloc}
 use Rattle.rings.specs.State.{Unmarked, timersOf, Shaped}
-use Rattle.timers.proofs.Promised.{promised as timers-promised}
+use Rattle.fddi_timer_rules.proofs.Promised.{promised as timers-promised}
 use Rattle.rings.specs.Timers.{Fddi, hasRun}
-use Rattle.rings.specs.TimerLaws.{fddi-false}
+use Rattle.rings.proofs.TimerLaws.{fddi-false}
 use Rattle.rings.proofs.StationLaws.{opened-ran, opened-below}
 use Rattle.ring_rules.proofs.OpenedLaws.{fresh}
 use Rattle.rings.specs.Opening.{openedRing}

@@ -7,22 +7,22 @@ use mathlib.Core.Logic.{_≢_, _↔_, ⊎-elim}
 use native.Mathlib.Omega.{arith}
 use Rattle.units.specs.Numbers.{mostClock}
 use Rattle.units.specs.Places.{at}
-use Rattle.units.specs.SmallLaws.{below-or-not}
+use Rattle.units.proofs.SmallLaws.{below-or-not}
 use Rattle.sets.specs.declared.Set.{Set}
 use Rattle.plans.specs.Rules.{Retired}
 use Rattle.plans.specs.Planned.{judgedPlan, planned}
 use Rattle.plans.specs.declared.Alloc.{Alloc}
 use Rattle.plans.proofs.Promised.{promised as plans-promised}
-use Rattle.scan.specs.Scanned.{scanned}
+use Rattle.field_reader.specs.Scanned.{scanned}
 use Rattle.sheets.specs.Reading.{setIn, allocIn, judgedSheet, readNumber, readSheet, readPlan, readRequest}
-use Rattle.sheets.specs.ReadLaws.{then-none, read-accepted, read-number}
+use Rattle.sheets.proofs.ReadLaws.{then-none, read-accepted, read-number}
 use Rattle.rings.specs.Opening.{openedRing, openingNumber, opening}
 use Rattle.rings.specs.Timers.{Fddi}
-use Rattle.rings.specs.TimerLaws.{fddi-or-not}
+use Rattle.rings.proofs.TimerLaws.{fddi-or-not}
 use Rattle.rings.specs.Steps.{Ask, visitNumber, visited}
 use Rattle.rings.specs.State.{Unmarked}
 use Rattle.rings.specs.HandingIn.{LengthAllowed, handedIn}
-use Rattle.rings.specs.RingLaws.{opened-number, opened-accepted, sound-sentences}
+use Rattle.rings.proofs.RingLaws.{opened-number, opened-accepted, sound-sentences}
 use Rattle.rings.specs.declared.Opened.{Opened}
 use Rattle.ring_rules.specs.Promised.{Fresh}
 use Rattle.ring_rules.proofs.Promised.{promised as rules}

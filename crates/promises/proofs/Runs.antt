@@ -17,7 +17,7 @@ use Rattle.rings.specs.Steps.{Ask, syncSent, asyncSent, moved, recordOf, blankR
 use Rattle.rings.specs.HandingIn.{holding, handInNumber, handedIn}
 use Rattle.rings.specs.Marking.{marked, unmarked}
 use Rattle.ring_rules.proofs.MarkedLaws.{mark-sound, unmark-sound, mark-unchanged, unmark-unchanged}
-use Rattle.rings.specs.RingLaws.{sound-sentences, sound-tests, visit-accepted, visit-refused, taken-number, taken-accepted, taken-refused}
+use Rattle.rings.proofs.RingLaws.{sound-sentences, sound-tests, visit-accepted, visit-refused, taken-number, taken-accepted, taken-refused}
 use Rattle.rings.specs.declared.Ring.{Ring}
 use Rattle.rings.specs.declared.Message.{Message}
 use Rattle.rings.specs.declared.VisitRecord.{VisitRecord}

@@ -9,7 +9,7 @@ use Rattle.sets.specs.declared.Set.{Set}
 use Rattle.plans.specs.declared.Alloc.{Alloc}
 use Rattle.rings.specs.Sound.{isSound}
 use Rattle.rings.specs.Timers.{TimersSound}
-use Rattle.rings.specs.RingLaws.{sound-tests}
+use Rattle.rings.proofs.RingLaws.{sound-tests}
 use Rattle.rings.specs.declared.Ring.{Ring}
 use Rattle.rings.specs.declared.VisitRecord.{VisitRecord}
 use Rattle.promises.specs.Facts.{timing}

@@ -10,21 +10,21 @@ use native.Mathlib.Omega.{arith}
 use Rattle.units.specs.Numbers.{mostClock}
 use Rattle.units.specs.Small.{roundedUp}
 use Rattle.units.specs.Places.{at}
-use Rattle.units.specs.SmallLaws.{below-or-not, shares-enough}
+use Rattle.units.proofs.SmallLaws.{below-or-not, shares-enough}
 use Rattle.units.specs.declared.Station.{Station}
 use Rattle.sets.specs.declared.Set.{Set}
 use Rattle.plans.specs.declared.Alloc.{Alloc}
-use Rattle.timers.proofs.Promised.{promised as timers-promised}
+use Rattle.fddi_timer_rules.proofs.Promised.{promised as timers-promised}
 use Rattle.rings.specs.State.{count, ttrt, overrun, following, Marked, Unmarked, Shaped, timersOf}
-use Rattle.rings.specs.TimerLaws.{limit-within, marked-or-not}
+use Rattle.rings.proofs.TimerLaws.{limit-within, marked-or-not}
 use Rattle.rings.specs.Timers.{Fddi, hasRun}
 use Rattle.rings.specs.Sound.{Sound, isSound}
 use Rattle.rings.specs.Frames.{framesSent}
 use Rattle.rings.specs.Steps.{Ask, syncStart, syncSent, asyncSent, moved, recordOf, visitNumber, visited}
 use Rattle.rings.specs.HandingIn.{holding, handInNumber, handedIn}
 use Rattle.rings.specs.Marking.{switchedThrough, switchedIn, marked, unmarked}
-use Rattle.rings.specs.MarkLaws.{mark-passed, mark-inside}
-use Rattle.rings.specs.RingLaws.{sound-tests, sync-within, visit-passed, taken-passed, visit-accepted, taken-number, taken-accepted}
+use Rattle.rings.proofs.MarkLaws.{mark-passed, mark-inside}
+use Rattle.rings.proofs.RingLaws.{sound-tests, sync-within, visit-passed, taken-passed, visit-accepted, taken-number, taken-accepted}
 use Rattle.rings.specs.declared.Ring.{Ring}
 use Rattle.rings.specs.declared.Message.{Message}
 use Rattle.rings.specs.declared.VisitRecord.{VisitRecord}

@@ -4,8 +4,8 @@ use mathlib.Core.Path.{_≡_, refl}
 use mathlib.Core.Logic.{_≢_, ⊎-elim}
 use native.Mathlib.Omega.{arith}
 use Rattle.units.specs.Places.{sumBelow}
-use Rattle.units.specs.PlaceLaws.{sum-same}
-use Rattle.units.specs.SmallLaws.{below-or-not}
+use Rattle.units.proofs.PlaceLaws.{sum-same}
+use Rattle.units.proofs.SmallLaws.{below-or-not}
 
 -- a longer prefix has at least the sum of a shorter one, and of the place after it
 pub sum-grows : (k i : ℕ) (f : ℕ → ℕ) → i ≤ k → sumBelow i f ≤ sumBelow k f

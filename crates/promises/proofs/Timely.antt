@@ -8,15 +8,15 @@ use native.Mathlib.Omega.{arith}
 use borrow.Author.Tests.{le-ltb}
 use lib.IntN.{pos}
 use Rattle.units.specs.Places.{at, sumBelow}
-use Rattle.units.specs.SmallLaws.{below-or-not}
+use Rattle.units.proofs.SmallLaws.{below-or-not}
 use Rattle.units.specs.declared.Station.{Station}
 use Rattle.sets.specs.Rules.{tau}
 use Rattle.sets.specs.declared.Set.{Set}
 use Rattle.plans.specs.Rules.{leftOver, spareTime}
-use Rattle.plans.specs.PlanLaws.{spare-timely}
+use Rattle.plans.proofs.PlanLaws.{spare-timely}
 use Rattle.plans.specs.declared.Alloc.{Alloc}
 use Rattle.rings.specs.Timers.{Fddi, silentTrt}
-use Rattle.rings.specs.TimerLaws.{fddi-false}
+use Rattle.rings.proofs.TimerLaws.{fddi-false}
 use Rattle.rings.specs.Steps.{Ask, visitNumber}
 use Rattle.rings.specs.HandingIn.{holding, handInNumber}
 use Rattle.rings.specs.Marking.{marked, unmarked}

@@ -7,13 +7,13 @@ use mathlib.Core.Logic.{inl, inr, _≢_, ⊎-elim}
 use mathlib.Core.Option.{none, some}
 use native.Mathlib.Omega.{arith}
 use Rattle.units.specs.Places.{at, sumBelow}
-use Rattle.units.specs.PlaceLaws.{sum-step, sum-none, sum-part, sum-mono}
-use Rattle.units.specs.SmallLaws.{below-or-not}
+use Rattle.units.proofs.PlaceLaws.{sum-step, sum-none, sum-part, sum-mono}
+use Rattle.units.proofs.SmallLaws.{below-or-not}
 use Rattle.sets.specs.Rules.{tau}
 use Rattle.sets.specs.declared.Set.{Set}
 use Rattle.plans.specs.declared.Alloc.{Alloc}
 use Rattle.rings.specs.Timers.{Fddi, lead, silentTrt}
-use Rattle.rings.specs.TimerLaws.{lead-within}
+use Rattle.rings.proofs.TimerLaws.{lead-within}
 use Rattle.rings.specs.declared.VisitRecord.{VisitRecord}
 use Rattle.promises.specs.History.{asyncOf, syncStartOf, latestOf, Each}
 use Rattle.promises.specs.Facts.{Timing, VisitCourse, VisitTimers, rises}

@@ -6,10 +6,10 @@ use mathlib.Core.Logic.{_⊎_, inl, inr, _≢_, ⊎-elim}
 use mathlib.Core.Option.{some}
 use native.Mathlib.Omega.{arith}
 use borrow.Author.Tests.{eq-eqb, ne-eqb}
-use Rattle.units.specs.SmallLaws.{below-or-not}
+use Rattle.units.proofs.SmallLaws.{below-or-not}
 use Rattle.sets.specs.declared.Set.{Set}
 use Rattle.rings.specs.Timers.{lead}
-use Rattle.rings.specs.TimerLaws.{lead-all, lead-none, earlier-or-not}
+use Rattle.rings.proofs.TimerLaws.{lead-all, lead-none, earlier-or-not}
 use Rattle.rings.specs.declared.VisitRecord.{VisitRecord}
 use Rattle.promises.specs.History.{asyncOf, latest, visitOf, latestOf, due, Each}
 use Rattle.promises.specs.Valid.{InTurn}

@@ -9,7 +9,7 @@ use native.Mathlib.Nat.{zero-add, zero-mul, one-mul, suc-mul, mul-comm}
 use native.Mathlib.Omega.{arith}
 use lib.ListN.{length, length-append}
 use Rattle.units.specs.Places.{at}
-use Rattle.units.specs.SmallLaws.{below-or-not, one-more}
+use Rattle.units.proofs.SmallLaws.{below-or-not, one-more}
 use Rattle.sets.specs.declared.Set.{Set}
 use Rattle.plans.specs.Rules.{spareTime}
 use Rattle.plans.specs.declared.Alloc.{Alloc}

@@ -8,7 +8,7 @@ use native.Mathlib.Numerals.{add-one}
 use native.Mathlib.Omega.{arith}
 use Rattle.sets.specs.declared.Set.{Set}
 use Rattle.rings.specs.Timers.{Earlier, lead}
-use Rattle.rings.specs.TimerLaws.{lead-all, lead-none, lead-within, earlier-or-not}
+use Rattle.rings.proofs.TimerLaws.{lead-all, lead-none, lead-within, earlier-or-not}
 use Rattle.rings.specs.declared.VisitRecord.{VisitRecord}
 use Rattle.promises.specs.History.{asyncOf}
 use Rattle.promises.specs.Valid.{Timely}

@@ -35,7 +35,9 @@ ticksAsked ask = ask .frames * ask .length
 
 -- if this call is an accepted visit of station i, it asks for at least so much
 abbrev pub Asks : ℕ → ℕ → Run → Call → Type 0
-Asks i least s (visit ask) = visited (s .ring) ask .answer .number ≡ 0 → visited (s .ring) ask .answer .«record» .station .0 ≡ i → least ≤ ticksAsked ask
+Asks i least s (visit ask) =
+    visited (s .ring) ask .answer .number ≡ 0
+    → visited (s .ring) ask .answer .«record» .station .0 ≡ i → least ≤ ticksAsked ask
 Asks i least s (message m) = Unit {0}
 Asks i least s (mark p) = Unit {0}
 Asks i least s (unmark p) = Unit {0}
@@ -74,7 +76,8 @@ pub record BulkServed (t : Set) (a : Alloc) : Type 0 where
   -- No. 3 as it was asked for, of a station that is never marked, before or among the further calls
   pub unmarked : ServedWhere (λ i s later. NeverMarked i (run s later .events)) t a
   -- such a station is not marked at any of its visits
-  pub never-marked : (calls later : List Call) (i : ℕ) → NeverMarked i (run (runOf t a calls) later .events) → NotMarkedAt i (runOf t a calls) later
+  pub never-marked : (calls later : List Call) (i : ℕ)
+      → NeverMarked i (run (runOf t a calls) later .events) → NotMarkedAt i (runOf t a calls) later
   -- N·(N + 1) visits are enough, and whatever it asks for
   pub sooner : (calls later : List Call) (i : ℕ)
       → i < t .n
@@ -86,8 +89,11 @@ pub record BulkServed (t : Set) (a : Alloc) : Type 0 where
       → i < t .n
       → runOf t a calls .ring .clock + longestWait t < run (runOf t a calls) later .ring .clock
       → NotMarkedAt i (runOf t a calls) later
-      → Somewhere (λ v before. Offered i v × (v .start .0 ≤ runOf t a calls .ring .clock + longestWait t)) (visitsAmong (runOf t a calls) later)
+      → Somewhere (λ v before. Offered i v × (v .start .0 ≤ runOf t a calls .ring .clock + longestWait t))
+      (visitsAmong (runOf t a calls) later)
   -- and if it asks for at least A*, it sends all that it is offered, and at most F − 1 beyond it: with F 1 just that
   pub sends : (calls later : List Call) (i : ℕ)
       → AlwaysAsks i (spareTime t (at (a .s))) (runOf t a calls) later
-      → Each (λ v before. v .station .0 ≡ i → (v .limit .0 ≤ v .asynchronous .0) × (v .asynchronous .0 ≤ v .limit .0 + overrunOf t)) (visitsAmong (runOf t a calls) later)
+      → Each
+      (λ v before. v .station .0 ≡ i → (v .limit .0 ≤ v .asynchronous .0) × (v .asynchronous .0 ≤ v .limit .0 + overrunOf t))
+      (visitsAmong (runOf t a calls) later)

@@ -16,7 +16,15 @@ use Rattle.promises.specs.Witness.{two, greedy, row}
 
 -- TTRT 100, w 2 and 0; station 0 has C 970, D 1000, P 1000, station 1 has no synchronous stream
 abbrev pub crowded : Set
-crowded = record { head = record { ttrt = 100; mode = timely; frame = 1; grid = 1 }; n = 2; w = two 2 0; c = two 970 0; d = two 1000 100; p = two 1000 100 }
+crowded =
+    record {
+      head = record { ttrt = 100; mode = timely; frame = 1; grid = 1 };
+      n = 2;
+      w = two 2 0;
+      c = two 970 0;
+      d = two 1000 100;
+      p = two 1000 100;
+    }
 
 -- S 97 and 0
 abbrev pub crowdedShares : Alloc

@@ -35,7 +35,8 @@ pub record EarlierHappens : Type 0 where
   pub spare : spareTime first (at (shares .s)) ≡ 83
   pub judged : judgedPlan first shares ≡ 0
   -- the message waits for 83 asynchronous ticks at each visit: its second half is sent from 183 on, and its finish is 198. The token is back after just TTRT, and the limit is then all of A* again
-  pub records : recordsOf first shares completed ≡ row 0 100 17 83 15 83 198 (pos 52) 1 ∷ row 1 99 100 0 0 0 0 (pos 0) 0 ∷ row 0 0 2 83 15 83 0 (pos 0) 0 ∷ []
+  pub records : recordsOf first shares completed
+      ≡ row 0 100 17 83 15 83 198 (pos 52) 1 ∷ row 1 99 100 0 0 0 0 (pos 0) 0 ∷ row 0 0 2 83 15 83 0 (pos 0) 0 ∷ []
   -- the last start of station 0 is that of its synchronous part, 83: a message that arrives by then is too early for the next visit, and refused
   pub behind : handedIn (ringOf first shares (greedy ∷ [])) (thirty 83) .number ≡ 12
   pub after : handedIn (ringOf first shares (greedy ∷ [])) (thirty 84) .number ≡ 0
@@ -55,5 +56,6 @@ pub record EarlierHappens : Type 0 where
   -- with frames of 16 ticks the same S meet the rules and A* is 65; N visits send all of A* + (F − 1), and the token is back after just TTRT
   pub framed-judged : judgedPlan (framed earlier) seventeen ≡ 0
   pub framed-spare : spareTime (framed earlier) (at (seventeen .s)) ≡ 65
-  pub framed-records : recordsOf (framed earlier) seventeen again ≡ row 0 100 20 65 17 80 197 (pos 53) 1 ∷ row 1 99 100 0 0 0 0 (pos 0) 0 ∷ row 0 0 3 65 17 80 0 (pos 0) 0 ∷ []
+  pub framed-records : recordsOf (framed earlier) seventeen again
+      ≡ row 0 100 20 65 17 80 197 (pos 53) 1 ∷ row 1 99 100 0 0 0 0 (pos 0) 0 ∷ row 0 0 3 65 17 80 0 (pos 0) 0 ∷ []
   pub window : asyncOf 2 (recordsOf (framed earlier) seventeen begun) ≡ 80

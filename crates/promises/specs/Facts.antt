@@ -8,7 +8,7 @@ use Rattle.units.specs.Numbers.{mostClock}
 use Rattle.units.specs.Places.{at}
 use Rattle.sets.specs.declared.Set.{Set}
 use Rattle.plans.specs.declared.Alloc.{Alloc}
-use Rattle.timers.specs.Kept.{Plan, Visit}
+use Rattle.fddi_timer_rules.specs.Kept.{Plan, Visit}
 use Rattle.rings.specs.State.{following, Unmarked, Shaped, timersOf, withMessages, noMessages}
 use Rattle.rings.specs.Timers.{Fddi, lead, hasRun}
 use Rattle.rings.specs.declared.Ring.{Ring}
@@ -54,7 +54,8 @@ pub record VisitCourse (t : Set) (a : Alloc) (r q : Timing) (v : VisitRecord) : 
 pub record VisitTimers (t : Set) (r q : Timing) (v : VisitRecord) : Type 0 where
   pub timer : v .trt .0 ≡ at (r .trt) (r .token)
   -- the asynchronous part leaves room: where u and TRT are within TTRT, they still are with what was sent
-  pub room : r .unused + at (r .trt) (r .token) ≤ t .head .ttrt → v .asynchronous .0 + r .unused + at (r .trt) (r .token) ≤ t .head .ttrt
+  pub room : r .unused + at (r .trt) (r .token) ≤ t .head .ttrt
+      → v .asynchronous .0 + r .unused + at (r .trt) (r .token) ≤ t .head .ttrt
   -- u falls as s rises
   pub unused : q .unused + v .synchronous .0 ≡ r .unused + at (r .sent) (r .token)
   -- every TRT rises with the clock, this station's from 0 at the start of its synchronous part
@@ -73,12 +74,12 @@ pub record VisitOffer (t : Set) (r : Timing) (mark : ℕ) (v : VisitRecord) : Ty
 
 -- ---- the timers of an FDDI visit: each station has one number, `hasRun`: how long its timer has run, with TTRT for each time that it is late
 
--- the plan as `timers` has it
+-- the plan as `fddi_timer_rules` has it
 abbrev pub timerPlan : Set → Alloc → Plan
 timerPlan t a = record { n = t .n; ttrt = t .head .ttrt; f = overrunOf t; s = at (a .s); w = at (t .w) }
 
 pub record VisitLaps (t : Set) (a : Alloc) (r q : Timing) (v : VisitRecord) : Type 0 where
-  -- the visit moves every station's number as `timers` says
+  -- the visit moves every station's number as `fddi_timer_rules` says
   pub moves : Visit (timerPlan t a) (hasRun t (timersOf r)) (hasRun t (timersOf q)) (r .token) (rises t v)
   -- and leaves every timer below TTRT
   pub below : (i : ℕ) → i < t .n → at (q .trt) i < t .head .ttrt
@@ -142,7 +143,8 @@ pub record Accepting (t : Set) (r q : Ring) (m : Message) : Type 0 where
   pub arrived : m .arrival .0 ≤ r .clock
   pub range : m .arrival .0 ≤ mostClock
   pub later : m .station .0 < r .visits → at (r .last) (m .station .0) < m .arrival .0
-  pub gap : at (r .had) (m .station .0) ≢ 0 → at (r .arrival) (m .station .0) + at (t .p) (m .station .0) ≤ m .arrival .0
+  pub gap : at (r .had) (m .station .0) ≢ 0
+      → at (r .arrival) (m .station .0) + at (t .p) (m .station .0) ≤ m .arrival .0
   -- what it does: nothing to the timing
   pub timing-same : timing q ≡ timing r
   pub rest-here : at (q .rest) (m .station .0) ≡ m .length .0

@@ -32,7 +32,8 @@ belated clock =
     (record { trt = two 50 50; late = two 1 0; unused = 15 })
     (withMessages
     (record { rest = two 15 0; arrival = zeros; had = two 1 0; mark = zeros })
-    (withCourse (record { sent = zeros; last = zeros; token = 0; clock = clock; visits = 6 }) (withPlan older shares blankRing)))
+    (withCourse (record { sent = zeros; last = zeros; token = 0; clock = clock; visits = 6 })
+    (withPlan older shares blankRing)))
 
 pub record FddiHappens : Type 0 where
   -- the plan meets the rules; a ring of it is neither planned nor opened any more
@@ -40,7 +41,8 @@ pub record FddiHappens : Type 0 where
   pub not-planned : planned older .number ≡ 16
   pub not-opened : opening older shares .number ≡ 16
   -- the first visit takes longer than TTRT: both stations are late, and so are offered nothing; the token is back after 115 ticks, TTRT + the sum of S
-  pub records : recordsOf older shares completed ≡ row 0 115 15 0 15 0 130 (pos 120) 1 ∷ row 1 114 15 0 0 0 0 (pos 0) 0 ∷ row 0 0 2 98 15 98 0 (pos 0) 0 ∷ []
+  pub records : recordsOf older shares completed
+      ≡ row 0 115 15 0 15 0 130 (pos 120) 1 ∷ row 1 114 15 0 0 0 0 (pos 0) 0 ∷ row 0 0 2 98 15 98 0 (pos 0) 0 ∷ []
   pub late-here : at (ringOf older shares first .late) 0 ≡ 1
   pub late-there : at (ringOf older shares first .late) 1 ≡ 1
   -- u is left alone, all of S, though station 0 has sent all of its own: timely-token's lines would call the ring unsound

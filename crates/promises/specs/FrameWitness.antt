@@ -18,7 +18,15 @@ use Rattle.promises.specs.Witness.{two, row}
 
 -- TTRT 100, F 16, w 2 and 1; station 0 has C 34, D 250, P 250, station 1 has no synchronous stream
 abbrev pub framed : ℕ → Set
-framed mode = record { head = record { ttrt = 100; mode = mode; frame = 16; grid = 1 }; n = 2; w = two 2 1; c = two 34 0; d = two 250 100; p = two 250 100 }
+framed mode =
+    record {
+      head = record { ttrt = 100; mode = mode; frame = 16; grid = 1 };
+      n = 2;
+      w = two 2 1;
+      c = two 34 0;
+      d = two 250 100;
+      p = two 250 100;
+    }
 
 -- S 17 and 0, in every mode
 abbrev pub seventeen : Alloc
@@ -46,7 +54,8 @@ pub record FramesHappen : Type 0 where
   pub spare : spareTime (framed timely) (at (seventeen .s)) ≡ 65
   pub judged : judgedPlan (framed timely) seventeen ≡ 0
   -- the fifth frame starts at 64 of 65 ticks and is finished: 80 are sent, A* + 15; then two visits are offered 65 − 80, held at 0, and the token is back after just TTRT
-  pub records : recordsOf (framed timely) seventeen again ≡ row 0 100 100 0 17 0 117 (pos 133) 1 ∷ row 1 99 100 0 0 0 0 (pos 0) 0 ∷ row 0 0 3 65 17 80 0 (pos 0) 0 ∷ []
+  pub records : recordsOf (framed timely) seventeen again
+      ≡ row 0 100 100 0 17 0 117 (pos 133) 1 ∷ row 1 99 100 0 0 0 0 (pos 0) 0 ∷ row 0 0 3 65 17 80 0 (pos 0) 0 ∷ []
   pub window : asyncOf 2 (recordsOf (framed timely) seventeen begun) ≡ 80
   -- a length above F is refused, and so is 0
   pub long : visited (ringOf (framed timely) seventeen []) (framesOf 17) .answer .number ≡ 10
@@ -58,4 +67,5 @@ pub record FramesHappen : Type 0 where
   -- A* is 100 − 3 − 17: FDDI does not subtract F − 1 in it
   pub older-spare : spareTime (framed fddi) (at (seventeen .s)) ≡ 80
   -- the seventh frame starts at 96 of 97 ticks, 112 are sent, and the token is back after 132 ticks, TTRT + the sum of S + 15
-  pub older-records : recordsOf (framed fddi) seventeen again ≡ row 0 132 32 0 17 0 149 (pos 101) 1 ∷ row 1 131 32 0 0 0 0 (pos 0) 0 ∷ row 0 0 3 97 17 112 0 (pos 0) 0 ∷ []
+  pub older-records : recordsOf (framed fddi) seventeen again
+      ≡ row 0 132 32 0 17 0 149 (pos 101) 1 ∷ row 1 131 32 0 0 0 0 (pos 0) 0 ∷ row 0 0 3 97 17 112 0 (pos 0) 0 ∷ []

@@ -15,7 +15,15 @@ use Rattle.promises.specs.Witness.{two, shares, completed, row}
 
 -- the set of `Witness` on a grid of 8: TTRT 100, w 1 each; station 0 has C 30, D 250, P 250
 abbrev pub eights : ℕ → Set
-eights mode = record { head = record { ttrt = 100; mode = mode; frame = 1; grid = 8 }; n = 2; w = two 1 1; c = two 30 0; d = two 250 100; p = two 250 100 }
+eights mode =
+    record {
+      head = record { ttrt = 100; mode = mode; frame = 1; grid = 8 };
+      n = 2;
+      w = two 1 1;
+      c = two 30 0;
+      d = two 250 100;
+      p = two 250 100;
+    }
 
 -- S 16 and 0, in every mode
 abbrev pub sixteen : Alloc
@@ -35,4 +43,5 @@ pub record GridHappens : Type 0 where
   -- the ticks that the step costs come off A*: 100 − 2 − 16
   pub spare : spareTime (eights timely) (at (sixteen .s)) ≡ 82
   -- 16 of the message are sent at the first visit and 14 at the second, which ends 136 ticks before the deadline
-  pub records : recordsOf (eights timely) sixteen completed ≡ row 0 100 100 0 14 0 114 (pos 136) 1 ∷ row 1 99 100 0 0 0 0 (pos 0) 0 ∷ row 0 0 2 82 16 82 0 (pos 0) 0 ∷ []
+  pub records : recordsOf (eights timely) sixteen completed
+      ≡ row 0 100 100 0 14 0 114 (pos 136) 1 ∷ row 1 99 100 0 0 0 0 (pos 0) 0 ∷ row 0 0 2 82 16 82 0 (pos 0) 0 ∷ []

@@ -17,7 +17,8 @@ door = record { 0 = 0 }
 
 -- what a marking took back: what remained, the arrival and the flag
 abbrev pub takenBack : ℕ → ℕ → ℕ → MarkAnswer
-takenBack rest arrival flag = record { rest = record { 0 = rest }; arrival = record { 0 = arrival }; withdrawn = flag; number = 0 }
+takenBack rest arrival flag =
+    record { rest = record { 0 = rest }; arrival = record { 0 = arrival }; withdrawn = flag; number = 0 }
 
 -- half of a message is sent, and its station is switched through
 abbrev pub bypassed : List Call
@@ -34,7 +35,8 @@ long = record { frames = 1; length = 2 }
 -- a message is refused there, and a second marking told of; three rotations on the station is switched in again, and another message is handed in and sent
 abbrev pub again : List Call
 again =
-    message (thirty 0) ∷ greedy ∷ greedy ∷ mark door ∷ message (thirty 250) ∷ mark door ∷ greedy ∷ greedy ∷ greedy ∷ greedy ∷ greedy ∷ greedy ∷ unmark door ∷ message (thirty 271) ∷ greedy ∷ greedy ∷ greedy ∷ []
+    message (thirty 0) ∷ greedy ∷ greedy ∷ mark door ∷ message (thirty 250) ∷ mark door ∷ greedy ∷ greedy ∷ greedy ∷
+    greedy ∷ greedy ∷ greedy ∷ unmark door ∷ message (thirty 271) ∷ greedy ∷ greedy ∷ greedy ∷ []
 
 pub record MarksHappen : Type 0 where
   -- while it is marked, messages get 11

@@ -44,7 +44,8 @@ pub record Promised : Type 0 where
   pub plan-judged : (t : Set) → planned t .number ≡ 0 → judgedPlan t (planned t .alloc) ≡ 0
   pub plan-valid : (t : Set) → planned t .number ≡ 0 → Valid t (planned t .alloc)
   -- a plan sheet that reading accepted meets the rules, and so what it holds is valid
-  pub sheet-judged : (bytes : List ℕ) → readPlan bytes .number ≡ 0 → judgedPlan (readPlan bytes .set) (readPlan bytes .alloc) ≡ 0
+  pub sheet-judged : (bytes : List ℕ)
+      → readPlan bytes .number ≡ 0 → judgedPlan (readPlan bytes .set) (readPlan bytes .alloc) ≡ 0
   pub sheet-valid : (bytes : List ℕ) → readPlan bytes .number ≡ 0 → Valid (readPlan bytes .set) (readPlan bytes .alloc)
   -- from the bytes of a request sheet to the kept deadlines: where reading and then planning accept, which planning does of the two timely-token editions alone, the plan is valid
   pub request-valid : (bytes : List ℕ)
@@ -65,9 +66,14 @@ pub record Promised : Type 0 where
   -- and there is a run on a grid above 1
   pub grid-happens : GridHappens
   -- what an accepted visit, handing in, marking and taking off of a mark do, as facts that add up: all that is promised of runs follows from these
-  pub visit-facts : (r : Ring) (ask : Ask) → Shaped r → visited r ask .answer .number ≡ 0 → VisitFacts r (visited r ask .ring) (visited r ask .answer .«record»)
-  pub message-facts : (r : Ring) (m : Message) → Shaped r → handedIn r m .number ≡ 0 → Accepting (r .set) r (handedIn r m .ring) m
-  pub mark-facts : (r : Ring) (p : Station) → Shaped r → marked r p .answer .number ≡ 0 → MarkFacts r (marked r p .ring) (p .0) (marked r p .answer)
-  pub unmark-facts : (r : Ring) (p : Station) → Shaped r → unmarked r p .number ≡ 0 → UnmarkFacts r (unmarked r p .ring) (p .0)
+  pub visit-facts : (r : Ring) (ask : Ask)
+      → Shaped r → visited r ask .answer .number ≡ 0
+      → VisitFacts r (visited r ask .ring) (visited r ask .answer .«record»)
+  pub message-facts : (r : Ring) (m : Message)
+      → Shaped r → handedIn r m .number ≡ 0 → Accepting (r .set) r (handedIn r m .ring) m
+  pub mark-facts : (r : Ring) (p : Station)
+      → Shaped r → marked r p .answer .number ≡ 0 → MarkFacts r (marked r p .ring) (p .0) (marked r p .answer)
+  pub unmark-facts : (r : Ring) (p : Station)
+      → Shaped r → unmarked r p .number ≡ 0 → UnmarkFacts r (unmarked r p .ring) (p .0)
   -- and there are runs of each mode in which a station is switched through, and in again
   pub marks-happen : MarksHappen

@@ -43,7 +43,8 @@ unfoldable pub after : Run → Call → Run
 after s (visit ask) =
     record {
       ring = visited (s .ring) ask .ring;
-      events = noted (visited (s .ring) ask .answer .number) (aVisit (at (s .ring .mark) (s .ring .token)) (visited (s .ring) ask .answer .«record»)) (s .events);
+      events = noted (visited (s .ring) ask .answer .number)
+          (aVisit (at (s .ring .mark) (s .ring .token)) (visited (s .ring) ask .answer .«record»)) (s .events);
     }
 after s (message m) =
     record {

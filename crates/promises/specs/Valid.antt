@@ -43,7 +43,8 @@ Apart bound v before = (u : VisitRecord) → latestOf (v .station .0) before ≡
 
 -- at its first visit: the start is at most `bound` since the silent rotation passed it
 abbrev pub FirstWithin : Set → ℕ → VisitRecord → List VisitRecord → Type 0
-FirstWithin t bound v before = latestOf (v .station .0) before ≡ none → silentTrt t (v .station .0) + v .start .0 ≤ bound
+FirstWithin t bound v before =
+    latestOf (v .station .0) before ≡ none → silentTrt t (v .station .0) + v .start .0 ≤ bound
 
 -- TRT on arrival is the time since the station's last synchronous part began; in the 2003 edition that is when the token was last there
 pub record TimerIsGap (t : Set) (v : VisitRecord) (before : List VisitRecord) : Type 0 where
@@ -131,7 +132,9 @@ Withdrawn m (anUnmarking p ∷ before) = Withdrawn m before
 pub record Followed (t : Set) (m : Message) (Waiting : Ring → Type 0) (Finished : VisitRecord → Type 0) (then now : Run) : Type 0 where
   pub since : List Event
   pub happened : now .events ≡ since ++ aMessage m ∷ then .events
-  pub either : (StillHeld m (now .ring) since × Waiting (now .ring)) ⊎ Somewhere (λ v before. CompletedBy t m v before × Finished v) (recordsIn since) ⊎ Withdrawn m since
+  pub either : (StillHeld m (now .ring) since × Waiting (now .ring))
+      ⊎ Somewhere (λ v before. CompletedBy t m v before × Finished v) (recordsIn since)
+      ⊎ Withdrawn m since
 
 -- followed to its whole length, whenever that was
 abbrev pub FollowedToTheEnd : Set → Message → Run → Run → Type 0
@@ -155,7 +158,8 @@ pub record Regular (t : Set) (s : Run) (m : Message) : Type 0 where
   -- it is not longer than C
   pub length : (1 ≤ m .length .0) × (m .length .0 ≤ at (t .c) (m .station .0))
   -- it arrives at least P after its station's last accepted one, where there is one
-  pub gap : (o : Message) → latestFor (m .station .0) (messages s) ≡ some o → o .arrival .0 + at (t .p) (m .station .0) ≤ m .arrival .0
+  pub gap : (o : Message)
+      → latestFor (m .station .0) (messages s) ≡ some o → o .arrival .0 + at (t .p) (m .station .0) ≤ m .arrival .0
   -- the clock has reached its arrival
   pub arrived : m .arrival .0 ≤ s .ring .clock
   -- it arrives later than its station's last start, where there was a visit
@@ -191,13 +195,16 @@ pub record Common (t : Set) (a : Alloc) : Type 0 where
   -- no message is held under a mark
   pub clear : (calls : List Call) (i : ℕ) → 0 < at (ringOf t a calls .rest) i → Unmarked (ringOf t a calls) i
   -- a message that is held has arrived: its arrival is not later than the clock
-  pub arrived : (calls : List Call) (i : ℕ) → 0 < at (ringOf t a calls .rest) i → at (ringOf t a calls .arrival) i ≤ ringOf t a calls .clock
+  pub arrived : (calls : List Call) (i : ℕ)
+      → 0 < at (ringOf t a calls .rest) i → at (ringOf t a calls .arrival) i ≤ ringOf t a calls .clock
   -- so a visit serves whatever its station holds: it sends the smaller of S and what remains
   pub serves : (calls : List Call) (ask : Ask)
       → visited (ringOf t a calls) ask .answer .number ≡ 0
-      → visited (ringOf t a calls) ask .answer .«record» .synchronous .0 ≡ min (at (a .s) (ringOf t a calls .token)) (at (ringOf t a calls .rest) (ringOf t a calls .token))
+      → visited (ringOf t a calls) ask .answer .«record» .synchronous .0
+      ≡ min (at (a .s) (ringOf t a calls .token)) (at (ringOf t a calls .rest) (ringOf t a calls .token))
   -- never 15 for a message whose arrival the clock has reached
-  pub no-15 : (calls : List Call) (m : Message) → m .arrival .0 ≤ ringOf t a calls .clock → handedIn (ringOf t a calls) m .number ≢ 15
+  pub no-15 : (calls : List Call) (m : Message)
+      → m .arrival .0 ≤ ringOf t a calls .clock → handedIn (ringOf t a calls) m .number ≢ 15
   -- every accepted message, followed from its handing in, is held with what is left of it, or was completed with its whole length, or was withdrawn
   pub followed : (calls : List Call) (m : Message)
       → handedIn (ringOf t a calls) m .number ≡ 0 → (later : List Call)
@@ -211,7 +218,8 @@ pub record Common (t : Set) (a : Alloc) : Type 0 where
   pub no-unmark-8 : (calls : List Call) (p : Station) → unmarked (ringOf t a calls) p .number ≢ 8
   -- a visit is accepted exactly if the length of its frames is 1 to F and the clock is not above 1,000,000,000,000
   pub goes : (calls : List Call) (ask : Ask)
-      → (visited (ringOf t a calls) ask .answer .number ≡ 0) ↔ (FramesNamed t ask × (ringOf t a calls .clock ≤ mostClock))
+      → (visited (ringOf t a calls) ask .answer .number ≡ 0)
+      ↔ (FramesNamed t ask × (ringOf t a calls .clock ≤ mostClock))
   -- the visit count is the number of accepted visits, and the clock ends them long before 2^62: each rotation takes a tick at least
   pub counted : (calls : List Call) → ringOf t a calls .visits ≡ length (recordsOf t a calls)
   pub bounded : (calls : List Call) → length (recordsOf t a calls) ≤ mostStations * (mostClock + 1)
@@ -219,12 +227,14 @@ pub record Common (t : Set) (a : Alloc) : Type 0 where
   pub last-start : (calls : List Call) (i : ℕ)
       → i < t .n → (u : VisitRecord) → latestOf i (recordsOf t a calls) ≡ some u
       → (i < ringOf t a calls .visits) × (at (ringOf t a calls .last) i ≡ syncStartOf t u)
-  pub no-start : (calls : List Call) (i : ℕ) → i < t .n → latestOf i (recordsOf t a calls) ≡ none → ringOf t a calls .visits ≤ i
+  pub no-start : (calls : List Call) (i : ℕ)
+      → i < t .n → latestOf i (recordsOf t a calls) ≡ none → ringOf t a calls .visits ≤ i
   -- the ring's last accepted arrival of a station is that of its latest accepted message, and the ring says rightly that there was none
   pub last-message : (calls : List Call) (i : ℕ)
       → i < t .n → (m : Message) → latestFor i (messagesOf t a calls) ≡ some m
       → (at (ringOf t a calls .had) i ≢ 0) × (at (ringOf t a calls .arrival) i ≡ m .arrival .0)
-  pub no-message : (calls : List Call) (i : ℕ) → i < t .n → latestFor i (messagesOf t a calls) ≡ none → at (ringOf t a calls .had) i ≡ 0
+  pub no-message : (calls : List Call) (i : ℕ)
+      → i < t .n → latestFor i (messagesOf t a calls) ≡ none → at (ringOf t a calls .had) i ≡ 0
 
 -- the token is never late, and late here means later than `bound`: arrivals at a station are at most `bound` apart
 pub record NeverLate (t : Set) (a : Alloc) (bound : ℕ) : Type 0 where
@@ -251,7 +261,8 @@ pub record DeadlinesKept (t : Set) (a : Alloc) : Type 0 where
       → FollowedInTime t m (runOf t a calls) (run (after (runOf t a calls) (message m)) later)
   -- while a station holds a message, that message's deadline is ahead of the clock
   pub ahead : (calls : List Call) (i : ℕ)
-      → i < t .n → 0 < at (ringOf t a calls .rest) i → AheadOf (ringOf t a calls) (at (ringOf t a calls .arrival) i + at (t .d) i)
+      → i < t .n
+      → 0 < at (ringOf t a calls .rest) i → AheadOf (ringOf t a calls) (at (ringOf t a calls .arrival) i + at (t .d) i)
   -- a visit that completes a message finishes it by its deadline, and the margin is what is left
   pub finishes : (calls : List Call) (ask : Ask)
       → visited (ringOf t a calls) ask .answer .«record» .completed ≡ 1
@@ -259,7 +270,9 @@ pub record DeadlinesKept (t : Set) (a : Alloc) : Type 0 where
   -- so no record of a run has a negative margin
   pub none-late : (calls : List Call) → Each NoneLate (recordsOf t a calls)
   -- never 11 for a message to a station that is not marked, that keeps C and P, handed in when the clock has reached its arrival and it is later than its station's last start
-  pub no-11 : (calls : List Call) (m : Message) → Unmarked (ringOf t a calls) (m .station .0) → Regular t (runOf t a calls) m → handedIn (ringOf t a calls) m .number ≢ 11
+  pub no-11 : (calls : List Call) (m : Message)
+      → Unmarked (ringOf t a calls) (m .station .0) → Regular t (runOf t a calls) m
+      → handedIn (ringOf t a calls) m .number ≢ 11
   -- it is taken, where its station is one of the ring's and its arrival in range
   pub taken : (calls : List Call) (m : Message)
       → m .station .0 < t .n → m .arrival .0 ≤ mostClock → Unmarked (ringOf t a calls) (m .station .0)
@@ -294,7 +307,8 @@ pub record FddiKept (t : Set) (a : Alloc) : Type 0 where
   -- and even within TTRT + the sum of S + (F − 1)
   pub sooner : NeverLate t a (t .head .ttrt + allShares t a + overrunOf t)
   -- at a station's first visit too, since the silent rotation passed it
-  pub first : (calls : List Call) → Each (FirstWithin t (t .head .ttrt + allShares t a + overrunOf t)) (recordsOf t a calls)
+  pub first : (calls : List Call)
+      → Each (FirstWithin t (t .head .ttrt + allShares t a + overrunOf t)) (recordsOf t a calls)
   -- and as long as a station has had no visit
   pub first-since : (calls : List Call) (i : ℕ)
       → i < t .n → latestOf i (recordsOf t a calls) ≡ none

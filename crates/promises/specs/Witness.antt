@@ -23,7 +23,15 @@ two a b = (a ∷ b ∷ []) ++ replicate 126 0
 
 -- TTRT 100, w 1 each; station 0 has C 30, D 250, P 250, station 1 has no synchronous stream
 abbrev pub pairOf : ℕ → Set
-pairOf mode = record { head = record { ttrt = 100; mode = mode; frame = 1; grid = 1 }; n = 2; w = two 1 1; c = two 30 0; d = two 250 100; p = two 250 100 }
+pairOf mode =
+    record {
+      head = record { ttrt = 100; mode = mode; frame = 1; grid = 1 };
+      n = 2;
+      w = two 1 1;
+      c = two 30 0;
+      d = two 250 100;
+      p = two 250 100;
+    }
 
 -- as a timely-token ring
 abbrev pub pair : Set
@@ -82,7 +90,8 @@ pub record Happens : Type 0 where
   pub spare : spareTime pair (at (shares .s)) ≡ 83
   pub judged : judgedPlan pair shares ≡ 0
   -- first visits and a second one, TRTs and a gap of just TTRT, all of S sent, limits above 0 and of 0 after the asynchronous time of the two visits before, a message completed in its second part
-  pub records : recordsOf pair shares completed ≡ row 0 100 100 0 15 0 115 (pos 135) 1 ∷ row 1 99 100 0 0 0 0 (pos 0) 0 ∷ row 0 0 2 83 15 83 0 (pos 0) 0 ∷ []
+  pub records : recordsOf pair shares completed
+      ≡ row 0 100 100 0 15 0 115 (pos 135) 1 ∷ row 1 99 100 0 0 0 0 (pos 0) 0 ∷ row 0 0 2 83 15 83 0 (pos 0) 0 ∷ []
   -- the message is accepted, half of it is still held when both stations have been visited
   pub accepted : handedIn (ringOf pair shares []) (thirty 0) .number ≡ 0
   pub held : at (ringOf pair shares begun .rest) 0 ≡ 15
@@ -92,7 +101,8 @@ pub record Happens : Type 0 where
   pub early-clock : ringOf pair shares completed .clock ≡ 116
   pub early : handedIn (ringOf pair shares completed) (thirty 250) .number ≡ 15
   pub early-too : handedIn (ringOf pair shares completed) (thirty 249) .number ≡ 15
-  pub unserved : recordsOf pair shares ahead ≡ row 0 200 100 0 0 0 0 (pos 0) 0 ∷ row 1 116 17 83 0 83 0 (pos 0) 0 ∷ recordsOf pair shares completed
+  pub unserved : recordsOf pair shares ahead
+      ≡ row 0 200 100 0 0 0 0 (pos 0) 0 ∷ row 1 116 17 83 0 83 0 (pos 0) 0 ∷ recordsOf pair shares completed
   -- a message that keeps C and P is handed in when the clock has reached its arrival, and taken
   pub regular : Regular pair (runOf pair shares waited) (thirty 250)
   pub taken : handedIn (ringOf pair shares waited) (thirty 250) .number ≡ 0

@@ -5,7 +5,7 @@ use native.Mathlib.Omega.{arith}
 use native.Mathlib.Nat.{two-pow-succ, mul-add, add-mul, mul-one, one-mul, mul-le-mul-left, div-eq-of-lt-le, div-add-mod', div-le-self, mod-le, mod-lt}
 use lib.Arith.{digits-div, digits-mod}
 use lib.Pow.{pow-pos}
-use Rattle.units.specs.SmallLaws.{one-more}
+use Rattle.units.proofs.SmallLaws.{one-more}
 use Rattle.quotients.specs.Division.{Divided, Share}
 use Rattle.quotients.specs.Turns.{Doubled}
 

@@ -4,9 +4,9 @@ use mathlib.Core.Path.{_≡_, sym, _∙_}
 use native.Mathlib.Omega.{arith}
 use native.Mathlib.Numerals.{add-one}
 use native.Mathlib.Nat.{mod-lt, div-zero, mod-zero, mul-comm, add-mul, two-pow-succ, dvd-iff-mod-eq-zero, le-div-iff-mul-le, div-lt-iff-lt-mul}
-use Rattle.units.specs.SmallLaws.{shares-enough, shares-least}
+use Rattle.units.proofs.SmallLaws.{shares-enough, shares-least}
 use Rattle.units.specs.Grid.{stepped}
-use Rattle.units.specs.GridLaws.{decides-grid, decides-grids, step-multiple, step-enough, step-least, step-none}
+use Rattle.units.proofs.GridLaws.{decides-grid, decides-grids, step-multiple, step-enough, step-least, step-none}
 use Rattle.quotients.specs.Steps.{SmallestMultiple}
 use Rattle.quotients.specs.Promised.{Promised}
 use Rattle.quotients.proofs.Laws.{kept-last, together}

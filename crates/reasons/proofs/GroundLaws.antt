@@ -6,16 +6,16 @@ use native.Mathlib.Omega.{arith}
 use native.Mathlib.Nat.{mul-le-mul-left, mul-le-mul-right, mul-zero, zero-mul, suc-mul, mul-comm, lt-mul-div-succ}
 use borrow.Author.Tests.{le-leb, lt-leb}
 use Rattle.units.specs.Grid.{MultipleOf}
-use Rattle.units.specs.SmallLaws.{below-or-not, one-more}
+use Rattle.units.proofs.SmallLaws.{below-or-not, one-more}
 use Rattle.units.specs.Places.{at}
 use Rattle.units.specs.Vectors.{wholeRotations}
 use Rattle.quotients.specs.Division.{Divided}
 use Rattle.quotients.proofs.Promised as quotients
-use Rattle.sets.specs.SetLaws.{allowed}
+use Rattle.sets.proofs.SetLaws.{allowed}
 use Rattle.sets.specs.declared.Set.{Set}
 use Rattle.plans.specs.Rules.{alpha, leastTime, IsSmallest}
 use Rattle.plans.specs.Planned.{smallestFor, smallestAt}
-use Rattle.plans.specs.PlanLaws.{smallest-small, rotations-within}
+use Rattle.plans.proofs.PlanLaws.{smallest-small, rotations-within}
 use Rattle.reasons.specs.Shortages.{Plannable}
 use Rattle.reasons.specs.Grounds.{mostNumber, noGrounds, groundsFor, groundsOf, groundsAt, NextSmaller, Shown}
 use Rattle.reasons.proofs.PlanningLaws.{stands, stepped-by, plan-s}

@@ -6,19 +6,19 @@ use mathlib.Core.Logic.{_↔_, ⊎-elim}
 use native.Mathlib.Omega.{arith}
 use borrow.Author.Tests.{eqb-true, eqb-false, eq-eqb, ne-eqb, not-true}
 use Rattle.units.specs.Grid.{AllOnGrid}
-use Rattle.units.specs.Judging.{orElse}
-use Rattle.units.specs.JudgingLaws.{Decides, decides-both, decides-not, true-or-false, held, failed, given, given-later, iff-then}
+use Rattle.units.specs.Judging.{orElse, Decides}
+use Rattle.units.proofs.JudgingLaws.{decides-both, decides-not, true-or-false, held, failed, given, given-later, iff-then}
 use Rattle.units.specs.Places.{at, sumBelow}
-use Rattle.units.specs.PlaceLaws.{fill-inside, sum-mono, sum-same}
+use Rattle.units.proofs.PlaceLaws.{fill-inside, sum-mono, sum-same}
 use Rattle.units.specs.Vectors.{TokenKept, tokenKept}
-use Rattle.units.specs.VectorLaws.{decides-token}
+use Rattle.units.proofs.VectorLaws.{decides-token}
 use Rattle.sets.specs.Judged.{zeros}
-use Rattle.sets.specs.SetLaws.{allowed}
+use Rattle.sets.proofs.SetLaws.{allowed}
 use Rattle.sets.specs.declared.Set.{Set}
 use Rattle.plans.specs.Rules.{lost, isFddi, IsSmallest, MeetsDeadlines, MeetsRules}
 use Rattle.plans.specs.Planned.{smallestAt, smallestAlloc, planned}
 use Rattle.plans.specs.Answer.{AllocationExists, Fitting}
-use Rattle.plans.specs.PlanLaws.{smallest-is, time-timely, given-none}
+use Rattle.plans.proofs.PlanLaws.{smallest-is, time-timely, given-none}
 use Rattle.plans.specs.declared.Planned.{Planned}
 use Rattle.plans.proofs.Promised as plans
 use Rattle.reasons.specs.Shortages.{Plannable, plannable}

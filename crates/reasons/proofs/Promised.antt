@@ -1,9 +1,9 @@
 -- What `specs/Promised.antt` promises.
 use mathlib.Core.Path.{ap, _∙_}
 use Rattle.reasons.specs.Promised.{Promised}
-use Rattle.units.specs.JudgingLaws.{decides-not}
+use Rattle.units.proofs.JudgingLaws.{decides-not}
 use Rattle.units.specs.Places.{at}
-use Rattle.units.specs.PlaceLaws.{zero-at}
+use Rattle.units.proofs.PlaceLaws.{zero-at}
 use Rattle.reasons.proofs.Cases.{cases-hold}
 use Rattle.reasons.proofs.GroundLaws.{shown}
 use Rattle.reasons.proofs.RoomLaws.{rooms-none, decides-fits, largest}

@@ -11,14 +11,14 @@ use borrow.Author.Tests.{eqb-true, eqb-false, eq-eqb}
 use lib.Dec.{eqb}
 use Rattle.units.specs.Numbers.{mostC, mostStations}
 use Rattle.units.specs.Grid.{MultipleOf}
-use Rattle.units.specs.JudgingLaws.{decides-both, true-or-false, iff-then}
-use Rattle.units.specs.SmallLaws.{below-or-not}
+use Rattle.units.proofs.JudgingLaws.{decides-both, true-or-false, iff-then}
+use Rattle.units.proofs.SmallLaws.{below-or-not}
 use Rattle.units.specs.Places.{at, sumBelow, fill, zeros}
-use Rattle.units.specs.PlaceLaws.{sum-part, sum-same, set-each, fill-inside}
+use Rattle.units.proofs.PlaceLaws.{sum-part, sum-same, set-each, fill-inside}
 use Rattle.units.specs.Vectors.{TokenKept}
 use Rattle.sets.specs.Rules.{NumbersAllowed}
 use Rattle.sets.specs.Judged.{judged}
-use Rattle.sets.specs.SetLaws.{allowed}
+use Rattle.sets.proofs.SetLaws.{allowed}
 use Rattle.sets.specs.declared.Set.{Set}
 use Rattle.plans.specs.Rules.{lost, leastTime, IsSmallest}
 use Rattle.plans.specs.Planned.{smallestAt, planned}

@@ -7,18 +7,18 @@ use mathlib.Core.Logic.{_↔_, ⊎-elim}
 use native.Mathlib.Omega.{arith}
 use borrow.Author.Tests.{ltb-true, eqb-true, eq-eqb}
 use Rattle.units.specs.Grid.{AllOnGrid}
-use Rattle.units.specs.GridLaws.{every-multiple}
-use Rattle.units.specs.JudgingLaws.{decides-both, iff-then, and-true, true-or-false}
-use Rattle.units.specs.SmallLaws.{below-or-not}
+use Rattle.units.proofs.GridLaws.{every-multiple}
+use Rattle.units.proofs.JudgingLaws.{decides-both, iff-then, and-true, true-or-false}
+use Rattle.units.proofs.SmallLaws.{below-or-not}
 use Rattle.units.specs.Places.{at}
-use Rattle.units.specs.PlaceLaws.{sum-part}
+use Rattle.units.proofs.PlaceLaws.{sum-part}
 use Rattle.units.specs.Vectors.{TokenKept}
 use Rattle.sets.specs.Rules.{NumbersAllowed}
-use Rattle.sets.specs.SetLaws.{allowed}
+use Rattle.sets.proofs.SetLaws.{allowed}
 use Rattle.sets.specs.declared.Set.{Set}
 use Rattle.plans.specs.Rules.{lost, MeetsDeadlines, MeetsToken, MeetsRules}
 use Rattle.plans.specs.Planned.{smallestAt, planned}
-use Rattle.plans.specs.PlanLaws.{time-timely}
+use Rattle.plans.proofs.PlanLaws.{time-timely}
 use Rattle.reasons.specs.Shortages.{Plannable, plannable, smallestSum, needed, available, missing, noShortage, shortageOf, tooMuch, withGrid, gridIsCause}
 use Rattle.reasons.proofs.PlanningLaws.{decides-plannable, six-plannable, own-mode, exists-is, six-is, plan-is, sum-least}
 use Rattle.reasons.specs.declared.Shortage.{Shortage}

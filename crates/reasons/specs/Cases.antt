@@ -18,7 +18,14 @@ places xs = xs ++ replicate (128 - length xs) 0
 -- at TTRT 100: F, the grid, and station by station w, C and D, with P as D
 abbrev setOf : ℕ → ℕ → List ℕ → List ℕ → List ℕ → Set
 setOf frame grid w c d =
-    record { head = record { ttrt = 100; mode = timely; frame = frame; grid = grid }; n = length w; w = places w; c = places c; d = places d; p = places d }
+    record {
+      head = record { ttrt = 100; mode = timely; frame = frame; grid = grid };
+      n = length w;
+      w = places w;
+      c = places c;
+      d = places d;
+      p = places d;
+    }
 
 -- two stations of D 60, τ 2: the grid, and both stations' C
 abbrev pub two : ℕ → ℕ → Set

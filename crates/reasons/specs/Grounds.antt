@@ -22,11 +22,18 @@ noGrounds = record { whole = 0; alpha = 0; smallest = 0; time = 0; below = 0 }
 -- those of TTRT, D and the smallest S
 abbrev pub groundsFor : ℕ → ℕ → ℕ → ℕ → Grounds
 groundsFor grid ttrt d s =
-    record { whole = wholeRotations ttrt d; alpha = alpha ttrt d; smallest = s; time = leastTime ttrt d s; below = leastTime ttrt d (s - grid) }
+    record {
+      whole = wholeRotations ttrt d;
+      alpha = alpha ttrt d;
+      smallest = s;
+      time = leastTime ttrt d s;
+      below = leastTime ttrt d (s - grid);
+    }
 
 -- zeros where S has more than 32 bits
 unfoldable pub groundsOf : ℕ → ℕ → ℕ → ℕ → Grounds
-groundsOf grid ttrt c d = cond (leb (smallestFor grid ttrt c d) mostNumber) (groundsFor grid ttrt d (smallestFor grid ttrt c d)) noGrounds
+groundsOf grid ttrt c d =
+    cond (leb (smallestFor grid ttrt c d) mostNumber) (groundsFor grid ttrt d (smallestFor grid ttrt c d)) noGrounds
 
 -- z is the largest multiple of the grid below s
 pub record NextSmaller (grid s z : ℕ) : Type 0 where

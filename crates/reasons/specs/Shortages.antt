@@ -40,7 +40,9 @@ noShortage = record { sum = 0; needed = 0; available = 0; missing = 0 }
 
 -- all of it; zeros of a set that planning refuses with another number than 6
 unfoldable pub shortageOf : Set → Shortage
-shortageOf t = cond (plannable t) (record { sum = smallestSum t; needed = needed t; available = available t; missing = missing t }) noShortage
+shortageOf t =
+    cond (plannable t) (record { sum = smallestSum t; needed = needed t; available = available t; missing = missing t })
+    noShortage
 
 -- S, of one station, is above what there is for all
 abbrev pub tooMuch : ℕ → ℕ → Bool

@@ -7,10 +7,10 @@ use mathlib.Core.Logic.{_≢_, ⊎-elim}
 use native.Mathlib.Omega.{arith}
 use borrow.Author.Tests.{le-ltb}
 use Rattle.units.specs.Judging.{orElse}
-use Rattle.rings.specs.RingLaws.{message-9}
+use Rattle.rings.proofs.RingLaws.{message-9}
 use Rattle.units.specs.Places.{at, sumBelow, sumFrom, allBelow}
-use Rattle.units.specs.PlaceLaws.{sum-same, all-same}
-use Rattle.units.specs.SmallLaws.{below-or-not}
+use Rattle.units.proofs.PlaceLaws.{sum-same, all-same}
+use Rattle.units.proofs.SmallLaws.{below-or-not}
 use Rattle.units.specs.declared.Station.{Station}
 use Rattle.sets.specs.Rules.{SameSet}
 use Rattle.sets.specs.declared.Head.{Head}
@@ -19,9 +19,9 @@ use Rattle.plans.specs.Planned.{judgedPlan}
 use Rattle.plans.proofs.SameLaws.{judged-plan-same}
 use Rattle.plans.specs.declared.Alloc.{Alloc}
 use Rattle.rings.specs.State.{count, ttrt, unusedAt, timersOf}
-use Rattle.timers.specs.Timers.{Timer, ticks, startedAt, offered, visited as tokenAt}
+use Rattle.fddi_timer_rules.specs.Timers.{Timer, ticks, startedAt, offered, visited as tokenAt}
 use Rattle.rings.specs.Timers.{Fddi, lead, timersOffer, limit, timerOf, trtSoundAt, timerSoundAt, lateSoundAt, timelySound, fddiSound, timersSound}
-use Rattle.rings.specs.TimerLaws.{fddi-or-not}
+use Rattle.rings.proofs.TimerLaws.{fddi-or-not}
 use Rattle.rings.specs.Sound.{sentSoundAt, restSoundAt, arrivalSoundAt, isSound}
 use Rattle.rings.specs.Steps.{Ask, syncStart, mostSent, syncSent, asyncSent, recordOf, visitNumber}
 use Rattle.rings.specs.HandingIn.{arrivalAllowed, messageNumber, handInNumber}

@@ -5,13 +5,13 @@ use native.Mathlib.Omega.{arith}
 use lib.ListN.{length, set}
 use lib.Seq.{getD-set-same, getD-set-other}
 use Rattle.units.specs.Places.{at}
-use Rattle.units.specs.PlaceLaws.{set-each}
+use Rattle.units.proofs.PlaceLaws.{set-each}
 use Rattle.rings.specs.State.{Shaped}
 use Rattle.rings.specs.Sound.{Sound}
 use Rattle.rings.specs.HandingIn.{Takes, holding}
 use Rattle.ring_rules.specs.Promised.{Held}
 use Rattle.ring_rules.proofs.MessageLaws.{messages-timing, messages-sound}
-use Rattle.rings.specs.RingLaws.{sound-plan}
+use Rattle.rings.proofs.RingLaws.{sound-plan}
 use Rattle.rings.proofs.ShapeLaws.{holding-shaped}
 use Rattle.rings.specs.declared.Ring.{Ring}
 use Rattle.rings.specs.declared.Message.{Message}

@@ -10,21 +10,21 @@ use lib.Dec.{eqb}
 use lib.ListN.{length, set, length-set}
 use lib.Seq.{getD-set-same, getD-set-other, ext-getD}
 use Rattle.units.specs.Places.{at}
-use Rattle.units.specs.PlaceLaws.{set-each}
-use Rattle.units.specs.SmallLaws.{below-or-not}
-use Rattle.units.specs.JudgingLaws.{true-or-false, true-and, and-true}
+use Rattle.units.proofs.PlaceLaws.{set-each}
+use Rattle.units.proofs.SmallLaws.{below-or-not}
+use Rattle.units.proofs.JudgingLaws.{true-or-false, true-and, and-true}
 use Rattle.units.specs.declared.Station.{Station}
 use Rattle.rings.specs.State.{count, holds, Marked, Unmarked, Shaped}
 use Rattle.rings.specs.Timers.{timersAfter, timelyAfter, tokenCame, timePassed, timersSound, timelySound, fddiSound}
 use Rattle.rings.specs.Frames.{framesFrom}
-use Rattle.rings.specs.FrameLaws.{frames-none}
+use Rattle.rings.proofs.FrameLaws.{frames-none}
 use Rattle.rings.specs.Sound.{Sound, isSound}
 use Rattle.rings.specs.Steps.{Ask, LengthNamed, syncSent, asyncSent, moved}
 use Rattle.rings.specs.HandingIn.{Known, LengthAllowed, Free, ArrivalAllowed, handInNumber}
-use Rattle.rings.specs.TimerLaws.{marked-or-not, limit-marked, limit-unmarked, offer-fddi, offer-timely}
-use Rattle.rings.specs.RingLaws.{sound-plan, most-marked, most-unmarked, sync-most, sync-within}
+use Rattle.rings.proofs.TimerLaws.{marked-or-not, limit-marked, limit-unmarked, offer-fddi, offer-timely}
+use Rattle.rings.proofs.RingLaws.{sound-plan, most-marked, most-unmarked, sync-most, sync-within}
 use Rattle.rings.specs.Marking.{markNumber, switchedThrough, switchedIn, withdraws, withdrawal, noneWithdrawn, marked, unmarked}
-use Rattle.rings.specs.MarkLaws.{ring-marked, ring-unmarked, withdrawn, not-withdrawn, marked-refused, marked-accepted, unmarked-refused, unmarked-accepted, mark-inside}
+use Rattle.rings.proofs.MarkLaws.{ring-marked, ring-unmarked, withdrawn, not-withdrawn, marked-refused, marked-accepted, unmarked-refused, unmarked-accepted, mark-inside}
 use Rattle.rings.specs.declared.Ring.{Ring}
 use Rattle.rings.specs.declared.Message.{Message}
 use Rattle.rings.specs.declared.MarkedRing.{MarkedRing}

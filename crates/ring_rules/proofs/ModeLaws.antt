@@ -5,11 +5,11 @@ use mathlib.Core.List.{List}
 use mathlib.Core.Bool.{true, false}
 use mathlib.Core.Logic.{_↔_, ⊎-elim}
 use Rattle.units.specs.Places.{at, sumBelow}
-use Rattle.units.specs.JudgingLaws.{true-or-false}
+use Rattle.units.proofs.JudgingLaws.{true-or-false}
 use Rattle.units.specs.declared.Station.{Station}
 use Rattle.rings.specs.State.{count, ttrt, unusedAt, isMarked}
 use Rattle.rings.specs.Timers.{Fddi, timersOffer, limit, tokenCame, timePassed, timelyAfter, timersAfter, timelySound, fddiSound, timersSound, TimersSound}
-use Rattle.rings.specs.TimerLaws.{fddi-true, fddi-false}
+use Rattle.rings.proofs.TimerLaws.{fddi-true, fddi-false}
 use Rattle.rings.specs.Sound.{isSound}
 use Rattle.rings.specs.Steps.{Ask, mostSent, syncSent, moved, recordOf, visitNumber, visitedWith}
 use Rattle.rings.specs.HandingIn.{arrivalAllowed, holding, handInNumber, takenWith}

@@ -10,21 +10,21 @@ use lib.IntN.{pos, negsuc, subℕ}
 use lib.ListN.{length, set, length-set}
 use lib.Seq.{getD-set-same, getD-set-other}
 use Rattle.units.specs.Places.{at, raise}
-use Rattle.units.specs.PlaceLaws.{sum-part, raise-inside, raise-length}
-use Rattle.units.specs.SmallLaws.{below-or-not}
-use Rattle.units.specs.JudgingLaws.{true-or-false, true-and, and-true}
+use Rattle.units.proofs.PlaceLaws.{sum-part, raise-inside, raise-length}
+use Rattle.units.proofs.SmallLaws.{below-or-not}
+use Rattle.units.proofs.JudgingLaws.{true-or-false, true-and, and-true}
 use Rattle.rings.specs.State.{count, ttrt, following, share, unusedAt, holds, Shaped, timersOf}
-use Rattle.timers.specs.Timers.{Timer, visited}
-use Rattle.timers.proofs.Timers.{later-ticks}
+use Rattle.fddi_timer_rules.specs.Timers.{Timer, visited}
+use Rattle.fddi_timer_rules.proofs.Timers.{later-ticks}
 use Rattle.rings.specs.Timers.{limit, Fddi, rise, riseSince, timerOf, tokenCame, timePassed, timelyAfter}
 use Rattle.rings.specs.Sound.{Sound}
 use Rattle.rings.specs.Steps.{Ask, LengthNamed, syncStart, serves, syncSent, asyncSent, nextToken, moved, completes, recordOf}
 use Rattle.ring_rules.specs.Promised.{Amounts, TimelyMoved, FddiMoved, Moved, Completed, NoneCompleted, Done}
-use Rattle.rings.specs.FrameLaws.{frames-sent, frames-within, frames-none, ticks-sent}
-use Rattle.rings.specs.TimerLaws.{lead-within, fddi-or-not, limit-marked, limit-unmarked, offer-fddi, offer-timely, after-fddi, after-timely, came-late, came-early, offered-late, offered-early}
+use Rattle.rings.proofs.FrameLaws.{frames-sent, frames-within, frames-none, ticks-sent}
+use Rattle.rings.proofs.TimerLaws.{lead-within, fddi-or-not, limit-marked, limit-unmarked, offer-fddi, offer-timely, after-fddi, after-timely, came-late, came-early, offered-late, offered-early}
 use Rattle.rings.proofs.ShapeLaws.{moved-shaped}
 use Rattle.rings.proofs.StationLaws.{timer-here, timer-there, moved-long}
-use Rattle.rings.specs.RingLaws.{sound-plan, most-marked, most-unmarked, served, not-served, sync-most, sync-within}
+use Rattle.rings.proofs.RingLaws.{sound-plan, most-marked, most-unmarked, served, not-served, sync-most, sync-within}
 use Rattle.rings.specs.declared.Ring.{Ring}
 
 -- the margin is exact on both sides of 0

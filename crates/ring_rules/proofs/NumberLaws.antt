@@ -8,16 +8,16 @@ use borrow.Author.Tests.{ltb-true, lt-ltb}
 use lib.Dec.{leb, ltb}
 use Rattle.units.specs.Numbers.{mostClock}
 use Rattle.units.specs.Places.{at}
-use Rattle.units.specs.Judging.{orElse}
-use Rattle.units.specs.JudgingLaws.{Decides, true-or-false, decides-le, decides-both, decides-between, given, given-later, not-given, iff-then, iff-under}
+use Rattle.units.specs.Judging.{orElse, Decides}
+use Rattle.units.proofs.JudgingLaws.{true-or-false, decides-le, decides-both, decides-between, given, given-later, not-given, iff-then, iff-under}
 use Rattle.units.specs.declared.Station.{Station}
-use Rattle.units.specs.VectorLaws.{decides-rules}
+use Rattle.units.proofs.VectorLaws.{decides-rules}
 use Rattle.sets.specs.Rules.{CountAllowed, WalkTimeAllowed, countAllowed, numbersAllowed, walkTimeAllowed}
-use Rattle.sets.specs.SetLaws.{decides-count, decides-numbers, decides-walk}
+use Rattle.sets.proofs.SetLaws.{decides-count, decides-numbers, decides-walk}
 use Rattle.sets.specs.declared.Set.{Set}
 use Rattle.plans.specs.Rules.{Retired, inUse, InRange, KeepsRules, termsOf, rulesFit, allocInRange}
 use Rattle.plans.specs.Planned.{rulesNumber, judgedPlan}
-use Rattle.plans.specs.PlanLaws.{decides-alloc, given-sixteen, past-sixteen}
+use Rattle.plans.proofs.PlanLaws.{decides-alloc, given-sixteen, past-sixteen}
 use Rattle.plans.specs.declared.Alloc.{Alloc}
 use Rattle.rings.specs.State.{count}
 use Rattle.rings.specs.Opening.{openingNumber}
@@ -25,7 +25,7 @@ use Rattle.rings.specs.Sound.{Sound, isSound}
 use Rattle.rings.specs.Steps.{Ask, LengthNamed, lengthNamed, visitNumber, visitedWith}
 use Rattle.rings.specs.HandingIn.{ArrivalAllowed, Takes, stationKnown, lengthAllowed, stationFree, Free, Arrived, hasArrived, arrivalAllowed, handInNumber}
 use Rattle.rings.specs.Marking.{markNumber, withdraws, withdrawal, markedWith, unmarkedWith}
-use Rattle.rings.specs.RingLaws.{decides-sound, decides-free, decides-arrival}
+use Rattle.rings.proofs.RingLaws.{decides-sound, decides-free, decides-arrival}
 use Rattle.rings.specs.declared.Ring.{Ring}
 use Rattle.rings.specs.declared.Message.{Message}
 

@@ -5,15 +5,15 @@ use mathlib.Core.Logic.{⊎-elim}
 use native.Mathlib.Omega.{arith}
 use lib.ListN.{length}
 use Rattle.units.specs.Places.{at, sumBelow}
-use Rattle.units.specs.PlaceLaws.{zero-at, sum-same, fill-length, fill-inside}
+use Rattle.units.proofs.PlaceLaws.{zero-at, sum-same, fill-length, fill-inside}
 use Rattle.sets.specs.Judged.{zeros}
 use Rattle.sets.specs.declared.Set.{Set}
 use Rattle.plans.specs.Planned.{judgedPlan}
-use Rattle.plans.specs.PlanLaws.{given-none}
+use Rattle.plans.proofs.PlanLaws.{given-none}
 use Rattle.plans.specs.declared.Alloc.{Alloc}
 use Rattle.rings.specs.State.{Shaped}
 use Rattle.rings.specs.Timers.{Fddi, silentTrt, silentTimers, silentTimely, silentFddi, TimelySound}
-use Rattle.rings.specs.TimerLaws.{fddi-or-not, opened-fddi, opened-timely}
+use Rattle.rings.proofs.TimerLaws.{fddi-or-not, opened-fddi, opened-timely}
 use Rattle.rings.proofs.ShapeLaws.{blank-shaped, timers-shaped}
 use Rattle.rings.proofs.FddiLaws.{silent-small}
 use Rattle.rings.proofs.StationLaws.{opened-timer, opened-below, opened-few}

@@ -6,8 +6,8 @@ use mathlib.Core.Logic.{_⊎_, _≢_, ⊎-elim, inl, inr}
 use native.Mathlib.Omega.{arith}
 use Rattle.units.specs.Numbers.{mostClock}
 use Rattle.units.specs.Places.{at}
-use Rattle.units.specs.JudgingLaws.{true-or-false}
-use Rattle.units.specs.SmallLaws.{below-or-not}
+use Rattle.units.proofs.JudgingLaws.{true-or-false}
+use Rattle.units.proofs.SmallLaws.{below-or-not}
 use Rattle.units.specs.declared.Station.{Station}
 use Rattle.sets.specs.Rules.{SameSet}
 use Rattle.sets.specs.declared.Set.{Set}
@@ -22,10 +22,10 @@ use Rattle.rings.specs.Steps.{Ask, LengthNamed, syncSent, asyncSent, moved, rec
 use Rattle.rings.specs.HandingIn.{handInNumber, holding, handedIn}
 use Rattle.ring_rules.specs.Promised.{Fresh, Done, UncutVisit, Held, idle, silent, WalksAsIdle, SameFirst, SameRing, Promised}
 use Rattle.rings.specs.Marking.{markNumber, withdrawal, marked, unmarked}
-use Rattle.rings.specs.TimerLaws.{fddi-or-not, lead-none, lead-all, marked-or-not}
+use Rattle.rings.proofs.TimerLaws.{fddi-or-not, lead-none, lead-all, marked-or-not}
 use Rattle.rings.proofs.OpeningLaws.{before, opening-before, opening-retired, opening-in-use, opening-none}
-use Rattle.rings.specs.MarkLaws.{marked-refused, marked-accepted, mark-passed}
-use Rattle.rings.specs.RingLaws.{decides-sound, opened-number, taken-number, opened-refused, opened-accepted, visit-refused, visit-accepted, visit-passed, taken-refused, taken-accepted, taken-passed}
+use Rattle.rings.proofs.MarkLaws.{marked-refused, marked-accepted, mark-passed}
+use Rattle.rings.proofs.RingLaws.{decides-sound, opened-number, taken-number, opened-refused, opened-accepted, visit-refused, visit-accepted, visit-passed, taken-refused, taken-accepted, taken-passed}
 use Rattle.ring_rules.proofs.NumberLaws.{opening-two, opening-four, opening-five, opening-sixteen, opening-seven, opening-only, visited-number, visit-eight, visit-ten, visit-thirteen, visit-none, visit-only, message-eight, message-nine, message-ten, message-eleven, message-fifteen, message-twelve, message-none, message-only, mark-eight, mark-nine, mark-none, mark-only}
 use Rattle.ring_rules.proofs.MarkedLaws.{number-marked, number-unmarked, mark-unchanged, mark-switches, mark-withdraws, mark-takes-none, mark-stays, mark-twice, mark-arrivals, marked-eleven, unmark-unchanged, unmark-switches, unmark-stays, mark-sound, unmark-sound, idle-sound, idle-named, idle-clock, walks-alike, sound-marks, nothing-new}
 use Rattle.ring_rules.proofs.OpenedLaws.{fresh, opened-sound}

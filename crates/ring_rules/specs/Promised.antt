@@ -15,7 +15,7 @@ use Rattle.sets.specs.declared.Set.{Set}
 use Rattle.plans.specs.Rules.{Retired, InRange, KeepsRules}
 use Rattle.plans.specs.Planned.{judgedPlan}
 use Rattle.plans.specs.declared.Alloc.{Alloc}
-use Rattle.timers.specs.Timers.{ticks, startedAt, offered, visited as tokenAt}
+use Rattle.fddi_timer_rules.specs.Timers.{ticks, startedAt, offered, visited as tokenAt}
 use Rattle.rings.specs.State.{count, ttrt, overrun, share, unusedAt, Marked, Unmarked, Shaped, timersOf, blankRing, withTimers, withMessages}
 use Rattle.rings.specs.Timers.{Fddi, Earlier, lead, timerOf, limit, TimersSound}
 use Rattle.rings.specs.Frames.{framesSent}
@@ -45,7 +45,8 @@ pub record Fresh (t : Set) (a : Alloc) (r : Ring) : Type 0 where
   pub trts : ¬ Fddi t → (i : ℕ) → i < t .n → at (r .trt) i ≡ sumFrom i (t .n) (at (t .w))
   pub lates : ¬ Fddi t → (i : ℕ) → at (r .late) i ≡ 0
   -- FDDI: the timer starts there, with count 0; one that starts at TTRT becomes 0 with count 1
-  pub timers : Fddi t → (i : ℕ) → i < t .n → timerOf (timersOf r) i ≡ startedAt (t .head .ttrt) (sumFrom i (t .n) (at (t .w)))
+  pub timers : Fddi t
+      → (i : ℕ) → i < t .n → timerOf (timersOf r) i ≡ startedAt (t .head .ttrt) (sumFrom i (t .n) (at (t .w)))
   pub sents : (i : ℕ) → at (r .sent) i ≡ 0
   -- u: the sum of S
   pub unused : r .unused ≡ sumBelow (t .n) (at (a .s))
@@ -73,12 +74,16 @@ begins r v = r .clock + ahead r v
 -- the two amounts, as the steps have them
 pub record Amounts (r : Ring) (ask : Ask) (v : VisitRecord) : Type 0 where
   -- step 1, timely-token: the larger of TTRT − (F − 1) − u − TRT and 0
-  pub limit : Unmarked r (r .token) → ¬ Fddi (r .set) → v .limit .0 ≡ ttrt r - overrun r - r .unused - at (r .trt) (r .token)
+  pub limit : Unmarked r (r .token)
+      → ¬ Fddi (r .set) → v .limit .0 ≡ ttrt r - overrun r - r .unused - at (r .trt) (r .token)
   -- FDDI: no asynchronous time where the late count is above 0, else TTRT less the timer
   pub limit-late : Unmarked r (r .token) → Fddi (r .set) → 0 < at (r .late) (r .token) → v .limit .0 ≡ 0
-  pub limit-early : Unmarked r (r .token) → Fddi (r .set) → at (r .late) (r .token) ≡ 0 → v .limit .0 ≡ ttrt r - at (r .trt) (r .token)
+  pub limit-early : Unmarked r (r .token)
+      → Fddi (r .set) → at (r .late) (r .token) ≡ 0 → v .limit .0 ≡ ttrt r - at (r .trt) (r .token)
   -- step 3: a held message whose arrival is at or before the start of the synchronous part: the smaller of S and what remains
-  pub served : Unmarked r (r .token) → 0 < at (r .rest) (r .token) → at (r .arrival) (r .token) ≤ begins r v → v .synchronous .0 ≡ min (share r (r .token)) (at (r .rest) (r .token))
+  pub served : Unmarked r (r .token)
+      → 0 < at (r .rest) (r .token) → at (r .arrival) (r .token) ≤ begins r v
+      → v .synchronous .0 ≡ min (share r (r .token)) (at (r .rest) (r .token))
   -- a message that arrives after that start is not served
   pub early : begins r v < at (r .arrival) (r .token) → v .synchronous .0 ≡ 0
   -- no message, nothing sent
@@ -113,8 +118,10 @@ pub record TimelyMoved (r next : Ring) (v : VisitRecord) : Type 0 where
 
 -- the timers of an FDDI ring after the visit: the token comes to its station, and then the ticks pass at every station
 pub record FddiMoved (r next : Ring) (v : VisitRecord) : Type 0 where
-  pub timer-here : timerOf (timersOf next) (r .token) ≡ ticks (ttrt r) (passes r v) (tokenAt (timerOf (timersOf r) (r .token)))
-  pub timer-there : (i : ℕ) → i < count r → i ≢ r .token → timerOf (timersOf next) i ≡ ticks (ttrt r) (passes r v) (timerOf (timersOf r) i)
+  pub timer-here : timerOf (timersOf next) (r .token)
+      ≡ ticks (ttrt r) (passes r v) (tokenAt (timerOf (timersOf r) (r .token)))
+  pub timer-there : (i : ℕ)
+      → i < count r → i ≢ r .token → timerOf (timersOf next) i ≡ ticks (ttrt r) (passes r v) (timerOf (timersOf r) i)
   -- u is left alone
   pub unused : next .unused ≡ r .unused
 
@@ -173,9 +180,12 @@ pub record UncutVisit (r : Ring) (ask : Ask) : Type 0 where
   -- it is never refused for its length
   pub not-ten : visited r ask .answer .number ≢ 10
   -- timely-token: the limit is the larger of TTRT − u − TRT and 0
-  pub limit : visited r ask .answer .number ≡ 0 → Unmarked r (r .token) → ¬ Fddi (r .set) → visited r ask .answer .«record» .limit .0 ≡ ttrt r - r .unused - at (r .trt) (r .token)
+  pub limit : visited r ask .answer .number ≡ 0
+      → Unmarked r (r .token) → ¬ Fddi (r .set)
+      → visited r ask .answer .«record» .limit .0 ≡ ttrt r - r .unused - at (r .trt) (r .token)
   -- and the smaller of the limit and the ticks asked for is sent
-  pub sent : visited r ask .answer .number ≡ 0 → visited r ask .answer .«record» .asynchronous .0 ≡ min (visited r ask .answer .«record» .limit .0) (ask .frames)
+  pub sent : visited r ask .answer .number ≡ 0
+      → visited r ask .answer .«record» .asynchronous .0 ≡ min (visited r ask .answer .«record» .limit .0) (ask .frames)
 
 -- ---- calls that are no visits
 
@@ -314,11 +324,15 @@ pub record Promised : Type 0 where
   -- 4 exactly if that passes and a number of the set or an S is out of its range
   pub opening-four : (t : Set) (a : Alloc) → (opening t a .number ≡ 4) ↔ (CountAllowed t × ¬ InRange t a)
   -- 5 exactly if that passes and τ is 0 or above TTRT
-  pub opening-five : (t : Set) (a : Alloc) → (opening t a .number ≡ 5) ↔ (CountAllowed t × (InRange t a × ¬ WalkTimeAllowed t))
+  pub opening-five : (t : Set) (a : Alloc)
+      → (opening t a .number ≡ 5) ↔ (CountAllowed t × (InRange t a × ¬ WalkTimeAllowed t))
   -- 16 exactly if that passes and the mode is FDDI, whether or not the allocation meets the rules: it comes before 7
-  pub opening-sixteen : (t : Set) (a : Alloc) → (opening t a .number ≡ 16) ↔ (CountAllowed t × (InRange t a × (WalkTimeAllowed t × Retired t)))
+  pub opening-sixteen : (t : Set) (a : Alloc)
+      → (opening t a .number ≡ 16) ↔ (CountAllowed t × (InRange t a × (WalkTimeAllowed t × Retired t)))
   -- 7 exactly if that passes, the mode is another one, and the allocation breaks a rule
-  pub opening-seven : (t : Set) (a : Alloc) → (opening t a .number ≡ 7) ↔ (CountAllowed t × (InRange t a × (WalkTimeAllowed t × (¬ Retired t × ¬ KeepsRules t a))))
+  pub opening-seven : (t : Set) (a : Alloc)
+      → (opening t a .number ≡ 7)
+      ↔ (CountAllowed t × (InRange t a × (WalkTimeAllowed t × (¬ Retired t × ¬ KeepsRules t a))))
   -- 0 exactly if the plan is judged 0 and the mode is not FDDI
   pub opening-none : (t : Set) (a : Alloc) → (opening t a .number ≡ 0) ↔ ((judgedPlan t a ≡ 0) × ¬ Retired t)
   -- no other number is ever given: it is the judgement's, or 16
@@ -339,10 +353,12 @@ pub record Promised : Type 0 where
   pub sound : (r : Ring) → (isSound r ≡ true) ↔ Sound r
   -- what that list asks of the timers: of a timely-token ring that no TRT exceeds TTRT and u is the sum of S − s
   pub sound-timely : (r : Ring) → ¬ Fddi (r .set)
-      → TimersSound r ↔ (((i : ℕ) → i < count r → at (r .trt) i ≤ ttrt r) × (r .unused ≡ sumBelow (count r) (unusedAt r)))
+      → TimersSound r
+      ↔ (((i : ℕ) → i < count r → at (r .trt) i ≤ ttrt r) × (r .unused ≡ sumBelow (count r) (unusedAt r)))
   -- of an FDDI ring that the timers are below TTRT and the late counts at most 3
   pub sound-fddi : (r : Ring) → Fddi (r .set)
-      → TimersSound r ↔ (((i : ℕ) → i < count r → at (r .trt) i < ttrt r) × ((i : ℕ) → i < count r → at (r .late) i ≤ 3))
+      → TimersSound r
+      ↔ (((i : ℕ) → i < count r → at (r .trt) i < ttrt r) × ((i : ℕ) → i < count r → at (r .late) i ≤ 3))
   -- the synchronous part comes first, and so nothing ahead of it; in the 2002 edition the asynchronous part does
   pub lead-none : (t : Set) (async : ℕ) → ¬ Earlier t → lead t async ≡ 0
   pub lead-all : (t : Set) (async : ℕ) → Earlier t → lead t async ≡ async
@@ -351,17 +367,26 @@ pub record Promised : Type 0 where
   -- 10 exactly if it is sound and the length of the frames asked for is not 1 to F
   pub visit-ten : (r : Ring) (ask : Ask) → (visited r ask .answer .number ≡ 10) ↔ (Sound r × ¬ LengthNamed r ask)
   -- 13 exactly if that passes and the clock is above 1,000,000,000,000
-  pub visit-thirteen : (r : Ring) (ask : Ask) → (visited r ask .answer .number ≡ 13) ↔ (Sound r × (LengthNamed r ask × ¬ (r .clock ≤ mostClock)))
+  pub visit-thirteen : (r : Ring) (ask : Ask)
+      → (visited r ask .answer .number ≡ 13) ↔ (Sound r × (LengthNamed r ask × ¬ (r .clock ≤ mostClock)))
   -- 0 exactly if all that passes
-  pub visit-none : (r : Ring) (ask : Ask) → (visited r ask .answer .number ≡ 0) ↔ (Sound r × (LengthNamed r ask × (r .clock ≤ mostClock)))
+  pub visit-none : (r : Ring) (ask : Ask)
+      → (visited r ask .answer .number ≡ 0) ↔ (Sound r × (LengthNamed r ask × (r .clock ≤ mostClock)))
   -- no other number is ever given: for a bad set or allocation inside a ring 8, never 2, 4, 5 or 7, and for FDDI never 16
-  pub visit-only : (r : Ring) (ask : Ask) → (visited r ask .answer .number ≡ 0) ⊎ (visited r ask .answer .number ≡ 8) ⊎ (visited r ask .answer .number ≡ 10) ⊎ (visited r ask .answer .number ≡ 13)
+  pub visit-only : (r : Ring) (ask : Ask)
+      → (visited r ask .answer .number ≡ 0)
+      ⊎ (visited r ask .answer .number ≡ 8)
+      ⊎ (visited r ask .answer .number ≡ 10)
+      ⊎ (visited r ask .answer .number ≡ 13)
   -- a refused visit gives back the very ring
   pub visit-unchanged : (r : Ring) (ask : Ask) → visited r ask .answer .number ≢ 0 → visited r ask .ring ≡ r
   -- and a blank record
-  pub visit-blank : (r : Ring) (ask : Ask) → visited r ask .answer .number ≢ 0 → visited r ask .answer .«record» ≡ blankRecord
+  pub visit-blank : (r : Ring) (ask : Ask)
+      → visited r ask .answer .number ≢ 0 → visited r ask .answer .«record» ≡ blankRecord
   -- an accepted visit does the five steps, and the record says so. `Shaped` holds of any ring of the code, and so of any that is lent: `rings::count_places` ensures it
-  pub visit-done : (r : Ring) (ask : Ask) → Shaped r → visited r ask .answer .number ≡ 0 → Done r ask (visited r ask .ring) (visited r ask .answer .«record»)
+  pub visit-done : (r : Ring) (ask : Ask)
+      → Shaped r → visited r ask .answer .number ≡ 0
+      → Done r ask (visited r ask .ring) (visited r ask .answer .«record»)
   -- a set without F and an ask of length 1 go as the rule of before
   pub uncut-visit : (r : Ring) (ask : Ask) → Shaped r → r .set .head .frame ≡ 1 → ask .length ≡ 1 → UncutVisit r ask
   -- the margin is exact: above 0, at 0, and below 0 where the finish is late
@@ -372,17 +397,25 @@ pub record Promised : Type 0 where
   -- 9 exactly if it is sound and the station number is not below N
   pub message-nine : (r : Ring) (m : Message) → (handedIn r m .number ≡ 9) ↔ (Sound r × ¬ Known r m)
   -- 10 exactly if that passes and the length is 0 or above C
-  pub message-ten : (r : Ring) (m : Message) → (handedIn r m .number ≡ 10) ↔ (Sound r × (Known r m × ¬ LengthAllowed r m))
+  pub message-ten : (r : Ring) (m : Message)
+      → (handedIn r m .number ≡ 10) ↔ (Sound r × (Known r m × ¬ LengthAllowed r m))
   -- 11 exactly if that passes and the station holds an unsent message or is marked
-  pub message-eleven : (r : Ring) (m : Message) → (handedIn r m .number ≡ 11) ↔ (Sound r × (Known r m × (LengthAllowed r m × ¬ Free r m)))
+  pub message-eleven : (r : Ring) (m : Message)
+      → (handedIn r m .number ≡ 11) ↔ (Sound r × (Known r m × (LengthAllowed r m × ¬ Free r m)))
   -- 15 exactly if that passes and the arrival is later than the clock; it comes before 12
-  pub message-fifteen : (r : Ring) (m : Message) → (handedIn r m .number ≡ 15) ↔ (Sound r × (Known r m × (LengthAllowed r m × (Free r m × ¬ Arrived r m))))
+  pub message-fifteen : (r : Ring) (m : Message)
+      → (handedIn r m .number ≡ 15) ↔ (Sound r × (Known r m × (LengthAllowed r m × (Free r m × ¬ Arrived r m))))
   -- 12 exactly if that passes and the arrival is not allowed
-  pub message-twelve : (r : Ring) (m : Message) → (handedIn r m .number ≡ 12) ↔ (Sound r × (Known r m × (LengthAllowed r m × (Free r m × (Arrived r m × ¬ ArrivalAllowed r m)))))
+  pub message-twelve : (r : Ring) (m : Message)
+      → (handedIn r m .number ≡ 12)
+      ↔ (Sound r × (Known r m × (LengthAllowed r m × (Free r m × (Arrived r m × ¬ ArrivalAllowed r m)))))
   -- 0 exactly if all that passes
   pub message-none : (r : Ring) (m : Message) → (handedIn r m .number ≡ 0) ↔ (Sound r × Takes r m)
   -- no other number is ever given
-  pub message-only : (r : Ring) (m : Message) → (handedIn r m .number ≡ 0) ⊎ ((8 ≤ handedIn r m .number) × (handedIn r m .number ≤ 12)) ⊎ (handedIn r m .number ≡ 15)
+  pub message-only : (r : Ring) (m : Message)
+      → (handedIn r m .number ≡ 0)
+      ⊎ ((8 ≤ handedIn r m .number) × (handedIn r m .number ≤ 12))
+      ⊎ (handedIn r m .number ≡ 15)
   -- a refused handing in gives back the very ring
   pub message-unchanged : (r : Ring) (m : Message) → handedIn r m .number ≢ 0 → handedIn r m .ring ≡ r
   -- an accepted message is held, and nothing else in the ring changes; this too of any ring that is lent, and so the others that ask for `Shaped`
@@ -396,32 +429,43 @@ pub record Promised : Type 0 where
   -- 0 exactly if both pass
   pub mark-none : (r : Ring) (s : Station) → (marked r s .answer .number ≡ 0) ↔ (Sound r × (s .0 < count r))
   -- no other number is ever given
-  pub mark-only : (r : Ring) (s : Station) → (marked r s .answer .number ≡ 0) ⊎ (marked r s .answer .number ≡ 8) ⊎ (marked r s .answer .number ≡ 9)
+  pub mark-only : (r : Ring) (s : Station)
+      → (marked r s .answer .number ≡ 0) ⊎ (marked r s .answer .number ≡ 8) ⊎ (marked r s .answer .number ≡ 9)
   -- a refused marking gives back the very ring, and withdraws nothing
-  pub mark-unchanged : (r : Ring) (s : Station) → marked r s .answer .number ≢ 0 → (marked r s .ring ≡ r) × NoneWithdrawn (marked r s .answer)
+  pub mark-unchanged : (r : Ring) (s : Station)
+      → marked r s .answer .number ≢ 0 → (marked r s .ring ≡ r) × NoneWithdrawn (marked r s .answer)
   -- a station that was not marked is switched through
-  pub mark-switches : (r : Ring) (s : Station) → Shaped r → marked r s .answer .number ≡ 0 → Unmarked r (s .0) → SwitchedThrough r (s .0) (marked r s .ring)
+  pub mark-switches : (r : Ring) (s : Station)
+      → Shaped r → marked r s .answer .number ≡ 0 → Unmarked r (s .0) → SwitchedThrough r (s .0) (marked r s .ring)
   -- the message that it held is withdrawn; where it held none, nothing is
-  pub mark-withdraws : (r : Ring) (s : Station) → marked r s .answer .number ≡ 0 → Unmarked r (s .0) → 0 < at (r .rest) (s .0) → Withdrawn r (s .0) (marked r s .answer)
+  pub mark-withdraws : (r : Ring) (s : Station)
+      → marked r s .answer .number ≡ 0 → Unmarked r (s .0) → 0 < at (r .rest) (s .0)
+      → Withdrawn r (s .0) (marked r s .answer)
   pub mark-takes-none : (r : Ring) (s : Station) → at (r .rest) (s .0) ≡ 0 → NoneWithdrawn (marked r s .answer)
   -- at a station that is marked already nothing changes and nothing is withdrawn
-  pub mark-stays : (r : Ring) (s : Station) → Marked r (s .0) → (marked r s .ring ≡ r) × NoneWithdrawn (marked r s .answer)
+  pub mark-stays : (r : Ring) (s : Station)
+      → Marked r (s .0) → (marked r s .ring ≡ r) × NoneWithdrawn (marked r s .answer)
   -- so marking twice changes nothing, and the second marking withdraws nothing
-  pub mark-twice : (r : Ring) (s : Station) → Shaped r → (marked (marked r s .ring) s .ring ≡ marked r s .ring) × NoneWithdrawn (marked (marked r s .ring) s .answer)
+  pub mark-twice : (r : Ring) (s : Station)
+      → Shaped r
+      → (marked (marked r s .ring) s .ring ≡ marked r s .ring) × NoneWithdrawn (marked (marked r s .ring) s .answer)
   -- which arrivals 12 allows stays: the withdrawn message's is still the station's last accepted one
   pub mark-arrivals : (r : Ring) (s : Station) (m : Message) → ArrivalAllowed (marked r s .ring) m ↔ ArrivalAllowed r m
   -- while a station is marked, messages get 11
-  pub marked-eleven : (r : Ring) (m : Message) → Sound r → Known r m → LengthAllowed r m → Marked r (m .station .0) → handedIn r m .number ≡ 11
+  pub marked-eleven : (r : Ring) (m : Message)
+      → Sound r → Known r m → LengthAllowed r m → Marked r (m .station .0) → handedIn r m .number ≡ 11
   -- taking the mark off has the numbers of marking
   pub unmark-number : (r : Ring) (s : Station) → unmarked r s .number ≡ marked r s .answer .number
   -- refused, it gives back the very ring
   pub unmark-unchanged : (r : Ring) (s : Station) → unmarked r s .number ≢ 0 → unmarked r s .ring ≡ r
   -- accepted, it switches the station in again
-  pub unmark-switches : (r : Ring) (s : Station) → Shaped r → unmarked r s .number ≡ 0 → SwitchedIn r (s .0) (unmarked r s .ring)
+  pub unmark-switches : (r : Ring) (s : Station)
+      → Shaped r → unmarked r s .number ≡ 0 → SwitchedIn r (s .0) (unmarked r s .ring)
   -- and changes nothing at a station that is not marked
   pub unmark-stays : (r : Ring) (s : Station) → Unmarked r (s .0) → unmarked r s .ring ≡ r
   -- the token walks through a marked station as through an idle one, in each mode
-  pub marked-walks : (r : Ring) (ask : Ask) → Shaped r → visited r ask .answer .number ≡ 0 → Marked r (r .token) → WalksAsIdle r ask (visited r ask .ring)
+  pub marked-walks : (r : Ring) (ask : Ask)
+      → Shaped r → visited r ask .answer .number ≡ 0 → Marked r (r .token) → WalksAsIdle r ask (visited r ask .ring)
   -- whether a ring is sound does not go by its marks
   pub sound-marks : (r : Ring) (marks : List ℕ) → isSound (withMarks marks r) ≡ isSound r
   -- both leave a sound ring sound
@@ -431,9 +475,11 @@ pub record Promised : Type 0 where
   pub nothing-new : (r : Ring) → r .token < count r → ((i : ℕ) → i < count r → Unmarked r i) → NothingNew r
   -- places from N on are never looked at, in opening
   pub first-places-opening : (t u : Set) (a b : Alloc) → SameSet t u → SameFirst (t .n) (a .s) (b .s)
-      → (opening t a .number ≡ opening u b .number) × (opening t a .number ≡ 0 → SameRing (opening t a .ring) (opening u b .ring))
+      → (opening t a .number ≡ opening u b .number)
+      × (opening t a .number ≡ 0 → SameRing (opening t a .ring) (opening u b .ring))
   -- in the state that opening gives or used to give
-  pub first-places-opened : (t u : Set) (a b : Alloc) → SameSet t u → SameFirst (t .n) (a .s) (b .s) → judgedPlan t a ≡ 0 → SameRing (openedRing t a) (openedRing u b)
+  pub first-places-opened : (t u : Set) (a b : Alloc)
+      → SameSet t u → SameFirst (t .n) (a .s) (b .s) → judgedPlan t a ≡ 0 → SameRing (openedRing t a) (openedRing u b)
   -- in the test of soundness
   pub first-places-sound : (a b : Ring) → SameRing a b → isSound a ≡ isSound b
   -- in a visit

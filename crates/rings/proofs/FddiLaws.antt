@@ -1,22 +1,22 @@
--- FDDI's timers: what the loops of `places` leave in the arrays is what the definitions say, because a sound ring's timers run on for less than three TTRTs.
+-- FDDI's timers: what the loops of `arrays` leave in the arrays is what the definitions say, because a sound ring's timers run on for less than three TTRTs.
 use Prim.Native.Nat.{ℕ, _+_, _*_, _≤_, _<_, _^_}
 use mathlib.Core.Path.{_≡_}
 use mathlib.Core.List.{List}
 use mathlib.Core.Logic.{⊎-elim}
 use native.Mathlib.Omega.{arith}
 use Rattle.units.specs.Places.{at}
-use Rattle.units.specs.PlaceLaws.{set-each, sum-split}
-use Rattle.units.specs.SmallLaws.{below-or-not}
+use Rattle.units.proofs.PlaceLaws.{set-each, sum-split}
+use Rattle.units.proofs.SmallLaws.{below-or-not}
 use Rattle.sets.specs.declared.Set.{Set}
 use Rattle.plans.specs.Planned.{judgedPlan}
-use Rattle.plans.specs.PlanLaws.{given-none}
+use Rattle.plans.proofs.PlanLaws.{given-none}
 use Rattle.plans.specs.declared.Alloc.{Alloc}
-use Rattle.places.specs.Laps.{ranOn, lapsCounted}
-use Rattle.places.proofs.Promised.{promised}
-use Rattle.timers.specs.Timers.{Timer, later, visited}
+use Rattle.arrays.specs.Laps.{ranOn, lapsCounted}
+use Rattle.arrays.proofs.Promised.{promised}
+use Rattle.fddi_timer_rules.specs.Timers.{Timer, later, visited}
 use Rattle.rings.specs.State.{count, ttrt, timersOf}
 use Rattle.rings.specs.Timers.{FddiSound, timerOf, rise, tokenCame, timePassed, fddiAfter, silentTrt}
-use Rattle.rings.specs.TimerLaws.{came-late, came-early}
+use Rattle.rings.proofs.TimerLaws.{came-late, came-early}
 use Rattle.rings.specs.Bounds.{Safe, Sendable}
 use Rattle.rings.specs.declared.Ring.{Ring}
 use Rattle.rings.specs.declared.Timers.{Timers}

@@ -7,16 +7,16 @@ use native.Mathlib.Omega.{arith}
 use lib.Dec.{eqb}
 use Rattle.units.specs.Judging.{orElse}
 use Rattle.units.specs.Places.{at}
-use Rattle.units.specs.JudgingLaws.{held, failed, passed}
+use Rattle.units.proofs.JudgingLaws.{held, failed, passed}
 use Rattle.sets.specs.Rules.{countAllowed, numbersAllowed, walkTimeAllowed}
 use Rattle.sets.specs.declared.Set.{Set}
 use Rattle.plans.specs.Rules.{inUse, allocInRange}
 use Rattle.plans.specs.Planned.{givenThen, rulesNumber, judgedPlan}
-use Rattle.plans.specs.PlanLaws.{decides-in-use}
+use Rattle.plans.proofs.PlanLaws.{decides-in-use}
 use Rattle.plans.specs.declared.Alloc.{Alloc}
 use Rattle.rings.specs.Opening.{openingNumber}
 use Rattle.rings.specs.Timers.{Fddi}
-use Rattle.rings.specs.TimerLaws.{fddi-true}
+use Rattle.rings.proofs.TimerLaws.{fddi-true}
 
 -- the judgement stopped before the rules, at 2, 4 or 5: its number is neither 0 nor 7
 abbrev pub before : ℕ → Bool

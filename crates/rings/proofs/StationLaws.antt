@@ -1,4 +1,4 @@
--- FDDI's timers station by station: a visit and an opening move each as `timers` says. The number v i of `timers` is `hasRun`.
+-- FDDI's timers station by station: a visit and an opening move each as `fddi_timer_rules` says. The number v i of `fddi_timer_rules` is `hasRun`.
 use Prim.Native.Nat.{ℕ, _+_, _-_, _≤_, _<_}
 use mathlib.Core.Path.{_≡_, ap, _∙_}
 use mathlib.Core.Bool.{true, false}
@@ -8,23 +8,23 @@ use lib.Dec.{eqb}
 use lib.ListN.{length, length-set}
 use lib.Seq.{getD-set-same, getD-set-other}
 use Rattle.units.specs.Places.{at}
-use Rattle.units.specs.PlaceLaws.{fill-length, fill-inside}
-use Rattle.units.specs.JudgingLaws.{true-or-false}
-use Rattle.units.specs.SmallLaws.{below-or-not}
+use Rattle.units.proofs.PlaceLaws.{fill-length, fill-inside}
+use Rattle.units.proofs.JudgingLaws.{true-or-false}
+use Rattle.units.proofs.SmallLaws.{below-or-not}
 use Rattle.sets.specs.Judged.{zeros}
 use Rattle.sets.specs.declared.Set.{Set}
 use Rattle.plans.specs.Planned.{judgedPlan}
-use Rattle.plans.specs.PlanLaws.{given-none}
+use Rattle.plans.proofs.PlanLaws.{given-none}
 use Rattle.plans.specs.declared.Alloc.{Alloc}
-use Rattle.timers.specs.Timers.{Timer, ran, later, startedAt, visited}
-use Rattle.timers.proofs.Promised.{promised}
+use Rattle.fddi_timer_rules.specs.Timers.{Timer, ran, later, startedAt, visited}
+use Rattle.fddi_timer_rules.proofs.Promised.{promised}
 use Rattle.rings.specs.State.{count, ttrt, Shaped, timersOf}
 use Rattle.rings.specs.Timers.{Fddi, timerOf, hasRun, timersOffer, rise, tokenCame, timePassed, silentTrt, silentFddi, mostLate}
-use Rattle.rings.specs.TimerLaws.{offer-fddi, after-fddi, opened-fddi}
+use Rattle.rings.proofs.TimerLaws.{offer-fddi, after-fddi, opened-fddi}
 use Rattle.rings.specs.Opening.{openedRing}
 use Rattle.rings.specs.Sound.{Sound}
 use Rattle.rings.specs.Steps.{moved}
-use Rattle.rings.specs.RingLaws.{sound-plan}
+use Rattle.rings.proofs.RingLaws.{sound-plan}
 use Rattle.rings.specs.declared.Ring.{Ring}
 use Rattle.rings.specs.declared.Timers.{Timers}
 use Rattle.rings.proofs.FddiLaws.{silent-small}

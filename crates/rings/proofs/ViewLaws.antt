@@ -6,14 +6,14 @@ use mathlib.Core.Logic.{⊎-elim}
 use native.Mathlib.Omega.{arith}
 use lib.ListN.{set}
 use Rattle.units.specs.Places.{at, raise}
-use Rattle.places.specs.Held.{raisedHeld}
-use Rattle.places.proofs.Promised.{promised}
+use Rattle.arrays.specs.Held.{raisedHeld}
+use Rattle.arrays.proofs.Promised.{promised}
 use Rattle.rings.specs.State.{count, ttrt, timersOf}
 use Rattle.rings.specs.Lent.{ringOf}
 use Rattle.rings.specs.Timers.{Fddi, limit, timersOffer, lead, rise, riseSince, unusedAfter, tokenCame, timelyAfter, timersAfter}
-use Rattle.rings.specs.TimerLaws.{fddi-or-not, after-fddi, after-timely}
+use Rattle.rings.proofs.TimerLaws.{fddi-or-not, after-fddi, after-timely}
 use Rattle.rings.specs.Steps.{Ask, asyncSent, syncStart, mostSent, syncSent, nextToken, moved, recordOf, visitNumber, visited}
-use Rattle.rings.specs.RingLaws.{visit-accepted}
+use Rattle.rings.proofs.RingLaws.{visit-accepted}
 use Rattle.rings.specs.Bounds.{Safe, SafeTimely, SafeTimers, Sendable}
 use Rattle.rings.specs.Views.{viewOf, pointOf, MovesOf, TimersMoved}
 use Rattle.rings.specs.declared.Ring.{Ring}

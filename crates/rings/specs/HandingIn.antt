@@ -39,7 +39,8 @@ pub record ArrivalAllowed (r : Ring) (m : Message) : Type 0 where
   -- it is later than the start of that station's last visit, in the 2002 edition of that visit's synchronous part; before its first visit any arrival from 0 passes
   pub later : m .station .0 < r .visits → at (r .last) (m .station .0) < m .arrival .0
   -- it is at least P after that station's last accepted arrival, where there is one
-  pub gap : at (r .had) (m .station .0) ≢ 0 → at (r .arrival) (m .station .0) + at (r .set .p) (m .station .0) ≤ m .arrival .0
+  pub gap : at (r .had) (m .station .0) ≢ 0
+      → at (r .arrival) (m .station .0) + at (r .set .p) (m .station .0) ≤ m .arrival .0
 
 -- what a sound ring asks of a message that it takes
 pub record Takes (r : Ring) (m : Message) : Type 0 where
@@ -78,7 +79,8 @@ laterThanLastStart r m = beforeFirstVisit r (m .station .0) || ltb (at (r .last)
 -- 12: it is at least P after that station's last accepted arrival; the first message passes
 abbrev pub gapKept : Ring → Message → Bool
 gapKept r m =
-    beforeFirstMessage r (m .station .0) || leb (at (r .arrival) (m .station .0) + at (r .set .p) (m .station .0)) (m .arrival .0)
+    beforeFirstMessage r (m .station .0)
+    || leb (at (r .arrival) (m .station .0) + at (r .set .p) (m .station .0)) (m .arrival .0)
 
 -- 12: the arrival time is allowed
 unfoldable pub arrivalAllowed : Ring → Message → Bool

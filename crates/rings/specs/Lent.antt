@@ -23,7 +23,10 @@ use Rattle.rings.specs.declared.NumberNext.{NumberNext}
 use Rattle.rings.specs.declared.Ring.{Ring}
 
 -- the ring of what was lent: w, C, D and P; S; then the arrays that a ring changes; the header, and the numbers
-abbrev pub ringOf : List ℕ → List ℕ → List ℕ → List ℕ → List ℕ → List ℕ → List ℕ → List ℕ → List ℕ → List ℕ → List ℕ → List ℕ → List ℕ → Head → ℕ → ℕ → ℕ → ℕ → ℕ → Ring
+abbrev pub ringOf : List ℕ
+    → List ℕ → List ℕ → List ℕ → List ℕ → List ℕ → List ℕ → List ℕ → List ℕ → List ℕ → List ℕ → List ℕ → List ℕ → Head
+    → ℕ → ℕ → ℕ → ℕ → ℕ
+    → Ring
 ringOf w c d p s trt late sent rest arrival had mark last head n token clock visits unused =
     made
     (setOf head n w c d p)
@@ -39,9 +42,12 @@ TimersSoundIn head n s trt late sent unused b =
     → b ≡ timersSound (ringOf w c d p s trt late sent rest arrival had mark last head n token clock visits unused)
 
 -- b says whether the ring is sound; whether a message was ever accepted, the marks and the last starts have no part in it
-abbrev pub SoundIn : List ℕ → List ℕ → List ℕ → List ℕ → List ℕ → List ℕ → List ℕ → List ℕ → List ℕ → List ℕ → Head → ℕ → ℕ → ℕ → ℕ → ℕ → Bool → Type 0
+abbrev pub SoundIn : List ℕ
+    → List ℕ → List ℕ → List ℕ → List ℕ → List ℕ → List ℕ → List ℕ → List ℕ → List ℕ → Head → ℕ → ℕ → ℕ → ℕ → ℕ → Bool
+    → Type 0
 SoundIn w c d p s trt late sent rest arrival head n token clock visits unused b =
-    (had mark last : List ℕ) → b ≡ isSound (ringOf w c d p s trt late sent rest arrival had mark last head n token clock visits unused)
+    (had mark last : List ℕ)
+    → b ≡ isSound (ringOf w c d p s trt late sent rest arrival had mark last head n token clock visits unused)
 
 -- ---- handing in
 

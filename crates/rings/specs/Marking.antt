@@ -48,7 +48,12 @@ withdraws r i = eqb (at (r .mark) i) 0 && holds r i
 unfoldable pub withdrawal : Ring → ℕ → MarkAnswer
 withdrawal r i =
     cond (withdraws r i)
-    (record { rest = record { 0 = at (r .rest) i }; arrival = record { 0 = at (r .arrival) i }; withdrawn = 1; number = 0 })
+    (record {
+      rest = record { 0 = at (r .rest) i };
+      arrival = record { 0 = at (r .arrival) i };
+      withdrawn = 1;
+      number = 0;
+    })
     (noneWithdrawn 0)
 
 -- a refused marking gives the ring back unchanged, and nothing is withdrawn

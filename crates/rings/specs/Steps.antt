@@ -123,7 +123,8 @@ blankRecord =
 
 -- 8 for an unsound ring, 10 for a length that is not 1 to F, 13 for a clock above 1,000,000,000,000
 abbrev pub firstRefusal : Bool → Bool → ℕ → ℕ
-firstRefusal sound named clock = orElse sound unsound (orElse named badLength (orElse (leb clock mostClock) clockTooHigh accepted))
+firstRefusal sound named clock =
+    orElse sound unsound (orElse named badLength (orElse (leb clock mostClock) clockTooHigh accepted))
 
 abbrev pub visitNumber : Ring → Ask → ℕ
 visitNumber r ask = firstRefusal (isSound r) (lengthNamed r ask) (r .clock)

@@ -13,7 +13,7 @@ use Rattle.sets.specs.Judged.{zeros}
 use Rattle.sets.specs.declared.Set.{Set}
 use Rattle.plans.specs.Rules.{isFddi}
 use Rattle.plans.specs.declared.Alloc.{Alloc}
-use Rattle.timers.specs.Timers.{Timer, ran, later, startedAt, visited, offered}
+use Rattle.fddi_timer_rules.specs.Timers.{Timer, ran, later, startedAt, visited, offered}
 use Rattle.rings.specs.State.{count, ttrt, overrun, share, unusedAt, isMarked, timersOf}
 use Rattle.rings.specs.declared.Ring.{Ring}
 use Rattle.rings.specs.declared.Timers.{Timers}

@@ -7,8 +7,8 @@ use lib.IntN.{pos}
 use lib.ListN.{set}
 use Rattle.units.specs.Numbers.{fddi}
 use Rattle.units.specs.Places.{at}
-use Rattle.places.specs.Held.{raisedHeld}
-use Rattle.places.specs.Laps.{ranOn, lapsCounted}
+use Rattle.arrays.specs.Held.{raisedHeld}
+use Rattle.arrays.specs.Laps.{ranOn, lapsCounted}
 use Rattle.sets.specs.declared.Head.{Head}
 use Rattle.rings.specs.Lent.{ringOf}
 use Rattle.rings.specs.Timers.{Fddi, limit, rise, riseSince, unusedAfter, tokenCame}
@@ -21,7 +21,8 @@ use Rattle.rings.specs.declared.view.View.{View}
 use Rattle.rings.specs.declared.steps.Moves.{Moves}
 
 -- the numbers of the station that has the token, out of lent arrays
-abbrev pub viewIn : List ℕ → List ℕ → List ℕ → List ℕ → List ℕ → List ℕ → List ℕ → List ℕ → List ℕ → Head → ℕ → ℕ → ℕ → View
+abbrev pub viewIn : List ℕ
+    → List ℕ → List ℕ → List ℕ → List ℕ → List ℕ → List ℕ → List ℕ → List ℕ → Head → ℕ → ℕ → ℕ → View
 viewIn w d s trt late sent rest arrival mark head token clock unused =
     record {
       head = head;
@@ -41,13 +42,15 @@ viewIn w d s trt late sent rest arrival mark head token clock unused =
 -- and out of a ring
 abbrev pub viewOf : Ring → View
 viewOf r =
-    viewIn (r .set .w) (r .set .d) (r .alloc .s) (r .trt) (r .late) (r .sent) (r .rest) (r .arrival) (r .mark) (r .set .head) (r .token) (r .clock) (r .unused)
+    viewIn (r .set .w) (r .set .d) (r .alloc .s) (r .trt) (r .late) (r .sent) (r .rest) (r .arrival) (r .mark)
+    (r .set .head) (r .token) (r .clock) (r .unused)
 
 -- the ring of one station that has these numbers
 abbrev pub pointOf : View → Ring
 pointOf v =
     ringOf
-    (v .walk ∷ []) [] (v .deadline ∷ []) [] (v .share ∷ []) (v .trt ∷ []) (v .late ∷ []) (v .sent ∷ []) (v .rest ∷ []) (v .arrival ∷ []) [] (v .mark ∷ []) []
+    (v .walk ∷ []) [] (v .deadline ∷ []) [] (v .share ∷ []) (v .trt ∷ []) (v .late ∷ []) (v .sent ∷ []) (v .rest ∷ [])
+    (v .arrival ∷ []) [] (v .mark ∷ []) []
     (v .head) 1 0 (v .clock) 0 (v .unused)
 
 -- the record of a visit at this station that sent these two amounts
@@ -92,6 +95,7 @@ cameIn trt late token = tokenCame token (record { trt = trt; late = late; unused
 -- the arrays after the visit, by the mode
 pub record TimersMoved (head : Head) (n token rise since : ℕ) (trt late trt′ late′ : List ℕ) : Type 0 where
   pub trt-fddi : head .mode ≡ fddi → trt′ ≡ ranOn n rise (head .ttrt) (cameIn trt late token .trt)
-  pub late-fddi : head .mode ≡ fddi → late′ ≡ lapsCounted n rise (head .ttrt) (cameIn trt late token .trt) (cameIn trt late token .late)
+  pub late-fddi : head .mode ≡ fddi
+      → late′ ≡ lapsCounted n rise (head .ttrt) (cameIn trt late token .trt) (cameIn trt late token .late)
   pub trt-timely : ¬ (head .mode ≡ fddi) → trt′ ≡ set (raisedHeld n rise trt) token since
   pub late-timely : ¬ (head .mode ≡ fddi) → late′ ≡ late

@@ -218,7 +218,7 @@ pub fn open(set: Set, alloc: Alloc) -> Opened
     if number != numbers::ACCEPTED {
         ring = opening::blank_ring();
     } else {
-        let trt = places::sums_to_last(&ring.set.w, n);
+        let trt = arrays::sums_to_last(&ring.set.w, n);
         ring.unused = units::sum_lent(&ring.alloc.s, n);
         ring.trt = trt;
     }

@@ -33,8 +33,8 @@ fn messages_sound<'a>(
 ) -> bool
     ensures { λ b. ⌜ b ≡ (allBelow (min n 128) (λ i. leb (at (now (rest .entry)) i) (at (now (c .entry)) i)) && allBelow (min n 128) (λ i. leb (at (now (arrival .entry)) i) mostClock)) ⌝ }
 {
-    let within = places::each_within(rest, c, n);
-    let in_range = places::none_later(arrival, numbers::MOST_CLOCK, n);
+    let within = arrays::each_within(rest, c, n);
+    let in_range = arrays::none_later(arrival, numbers::MOST_CLOCK, n);
     within & in_range
 }
 
@@ -64,7 +64,7 @@ pub(crate) fn sound_lent<'a>(
         return false;
     }
     let timers = timing::timers_sound(head, n, s, trt, late, sent, unused);
-    let shares = places::each_within(sent, s, n);
+    let shares = arrays::each_within(sent, s, n);
     let messages = messages_sound(n, c, rest, arrival);
     let counts = counts_sound(clock, visits);
     (token < n) & timers & shares & messages & counts

@@ -8,10 +8,10 @@ ghost use mathlib.Core.Bool.{_&&_};
 ghost use lib.Dec.{leb, ltb, eqb};
 ghost use Rattle.units.specs.Places.{at, sumBelow, allBelow};
 ghost use Rattle.units.specs.Small.{UpTo};
-ghost use Rattle.timers.specs.Timers.{visited};
+ghost use Rattle.fddi_timer_rules.specs.Timers.{visited};
 ghost use lib.ListN.{set};
-ghost use Rattle.places.specs.Held.{raisedHeld};
-ghost use Rattle.places.specs.Laps.{ranOn, lapsCounted};
+ghost use Rattle.arrays.specs.Held.{raisedHeld};
+ghost use Rattle.arrays.specs.Laps.{ranOn, lapsCounted};
 ghost use Rattle.rings.specs.Timers.{Fddi, lead, timelyLimit, fddiLimit, timersOffer, unusedAfter, rise};
 ghost use Rattle.rings.specs.Timers.{mostLate};
 ghost use Rattle.rings.specs.Lent.{TimersSoundIn};
@@ -115,7 +115,7 @@ fn move_timely(trt: &mut [u32; 128], n: u32, token: u32, rise: u64, since: u64)
     let i = token as usize;
     let by = rise as u32;
     let own = since as u32;
-    places::raise(&mut *trt, n, by);
+    arrays::raise(&mut *trt, n, by);
     trt[i] = own;
 }
 
@@ -159,8 +159,8 @@ fn move_fddi<'a>(
 {
     let by = rise as u32;
     token_came(&mut *trt, &mut *late, token);
-    places::count(&mut *late, &*trt, n, by, top);
-    places::run(&mut *trt, n, by, top);
+    arrays::count(&mut *late, &*trt, n, by, top);
+    arrays::run(&mut *trt, n, by, top);
 }
 
 // The timers after a visit, by the mode.
@@ -196,8 +196,8 @@ fn timely_sound<'a>(
 ) -> bool
     ensures { λ b. ⌜ b ≡ (allBelow (min n 128) (λ i. leb (at (now (trt .entry)) i) ttrt) && eqb unused (sumBelow (min n 128) (λ i. at (now (s .entry)) i - at (now (sent .entry)) i))) ⌝ }
 {
-    let trts = places::none_above(trt, ttrt, n);
-    let sum = places::room_first(s, sent, n);
+    let trts = arrays::none_above(trt, ttrt, n);
+    let sum = arrays::room_first(s, sent, n);
     trts & (unused == sum)
 }
 
@@ -205,8 +205,8 @@ fn timely_sound<'a>(
 fn fddi_sound<'a>(ttrt: u32, n: u32, trt: &'a [u32; 128], late: &'a [u32; 128]) -> bool
     ensures { λ b. ⌜ b ≡ (allBelow (min n 128) (λ i. ltb (at (now (trt .entry)) i) ttrt) && allBelow (min n 128) (λ i. leb (at (now (late .entry)) i) mostLate)) ⌝ }
 {
-    let below = places::none_reaching(trt, ttrt, n);
-    let few = places::none_above(late, MOST_LATE, n);
+    let below = arrays::none_reaching(trt, ttrt, n);
+    let few = arrays::none_above(late, MOST_LATE, n);
     below & few
 }
 

@@ -6,7 +6,7 @@ use mathlib.Core.Logic.{⊎-elim}
 use native.Mathlib.Numerals.{add-one}
 use native.Mathlib.Omega.{arith}
 use lib.Dec.{eqb}
-use Rattle.units.specs.JudgingLaws.{true-or-false}
+use Rattle.units.proofs.JudgingLaws.{true-or-false}
 use Rattle.fields.specs.Fields.{modeTag, frameTag}
 use Rattle.fields.specs.Header.{furtherCount, absent}
 use Rattle.sets.specs.Header.{headOf, headNumber, withHeadNumber}

@@ -18,4 +18,5 @@ headNumber h tag = cond (eqb tag modeTag) (h .mode) (cond (eqb tag frameTag) (h 
 unfoldable pub withHeadNumber : Head → ℕ → ℕ → Head
 withHeadNumber h tag number =
     cond (eqb tag modeTag) (record { ttrt = h .ttrt; mode = number; frame = h .frame; grid = h .grid })
-    (cond (eqb tag frameTag) (record { ttrt = h .ttrt; mode = h .mode; frame = number; grid = h .grid }) (record { ttrt = h .ttrt; mode = h .mode; frame = h .frame; grid = number }))
+    (cond (eqb tag frameTag) (record { ttrt = h .ttrt; mode = h .mode; frame = number; grid = h .grid })
+    (record { ttrt = h .ttrt; mode = h .mode; frame = h .frame; grid = number }))

@@ -6,7 +6,7 @@ use mathlib.Core.List.{List}
 use native.Mathlib.Omega.{arith}
 use lib.ListN.{length}
 use Rattle.units.specs.Places.{at}
-use Rattle.units.specs.PlaceLaws.{fill-inside}
+use Rattle.units.proofs.PlaceLaws.{fill-inside}
 use Rattle.sets.specs.Header.{headNumber}
 use Rattle.sets.specs.Judged.{zeros}
 use Rattle.fields.specs.Rows.{rows}
@@ -15,11 +15,11 @@ use Rattle.fields.specs.Fields.{allocationsFor}
 use Rattle.fields.proofs.SegmentLaws.{Stands}
 use Rattle.fields.proofs.FieldLaws.{allocations-few}
 use Rattle.fields.specs.declared.Passed.{Passed}
-use Rattle.scan.specs.Scanned.{scanned}
-use Rattle.scan.proofs.PassedLaws.{AllPassed, Ended, scanned-ended}
+use Rattle.field_reader.specs.Scanned.{scanned}
+use Rattle.field_reader.proofs.PassedLaws.{AllPassed, Ended, scanned-ended}
 use Rattle.sheets.specs.Layout.{mark, stationBytes, allocationBytes, sheetOf}
 use Rattle.sheets.specs.Reading.{headIn, setOf, allocOf, setIn, allocIn, judgedSheet, readSheet}
-use Rattle.sheets.specs.ReadLaws.{then-none, read-number, judged-kept}
+use Rattle.sheets.proofs.ReadLaws.{then-none, read-number, judged-kept}
 use Rattle.sheets.proofs.ReadingLaws.{head-ranges}
 use Rattle.sheet_rules.proofs.HeaderLaws.{read-header, read-from}
 use Rattle.sheet_rules.proofs.StandLaws.{mark-stands, StationNumbers, stations-stand, allocations-stand}

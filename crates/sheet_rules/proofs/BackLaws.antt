@@ -7,24 +7,24 @@ use native.Mathlib.Numerals.{add-one}
 use native.Mathlib.Omega.{arith}
 use lib.ListN.{length, length-append}
 use Rattle.units.specs.Places.{at}
-use Rattle.units.specs.PlaceLaws.{fill-same, fill-inside}
+use Rattle.units.proofs.PlaceLaws.{fill-same, fill-inside}
 use Rattle.sets.specs.Header.{headNumber}
 use Rattle.sets.specs.Rules.{SameSet, CountAllowed}
 use Rattle.sets.specs.Judged.{zeros}
-use Rattle.sets.specs.SetLaws.{judged-same}
+use Rattle.sets.proofs.SetLaws.{judged-same}
 use Rattle.sets.specs.declared.Set.{Set}
 use Rattle.plans.proofs.SameLaws.{judged-plan-same}
 use Rattle.plans.specs.declared.Alloc.{Alloc}
 use Rattle.fields.specs.Rows.{rows}
 use Rattle.fields.specs.Fields.{furtherSize, allocationsFor, tagAt}
 use Rattle.fields.proofs.SegmentLaws.{Stands, stands-itself, stands-whole, stands-left, stands-right, stands-join}
-use Rattle.scan.specs.Scanned.{scanned}
-use Rattle.scan.specs.FirstFault.{WellFormed}
-use Rattle.scan.specs.declared.Scanned.{Scanned}
-use Rattle.scan.proofs.PassedLaws.{passedAll, header-passes, station-passes, allocation-passes, end-passes}
+use Rattle.field_reader.specs.Scanned.{scanned}
+use Rattle.field_reader.specs.FirstFault.{WellFormed}
+use Rattle.field_reader.specs.declared.Scanned.{Scanned}
+use Rattle.field_reader.proofs.PassedLaws.{passedAll, header-passes, station-passes, allocation-passes, end-passes}
 use Rattle.sheets.specs.Layout.{headBytes, headLength, stationBytes, allocationBytes, endBytes, fieldsOf, sheetOf}
 use Rattle.sheets.specs.Reading.{setOf, allocOf, setIn, allocIn, judgedSheet, readSheet}
-use Rattle.sheets.specs.ReadLaws.{then-rest, read-number, sheet-accepted, Kept, judged-kept}
+use Rattle.sheets.proofs.ReadLaws.{then-rest, read-number, sheet-accepted, Kept, judged-kept}
 use Rattle.sheet_rules.specs.Promised.{firstPlaces, firstAllocations, Numbers32}
 use Rattle.sheets.proofs.WritingLaws.{head-long, stations-length, fields-long, sheet-long}
 use Rattle.sheet_rules.proofs.HeaderLaws.{laid-ttrt, laid-head, laid-header}

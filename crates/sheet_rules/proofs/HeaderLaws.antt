@@ -7,7 +7,7 @@ use mathlib.Core.Logic.{_⊎_, inl, inr, ⊎-elim, _≢_}
 use native.Mathlib.Omega.{arith}
 use lib.ListN.{length}
 use Rattle.units.specs.Places.{sumBelow}
-use Rattle.units.specs.SmallLaws.{below-or-not}
+use Rattle.units.proofs.SmallLaws.{below-or-not}
 use Rattle.sets.specs.Header.{headNumber}
 use Rattle.sets.specs.declared.Head.{Head}
 use Rattle.fields.specs.Bytes.{numberAt, bytesOf, bodyOf, AllBytes}
@@ -17,7 +17,7 @@ use Rattle.fields.proofs.SegmentLaws.{Stands, stands-left, stands-right, stands
 use Rattle.fields.proofs.ByteLaws.{number-read, number-stands}
 use Rattle.fields.proofs.FieldLaws.{Whole, further-small}
 use Rattle.fields.proofs.HeaderLaws.{same-or-not, header-there, header-one, header-out, behind-there, behind-not, given-absent, given-there, place-first, place-next, roomIn, body-length, body-read, body-stands}
-use Rattle.scan.proofs.PassedLaws.{HeaderStands}
+use Rattle.field_reader.proofs.PassedLaws.{HeaderStands}
 use Rattle.sheets.specs.Layout.{mark, mostOf, furtherBytes, headUpTo, headBytes, lengthUpTo, headLength}
 use Rattle.sheets.specs.Reading.{headIn}
 use Rattle.sheets.proofs.ReadingLaws.{number-of, number-at}

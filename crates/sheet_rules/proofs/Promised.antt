@@ -12,13 +12,13 @@ use lib.Seq.{take-at}
 use borrow.Author.Tests.{leb-true}
 use Rattle.units.specs.Numbers.{timely, fddi}
 use Rattle.units.specs.Places.{at, fill}
-use Rattle.units.specs.PlaceLaws.{fill-outside}
-use Rattle.units.specs.SmallLaws.{below-or-not}
-use Rattle.units.specs.JudgingLaws.{held, not-given, passed}
+use Rattle.units.proofs.PlaceLaws.{fill-outside}
+use Rattle.units.proofs.SmallLaws.{below-or-not}
+use Rattle.units.proofs.JudgingLaws.{held, not-given, passed}
 use Rattle.sets.specs.Header.{headNumber}
 use Rattle.sets.specs.Rules.{SameSet, CountAllowed}
 use Rattle.sets.specs.Judged.{judged, judgedThen, blankSet, zeros}
-use Rattle.sets.specs.SetLaws.{decides-count, judged-same}
+use Rattle.sets.proofs.SetLaws.{decides-count, judged-same}
 use Rattle.sets.specs.declared.Head.{Head}
 use Rattle.sets.specs.declared.Set.{Set}
 use Rattle.plans.specs.Planned.{judgedPlan, blankAlloc}
@@ -31,16 +31,16 @@ use Rattle.fields.specs.Header.{furtherCount, behindTag, furtherPlace, placeOf}
 use Rattle.fields.proofs.HeaderLaws.{behind-there, behind-not}
 use Rattle.fields.proofs.SegmentLaws.{rows-same}
 use Rattle.fields.specs.declared.Passed.{Passed}
-use Rattle.scan.specs.Scanned.{scanned}
-use Rattle.scan.specs.FirstFault.{Fault, no-start, not-allowed, cut-body, follows, FirstFault, WholeSheet}
-use Rattle.scan.specs.declared.Scanned.{Scanned}
-use Rattle.scan.proofs.ScanLaws.{zero-or-not, fault-there, end-there, stopped, shape-fault, shape-whole}
-use Rattle.scan.proofs.PassedLaws.{whole-ended, scanned-ended, through, plan-no-request}
+use Rattle.field_reader.specs.Scanned.{scanned}
+use Rattle.field_reader.specs.FirstFault.{Fault, no-start, not-allowed, cut-body, follows, FirstFault, WholeSheet}
+use Rattle.field_reader.specs.declared.Scanned.{Scanned}
+use Rattle.field_reader.proofs.ScannedLaws.{zero-or-not, fault-there, end-there, stopped, shape-fault, shape-whole}
+use Rattle.field_reader.proofs.PassedLaws.{whole-ended, scanned-ended, through, plan-no-request}
 use Rattle.sheets.specs.Layout.{mark, mostOf, furtherBytes, furtherLength, headUpTo, headLength, stationWith, stationBytes, allocationBytes, endBytes, fieldsOf, sheetOf, requestSheet, planSheet, sheetLength}
 use Rattle.sheets.specs.Reading.{thenNumber, setIn, allocIn, judgedSheet, readSheet, readRequest, readPlan, givenSheet}
 use Rattle.sheets.specs.Writing.{writtenAnswer, writtenBuffer, requestWritten, planWritten}
 use Rattle.sheet_rules.specs.Promised.{Promised, ZeroPast, GivenRequest, GivenPlan, firstPlaces, firstAllocations, requestLength, planLength, ByTag, There, said, smallSet, Numbers32}
-use Rattle.sheets.specs.ReadLaws.{then-rest, then-keeps, then-none, read-refused, read-accepted, read-number, sheet-accepted}
+use Rattle.sheets.proofs.ReadLaws.{then-rest, then-keeps, then-none, read-refused, read-accepted, read-number, sheet-accepted}
 use Rattle.sheets.proofs.ReadingLaws.{head-out, given-misshapen, given-read as given-held, given-number, sheet-given}
 use Rattle.sheets.proofs.FirstLaws.{reads-enough}
 use Rattle.sheets.proofs.WritingLaws.{further-none, up-to-more, length-none, length-some, head-fields, head-lengths, sheet-long, answer-accepted, answer-number, buffer-accepted, buffer-refused, number-none, number-short, number-judged as written-judged}

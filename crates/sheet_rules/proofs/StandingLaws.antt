@@ -6,9 +6,9 @@ use mathlib.Core.Logic.{_↔_, _⊎_, inl, inr, _≢_, ⊎-elim}
 use native.Mathlib.Omega.{arith}
 use borrow.Author.Tests.{eqb-true, eqb-false, eq-eqb, ltb-true, lt-ltb, leb-false, lt-leb}
 use lib.Dec.{leb, ltb, eqb}
-use Rattle.units.specs.JudgingLaws.{Decides, true-or-false, decides-le, decides-both, decides-between}
-use Rattle.units.specs.SmallLaws.{below-or-not}
-use Rattle.units.specs.Judging.{between}
+use Rattle.units.proofs.JudgingLaws.{true-or-false, decides-le, decides-both, decides-between}
+use Rattle.units.proofs.SmallLaws.{below-or-not}
+use Rattle.units.specs.Judging.{between, Decides}
 use Rattle.fields.specs.Fields.{allocationsFor, due, headed, row, furtherSize, isFurther, inHeader, isAllowed}
 use Rattle.fields.proofs.FieldLaws.{further-one, further-four}
 use Rattle.fields.specs.declared.Passed.{Passed}

@@ -19,4 +19,5 @@ pub data MayStand (p : Passed) (tag size : ℕ) : Type 0 where
   -- an allocation, tag 3 and length 4: in a plan, behind the stations, one for each
   an-allocation : tag ≡ 3 → size ≡ 4 → 1 ≤ p .head → p .plan ≡ true → p .allocations < p .stations → MayStand p tag size
   -- the end, tag 255 and length 0: behind at least one station, and in a plan behind an allocation for each
-  an-end : tag ≡ 255 → size ≡ 0 → 1 ≤ p .head → 1 ≤ p .stations → p .allocations ≡ cond (p .plan) (p .stations) 0 → MayStand p tag size
+  an-end : tag ≡ 255
+      → size ≡ 0 → 1 ≤ p .head → 1 ≤ p .stations → p .allocations ≡ cond (p .plan) (p .stations) 0 → MayStand p tag size

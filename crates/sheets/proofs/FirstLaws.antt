@@ -10,9 +10,9 @@ use borrow.Author.Tests.{le-leb}
 use lib.ListN.{length, take, drop, length-append, List·getD-append, take-append-drop}
 use lib.Seq.{length-take-le, drop-drop, drop-length, drop-nil}
 use Rattle.units.specs.Places.{at}
-use Rattle.units.specs.PlaceLaws.{fill-same}
-use Rattle.units.specs.JudgingLaws.{true-or-false}
-use Rattle.units.specs.SmallLaws.{below-or-not}
+use Rattle.units.proofs.PlaceLaws.{fill-same}
+use Rattle.units.proofs.JudgingLaws.{true-or-false}
+use Rattle.units.proofs.SmallLaws.{below-or-not}
 use Rattle.sets.specs.Judged.{zeros}
 use Rattle.fields.specs.Bytes.{shortAt, numberAt, bodyAt}
 use Rattle.fields.specs.Fields.{modeTag, frameTag, gridTag, furtherSize, allocationsFor, tagAt, sizeAt, allowedAt, FieldWhole}
@@ -20,10 +20,10 @@ use Rattle.fields.specs.Header.{furtherCount, behindTag, furtherPlace, placeOf,
 use Rattle.fields.specs.declared.Passed.{Passed}
 use Rattle.fields.proofs.FieldLaws.{allocations-few, further-one, further-four, further-small, Kind, a-head, a-station, an-allocation, an-end, a-further, allowed-kind}
 use Rattle.fields.proofs.HeaderLaws.{same-or-not, behind-there, behind-not, place-first, place-next}
-use Rattle.scan.specs.Scanned.{scanned}
-use Rattle.scan.specs.FirstFault.{WellFormed, start, more, Fault, no-start, not-allowed, cut-body, follows}
-use Rattle.scan.proofs.ScanLaws.{fault-there, stopped}
-use Rattle.scan.proofs.PassedLaws.{Headed, ttrt-first, and-further, Header, no-header, a-header, Through, through, end-short}
+use Rattle.field_reader.specs.Scanned.{scanned}
+use Rattle.field_reader.specs.FirstFault.{WellFormed, start, more, Fault, no-start, not-allowed, cut-body, follows}
+use Rattle.field_reader.proofs.ScannedLaws.{fault-there, stopped}
+use Rattle.field_reader.proofs.PassedLaws.{Headed, ttrt-first, and-further, Header, no-header, a-header, Through, through, end-short}
 use Rattle.sheets.specs.Layout.{requestRead, planRead}
 use Rattle.sheets.specs.Reading.{column, numberIn, headIn, setOf, allocOf, readSheet, planPassed, planStart}
 

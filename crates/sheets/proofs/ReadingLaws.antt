@@ -7,13 +7,13 @@ use mathlib.Core.Logic.{⊎-elim, _≢_}
 use native.Mathlib.Omega.{arith}
 use lib.Dec.{eqb}
 use borrow.Author.Tests.{ne-eqb}
-use Rattle.units.specs.JudgingLaws.{true-or-false}
-use Rattle.units.specs.SmallLaws.{below-or-not}
+use Rattle.units.proofs.JudgingLaws.{true-or-false}
+use Rattle.units.proofs.SmallLaws.{below-or-not}
 use Rattle.sets.specs.Header.{headNumber}
 use Rattle.sets.specs.Rules.{CountAllowed, HeadInRange}
 use Rattle.sets.specs.Judged.{blankSet}
 use Rattle.sets.specs.Lent.{setOf as lentSet}
-use Rattle.sets.specs.SetLaws.{judged-four}
+use Rattle.sets.proofs.SetLaws.{judged-four}
 use Rattle.sets.specs.declared.Head.{Head}
 use Rattle.sets.specs.declared.Set.{Set}
 use Rattle.plans.specs.Planned.{blankAlloc}
@@ -24,14 +24,14 @@ use Rattle.fields.specs.Fields.{modeTag, frameTag, gridTag}
 use Rattle.fields.specs.Header.{furtherCount, furtherPlace, givenAt}
 use Rattle.fields.proofs.FieldLaws.{allocations-few}
 use Rattle.fields.proofs.HeaderLaws.{behind-least, place-next, place-of}
-use Rattle.scan.specs.Scanned.{scanned}
+use Rattle.field_reader.specs.Scanned.{scanned}
 use Rattle.fields.specs.declared.Passed.{Passed}
-use Rattle.scan.proofs.ScanLaws.{stopped}
-use Rattle.scan.proofs.PassedLaws.{AllPassed, all-passed, scanned-ended}
+use Rattle.field_reader.proofs.ScannedLaws.{stopped}
+use Rattle.field_reader.proofs.PassedLaws.{AllPassed, all-passed, scanned-ended}
 use Rattle.sheets.specs.Bounds.{PassedFits, ColumnsRead}
 use Rattle.sheets.specs.Layout.{mostOf}
 use Rattle.sheets.specs.Reading.{numberIn, headIn, setOf, allocOf, planPassed, setIn, allocIn, thenNumber, judgedSheet, readNumber, readSheet, readAnswer, givenAnswer, givenSheet, fieldsAnswer}
-use Rattle.sheets.specs.ReadLaws.{then-rest, then-keeps, then-none, read-refused, read-number, sheet-accepted}
+use Rattle.sheets.proofs.ReadLaws.{then-rest, then-keeps, then-none, read-refused, read-number, sheet-accepted}
 
 -- where all fields but the end have passed, there is room for all that is read from them
 pub passed-fits : (plan : Bool) (bs : List ℕ) (p : Passed) (a : ℕ) → AllPassed plan bs p a → PassedFits bs p

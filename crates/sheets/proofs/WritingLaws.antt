@@ -9,9 +9,9 @@ use native.Mathlib.Nat.{mul-zero, mul-suc, mul-le-mul-left}
 use native.Mathlib.Omega.{arith}
 use lib.ListN.{length, drop, length-append}
 use borrow.Author.Tests.{leb-true, le-leb, lt-leb, ne-eqb}
-use Rattle.units.specs.JudgingLaws.{held, failed, passed}
+use Rattle.units.proofs.JudgingLaws.{held, failed, passed}
 use Rattle.units.specs.Places.{sumBelow}
-use Rattle.units.specs.PlaceLaws.{sum-split}
+use Rattle.units.proofs.PlaceLaws.{sum-split}
 use Rattle.sets.specs.Header.{headNumber}
 use Rattle.sets.specs.declared.Head.{Head}
 use Rattle.sets.specs.declared.Set.{Set}
@@ -20,14 +20,14 @@ use Rattle.fields.specs.Rows.{rows, laid}
 use Rattle.fields.specs.Bytes.{bytesOf, bodyOf}
 use Rattle.fields.specs.Fields.{modeTag, furtherSize, allocationsFor}
 use Rattle.fields.specs.Header.{furtherCount, absent}
-use Rattle.fields.specs.RowLaws.{rows-none, rows-step, laid-none, laid-first}
+use Rattle.fields.proofs.RowLaws.{rows-none, rows-step, laid-none, laid-first}
 use Rattle.fields.proofs.SegmentLaws.{rows-length, laid-more, rows-then}
 use Rattle.fields.proofs.ByteLaws.{bytes-length}
 use Rattle.fields.proofs.FieldLaws.{further-small}
 use Rattle.fields.proofs.HeaderLaws.{same-or-not, body-length}
 use Rattle.sheets.specs.Layout.{mark, furtherBytes, furtherLength, furtherField, headUpTo, headBytes, lengthUpTo, headLength, stationWith, allocationWith, stationBytes, allocationBytes, endBytes, fieldsOf, fieldsLength, sheetOf, sheetLength}
 use Rattle.sheets.specs.Reading.{judgedSheet}
-use Rattle.sheets.specs.ReadLaws.{then-rest, then-keeps, then-none}
+use Rattle.sheets.proofs.ReadLaws.{then-rest, then-keeps, then-none}
 use Rattle.sheets.specs.Writing.{writeNumber, writeAnswer, bufferAfter, refusedWriting, Wrote, WroteFields, roomNumber, laidAfter, PutAt}
 use Rattle.sheets.specs.declared.Written.{Written}
 

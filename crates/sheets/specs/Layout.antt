@@ -82,7 +82,8 @@ endBytes = mark endTag endSize
 
 -- all fields of a sheet but the end: the header; then the stations in ring order; in a plan the allocations
 abbrev pub fieldsOf : Bool → Set → Alloc → List ℕ
-fieldsOf plan t a = headBytes (t .head) ++ rows (t .n) (stationBytes t) ++ rows (allocationsFor plan (t .n)) (allocationBytes a)
+fieldsOf plan t a =
+    headBytes (t .head) ++ rows (t .n) (stationBytes t) ++ rows (allocationsFor plan (t .n)) (allocationBytes a)
 
 -- how many bytes these have
 abbrev pub fieldsLength : Bool → Set → ℕ

@@ -1,5 +1,5 @@
 -- What reading answers, for any bytes whatever.
--- The fields are handed out one after another from the left (`scan/specs/Scanned.antt`). Where the walk ends with 0, the numbers that the fields hold are read and judged.
+-- The fields are handed out one after another from the left (`field_reader/specs/Scanned.antt`). Where the walk ends with 0, the numbers that the fields hold are read and judged.
 use Prim.Native.Nat.{ℕ, zero, suc, _+_, _*_}
 use mathlib.Core.Bool.{Bool, cond, true, false, _||_}
 use mathlib.Core.List.{List}
@@ -15,7 +15,7 @@ use Rattle.fields.specs.Bytes.{numberAt}
 use Rattle.fields.specs.Fields.{modeTag, frameTag, gridTag, endTag, endSize, isAllowed, left}
 use Rattle.fields.specs.Header.{placeOf, givenAt}
 use Rattle.fields.specs.declared.Passed.{Passed}
-use Rattle.scan.specs.Scanned.{scanned}
+use Rattle.field_reader.specs.Scanned.{scanned}
 use Rattle.sheets.specs.declared.ReadRequest.{ReadRequest}
 use Rattle.sheets.specs.declared.ReadPlan.{ReadPlan}
 use Rattle.sheets.specs.declared.PlanStart.{PlanStart}
@@ -35,7 +35,13 @@ abbrev pub numberIn : List ℕ → ℕ → ℕ
 numberIn bs tag = givenAt bs (placeOf bs tag) tag
 
 abbrev pub headIn : List ℕ → Head
-headIn bs = record { ttrt = numberAt bs 3; mode = numberIn bs modeTag; frame = numberIn bs frameTag; grid = numberIn bs gridTag }
+headIn bs =
+    record {
+      ttrt = numberAt bs 3;
+      mode = numberIn bs modeTag;
+      frame = numberIn bs frameTag;
+      grid = numberIn bs gridTag;
+    }
 
 -- w, C, D and P of the stations that have passed, 19 bytes each
 abbrev pub setOf : List ℕ → Passed → Set
@@ -110,8 +116,20 @@ planPassed p = isAllowed p endTag endSize
 unfoldable pub planStart : List ℕ → PlanStart
 planStart bs =
     cond (planPassed (scanned true bs .passed))
-    (record { set = setIn true bs; alloc = allocIn true bs; passed = true; number = judgedPlan (setIn true bs) (allocIn true bs); at = scanned true bs .at })
-    (record { set = blankSet; alloc = blankAlloc; passed = false; number = scanned true bs .number; at = scanned true bs .at })
+    (record {
+      set = setIn true bs;
+      alloc = allocIn true bs;
+      passed = true;
+      number = judgedPlan (setIn true bs) (allocIn true bs);
+      at = scanned true bs .at;
+    })
+    (record {
+      set = blankSet;
+      alloc = blankAlloc;
+      passed = false;
+      number = scanned true bs .number;
+      at = scanned true bs .at;
+    })
 
 -- reading a plan sheet
 abbrev pub readPlan : List ℕ → ReadPlan

@@ -17,7 +17,8 @@ use Rattle.sheets.specs.declared.Written.{Written}
 
 -- N (2), then 4, 5, for plans 7; then 14 where the buffer is too short
 abbrev pub writeNumber : Bool → Set → Alloc → ℕ → ℕ
-writeNumber plan t a room = thenNumber (judgedSheet plan t a) (orElse (leb (sheetLength plan t) room) bufferTooShort accepted)
+writeNumber plan t a room =
+    thenNumber (judgedSheet plan t a) (orElse (leb (sheetLength plan t) room) bufferTooShort accepted)
 
 -- refused: nothing is written
 abbrev pub refusedWriting : ℕ → Written
@@ -72,7 +73,8 @@ pub record Writing : Type 0 where
   pub buffer : List ℕ
 
 abbrev pub requestWritten : Set → List ℕ → Writing
-requestWritten t out = record { answer = writtenAnswer false t blankAlloc out; buffer = writtenBuffer false t blankAlloc out }
+requestWritten t out =
+    record { answer = writtenAnswer false t blankAlloc out; buffer = writtenBuffer false t blankAlloc out }
 
 abbrev pub planWritten : Set → Alloc → List ℕ → Writing
 planWritten t a out = record { answer = writtenAnswer true t a out; buffer = writtenBuffer true t a out }

@@ -95,7 +95,7 @@ pub fn read_plan(sheet: &[u8]) -> ReadPlan
 pub fn plan_number(sheet: &[u8]) -> u8
     ensures { λ r. ⌜ r ≡ readPlan (now (sheet .entry)) .number ⌝ }
 {
-    let scanned = scan::scan_sheet(sheet, true);
+    let scanned = field_reader::scan_sheet(sheet, true);
     if scanned.number != numbers::ACCEPTED {
         return scanned.number;
     }
@@ -113,7 +113,7 @@ pub fn read_given(sheet: &[u8], plan: bool) -> ReadPlan
 pub fn read_start(sheet: &[u8]) -> PlanStart
     ensures { λ r. ⌜ r ≡ planStart (now (sheet .entry)) ⌝ }
 {
-    let scanned = scan::scan_sheet(sheet, true);
+    let scanned = field_reader::scan_sheet(sheet, true);
     if !reading::plan_passed(scanned.passed) {
         let set = sets::blank_set();
         let alloc = plans::blank_alloc();

@@ -152,7 +152,7 @@ pub(crate) fn read_fields(bs: &[u8], passed: Passed, plan: bool, kept: bool) -> 
 pub(crate) fn read_sheet(bs: &[u8], plan: bool, kept: bool) -> ReadPlan
     ensures { λ r. ⌜ r ≡ cond kept (givenSheet plan (now (bs .entry))) (readSheet plan (now (bs .entry))) ⌝ }
 {
-    let scanned = scan::scan_sheet(bs, plan);
+    let scanned = field_reader::scan_sheet(bs, plan);
     if scanned.number != numbers::ACCEPTED {
         return refused(scanned.number);
     }

@@ -4,14 +4,14 @@ ghost use Prim.Native.Nat.{_+_, _-_, _≤_};
 ghost use lib.ListN.{length};
 ghost use Rattle.fields.specs.Rows.{laid};
 ghost use Rattle.fields.specs.Bytes.{bytesOf};
-ghost use Rattle.entries.specs.Visit.{visitBytes, visitAt, visitOrBlank};
-ghost use Rattle.entries.specs.Mark.{markBytes, markOrBlank};
+ghost use Rattle.log_records.specs.Visit.{visitBytes, visitAt, visitOrBlank};
+ghost use Rattle.log_records.specs.Mark.{markBytes, markOrBlank};
 ghost use Rattle.sheets.specs.Layout.{endBytes};
 ghost use Rattle.sheets.specs.Reading.{numberOrZero};
 ghost use Rattle.sheets.specs.Writing.{PutAt};
 use crate::bytes;
-use entries::MarkEntry;
-use entries::VisitEntry;
+use log_records::MarkEntry;
+use log_records::VisitEntry;
 use units::numbers;
 
 // How many of so many bytes there are from the place on.
@@ -52,8 +52,8 @@ fn read_visit(bs: &[u8], at: usize) -> VisitEntry
 pub fn visit_at(bs: &[u8], at: usize) -> VisitEntry
     ensures { λ r. ⌜ r ≡ visitOrBlank (now (bs .entry)) at ⌝ }
 {
-    if left(bs.len(), at) < entries::VISIT_LENGTH {
-        return entries::blank_visit();
+    if left(bs.len(), at) < log_records::VISIT_LENGTH {
+        return log_records::blank_visit();
     }
     read_visit(bs, at)
 }
@@ -62,8 +62,8 @@ pub fn visit_at(bs: &[u8], at: usize) -> VisitEntry
 pub fn mark_at(bs: &[u8], at: usize) -> MarkEntry
     ensures { λ r. ⌜ r ≡ markOrBlank (now (bs .entry)) at ⌝ }
 {
-    if left(bs.len(), at) < entries::MARK_LENGTH {
-        return entries::blank_mark();
+    if left(bs.len(), at) < log_records::MARK_LENGTH {
+        return log_records::blank_mark();
     }
     let station = fields::bytes::wide(bs[at + 3]);
     let mark = fields::bytes::wide(bs[at + 4]);
@@ -75,7 +75,7 @@ fn lay_visit(out: &mut [u8], at: usize, visit: VisitEntry)
     requires { ⌜ at + 20 ≤ length (now out) ⌝ }
     ensures { λ _. ⌜ now (out .exit) ≡ laid (now (out .entry)) at (visitBytes visit) ⌝ }
 {
-    bytes::put_start(out, at, entries::VISIT_TAG, 17);
+    bytes::put_start(out, at, log_records::VISIT_TAG, 17);
     bytes::put_byte(out, at + 3, visit.station);
     bytes::put_number(out, at + 4, visit.start);
     bytes::put_number(out, at + 8, visit.limit);
@@ -87,7 +87,7 @@ fn lay_visit(out: &mut [u8], at: usize, visit: VisitEntry)
 pub fn put_visit(out: &mut [u8], at: usize, visit: VisitEntry) -> u8
     ensures { λ r. ⌜ PutAt at (visitBytes visit) 3 (now (out .entry)) (now (out .exit)) r ⌝ }
 {
-    if left(out.len(), at) < entries::VISIT_LENGTH + 3 {
+    if left(out.len(), at) < log_records::VISIT_LENGTH + 3 {
         return numbers::BUFFER_TOO_SHORT;
     }
     lay_visit(out, at, visit);
@@ -98,10 +98,10 @@ pub fn put_visit(out: &mut [u8], at: usize, visit: VisitEntry) -> u8
 pub fn put_mark(out: &mut [u8], at: usize, mark: MarkEntry) -> u8
     ensures { λ r. ⌜ PutAt at (markBytes mark) 3 (now (out .entry)) (now (out .exit)) r ⌝ }
 {
-    if left(out.len(), at) < entries::MARK_LENGTH + 3 {
+    if left(out.len(), at) < log_records::MARK_LENGTH + 3 {
         return numbers::BUFFER_TOO_SHORT;
     }
-    bytes::put_start(out, at, entries::MARK_TAG, 2);
+    bytes::put_start(out, at, log_records::MARK_TAG, 2);
     bytes::put_byte(out, at + 3, mark.station);
     bytes::put_byte(out, at + 4, mark.mark);
     numbers::ACCEPTED

@@ -43,7 +43,14 @@ places xs = xs ++ replicate (128 - length xs) 0
 -- a timely-token set of TTRT and, station by station, w, C and D; P, which the cases leave open, is D
 abbrev pub setOf : ℕ → List ℕ → List ℕ → List ℕ → Set
 setOf ttrt w c d =
-    record { head = record { ttrt = ttrt; mode = timely; frame = 1; grid = 1 }; n = length w; w = places w; c = places c; d = places d; p = places d }
+    record {
+      head = record { ttrt = ttrt; mode = timely; frame = 1; grid = 1 };
+      n = length w;
+      w = places w;
+      c = places c;
+      d = places d;
+      p = places d;
+    }
 
 pub record SetCase : Type 0 where
   pub set : Set

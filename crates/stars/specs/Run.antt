@@ -37,7 +37,16 @@ pub record Row : Type 0 where
 
 abbrev row : ℕ → ℕ → ℕ → ℕ → ℕ → ℕ → ℕ → ℤ → Row
 row station start trt limit synchronous asynchronous finish margin =
-    record { station = station; start = start; trt = trt; limit = limit; synchronous = synchronous; asynchronous = asynchronous; finish = finish; margin = margin }
+    record {
+      station = station;
+      start = start;
+      trt = trt;
+      limit = limit;
+      synchronous = synchronous;
+      asynchronous = asynchronous;
+      finish = finish;
+      margin = margin;
+    }
 
 -- a call of the run: a message of 20 for a station with its arrival, which must be accepted; or a visit with 1,000 asynchronous ticks asked for, which must give the row
 pub data Call : Type 0 where

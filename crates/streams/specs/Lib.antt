@@ -1,2 +1,3 @@
 -- How a command ends.
+--     Ends   the end of a command: what is said, and the status
 pub mod Ends

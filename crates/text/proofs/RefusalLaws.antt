@@ -7,10 +7,10 @@ use mathlib.Core.Logic.{_≢_, ⊎-elim}
 use native.Mathlib.Omega.{arith}
 use borrow.Author.Tests.{lt-ltb, le-ltb, ne-eqb}
 use lib.Dec.{eqb}
-use Rattle.units.specs.SmallLaws.{below-or-not}
+use Rattle.units.proofs.SmallLaws.{below-or-not}
 use Rattle.fields.specs.Rows.{rows}
 use Rattle.text.specs.Text.{digit, decimalWithin, decimalOf, lineOn, line, textOr, refusedLine, EndsRefused, Tells}
-use Rattle.text.specs.TextLaws.{text-accepted, text-refused}
+use Rattle.text.proofs.TextLaws.{text-accepted, text-refused}
 
 -- how often the letter u stands in a text
 unfoldable pub countU : List ℕ → ℕ

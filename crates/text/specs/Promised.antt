@@ -14,4 +14,5 @@ pub record Promised : Type 0 where
   pub decimal : (n : ℕ) → n < 2 ^ 64 → valueOn 0 (decimalOf n) ≡ n
   -- whatever is put, and whether or not there is room for it, the contract leaves no second page and no second answer
   pub put-decided : (most : ℕ) (before : List ℕ) (a : ℕ) (segment : List ℕ) (after after' : List ℕ) (r r' : ℕ)
-      → PutWithin most before a segment after r → PutWithin most before a segment after' r' → (after ≡ after') × (r ≡ r')
+      → PutWithin most before a segment after r
+      → PutWithin most before a segment after' r' → (after ≡ after') × (r ≡ r')

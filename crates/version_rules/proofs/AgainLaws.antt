@@ -11,9 +11,9 @@ use lib.Dec.{leb, eqb}
 use lib.ListN.{length, getD, length-append, List·getD-append}
 use lib.Seq.{getD-append-seam}
 use Rattle.units.specs.Places.{at}
-use Rattle.units.specs.PlaceLaws.{all-at}
-use Rattle.units.specs.JudgingLaws.{and-true}
-use Rattle.units.specs.SmallLaws.{below-or-not}
+use Rattle.units.proofs.PlaceLaws.{all-at}
+use Rattle.units.proofs.JudgingLaws.{and-true}
+use Rattle.units.proofs.SmallLaws.{below-or-not}
 use Rattle.fields.specs.Rows.{rows}
 use Rattle.fields.specs.Bytes.{shortAt, AllBytes}
 use Rattle.fields.specs.Fields.{endTag, endSize, left, tagAt, sizeAt}

@@ -12,9 +12,9 @@ use lib.Dec.{eqb}
 use lib.ListN.{length, take, length-append}
 use lib.Seq.{take-suc, take-length, getD-append-add}
 use Rattle.units.specs.Places.{at}
-use Rattle.units.specs.PlaceLaws.{all-of}
-use Rattle.units.specs.JudgingLaws.{true-or-false, true-and}
-use Rattle.units.specs.SmallLaws.{below-or-not}
+use Rattle.units.proofs.PlaceLaws.{all-of}
+use Rattle.units.proofs.JudgingLaws.{true-or-false, true-and}
+use Rattle.units.proofs.SmallLaws.{below-or-not}
 use Rattle.fields.specs.Rows.{rows}
 use Rattle.fields.specs.Bytes.{shortAt, numberAt}
 use Rattle.fields.specs.Fields.{left, sizeAt}

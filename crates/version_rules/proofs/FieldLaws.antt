@@ -10,8 +10,8 @@ use borrow.Author.Tests.{le-leb, eq-eqb}
 use lib.ListN.{length, take, drop, length-append, length-take, length-drop}
 use lib.Seq.{getD-take, getD-drop, ext-getD}
 use Rattle.units.specs.Places.{at}
-use Rattle.units.specs.JudgingLaws.{true-and}
-use Rattle.units.specs.SmallLaws.{below-or-not}
+use Rattle.units.proofs.JudgingLaws.{true-and}
+use Rattle.units.proofs.SmallLaws.{below-or-not}
 use Rattle.fields.specs.Rows.{rows}
 use Rattle.fields.specs.Bytes.{shortAt, numberAt, bytesOf, AllBytes}
 use Rattle.fields.specs.Fields.{left, tagAt, sizeAt}

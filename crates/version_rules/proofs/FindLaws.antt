@@ -8,8 +8,8 @@ use native.Mathlib.Omega.{arith}
 use borrow.Author.Tests.{lt-ltb, le-leb, ltb-true, leb-true}
 use lib.Dec.{leb, ltb}
 use lib.ListN.{length, getD}
-use Rattle.units.specs.JudgingLaws.{held, failed, true-and, and-true, true-or-false}
-use Rattle.sheets.specs.ReadLaws.{then-rest, then-keeps}
+use Rattle.units.proofs.JudgingLaws.{held, failed, true-and, and-true, true-or-false}
+use Rattle.sheets.proofs.ReadLaws.{then-rest, then-keeps}
 use Rattle.versions.specs.Layout.{mostKept, count}
 use Rattle.versions.specs.Area.{placeOf, beforeIn, countIn, newestIn, isStore, areaNumber}
 use Rattle.versions.specs.Answers.{isKept, findNumber, foundPlace, foundWith, foundVersion}

@@ -9,7 +9,7 @@ use borrow.Author.Tests.{le-ltb, eqb-true, eq-eqb}
 use lib.Dec.{leb, ltb}
 use lib.ListN.{length, take, drop, getD, length-append, length-drop, List·getD-append}
 use lib.Seq.{getD-append-seam, getD-drop}
-use Rattle.units.specs.SmallLaws.{below-or-not}
+use Rattle.units.proofs.SmallLaws.{below-or-not}
 use Rattle.fields.specs.Bytes.{AllBytes}
 use Rattle.fields.proofs.HeaderLaws.{same-or-not}
 use Rattle.versions.specs.Layout.{mostKept, Kept, count, numberOf, sheetOf, storeOf}

@@ -6,7 +6,7 @@ use mathlib.Core.Logic.{_⊎_, inl, inr, _≢_, ⊎-elim}
 use native.Mathlib.Omega.{arith}
 use lib.ListN.{length, drop, getD, length-append, length-drop, List·getD-append}
 use lib.Seq.{getD-drop, getD-append-seam}
-use Rattle.units.specs.SmallLaws.{below-or-not}
+use Rattle.units.proofs.SmallLaws.{below-or-not}
 use Rattle.fields.proofs.HeaderLaws.{same-or-not}
 use Rattle.sheets.specs.Reading.{readPlan}
 use Rattle.versions.specs.Layout.{mostKept, lastVersion, Kept, count}

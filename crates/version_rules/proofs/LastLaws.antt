@@ -7,8 +7,8 @@ use mathlib.Core.Logic.{_⊎_, inl, inr, _↔_, _≢_, ⊎-elim}
 use native.Mathlib.Omega.{arith}
 use lib.ListN.{length, drop, getD, replicate, length-append, length-drop, length-replicate, getD-replicate, List·getD-append}
 use lib.Seq.{drop-append-le, drop-drop, drop-at, getD-drop, getD-append-add, getD-append-seam}
-use Rattle.units.specs.SmallLaws.{below-or-not}
-use Rattle.fields.specs.RowLaws.{rows-none}
+use Rattle.units.proofs.SmallLaws.{below-or-not}
+use Rattle.fields.proofs.RowLaws.{rows-none}
 use Rattle.fields.specs.Bytes.{AllBytes}
 use Rattle.fields.proofs.HeaderLaws.{same-or-not}
 use Rattle.sheets.specs.Layout.{endBytes}

@@ -9,11 +9,11 @@ use borrow.Author.Tests.{lt-ltb, le-ltb, ltb-true, eq-eqb, ne-eqb}
 use lib.Dec.{ltb}
 use lib.ListN.{length}
 use Rattle.units.specs.Places.{at}
-use Rattle.units.specs.JudgingLaws.{held, failed, passed, true-or-false}
+use Rattle.units.proofs.JudgingLaws.{held, failed, passed, true-or-false}
 use Rattle.fields.specs.Bytes.{AllBytes}
 use Rattle.fields.proofs.HeaderLaws.{same-or-not}
 use Rattle.sheets.specs.Reading.{readPlan}
-use Rattle.sheets.specs.ReadLaws.{then-rest, then-keeps, then-none}
+use Rattle.sheets.proofs.ReadLaws.{then-rest, then-keeps, then-none}
 use Rattle.versions.specs.Layout.{lastVersion, Kept, storeOf}
 use Rattle.versions.specs.Area.{newestIn, isStore, areaNumber}
 use Rattle.versions.specs.Answers.{withVersion, storeNumber, storeAnswer, storedAnswer, areaAfter, storedArea}

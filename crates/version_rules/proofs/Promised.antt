@@ -9,7 +9,7 @@ use borrow.Author.Tests.{eq-eqb, ne-eqb}
 use lib.ListN.{length, length-append}
 use lib.Seq.{drop-at}
 use Rattle.units.specs.Places.{at}
-use Rattle.units.specs.JudgingLaws.{held, failed, not-given, true-or-false}
+use Rattle.units.proofs.JudgingLaws.{held, failed, not-given, true-or-false}
 use Rattle.fields.specs.Bytes.{bytesOf, AllBytes}
 use Rattle.fields.specs.declared.Passed.{Passed}
 use Rattle.fields.proofs.SegmentLaws.{stands-itself}
@@ -18,11 +18,11 @@ use Rattle.fields.proofs.HeaderLaws.{same-or-not}
 use Rattle.sets.specs.declared.Set.{Set}
 use Rattle.plans.specs.Planned.{judgedPlan}
 use Rattle.plans.specs.declared.Alloc.{Alloc}
-use Rattle.scan.specs.Scanned.{scanned}
-use Rattle.scan.specs.FirstFault.{Fault, no-start, not-allowed, cut-body, follows}
-use Rattle.scan.proofs.ScanLaws.{stopped}
+use Rattle.field_reader.specs.Scanned.{scanned}
+use Rattle.field_reader.specs.FirstFault.{Fault, no-start, not-allowed, cut-body, follows}
+use Rattle.field_reader.proofs.ScannedLaws.{stopped}
 use Rattle.sheets.specs.Reading.{readPlan, readSheet, setIn, allocIn, judgedSheet}
-use Rattle.sheets.specs.ReadLaws.{then-rest, then-keeps, read-number}
+use Rattle.sheets.proofs.ReadLaws.{then-rest, then-keeps, read-number}
 use Rattle.versions.specs.Layout.{storeSize, lastVersion, versionStart, versionBytes, Kept, count, storeOf, emptyStore}
 use Rattle.versions.specs.Area.{countIn, newestIn, isStore, areaNumber}
 use Rattle.versions.specs.Answers.{isLong, emptyNumber, emptiedArea, storeNumber, storedAnswer, findNumber, foundPlace, foundWith, foundVersion, versionsWith, versionsIn}

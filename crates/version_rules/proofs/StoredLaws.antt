@@ -9,9 +9,9 @@ use borrow.Author.Tests.{eq-eqb, ne-eqb}
 use lib.ListN.{length, take, drop, getD, length-append, length-drop, List·getD-append}
 use lib.Seq.{take-at, drop-at, drop-append-add, getD-drop, getD-append-seam, getD-append-add, ext-getD}
 use Rattle.units.specs.Places.{at}
-use Rattle.units.specs.SmallLaws.{below-or-not}
+use Rattle.units.proofs.SmallLaws.{below-or-not}
 use Rattle.fields.specs.Rows.{rows, laid}
-use Rattle.fields.specs.RowLaws.{rows-step, laid-first}
+use Rattle.fields.proofs.RowLaws.{rows-step, laid-first}
 use Rattle.fields.proofs.HeaderLaws.{same-or-not}
 use Rattle.fields.proofs.SegmentLaws.{rows-same}
 use Rattle.sheets.specs.Layout.{endBytes}

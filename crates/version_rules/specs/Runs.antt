@@ -17,7 +17,9 @@ afterStores bs (sheet ∷ sheets) = afterStores (storedArea bs sheet) sheets
 -- the numbers that were given, in their order; a refused plan is given none
 unfoldable pub given : List ℕ → List (List ℕ) → List ℕ
 given bs [] = []
-given bs (sheet ∷ sheets) = cond (eqb (storeNumber bs sheet) 0) (storedAnswer bs sheet .version ∷ given (storedArea bs sheet) sheets) (given (storedArea bs sheet) sheets)
+given bs (sheet ∷ sheets) =
+    cond (eqb (storeNumber bs sheet) 0) (storedAnswer bs sheet .version ∷ given (storedArea bs sheet) sheets)
+    (given (storedArea bs sheet) sheets)
 
 -- storing leads to the area from an empty store: by plans that plan reading accepts, one after another, as many as there are numbers or fewer
 pub record Reached (bs : List ℕ) : Type 0 where

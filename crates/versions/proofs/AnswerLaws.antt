@@ -9,13 +9,13 @@ use borrow.Author.Tests.{leb-true, leb-false, ltb-true, ltb-false, eq-eqb, ne-eq
 use lib.Dec.{leb, ltb}
 use lib.ListN.{length}
 use Rattle.units.specs.Numbers.{noVersion, accepted}
-use Rattle.units.specs.JudgingLaws.{held, failed, passed, true-or-false, true-and, and-true}
+use Rattle.units.proofs.JudgingLaws.{held, failed, passed, true-or-false, true-and, and-true}
 use Rattle.fields.specs.Bytes.{AllBytes}
 use Rattle.fields.specs.Fields.{sizeAt}
 use Rattle.fields.specs.Rows.{laid}
 use Rattle.sheets.specs.Layout.{endBytes}
 use Rattle.sheets.specs.Reading.{readPlan}
-use Rattle.sheets.specs.ReadLaws.{then-rest, then-keeps, then-none}
+use Rattle.sheets.proofs.ReadLaws.{then-rest, then-keeps, then-none}
 use Rattle.versions.specs.Layout.{storeSize, mostKept, lastVersion, versionBytes, emptyStore}
 use Rattle.versions.specs.Area.{placeOf, beforeIn, keptAt, countIn, endIn, newestIn, isStore, areaNumber}
 use Rattle.versions.specs.Answers.{holdingWith, Judged, isLong, emptiedArea, Emptied, isFull, nextPlace, movedDown, withRoom, withVersion, storeNumber, storeAnswer, areaAfter, Stored, isKept, findNumber, foundPlace, foundWith, foundVersion, versionsWith, versionsIn}

@@ -10,13 +10,13 @@ use borrow.Author.Tests.{leb-true, eqb-true, eq-eqb, ne-eqb, le-leb, lt-leb}
 use lib.Dec.{leb, eqb}
 use lib.ListN.{length, length-take, length-drop}
 use Rattle.units.specs.Places.{at}
-use Rattle.units.specs.JudgingLaws.{true-or-false, and-true}
-use Rattle.units.specs.SmallLaws.{below-or-not}
+use Rattle.units.proofs.JudgingLaws.{true-or-false, and-true}
+use Rattle.units.proofs.SmallLaws.{below-or-not}
 use Rattle.fields.specs.Bytes.{numberAt, AllBytes}
 use Rattle.fields.specs.Fields.{endTag, endSize, left, tagAt, sizeAt}
-use Rattle.scan.proofs.PassedLaws.{scanned-ended}
+use Rattle.field_reader.proofs.PassedLaws.{scanned-ended}
 use Rattle.sheets.specs.Reading.{readSheet, readPlan, numberOrZero, setIn, allocIn}
-use Rattle.sheets.specs.ReadLaws.{then-none, read-number}
+use Rattle.sheets.proofs.ReadLaws.{then-none, read-number}
 use Rattle.sheets.proofs.FirstLaws.{walked-through, plan-stops}
 use Rattle.versions.specs.Layout.{storeSize, mostKept, versionTag}
 use Rattle.versions.specs.Area.{versionFits, sheetAt, isPlan, versionStands, placeOf, beforeIn, keptAt, leading, countIn, endIn, newestIn, zerosFrom, endsAt, noneMissing, isStore}

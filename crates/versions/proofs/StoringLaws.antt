@@ -9,10 +9,10 @@ use lib.ListN.{length, set, take, drop, length-append, length-take, length-drop,
 use borrow.Author.Tests.{le-leb}
 use lib.Seq.{take-suc, take-length, getD-take, getD-drop, getD-append-add}
 use Rattle.units.specs.Places.{at}
-use Rattle.units.specs.JudgingLaws.{held}
+use Rattle.units.proofs.JudgingLaws.{held}
 use Rattle.fields.specs.Rows.{rows, laid}
 use Rattle.fields.specs.Bytes.{bytesOf}
-use Rattle.fields.specs.RowLaws.{laid-none, laid-first}
+use Rattle.fields.proofs.RowLaws.{laid-none, laid-first}
 use Rattle.fields.proofs.SegmentLaws.{rows-length, laid-one, laid-more}
 use Rattle.fields.proofs.ByteLaws.{bytes-length}
 use Rattle.sheets.specs.Layout.{endBytes}

@@ -74,7 +74,9 @@ withVersion bs sheet = laid (withRoom bs) (nextPlace bs) (versionBytes (newestIn
 
 -- 2 of the area; then 1, 2, 3, 4, 5, 7 as reading the sheet gives them; then 18 where the newest number is the last
 abbrev pub storeNumber : List ℕ → List ℕ → ℕ
-storeNumber bs sheet = thenNumber (areaNumber bs) (thenNumber (readPlan sheet .number) (orElse (ltb (newestIn bs) lastVersion) versionsUsed accepted))
+storeNumber bs sheet =
+    thenNumber (areaNumber bs)
+    (thenNumber (readPlan sheet .number) (orElse (ltb (newestIn bs) lastVersion) versionsUsed accepted))
 
 -- accepted: the version's number, one more than the newest; refused: 0
 unfoldable pub storeAnswer : ℕ → ℕ → StoredPlan
@@ -123,7 +125,12 @@ foundVersion bs version = foundWith (findNumber bs version) bs (foundPlace bs ve
 
 -- the oldest and the newest kept number; 0 and 0 where none is kept, and for an area that is no store
 unfoldable pub versionsWith : ℕ → List ℕ → VersionsIn
-versionsWith zero bs = record { oldest = cond (eqb (countIn bs) 0) 0 (beforeIn bs + 1); newest = cond (eqb (countIn bs) 0) 0 (newestIn bs); number = 0 }
+versionsWith zero bs =
+    record {
+      oldest = cond (eqb (countIn bs) 0) 0 (beforeIn bs + 1);
+      newest = cond (eqb (countIn bs) 0) 0 (newestIn bs);
+      number = 0;
+    }
 versionsWith (suc k) bs = record { oldest = 0; newest = 0; number = suc k }
 
 abbrev pub versionsIn : List ℕ → VersionsIn

@@ -16,7 +16,8 @@ use Rattle.versions.specs.Layout.{storeSize, mostKept, versionTag}
 
 -- a whole field of a version stands at the place a: tag 32, and a length that has room for a number and that ends inside the bytes
 unfoldable pub versionFits : List ℕ → ℕ → Bool
-versionFits bs a = leb 7 (left bs a) && (eqb (tagAt bs a) versionTag && leb 4 (sizeAt bs a) && leb (sizeAt bs a + 3) (left bs a))
+versionFits bs a =
+    leb 7 (left bs a) && (eqb (tagAt bs a) versionTag && leb 4 (sizeAt bs a) && leb (sizeAt bs a + 3) (left bs a))
 
 -- the plan sheet of the version at the place a: the bytes behind its number
 abbrev pub sheetAt : List ℕ → ℕ → List ℕ

@@ -1,7 +1,7 @@
 -- `put_refused` is right because each side has its line.
 use mathlib.Core.List.{[], _∷_}
 use native.Mathlib.Omega.{arith}
-use Rattle.text.specs.TextLaws.{line-put, put-as}
+use Rattle.text.proofs.TextLaws.{line-put, put-as}
 use Rattle.command_diff.specs.DiffText.{newWord, oldWord}
 use Rattle.command_diff.proofs.LineLaws.{newRefused, oldRefused, side-refused}
 use borrow.Author.Needs.{needs}

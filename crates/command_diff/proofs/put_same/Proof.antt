@@ -3,7 +3,7 @@ use mathlib.Core.Path.{refl}
 use mathlib.Core.List.{[]}
 use native.Mathlib.Omega.{arith}
 use Rattle.text.specs.Text.{numberWords}
-use Rattle.text.specs.TextLaws.{line-put, put-as}
+use Rattle.text.proofs.TextLaws.{line-put, put-as}
 use Rattle.command_diff.specs.DiffText.{sameWord}
 use borrow.Author.Needs.{needs}
 use Rattle.command_diff.proofs.put_same.Statement.{statement}

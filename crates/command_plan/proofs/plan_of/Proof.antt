@@ -1,6 +1,6 @@
 -- `plan_of` is right because a refusal of reading comes before one of planning.
 use mathlib.Core.Path.{refl}
-use Rattle.sheets.specs.ReadLaws.{then-rest, then-keeps}
+use Rattle.sheets.proofs.ReadLaws.{then-rest, then-keeps}
 use Rattle.command_plan.proofs.PlanSheetLaws.{plan-made}
 use borrow.Author.Needs.{needs}
 use Rattle.command_plan.proofs.plan_of.Statement.{statement}

@@ -2,7 +2,7 @@
 use mathlib.Core.Path.{ap}
 use native.Mathlib.Omega.{arith}
 use Rattle.sheets.specs.declared.ReadPlan.{ReadPlan}
-use Rattle.text.specs.TextLaws.{refused-short, says, says-nothing}
+use Rattle.text.proofs.TextLaws.{refused-short, says, says-nothing}
 use Rattle.command_plan.proofs.PlanTextLaws.{plan-refused, plan-accepted, plan-few}
 use borrow.Author.Needs.{needs}
 use Rattle.command_plan.proofs.request_text.Statement.{statement}

@@ -1,7 +1,7 @@
 -- `keep_text` is right because it puts the refusal or the line by the number that it answers.
 use mathlib.Core.Path.{refl, sym}
 use native.Mathlib.Omega.{arith}
-use Rattle.text.specs.TextLaws.{refused-short, says, says-nothing, text-accepted, text-refused}
+use Rattle.text.proofs.TextLaws.{refused-short, says, says-nothing, text-accepted, text-refused}
 use borrow.Author.Needs.{needs}
 use Rattle.command_versions.proofs.keep_text.Statement.{statement}
 use Rattle.command_versions.proofs.keep_text.Tie as tie

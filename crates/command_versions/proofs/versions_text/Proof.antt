@@ -1,6 +1,6 @@
 -- `versions_text` is right because it puts the refusal or the lines by the number that it answers.
 use native.Mathlib.Omega.{arith}
-use Rattle.text.specs.TextLaws.{refused-short, says, says-nothing}
+use Rattle.text.proofs.TextLaws.{refused-short, says, says-nothing}
 use Rattle.command_versions.proofs.KeptLaws.{number-said, refused-said, lines-said}
 use borrow.Author.Needs.{needs}
 use Rattle.command_versions.proofs.versions_text.Statement.{statement}

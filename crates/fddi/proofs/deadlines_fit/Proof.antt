@@ -7,7 +7,7 @@ use native.Mathlib.Omega.{arith}
 use borrow.Author.Needs.{needs}
 use lib.Dec.{leb}
 use Rattle.units.specs.Places.{at, allBelow}
-use Rattle.units.specs.PlaceLaws.{all-step, all-none}
+use Rattle.units.proofs.PlaceLaws.{all-step, all-none}
 use Rattle.fddi.specs.Rules.{others, leastTime}
 use Rattle.fddi.proofs.Laws.{others-own}
 use Rattle.fddi.proofs.deadlines_fit.Statement.{statement}

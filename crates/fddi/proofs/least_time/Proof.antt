@@ -2,7 +2,7 @@
 use Prim.Native.Nat.{_-_, _<_}
 use mathlib.Core.Path.{_≡_, refl, sym, _∙_}
 use native.Mathlib.Omega.{arith}
-use Rattle.units.specs.SmallLaws.{product-small}
+use Rattle.units.proofs.SmallLaws.{product-small}
 use Rattle.units.specs.Vectors.{wholeRotations}
 use Rattle.fddi.specs.Rules.{rest}
 use Rattle.fddi.proofs.Laws.{time-none, time-some}

@@ -5,7 +5,7 @@ use mathlib.Core.Bool.{true, false}
 use native.Mathlib.Omega.{arith}
 use borrow.Author.Tests.{not-true, not-false, leb-true}
 use Rattle.units.specs.Places.{at, sumBelow}
-use Rattle.units.specs.VectorLaws.{token-broken, token-held}
+use Rattle.units.proofs.VectorLaws.{token-broken, token-held}
 use Rattle.fddi.specs.Rules.{stations, termsOf, tokenFits}
 use Rattle.fddi.specs.Lent.{lentLoad}
 use Rattle.fddi.specs.declared.Load.{Load}

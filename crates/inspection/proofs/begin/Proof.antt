@@ -5,21 +5,6 @@ use borrow.Author.Needs.{needs}
 use Rattle.inspection.proofs.begin.Statement.{statement}
 use Rattle.inspection.proofs.begin.Tie as tie
 
-passing-times-requires : tie.Need-passing-times-requires
-passing-times-requires c κs = search needs
-
-walk-time-requires : tie.Need-walk-time-requires
-walk-time-requires c κs = search needs
-
-shown-requires : tie.Need-shown-requires
-shown-requires c κs = search needs
-
-sum-first-requires : tie.Need-sum-first-requires
-sum-first-requires c κs = search needs
-
-shown-requires-2 : tie.Need-shown-requires-2
-shown-requires-2 c κs = search needs
-
 returns : tie.Need-returns
 unfolding begun
 returns c =
@@ -29,12 +14,4 @@ returns c =
     rw (c .shown2 .ensures, summed .sum-first .ensures .sum, shown .shown .ensures, walked .walk-time .ensures .sum, walked .before .passing-times .ensures) refl
 
 pub begin-spec : {M : Type 1} → statement M
-begin-spec =
-    tie.close
-    (tie.spec
-    passing-times-requires
-    walk-time-requires
-    shown-requires
-    sum-first-requires
-    shown-requires-2
-    returns)
+begin-spec = tie.close (tie.spec (λ c κs. search needs) (λ c κs. search needs) (λ c κs. search needs) (λ c κs. search needs) (λ c κs. search needs) returns)

@@ -5,9 +5,6 @@ use Rattle.inspection.proofs.FindingLaws.{station-compared, start-compa
 use Rattle.inspection.proofs.compare_visit.Statement.{statement}
 use Rattle.inspection.proofs.compare_visit.Tie as tie
 
-between-requires : tie.Need-between-requires
-between-requires c κs = search needs
-
 returns : tie.Need-returns
 returns c = sym (station-compared _ _ _ (c .match .keys1))
 
@@ -26,4 +23,4 @@ returns-5 c =
     sym (asynchronous-compared _ _ _ (other .0 .0 .0 .1) (other .0 .0 .1) (other .0 .1) (other .1))
 
 pub compare-visit-spec : {M : Type 1} → statement M
-compare-visit-spec = tie.close (tie.spec between-requires returns returns-2 returns-3 returns-4 returns-5)
+compare-visit-spec = tie.close (tie.spec (λ c κs. search needs) returns returns-2 returns-3 returns-4 returns-5)

@@ -12,9 +12,6 @@ use Rattle.inspection.proofs.found.Tie as tie
 with-record : (s : Inspection) (records number : ℕ) → number ≡ brokenRecord s → record { records = records; «record» = number; rule = s .rule; number = 0 } ≡ findingOf s records
 with-record s records number is = ap (λ (x : ℕ). record { records = records; «record» = x; rule = s .rule; number = 0 }) is
 
-wrapping-add-u64-requires : tie.Need-wrapping-add-u64-requires
-wrapping-add-u64-requires c κs = search needs
-
 returns : tie.Need-returns
 returns c =
     let state = c .before .before .before .args .state in
@@ -26,4 +23,4 @@ returns-2 c =
     with-record state _ _ (sym (none-named state (c .if1 .left)))
 
 pub found-spec : {M : Type 1} → statement M
-found-spec = tie.close (tie.spec wrapping-add-u64-requires returns returns-2)
+found-spec = tie.close (tie.spec (λ c κs. search needs) returns returns-2)

@@ -5,23 +5,8 @@ use borrow.Author.Needs.{needs}
 use Rattle.inspection.proofs.inspect_log.Statement.{statement}
 use Rattle.inspection.proofs.inspect_log.Tie as tie
 
-read-log-requires : tie.Need-read-log-requires
-read-log-requires c κs = search needs
-
-refused-requires : tie.Need-refused-requires
-refused-requires c κs = search needs
-
 returns : tie.Need-returns
 returns c = c .refused .ensures ∙ refused-in _ _ (c .before .before .before .read-log .ensures) (c .before .if1 .taken)
-
-begin-requires : tie.Need-begin-requires
-begin-requires c κs = search needs
-
-inspect-records-requires : tie.Need-inspect-records-requires
-inspect-records-requires c κs = search needs
-
-found-requires : tie.Need-found-requires
-found-requires c κs = search needs
 
 returns-2 : tie.Need-returns-2
 returns-2 c =
@@ -33,11 +18,4 @@ returns-2 c =
 pub inspect-log-spec : {M : Type 1} → statement M
 inspect-log-spec =
     tie.close
-    (tie.spec
-    read-log-requires
-    refused-requires
-    returns
-    begin-requires
-    inspect-records-requires
-    found-requires
-    returns-2)
+    (tie.spec (λ c κs. search needs) (λ c κs. search needs) returns (λ c κs. search needs) (λ c κs. search needs) (λ c κs. search needs) returns-2)

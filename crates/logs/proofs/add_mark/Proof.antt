@@ -8,15 +8,6 @@ use borrow.Author.Needs.{needs}
 use Rattle.logs.proofs.add_mark.Statement.{statement}
 use Rattle.logs.proofs.add_mark.Tie as tie
 
-put-mark-requires : tie.Need-put-mark-requires
-put-mark-requires c κs = search needs
-
-stopped-requires : tie.Need-stopped-requires
-stopped-requires c κs = search needs
-
-same-length : tie.Need-same-length
-same-length c = search needs
-
 returns : tie.Need-returns
 returns c =
     let put = c .before .before .before .before in
@@ -30,9 +21,6 @@ add-t8 c =
     let fit : args .recorder .at + 5 + 3 ≤ length (args .out .now) = room-fits _ _ (sym (mark-number (args .recorder) (args .mark) (args .out .now) _ _ (put .put-mark .ensures)) ∙ c .before .if1 .left) in
     omega arith
 
-same-length-2 : tie.Need-same-length-2
-same-length-2 c = search needs
-
 returns-2 : tie.Need-returns-2
 returns-2 c =
     let put = c .before .before .before .before in
@@ -40,4 +28,4 @@ returns-2 c =
     marked-all (args .recorder) (args .mark) (args .out .now) _ _ (put .put-mark .ensures) (c .before .if1 .left)
 
 pub add-mark-spec : {M : Type 1} → statement M
-add-mark-spec = tie.close (tie.spec put-mark-requires stopped-requires same-length returns add-t8 same-length-2 returns-2)
+add-mark-spec = tie.close (tie.spec (λ c κs. search needs) (λ c κs. search needs) (λ c. search needs) returns add-t8 (λ c. search needs) returns-2)

@@ -3,8 +3,8 @@ use mathlib.Core.Path.{sym, ap, subst, _∙_}
 use native.Mathlib.Omega.{arith}
 use Prim.Native.Nat.{_+_, _≤_}
 use lib.ListN.{length}
-use Rattle.entries.specs.Visit.{visitBytes}
-use Rattle.entries.specs.declared.VisitEntry.{VisitEntry}
+use Rattle.log_records.specs.Visit.{visitBytes}
+use Rattle.log_records.specs.declared.VisitEntry.{VisitEntry}
 use Rattle.sheets.specs.Writing.{PutAt}
 use Rattle.logs.specs.Writing.{visitBy}
 use Rattle.logs.proofs.WritingLaws.{room-fits, visit-number, added-refused, added-all}
@@ -20,18 +20,6 @@ put-said c =
     let args = c .before .before .before .before .args in
     subst (λ (e : VisitEntry). PutAt (args .recorder .at) (visitBytes e) 3 (args .out .now) (c .put-visit .last .0) (c .put-visit .result)) (c .before .before .visit-of .ensures) (c .put-visit .ensures)
 
-visit-of-requires : tie.Need-visit-of-requires
-visit-of-requires c κs = search needs
-
-put-visit-requires : tie.Need-put-visit-requires
-put-visit-requires c κs = search needs
-
-stopped-requires : tie.Need-stopped-requires
-stopped-requires c κs = search needs
-
-same-length : tie.Need-same-length
-same-length c = search needs
-
 returns : tie.Need-returns
 returns c =
     let put = c .before .before .before .before in
@@ -45,9 +33,6 @@ add-t9 c =
     let fit : args .recorder .at + 20 + 3 ≤ length (args .out .now) = room-fits _ _ (sym (visit-number (args .recorder) (args .visit) (args .out .now) _ _ (put-said put)) ∙ c .before .if1 .left) in
     omega arith
 
-same-length-2 : tie.Need-same-length-2
-same-length-2 c = search needs
-
 returns-2 : tie.Need-returns-2
 returns-2 c =
     let put = c .before .before .before .before in
@@ -58,12 +43,4 @@ returns-2 c =
 pub add-visit-spec : {M : Type 1} → statement M
 add-visit-spec =
     tie.close
-    (tie.spec
-    visit-of-requires
-    put-visit-requires
-    stopped-requires
-    same-length
-    returns
-    add-t9
-    same-length-2
-    returns-2)
+    (tie.spec (λ c κs. search needs) (λ c κs. search needs) (λ c κs. search needs) (λ c. search needs) returns add-t9 (λ c. search needs) returns-2)

@@ -8,12 +8,6 @@ use borrow.Author.Needs.{needs}
 use Rattle.logs.proofs.end_log.Statement.{statement}
 use Rattle.logs.proofs.end_log.Tie as tie
 
-put-end-requires : tie.Need-put-end-requires
-put-end-requires c κs = search needs
-
-same-length : tie.Need-same-length
-same-length c = search needs
-
 returns : tie.Need-returns
 returns c =
     let put = c .before .before .before in
@@ -26,14 +20,10 @@ add-t7 c =
     let fit : args .recorder .at + 3 ≤ length (args .out .now) = room-fits _ _ (sym (end-number (args .recorder) _ _ _ (put .put-end .ensures)) ∙ c .before .if1 .left) in
     omega arith
 
-same-length-2 : tie.Need-same-length-2
-same-length-2 c = search needs
-
 returns-2 : tie.Need-returns-2
 returns-2 c =
     let put = c .before .before .before .before in
     ended-all _ _ _ _ (put .put-end .ensures) (c .before .if1 .left)
 
 pub end-log-spec : {M : Type 1} → statement M
-end-log-spec =
-    tie.close (tie.spec put-end-requires same-length returns add-t7 same-length-2 returns-2)
+end-log-spec = tie.close (tie.spec (λ c κs. search needs) (λ c. search needs) returns add-t7 (λ c. search needs) returns-2)

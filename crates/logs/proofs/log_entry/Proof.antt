@@ -5,11 +5,11 @@ use mathlib.Core.Bool.{true, false}
 use native.Mathlib.Omega.{arith}
 use lib.ListN.{length}
 use borrow.Author.Tests.{le-leb}
-use Rattle.entries.specs.Visit.{visitOrBlank, visitStands}
-use Rattle.entries.specs.Mark.{markOrBlank, markStands}
-use Rattle.entries.specs.Entry.{nextEntry}
-use Rattle.entries.proofs.VisitLaws.{visit-there}
-use Rattle.entries.proofs.MarkLaws.{mark-there}
+use Rattle.log_records.specs.Visit.{visitOrBlank, visitStands}
+use Rattle.log_records.specs.Mark.{markOrBlank, markStands}
+use Rattle.log_records.specs.Entry.{nextEntry}
+use Rattle.log_records.proofs.VisitLaws.{visit-there}
+use Rattle.log_records.proofs.MarkLaws.{mark-there}
 use borrow.Author.Needs.{needs}
 use Rattle.logs.proofs.log_entry.Statement.{statement}
 use Rattle.logs.proofs.log_entry.Tie as tie
@@ -36,24 +36,12 @@ mark-inside c =
     let stands = sym (c .before .before .mark-stands .ensures) ∙ c .before .if2 .taken in
     (stands, mark-there (args .log .now) (args .at) stands .inside)
 
-visit-stands-requires : tie.Need-visit-stands-requires
-visit-stands-requires c κs = search needs
-
-visit-at-requires : tie.Need-visit-at-requires
-visit-at-requires c κs = search needs
-
 add-t6 : tie.Need-add-t6
 add-t6 c = let inside = visit-inside c .1 in omega arith
 
 returns : tie.Need-returns
 unfolding nextEntry visitOrBlank
 returns c = let there = visit-inside c in rw (c .visit-at .ensures, le-leb _ _ (there .1), there .0) refl
-
-mark-stands-requires : tie.Need-mark-stands-requires
-mark-stands-requires c κs = search needs
-
-mark-at-requires : tie.Need-mark-at-requires
-mark-at-requires c κs = search needs
 
 add-t10 : tie.Need-add-t10
 add-t10 c = let inside = mark-inside c .1 in omega arith
@@ -64,9 +52,6 @@ returns-2 c =
     let there = mark-inside c in
     rw (c .mark-at .ensures, le-leb _ _ (there .1), no-visit (c .before .before .before), there .0) refl
 
-blank-visit-requires : tie.Need-blank-visit-requires
-blank-visit-requires c κs = search needs
-
 returns-3 : tie.Need-returns-3
 unfolding nextEntry
 returns-3 c =
@@ -76,14 +61,5 @@ returns-3 c =
 pub log-entry-spec : {M : Type 1} → statement M
 log-entry-spec =
     tie.close
-    (tie.spec
-    visit-stands-requires
-    visit-at-requires
-    add-t6
-    returns
-    mark-stands-requires
-    mark-at-requires
-    add-t10
-    returns-2
-    blank-visit-requires
-    returns-3)
+    (tie.spec (λ c κs. search needs) (λ c κs. search needs) add-t6 returns (λ c κs. search needs) (λ c κs. search needs) add-t10 returns-2
+    (λ c κs. search needs) returns-3)

@@ -6,31 +6,16 @@ use borrow.Author.Needs.{needs}
 use Rattle.logs.proofs.read_log.Statement.{statement}
 use Rattle.logs.proofs.read_log.Tie as tie
 
-read-start-requires : tie.Need-read-start-requires
-read-start-requires c κs = search needs
-
-refused-requires : tie.Need-refused-requires
-refused-requires c κs = search needs
-
 returns : tie.Need-returns
 returns c =
     let start = c .before .before .before in
     c .refused .ensures ∙ sym (log-not-all _ _ (start .read-start .ensures) (not-true _ (c .before .if1 .taken)))
-
-walk-records-requires : tie.Need-walk-records-requires
-walk-records-requires c κs = search needs
-
-refused-requires-2 : tie.Need-refused-requires-2
-refused-requires-2 c κs = search needs
 
 returns-2 : tie.Need-returns-2
 returns-2 c =
     let walk = c .before .before .before in
     let start = walk .before .before .before in
     c .refused2 .ensures ∙ sym (log-fault _ _ (start .read-start .ensures) (not-false _ (walk .before .if1 .left)) _ (walk .walk-records .ensures) (c .before .if2 .taken))
-
-refused-requires-3 : tie.Need-refused-requires-3
-refused-requires-3 c κs = search needs
 
 returns-3 : tie.Need-returns-3
 returns-3 c =
@@ -51,13 +36,5 @@ returns-4 c =
 pub read-log-spec : {M : Type 1} → statement M
 read-log-spec =
     tie.close
-    (tie.spec
-    read-start-requires
-    refused-requires
-    returns
-    walk-records-requires
-    refused-requires-2
-    returns-2
-    refused-requires-3
-    returns-3
-    returns-4)
+    (tie.spec (λ c κs. search needs) (λ c κs. search needs) returns (λ c κs. search needs) (λ c κs. search needs) returns-2 (λ c κs. search needs)
+    returns-3 returns-4)

@@ -3,7 +3,7 @@ use Prim.Native.Nat.{_-_, _≤_}
 use mathlib.Core.Path.{_≡_, refl, sym, _∙_}
 use native.Mathlib.Omega.{arith}
 use Rattle.units.specs.Places.{at, allBelow}
-use Rattle.units.specs.PlaceLaws.{all-then, all-none}
+use Rattle.units.proofs.PlaceLaws.{all-then, all-none}
 use Rattle.plans.specs.Rules.{inRangeS}
 use borrow.Author.Needs.{needs}
 use Rattle.plans.proofs.alloc_in_range.Statement.{statement}

@@ -4,7 +4,7 @@ use mathlib.Core.Path.{_≡_, refl, sym, _∙_}
 use native.Mathlib.Omega.{arith}
 use lib.Dec.{leb}
 use Rattle.units.specs.Places.{at, allBelow}
-use Rattle.units.specs.PlaceLaws.{all-then, all-none}
+use Rattle.units.proofs.PlaceLaws.{all-then, all-none}
 use Rattle.plans.specs.Lent.{timelyFitsIn}
 use borrow.Author.Needs.{needs}
 use Rattle.plans.proofs.deadlines_fit.Statement.{statement}

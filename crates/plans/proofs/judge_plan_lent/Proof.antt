@@ -5,16 +5,16 @@ use mathlib.Core.Bool.{true, false, _&&_}
 use mathlib.Core.Logic.{_≢_}
 use borrow.Author.Tests.{not-true, not-false}
 use Rattle.units.specs.Places.{at}
-use Rattle.units.specs.JudgingLaws.{decides-not, true-and}
+use Rattle.units.proofs.JudgingLaws.{decides-not, true-and}
 use Rattle.sets.specs.Rules.{countAllowed, numbersAllowed, walkTimeAllowed}
 use Rattle.sets.specs.Judged.{judged}
-use Rattle.sets.specs.SetLaws.{decides-count, decides-numbers, decides-walk, count-held, numbers-held, walk-held, judged-two, judged-four, judged-five}
+use Rattle.sets.proofs.SetLaws.{decides-count, decides-numbers, decides-walk, count-held, numbers-held, walk-held, judged-two, judged-four, judged-five}
 use Rattle.sets.specs.Lent.{setOf}
 use Rattle.sets.specs.declared.Set.{Set}
 use Rattle.plans.specs.Lent.{allocOf}
 use Rattle.plans.specs.declared.Alloc.{Alloc}
 use Rattle.plans.specs.Rules.{allocInRange}
-use Rattle.plans.specs.PlanLaws.{given-2, given-4, given-5, given-7, given-0}
+use Rattle.plans.proofs.PlanLaws.{given-2, given-4, given-5, given-7, given-0}
 use borrow.Author.Needs.{needs}
 use Rattle.plans.proofs.judge_plan_lent.Statement.{statement}
 use Rattle.plans.proofs.judge_plan_lent.Tie as tie

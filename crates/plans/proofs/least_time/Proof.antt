@@ -1,6 +1,6 @@
 -- `least_time` is right because its body is the definition; products of two 32-bit numbers leave room for a third.
 use native.Mathlib.Omega.{arith}
-use Rattle.units.specs.SmallLaws.{product-room}
+use Rattle.units.proofs.SmallLaws.{product-room}
 use borrow.Author.Needs.{needs}
 use Rattle.plans.proofs.least_time.Statement.{statement}
 use Rattle.plans.proofs.least_time.Tie as tie

@@ -5,7 +5,7 @@ use native.Mathlib.Omega.{arith}
 use native.Mathlib.Nat.{mul-le-mul-left}
 use Rattle.units.specs.Small.{UpTo}
 use Rattle.plans.specs.Planned.{smallestWith, smallestFor}
-use Rattle.plans.specs.PlanLaws.{smallest-small, smallest-whole, smallest-part}
+use Rattle.plans.proofs.PlanLaws.{smallest-small, smallest-whole, smallest-part}
 use borrow.Author.Needs.{needs}
 use Rattle.plans.proofs.smallest.Statement.{statement}
 use Rattle.plans.proofs.smallest.Tie as tie

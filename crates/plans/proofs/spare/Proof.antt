@@ -3,8 +3,8 @@ use native.Mathlib.Omega.{arith}
 use borrow.Author.Needs.{needs}
 use borrow.Author.Tests.{eq-eqb, ne-eqb}
 use Rattle.units.specs.Places.{at}
-use Rattle.units.specs.PlaceLaws.{sum-all}
-use Rattle.plans.specs.PlanLaws.{spare-fddi, spare-timely}
+use Rattle.units.proofs.PlaceLaws.{sum-all}
+use Rattle.plans.proofs.PlanLaws.{spare-fddi, spare-timely}
 use Rattle.plans.proofs.spare.Statement.{statement}
 use Rattle.plans.proofs.spare.Tie as tie
 

@@ -4,7 +4,7 @@ use mathlib.Core.Path.{_≡_, refl, sym, _∙_}
 use native.Mathlib.Omega.{arith}
 use borrow.Author.Needs.{needs}
 use Rattle.units.specs.Places.{at, allBelow}
-use Rattle.units.specs.PlaceLaws.{all-step, all-none}
+use Rattle.units.proofs.PlaceLaws.{all-step, all-none}
 use Rattle.units.specs.Grid.{onGridAt}
 use Rattle.quotients.proofs.all_on_grid.Statement.{statement}
 use Rattle.quotients.proofs.all_on_grid.Tie as tie

@@ -7,8 +7,8 @@ use native.Mathlib.Nat.{mul-le-mul-right}
 use borrow.Author.Needs.{needs}
 use borrow.Author.Tests.{not-true, not-false}
 use Rattle.units.specs.Grid.{stepped}
-use Rattle.units.specs.GridLaws.{step-small}
-use Rattle.units.specs.JudgingLaws.{decides-le, decides-both, decides-not}
+use Rattle.units.proofs.GridLaws.{step-small}
+use Rattle.units.proofs.JudgingLaws.{decides-le, decides-both, decides-not}
 use Rattle.quotients.proofs.stepped.Statement.{statement}
 use Rattle.quotients.proofs.stepped.Tie as tie
 

@@ -5,7 +5,7 @@ use mathlib.Core.List.{List}
 use native.Mathlib.Omega.{arith}
 use Rattle.units.specs.Places.{at, zeros}
 use Rattle.units.proofs.FillLaws.{Filling, filling-begins, filling-goes-on, filling-ends}
-use Rattle.sets.specs.SetLaws.{allowed}
+use Rattle.sets.proofs.SetLaws.{allowed}
 use Rattle.reasons.specs.Rooms.{largestWith, largestC}
 use Rattle.reasons.proofs.RoomLaws.{roomy-left, roomy-within, roomy-fits, rooms-say}
 use Rattle.reasons.proofs.PlanningLaws.{few}

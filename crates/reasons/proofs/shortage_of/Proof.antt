@@ -3,7 +3,7 @@ use mathlib.Core.Path.{_≡_, sym, _∙_}
 use mathlib.Core.Bool.{true}
 use borrow.Author.Needs.{needs}
 use borrow.Author.Tests.{not-true, not-false}
-use Rattle.sets.specs.SetLaws.{allowed}
+use Rattle.sets.proofs.SetLaws.{allowed}
 use Rattle.reasons.specs.Shortages.{plannable}
 use Rattle.reasons.proofs.PlanningLaws.{decides-plannable}
 use Rattle.reasons.proofs.ShortageLaws.{shortage-says, shortage-none}

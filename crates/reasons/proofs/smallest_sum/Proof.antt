@@ -4,7 +4,7 @@ use mathlib.Core.Path.{_≡_, sym, _∙_}
 use native.Mathlib.Omega.{arith}
 use borrow.Author.Needs.{needs}
 use Rattle.units.specs.Places.{sumBelow}
-use Rattle.units.specs.PlaceLaws.{sum-step, sum-none}
+use Rattle.units.proofs.PlaceLaws.{sum-step, sum-none}
 use Rattle.plans.specs.Planned.{smallestAt}
 use Rattle.reasons.proofs.smallest_sum.Statement.{statement}
 use Rattle.reasons.proofs.smallest_sum.Tie as tie

@@ -8,15 +8,15 @@ use Rattle.units.specs.Places.{at, sumBelow, fill}
 use Rattle.sets.specs.Judged.{zeros}
 use Rattle.sets.specs.declared.Set.{Set}
 use Rattle.plans.specs.Planned.{judgedPlan}
-use Rattle.plans.specs.PlanLaws.{given-none}
+use Rattle.plans.proofs.PlanLaws.{given-none}
 use Rattle.plans.specs.declared.Alloc.{Alloc}
-use Rattle.places.specs.Held.{sumsToLast}
-use Rattle.places.proofs.Promised.{promised}
+use Rattle.arrays.specs.Held.{sumsToLast}
+use Rattle.arrays.proofs.Promised.{promised}
 use Rattle.rings.specs.State.{withPlan, withTimers, blankRing}
 use Rattle.rings.specs.Opening.{openingNumber, openedRing, opening}
 use Rattle.rings.specs.Timers.{Fddi, silentTrt, silentUnused, silentTimely}
-use Rattle.rings.specs.TimerLaws.{opened-timely}
-use Rattle.rings.specs.RingLaws.{opened-refused, opened-accepted}
+use Rattle.rings.proofs.TimerLaws.{opened-timely}
+use Rattle.rings.proofs.RingLaws.{opened-refused, opened-accepted}
 use Rattle.rings.specs.declared.Opened.{Opened}
 use Rattle.rings.specs.declared.Ring.{Ring}
 use Rattle.rings.specs.declared.Timers.{Timers}

@@ -9,7 +9,7 @@ use lib.Dec.{leb}
 use Rattle.sets.specs.declared.Set.{Set}
 use Rattle.sets.specs.Lent.{setOf}
 use Rattle.sets.specs.Rules.{CountAllowed, countAllowed, numbersAllowed, walkTimeAllowed}
-use Rattle.sets.specs.SetLaws.{decides-count, judged-2, judged-4, judged-5, judged-0}
+use Rattle.sets.proofs.SetLaws.{decides-count, judged-2, judged-4, judged-5, judged-0}
 use Rattle.sets.proofs.judge_lent.Statement.{statement}
 use Rattle.sets.proofs.judge_lent.Tie as tie
 

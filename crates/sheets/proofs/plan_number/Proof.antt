@@ -1,8 +1,8 @@
 -- `plan_number` is right because it keeps the number of the walk, and else judges what the fields hold.
 use mathlib.Core.Path.{_≡_, sym, ap, subst, _∙_}
 use Rattle.plans.specs.Planned.{judgedPlan}
-use Rattle.scan.specs.Scanned.{scanned}
-use Rattle.scan.specs.declared.Scanned.{Scanned}
+use Rattle.field_reader.specs.Scanned.{scanned}
+use Rattle.field_reader.specs.declared.Scanned.{Scanned}
 use Rattle.sheets.specs.Bounds.{PassedFits}
 use Rattle.sheets.specs.Reading.{setOf, allocOf, judgedSheet}
 use Rattle.sheets.proofs.ReadingLaws.{scanned-fits, number-misshapen, number-judged}

@@ -3,11 +3,8 @@ use borrow.Author.Needs.{needs}
 use Rattle.sheets.proofs.read_plan.Statement.{statement}
 use Rattle.sheets.proofs.read_plan.Tie as tie
 
-read-sheet-requires : tie.Need-read-sheet-requires
-read-sheet-requires c κs = search needs
-
 returns : tie.Need-returns
 returns c = c .read-sheet .ensures
 
 pub read-plan-spec : {M : Type 1} → statement M
-read-plan-spec = tie.close (tie.spec read-sheet-requires returns)
+read-plan-spec = tie.close (tie.spec (λ c κs. search needs) returns)

@@ -4,11 +4,8 @@ use borrow.Author.Needs.{needs}
 use Rattle.sheets.proofs.read_request.Statement.{statement}
 use Rattle.sheets.proofs.read_request.Tie as tie
 
-read-sheet-requires : tie.Need-read-sheet-requires
-read-sheet-requires c κs = search needs
-
 returns : tie.Need-returns
 returns c = rw (c .before .read-sheet .ensures) refl
 
 pub read-request-spec : {M : Type 1} → statement M
-read-request-spec = tie.close (tie.spec read-sheet-requires returns)
+read-request-spec = tie.close (tie.spec (λ c κs. search needs) returns)

@@ -4,8 +4,8 @@ use mathlib.Core.Bool.{true, false}
 use borrow.Author.Tests.{not-true, not-false}
 use Rattle.sets.specs.Judged.{blankSet}
 use Rattle.plans.specs.Planned.{blankAlloc}
-use Rattle.scan.specs.Scanned.{scanned}
-use Rattle.scan.specs.declared.Scanned.{Scanned}
+use Rattle.field_reader.specs.Scanned.{scanned}
+use Rattle.field_reader.specs.declared.Scanned.{Scanned}
 use Rattle.sheets.specs.Bounds.{PassedFits}
 use Rattle.sheets.specs.Reading.{setOf, allocOf, setIn, allocIn, judgedSheet, fieldsAnswer, planPassed, planStart}
 use Rattle.sheets.proofs.ReadingLaws.{start-fits}
@@ -21,18 +21,6 @@ fits : (c : tie.Else1) → PassedFits (c .before .before .before .before .args .
 fits c =
     let bs = c .before .before .before .before .args .sheet .now in
     subst (λ (r : Scanned). PassedFits bs (r .passed)) (sym (c .before .before .scan-sheet .ensures)) (start-fits true bs (came-by c))
-
-scan-sheet-requires : tie.Need-scan-sheet-requires
-scan-sheet-requires c κs = search needs
-
-plan-passed-requires : tie.Need-plan-passed-requires
-plan-passed-requires c κs = search needs
-
-blank-set-requires : tie.Need-blank-set-requires
-blank-set-requires c κs = search needs
-
-blank-alloc-requires : tie.Need-blank-alloc-requires
-blank-alloc-requires c κs = search needs
 
 returns : tie.Need-returns
 unfolding planStart
@@ -63,11 +51,4 @@ returns-2 c =
 pub read-start-spec : {M : Type 1} → statement M
 read-start-spec =
     tie.close
-    (tie.spec
-    scan-sheet-requires
-    plan-passed-requires
-    blank-set-requires
-    blank-alloc-requires
-    returns
-    read-fields-requires
-    returns-2)
+    (tie.spec (λ c κs. search needs) (λ c κs. search needs) (λ c κs. search needs) (λ c κs. search needs) returns read-fields-requires returns-2)

@@ -1,6 +1,6 @@
 -- `put_decimal` is right because the last digit of a number stands behind the digits of its tenth. It ends because a tenth is smaller.
 use native.Mathlib.Omega.{arith}
-use Rattle.text.specs.TextLaws.{put-then, decimal-digit, decimal-last}
+use Rattle.text.proofs.TextLaws.{put-then, decimal-digit, decimal-last}
 use borrow.Author.Needs.{needs}
 use Prim.Native.Nat.{ℕ, _<_, _/_, _%_}
 use mathlib.Core.Path.{ap}

@@ -2,22 +2,13 @@
 use native.Mathlib.Omega.{arith}
 use mathlib.Core.List.{[], _∷_}
 use Rattle.text.specs.Text.{Put, newline}
-use Rattle.text.specs.TextLaws.{within-put, within-none}
+use Rattle.text.proofs.TextLaws.{within-put, within-none}
 use borrow.Author.Needs.{needs}
 use Rattle.text.proofs.put_end.Statement.{statement}
 use Rattle.text.proofs.put_end.Tie as tie
 
-left-requires : tie.Need-left-requires
-left-requires c κs = search needs
-
 returns : tie.Need-returns
 returns c = within-none (λ both. omega (arith, both .0))
-
-put-byte-requires : tie.Need-put-byte-requires
-put-byte-requires c κs = search needs
-
-same-length : tie.Need-same-length
-same-length c = search needs
 
 returns-2 : tie.Need-returns-2
 returns-2 c =
@@ -25,11 +16,4 @@ returns-2 c =
     within-put (omega arith) (record { put = end; short = omega arith })
 
 pub put-end-spec : {M : Type 1} → statement M
-put-end-spec =
-    tie.close
-    (tie.spec
-    left-requires
-    returns
-    put-byte-requires
-    same-length
-    returns-2)
+put-end-spec = tie.close (tie.spec (λ c κs. search needs) returns (λ c κs. search needs) (λ c. search needs) returns-2)

@@ -6,7 +6,7 @@ use native.Mathlib.Omega.{arith}
 use lib.ListN.{length, take}
 use lib.Seq.{take-suc, take-length}
 use Rattle.text.specs.Text.{PutShort, fieldsOf}
-use Rattle.text.specs.TextLaws.{put-none, put-short-then, put-as, fields-next}
+use Rattle.text.proofs.TextLaws.{put-none, put-short-then, put-as, fields-next}
 use borrow.Author.Needs.{needs}
 use Rattle.text.proofs.put_fields.Statement.{statement}
 use Rattle.text.proofs.put_fields.Tie as tie

@@ -1,7 +1,7 @@
 -- `put_filled` is right because 100 bytes stand for at most 2,000.
 use native.Mathlib.Omega.{arith}
 use mathlib.Core.Path.{refl}
-use Rattle.text.specs.TextLaws.{within-put, within-none, put-as}
+use Rattle.text.proofs.TextLaws.{within-put, within-none, put-as}
 use borrow.Author.Needs.{needs}
 use Rattle.text.proofs.put_filled.Statement.{statement}
 use Rattle.text.proofs.put_filled.Tie as tie

@@ -6,7 +6,7 @@ use native.Mathlib.Omega.{arith}
 use borrow.Author.Tests.{leb-true, leb-false, not-true, not-false}
 use lib.ListN.{length}
 use Rattle.text.specs.Text.{PutShort, newline}
-use Rattle.text.specs.TextLaws.{within-put, within-none, put-short-then, put-as, line-fields}
+use Rattle.text.proofs.TextLaws.{within-put, within-none, put-short-then, put-as, line-fields}
 use borrow.Author.Needs.{needs}
 use Rattle.text.proofs.put_line.Statement.{statement}
 use Rattle.text.proofs.put_line.Tie as tie

@@ -3,7 +3,7 @@ use native.Mathlib.Omega.{arith}
 use borrow.Author.Needs.{needs}
 use borrow.Author.Tests.{eq-eqb, ne-eqb}
 use Rattle.text.specs.Filled.{pieceOf}
-use Rattle.text.specs.TextLaws.{decimal-short}
+use Rattle.text.proofs.TextLaws.{decimal-short}
 use Rattle.text.proofs.put_piece.Statement.{statement}
 use Rattle.text.proofs.put_piece.Tie as tie
 

@@ -9,7 +9,7 @@ use mathlib.Core.Bool.{Bool, cond, true, false}
 use Rattle.units.specs.Places.{at}
 use Rattle.text.specs.Text.{PutShort}
 use Rattle.text.specs.Filled.{hole, usedBy, usedIn, filledUpTo}
-use Rattle.text.specs.TextLaws.{put-none, put-short-then, put-as}
+use Rattle.text.proofs.TextLaws.{put-none, put-short-then, put-as}
 use borrow.Author.Needs.{needs}
 use Rattle.text.proofs.put_pieces.Statement.{statement}
 use Rattle.text.proofs.put_pieces.Tie as tie

@@ -3,7 +3,7 @@ use mathlib.Core.Path.{refl}
 use mathlib.Core.List.{[], _∷_}
 use native.Mathlib.Omega.{arith}
 use Rattle.text.specs.Text.{refusedWord, numberWords}
-use Rattle.text.specs.TextLaws.{within-put, within-none, line-put, put-as}
+use Rattle.text.proofs.TextLaws.{within-put, within-none, line-put, put-as}
 use borrow.Author.Needs.{needs}
 use Rattle.text.proofs.put_refused.Statement.{statement}
 use Rattle.text.proofs.put_refused.Tie as tie

@@ -1,22 +1,16 @@
 -- `put_spaced` is right because the number stands behind the space.
 use native.Mathlib.Omega.{arith}
-use Rattle.text.specs.TextLaws.{put-short-then, decimal-short}
+use Rattle.text.proofs.TextLaws.{put-short-then, decimal-short}
 use Rattle.text.specs.Text.{PutShort}
 use borrow.Author.Needs.{needs}
 use Rattle.text.proofs.put_spaced.Statement.{statement}
 use Rattle.text.proofs.put_spaced.Tie as tie
-
-put-byte-requires : tie.Need-put-byte-requires
-put-byte-requires c κs = search needs
 
 put-decimal-requires : tie.Need-put-decimal-requires
 put-decimal-requires c κs =
     let first = c .before .before .before in
     let start = first .before .before .before in
     omega (arith, first .put-byte .ensures .next, start .pre, decimal-short 20 (start .args .n))
-
-same-length : tie.Need-same-length
-same-length c = search needs
 
 returns : tie.Need-returns
 returns c =
@@ -28,4 +22,4 @@ returns c =
     put-short-then spaced number (omega (arith, start .pre))
 
 pub put-spaced-spec : {M : Type 1} → statement M
-put-spaced-spec = tie.close (tie.spec put-byte-requires put-decimal-requires same-length returns)
+put-spaced-spec = tie.close (tie.spec (λ c κs. search needs) put-decimal-requires (λ c. search needs) returns)

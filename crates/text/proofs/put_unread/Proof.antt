@@ -3,37 +3,13 @@ use mathlib.Core.Path.{sym}
 use mathlib.Core.List.{[], _∷_}
 use native.Mathlib.Omega.{arith}
 use Rattle.text.specs.Text.{PutShort, space, newline, decimalOf, lineWord, cannotBeRead}
-use Rattle.text.specs.TextLaws.{within-put, within-none, put-short-then, put-as, line-parts}
+use Rattle.text.proofs.TextLaws.{within-put, within-none, put-short-then, put-as, line-parts}
 use borrow.Author.Needs.{needs}
 use Rattle.text.proofs.put_unread.Statement.{statement}
 use Rattle.text.proofs.put_unread.Tie as tie
 
-left-requires : tie.Need-left-requires
-left-requires c κs = search needs
-
 returns : tie.Need-returns
 returns c = within-none (λ both. omega (arith, both .0))
-
-slice-aggregate-put-word : tie.Need-slice-aggregate-put-word
-slice-aggregate-put-word c = search needs
-
-put-word-requires : tie.Need-put-word-requires
-put-word-requires c κs = search needs
-
-put-spaced-requires : tie.Need-put-spaced-requires
-put-spaced-requires c κs = search needs
-
-slice-aggregate-put-word-2 : tie.Need-slice-aggregate-put-word-2
-slice-aggregate-put-word-2 c = search needs
-
-put-word-requires-2 : tie.Need-put-word-requires-2
-put-word-requires-2 c κs = search needs
-
-put-byte-requires : tie.Need-put-byte-requires
-put-byte-requires c κs = search needs
-
-same-length : tie.Need-same-length
-same-length c = search needs
 
 returns-2 : tie.Need-returns-2
 returns-2 c =
@@ -54,14 +30,5 @@ returns-2 c =
 pub put-unread-spec : {M : Type 1} → statement M
 put-unread-spec =
     tie.close
-    (tie.spec
-    left-requires
-    returns
-    slice-aggregate-put-word
-    put-word-requires
-    put-spaced-requires
-    slice-aggregate-put-word-2
-    put-word-requires-2
-    put-byte-requires
-    same-length
-    returns-2)
+    (tie.spec (λ c κs. search needs) returns (λ c. search needs) (λ c κs. search needs) (λ c κs. search needs) (λ c. search needs)
+    (λ c κs. search needs) (λ c κs. search needs) (λ c. search needs) returns-2)

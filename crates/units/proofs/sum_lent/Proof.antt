@@ -4,7 +4,7 @@ use mathlib.Core.Path.{_≡_, refl, sym, _∙_}
 use native.Mathlib.Omega.{arith}
 use borrow.Author.Needs.{needs}
 use Rattle.units.specs.Places.{at, sumBelow}
-use Rattle.units.specs.PlaceLaws.{sum-step, sum-none}
+use Rattle.units.proofs.PlaceLaws.{sum-step, sum-none}
 use Rattle.units.proofs.sum_lent.Statement.{statement}
 use Rattle.units.proofs.sum_lent.Tie as tie
 

@@ -1,7 +1,7 @@
 -- `put_alone` is right because its words are put one behind another.
 use native.Mathlib.Omega.{arith}
 use Rattle.differences.specs.Views.{nthOf}
-use Rattle.text.specs.TextLaws.{decimal-short, put-short-then, put-as}
+use Rattle.text.proofs.TextLaws.{decimal-short, put-short-then, put-as}
 use Rattle.command_diff.proofs.LineLaws.{alone-line}
 use borrow.Author.Needs.{needs}
 use Rattle.command_diff.proofs.putting.put_alone.Statement.{statement}

@@ -4,7 +4,7 @@ use mathlib.Core.Path.{_≡_, refl, _∙_}
 use native.Mathlib.Omega.{arith}
 use lib.ListN.{length}
 use Rattle.text.specs.Text.{PutShort}
-use Rattle.text.specs.TextLaws.{put-none, put-short-then, put-as}
+use Rattle.text.proofs.TextLaws.{put-none, put-short-then, put-as}
 use Rattle.differences.specs.Views.{numberOf}
 use Rattle.differences.specs.Differences.{aloneFrom}
 use Rattle.command_diff.specs.DiffText.{linesOf}

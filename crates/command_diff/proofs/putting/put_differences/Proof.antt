@@ -1,7 +1,7 @@
 -- `put_differences` is right because the lines of the header, of the stations that both have and of those that one has stand one behind another.
 use mathlib.Core.Path.{_≡_}
 use native.Mathlib.Omega.{arith}
-use Rattle.text.specs.TextLaws.{put-short-then, put-as}
+use Rattle.text.proofs.TextLaws.{put-short-then, put-as}
 use Rattle.command_diff.proofs.LineLaws.{sizes, lines-four}
 use borrow.Author.Needs.{needs}
 use Rattle.command_diff.proofs.putting.put_differences.Statement.{statement}

@@ -3,7 +3,7 @@ use mathlib.Core.Path.{refl}
 use mathlib.Core.List.{[], _∷_}
 use native.Mathlib.Omega.{arith}
 use Rattle.text.specs.Text.{line, numberWords}
-use Rattle.text.specs.TextLaws.{line-put, put-as}
+use Rattle.text.proofs.TextLaws.{line-put, put-as}
 use borrow.Author.Needs.{needs}
 use Rattle.command_diff.proofs.putting.put_five.Statement.{statement}
 use Rattle.command_diff.proofs.putting.put_five.Tie as tie

@@ -3,7 +3,7 @@ use mathlib.Core.Path.{sym}
 use native.Mathlib.Omega.{arith}
 use Rattle.sets.specs.Header.{headNumber}
 use Rattle.differences.specs.Views.{headerOf}
-use Rattle.text.specs.TextLaws.{put-short-then, put-as}
+use Rattle.text.proofs.TextLaws.{put-short-then, put-as}
 use Rattle.command_diff.proofs.LineLaws.{lines-headers}
 use borrow.Author.Needs.{needs}
 use Rattle.command_diff.proofs.putting.put_headers.Statement.{statement}

@@ -1,7 +1,7 @@
 -- `put_number` is right because it puts nothing where the numbers are the same, and else the words of the line one behind another.
 use mathlib.Core.List.{[], _∷_}
 use native.Mathlib.Omega.{arith}
-use Rattle.text.specs.TextLaws.{put-none, decimal-short, within-then, line-then, put-as}
+use Rattle.text.proofs.TextLaws.{put-none, decimal-short, within-then, line-then, put-as}
 use Rattle.command_diff.proofs.LineLaws.{lines-same, number-line}
 use borrow.Author.Needs.{needs}
 use Rattle.command_diff.proofs.putting.put_number.Statement.{statement}

@@ -1,7 +1,7 @@
 -- `put_side` is right because it puts a space and the word of the side.
 use mathlib.Core.Path.{refl}
 use native.Mathlib.Omega.{arith}
-use Rattle.text.specs.TextLaws.{put-as}
+use Rattle.text.proofs.TextLaws.{put-as}
 use Rattle.command_diff.specs.DiffText.{sideWord}
 use borrow.Author.Needs.{needs}
 use Rattle.command_diff.proofs.putting.put_side.Statement.{statement}

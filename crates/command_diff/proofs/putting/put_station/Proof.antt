@@ -2,7 +2,7 @@
 use mathlib.Core.Path.{sym, _∙_}
 use native.Mathlib.Omega.{arith}
 use Rattle.differences.specs.Views.{nthOf}
-use Rattle.text.specs.TextLaws.{put-short-then, put-as}
+use Rattle.text.proofs.TextLaws.{put-short-then, put-as}
 use Rattle.command_diff.proofs.LineLaws.{lines-five}
 use borrow.Author.Needs.{needs}
 use Rattle.command_diff.proofs.putting.put_station.Statement.{statement}

@@ -4,7 +4,7 @@ use mathlib.Core.Bool.{false}
 use Rattle.hopper.specs.Wagons.{withMore}
 use Rattle.hopper.specs.Trains.{changedTrain, changedWagon}
 use Rattle.hopper.specs.declared.Wagon.{Wagon}
-use Rattle.lines.specs.Scan.{isEmptyLine}
+use Rattle.line_reader.specs.Scan.{isEmptyLine}
 use Rattle.command_hopper.specs.Refits.{isChange, isCouple}
 use Rattle.command_hopper.proofs.LineLaws.{narrow-first, narrow-second, changed-empty, changed-wagon, changed-more, changed-fewer, changed-unread}
 use borrow.Author.Needs.{needs}

@@ -1,7 +1,7 @@
 -- `put_answered` is right because it puts the refusal or the plan by the number.
 use mathlib.Core.Path.{sym}
 use native.Mathlib.Omega.{arith}
-use Rattle.text.specs.TextLaws.{refused-short, text-accepted, text-refused, printed}
+use Rattle.text.proofs.TextLaws.{refused-short, text-accepted, text-refused, printed}
 use borrow.Author.Needs.{needs}
 use Rattle.command_hopper.proofs.change_lines.put_answered.Statement.{statement}
 use Rattle.command_hopper.proofs.change_lines.put_answered.Tie as tie

@@ -1,7 +1,7 @@
 -- `put_change` is right because it puts what the definition says of each kind of line.
 use mathlib.Core.Path.{refl}
 use native.Mathlib.Omega.{arith}
-use Rattle.text.specs.TextLaws.{unread-short, put-none, printed}
+use Rattle.text.proofs.TextLaws.{unread-short, put-none, printed}
 use Rattle.command_hopper.specs.Refits.{changeText}
 use borrow.Author.Needs.{needs}
 use Rattle.command_hopper.proofs.change_lines.put_change.Statement.{statement}

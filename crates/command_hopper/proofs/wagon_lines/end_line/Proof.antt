@@ -1,7 +1,7 @@
 -- `end_line` is right because it goes by what the line is, as the definition does.
 use mathlib.Core.Path.{_≡_, sym, _∙_}
 use mathlib.Core.Bool.{false}
-use Rattle.lines.specs.Scan.{isEmptyLine}
+use Rattle.line_reader.specs.Scan.{isEmptyLine}
 use Rattle.command_hopper.proofs.LineLaws.{narrow-first, listed-empty, listed-wagon, listed-unread}
 use borrow.Author.Needs.{needs}
 use Rattle.command_hopper.proofs.wagon_lines.end_line.Statement.{statement}

@@ -2,7 +2,7 @@
 use mathlib.Core.Path.{refl}
 use native.Mathlib.Omega.{arith}
 use Rattle.command_plan.specs.PlanText.{planLines}
-use Rattle.text.specs.TextLaws.{put-short-then, put-as}
+use Rattle.text.proofs.TextLaws.{put-short-then, put-as}
 use borrow.Author.Needs.{needs}
 use Rattle.command_plan.proofs.planning.put_plan.Statement.{statement}
 use Rattle.command_plan.proofs.planning.put_plan.Tie as tie

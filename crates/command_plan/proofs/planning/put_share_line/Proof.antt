@@ -3,7 +3,7 @@ use mathlib.Core.Path.{refl}
 use mathlib.Core.List.{[], _∷_}
 use native.Mathlib.Omega.{arith}
 use Rattle.text.specs.Text.{line, numberWords}
-use Rattle.text.specs.TextLaws.{decimal-short, line-then, put-as}
+use Rattle.text.proofs.TextLaws.{decimal-short, line-then, put-as}
 use borrow.Author.Needs.{needs}
 use Rattle.command_plan.proofs.planning.put_share_line.Statement.{statement}
 use Rattle.command_plan.proofs.planning.put_share_line.Tie as tie

@@ -5,10 +5,10 @@ use native.Mathlib.Omega.{arith}
 use lib.ListN.{length}
 use Rattle.units.specs.Places.{at as placeAt}
 use Rattle.fields.specs.Rows.{rows}
-use Rattle.fields.specs.RowLaws.{rows-none, rows-step}
+use Rattle.fields.proofs.RowLaws.{rows-none, rows-step}
 use Rattle.text.specs.Text.{PutShort}
 use Rattle.command_plan.specs.PlanText.{shareLine}
-use Rattle.text.specs.TextLaws.{put-none, put-short-then, put-as}
+use Rattle.text.proofs.TextLaws.{put-none, put-short-then, put-as}
 use borrow.Author.Needs.{needs}
 use Rattle.command_plan.proofs.planning.put_shares.Statement.{statement}
 use Rattle.command_plan.proofs.planning.put_shares.Tie as tie

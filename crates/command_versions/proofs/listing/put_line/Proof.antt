@@ -1,7 +1,7 @@
 -- `put_line` is right because it puts the words with the numbers of the plan.
 use mathlib.Core.Path.{refl}
 use native.Mathlib.Omega.{arith}
-use Rattle.text.specs.TextLaws.{put-as}
+use Rattle.text.proofs.TextLaws.{put-as}
 use borrow.Author.Needs.{needs}
 use Rattle.command_versions.proofs.listing.put_line.Statement.{statement}
 use Rattle.command_versions.proofs.listing.put_line.Tie as tie

@@ -2,7 +2,7 @@
 use mathlib.Core.Path.{ap}
 use native.Mathlib.Omega.{arith}
 use Rattle.sheets.specs.declared.ReadPlan.{ReadPlan}
-use Rattle.text.specs.TextLaws.{put-as}
+use Rattle.text.proofs.TextLaws.{put-as}
 use Rattle.command_versions.specs.VersionsText.{versionLine}
 use borrow.Author.Needs.{needs}
 use Rattle.command_versions.proofs.listing.put_version.Statement.{statement}

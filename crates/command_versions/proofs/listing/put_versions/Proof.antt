@@ -4,9 +4,9 @@ use mathlib.Core.Path.{_≡_, refl, _∙_}
 use native.Mathlib.Omega.{arith}
 use lib.ListN.{length}
 use Rattle.fields.specs.Rows.{rows}
-use Rattle.fields.specs.RowLaws.{rows-none, rows-step}
+use Rattle.fields.proofs.RowLaws.{rows-none, rows-step}
 use Rattle.text.specs.Text.{PutShort}
-use Rattle.text.specs.TextLaws.{put-none, put-short-then, put-as}
+use Rattle.text.proofs.TextLaws.{put-none, put-short-then, put-as}
 use Rattle.command_versions.specs.VersionsText.{lineIn}
 use Rattle.command_versions.proofs.FoundLaws.{answer-few}
 use Rattle.command_versions.proofs.KeptLaws.{count-top, all-lines}

@@ -3,7 +3,7 @@ use mathlib.Core.Path.{refl}
 use mathlib.Core.List.{[], _∷_}
 use native.Mathlib.Omega.{arith}
 use Rattle.text.specs.Text.{space, line, numberWords}
-use Rattle.text.specs.TextLaws.{decimal-short, line-then, put-as}
+use Rattle.text.proofs.TextLaws.{decimal-short, line-then, put-as}
 use Rattle.command_plan.specs.PlanText.{planWord}
 use borrow.Author.Needs.{needs}
 use Rattle.command_versions.proofs.listing.put_words.Statement.{statement}

@@ -3,7 +3,7 @@ use mathlib.Core.Path.{refl}
 use mathlib.Core.List.{[], _∷_}
 use native.Mathlib.Omega.{arith}
 use Rattle.text.specs.Text.{numberWords}
-use Rattle.text.specs.TextLaws.{line-put, put-as}
+use Rattle.text.proofs.TextLaws.{line-put, put-as}
 use Rattle.command_versions.specs.KeepText.{versionWord}
 use borrow.Author.Needs.{needs}
 use Rattle.command_versions.proofs.saying.put_stored.Statement.{statement}

@@ -5,7 +5,7 @@ use native.Mathlib.Omega.{arith}
 use borrow.Author.Tests.{eq-eqb, ne-eqb}
 use lib.ListN.{length}
 use Rattle.units.specs.Places.{at, allBelow}
-use Rattle.units.specs.PlaceLaws.{all-then, all-none}
+use Rattle.units.proofs.PlaceLaws.{all-then, all-none}
 use Rattle.command_versions.specs.VersionWord.{isDigit, isWhole}
 use borrow.Author.Needs.{needs}
 use Rattle.command_versions.proofs.words.is_whole.Statement.{statement}

@@ -7,7 +7,7 @@ use native.Mathlib.Numerals.{add-one}
 use native.Mathlib.Omega.{arith}
 use lib.ListN.{length, take, drop, set, getD, replicate, length-set}
 use lib.Seq.{take-suc, take-suc-set, take-all, length-take-le, drop-set-lt, drop-drop}
-use Rattle.units.specs.SmallLaws.{below-or-not}
+use Rattle.units.proofs.SmallLaws.{below-or-not}
 use Rattle.commands.specs.Words.{shownByte, nameOf}
 use borrow.Author.Needs.{needs}
 use Rattle.commands.proofs.words.name_of.Statement.{statement}

@@ -6,7 +6,7 @@ use borrow.Author.Tests.{eq-eqb, ne-eqb}
 use lib.Dec.{eqb}
 use lib.ListN.{length}
 use Rattle.units.specs.Places.{at, allBelow}
-use Rattle.units.specs.PlaceLaws.{all-step, all-none}
+use Rattle.units.proofs.PlaceLaws.{all-step, all-none}
 use Rattle.commands.specs.Words.{sameBytes}
 use borrow.Author.Needs.{needs}
 use Rattle.commands.proofs.words.same_bytes.Statement.{statement}

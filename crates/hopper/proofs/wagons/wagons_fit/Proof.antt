@@ -3,7 +3,7 @@ use Prim.Native.Nat.{_≤_, _-_}
 use mathlib.Core.Path.{_≡_, sym, _∙_}
 use native.Mathlib.Omega.{arith}
 use Rattle.units.specs.Places.{allBelow}
-use Rattle.units.specs.PlaceLaws.{all-then, all-none}
+use Rattle.units.proofs.PlaceLaws.{all-then, all-none}
 use Rattle.hopper.specs.Wagons.{wagonFitsAt}
 use borrow.Author.Needs.{needs}
 use Rattle.hopper.proofs.wagons.wagons_fit.Statement.{statement}

@@ -16,21 +16,12 @@ abbrev μ-loop : tie.MeasureT-loop
 loop-holds : tie.Need-loop-holds Inv-loop μ-loop
 loop-holds c = tried-first _ _ _
 
-divide-narrow-requires : tie.Need-divide-narrow-requires Inv-loop μ-loop
-divide-narrow-requires c κs = search needs
-
 returns : tie.Need-returns Inv-loop μ-loop
 returns c =
     let turn = c .before .before in
     let loop = turn .before .loop in
     let whole = turn .divide-narrow .ensures .whole in
     sym (none-divides _ _ _ (loop .d) (loop .inv) (omega arith) (turn .before .before .pre .0))
-
-in-range-requires : tie.Need-in-range-requires Inv-loop μ-loop
-in-range-requires c κs = search needs
-
-in-range-requires-2 : tie.Need-in-range-requires-2 Inv-loop μ-loop
-in-range-requires-2 c κs = search needs
 
 returns-2 : tie.Need-returns-2 Inv-loop μ-loop
 returns-2 c =
@@ -67,15 +58,5 @@ loop-again c = next c
 pub divided-between-spec : {M : Type 1} → statement M
 divided-between-spec =
     tie.close
-    (tie.spec
-    Inv-loop
-    μ-loop
-    loop-holds
-    divide-narrow-requires
-    returns
-    in-range-requires
-    in-range-requires-2
-    returns-2
-    add-d
-    loop-less
+    (tie.spec Inv-loop μ-loop loop-holds (λ c κs. search needs) returns (λ c κs. search needs) (λ c κs. search needs) returns-2 add-d loop-less
     loop-again)

@@ -8,22 +8,11 @@ use Rattle.inspection.proofs.frames.frames_fit.Tie as tie
 returns : tie.Need-returns
 returns c = sym (fit-within _ _ _ (c .if1 .taken))
 
-sub-over : tie.Need-sub-over
-sub-over c = search needs
-
 returns-2 : tie.Need-returns-2
 returns-2 c = sym (fit-none _ _ _ (c .before .if1 .left) (c .if2 .taken))
-
-add-divided-between : tie.Need-add-divided-between
-add-divided-between c = search needs
-
-divided-between-requires : tie.Need-divided-between-requires
-divided-between-requires c κs = search needs
 
 returns-3 : tie.Need-returns-3
 returns-3 c = c .divided-between .ensures ∙ sym (fit-searched _ _ _ (c .before .before .if1 .left))
 
 pub frames-fit-spec : {M : Type 1} → statement M
-frames-fit-spec =
-    tie.close
-    (tie.spec returns sub-over returns-2 add-divided-between divided-between-requires returns-3)
+frames-fit-spec = tie.close (tie.spec returns (λ c. search needs) returns-2 (λ c. search needs) (λ c κs. search needs) returns-3)

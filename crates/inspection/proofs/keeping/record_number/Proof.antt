@@ -2,7 +2,7 @@
 use mathlib.Core.Path.{_≡_, sym, ap, _∙_}
 use borrow.Author.Needs.{needs}
 use borrow.Author.Tests.{not-true, not-false}
-use Rattle.units.specs.JudgingLaws.{failed, held}
+use Rattle.units.proofs.JudgingLaws.{failed, held}
 use Rattle.inspection.specs.Kept.{entryOf, inField, recordNumber}
 use Rattle.inspection.proofs.keeping.record_number.Statement.{statement}
 use Rattle.inspection.proofs.keeping.record_number.Tie as tie

@@ -8,12 +8,6 @@ use Rattle.inspection.proofs.RecordLaws.{base-late, base-early, base-ti
 use Rattle.inspection.proofs.moving.base_after.Statement.{statement}
 use Rattle.inspection.proofs.moving.base_after.Tie as tie
 
-between-requires : tie.Need-between-requires
-between-requires c κs = search needs
-
-later-requires : tie.Need-later-requires
-later-requires c κs = search needs
-
 returns : tie.Need-returns
 returns c =
     let args = c .before .before .before .before .before .before .args in
@@ -26,11 +20,8 @@ returns-2 c =
     let short : ticksBetween (args .base) (args .clock) < args .head .ttrt = omega (arith, c .if2 .left, c .before .before .between .ensures) in
     sym (base-early _ _ _ _ (c .before .before .before .if1 .taken) short)
 
-later-requires-2 : tie.Need-later-requires-2
-later-requires-2 c κs = search needs
-
 returns-3 : tie.Need-returns-3
 returns-3 c = c .later2 .ensures ∙ sym (base-timely _ _ _ _ (c .before .if1 .left))
 
 pub base-after-spec : {M : Type 1} → statement M
-base-after-spec = tie.close (tie.spec between-requires later-requires returns returns-2 later-requires-2 returns-3)
+base-after-spec = tie.close (tie.spec (λ c κs. search needs) (λ c κs. search needs) returns returns-2 (λ c κs. search needs) returns-3)

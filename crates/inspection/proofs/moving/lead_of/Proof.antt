@@ -1,6 +1,6 @@
 -- `lead_of` is right because its branch is the definition's.
 use mathlib.Core.Path.{sym}
-use Rattle.rings.specs.TimerLaws.{lead-all, lead-none}
+use Rattle.rings.proofs.TimerLaws.{lead-all, lead-none}
 use Rattle.inspection.proofs.moving.lead_of.Statement.{statement}
 use Rattle.inspection.proofs.moving.lead_of.Tie as tie
 

@@ -6,9 +6,6 @@ use mathlib.Core.Path.{refl}
 use Rattle.inspection.proofs.moving.next_station.Statement.{statement}
 use Rattle.inspection.proofs.moving.next_station.Tie as tie
 
-add-next : tie.Need-add-next
-add-next c = search needs
-
 returns : tie.Need-returns
 unfolding following
 returns c = rw (lt-ltb _ _ (c .if1 .taken)) refl
@@ -18,4 +15,4 @@ unfolding following
 returns-2 c = rw (le-ltb _ _ (c .if1 .left)) refl
 
 pub next-station-spec : {M : Type 1} → statement M
-next-station-spec = tie.close (tie.spec add-next returns returns-2)
+next-station-spec = tie.close (tie.spec (λ c. search needs) returns returns-2)

@@ -3,8 +3,5 @@ use borrow.Author.Needs.{needs}
 use Rattle.inspection.proofs.moving.unused_after.Statement.{statement}
 use Rattle.inspection.proofs.moving.unused_after.Tie as tie
 
-returns : tie.Need-returns
-returns c = search needs
-
 pub unused-after-spec : {M : Type 1} → statement M
-unused-after-spec = tie.close (tie.spec (λ c κs. search needs) (λ c κs. search needs) (λ c κs. search needs) (λ c κs. search needs) returns)
+unused-after-spec = tie.close (tie.spec (λ c κs. search needs) (λ c κs. search needs) (λ c κs. search needs) (λ c κs. search needs) (λ c. search needs))

@@ -6,9 +6,9 @@ use native.Mathlib.Nat.{mod-add-mod}
 use native.Mathlib.Omega.{arith}
 use borrow.Author.Needs.{needs}
 use Rattle.units.specs.Places.{at, sumBelow, zeros}
-use Rattle.units.specs.PlaceLaws.{sum-none, sum-step}
+use Rattle.units.proofs.PlaceLaws.{sum-none, sum-step}
 use Rattle.units.proofs.FillLaws.{Filling, filling-begins, filling-goes-on}
-use Rattle.places.proofs.LoopLaws.{filled}
+use Rattle.arrays.proofs.LoopLaws.{filled}
 use Rattle.inspection.specs.Opening.{passingTimes}
 use Rattle.inspection.proofs.opening.passing_times.Statement.{statement}
 use Rattle.inspection.proofs.opening.passing_times.Tie as tie

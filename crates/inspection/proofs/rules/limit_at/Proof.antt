@@ -6,24 +6,9 @@ use Rattle.inspection.specs.Rules.{limitWith}
 use Rattle.inspection.proofs.rules.limit_at.Statement.{statement}
 use Rattle.inspection.proofs.rules.limit_at.Tie as tie
 
-less-requires : tie.Need-less-requires
-less-requires c κs = search needs
-
 returns : tie.Need-returns
 unfolding limitWith
 returns c = rw (eq-eqb _ _ (c .before .if1 .taken)) (c .less .ensures)
-
-less-requires-2 : tie.Need-less-requires-2
-less-requires-2 c κs = search needs
-
-less-requires-3 : tie.Need-less-requires-3
-less-requires-3 c κs = search needs
-
-less-requires-4 : tie.Need-less-requires-4
-less-requires-4 c κs = search needs
-
-less-requires-5 : tie.Need-less-requires-5
-less-requires-5 c κs = search needs
 
 returns-2 : tie.Need-returns-2
 unfolding limitWith
@@ -36,11 +21,4 @@ returns-2 c =
 pub limit-at-spec : {M : Type 1} → statement M
 limit-at-spec =
     tie.close
-    (tie.spec
-    less-requires
-    returns
-    less-requires-2
-    less-requires-3
-    less-requires-4
-    less-requires-5
-    returns-2)
+    (tie.spec (λ c κs. search needs) returns (λ c κs. search needs) (λ c κs. search needs) (λ c κs. search needs) (λ c κs. search needs) returns-2)

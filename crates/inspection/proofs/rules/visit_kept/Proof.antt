@@ -11,12 +11,6 @@ use Rattle.inspection.proofs.rules.visit_kept.Tie as tie
 fifth : (k : ℕ) → 1 ≤ k → k ≤ 5 → k ≢ 1 → k ≢ 2 → k ≢ 3 → k ≢ 4 → k ≡ 5
 fifth k low high n₁ n₂ n₃ n₄ = omega arith
 
-frames-fit-requires : tie.Need-frames-fit-requires
-frames-fit-requires c κs = search needs
-
-between-requires : tie.Need-between-requires
-between-requires c κs = search needs
-
 returns : tie.Need-returns
 returns c = rw (c .before .before .match .keys1) refl
 
@@ -36,5 +30,4 @@ returns-5 c =
     rw (fifth _ (range .0) (range .1) (other .0 .0 .0 .1) (other .0 .0 .1) (other .0 .1) (other .1)) (c .frames-fit .ensures)
 
 pub visit-kept-spec : {M : Type 1} → statement M
-visit-kept-spec =
-    tie.close (tie.spec between-requires frames-fit-requires returns returns-2 returns-3 returns-4 returns-5)
+visit-kept-spec = tie.close (tie.spec (λ c κs. search needs) (λ c κs. search needs) returns returns-2 returns-3 returns-4 returns-5)

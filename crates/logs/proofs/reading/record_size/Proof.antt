@@ -5,15 +5,9 @@ use Rattle.logs.specs.Records.{recordSize}
 use Rattle.logs.proofs.reading.record_size.Statement.{statement}
 use Rattle.logs.proofs.reading.record_size.Tie as tie
 
-visit-stands-requires : tie.Need-visit-stands-requires
-visit-stands-requires c κs = search needs
-
 returns : tie.Need-returns
 unfolding recordSize
 returns c = rw (sym (c .before .visit-stands .ensures) ∙ c .if1 .taken) refl
-
-mark-stands-requires : tie.Need-mark-stands-requires
-mark-stands-requires c κs = search needs
 
 returns-2 : tie.Need-returns-2
 unfolding recordSize
@@ -28,4 +22,4 @@ returns-3 c =
     rw (sym (asked .before .visit-stands .ensures) ∙ asked .if1 .left, sym (c .before .mark-stands .ensures) ∙ c .if2 .left) refl
 
 pub record-size-spec : {M : Type 1} → statement M
-record-size-spec = tie.close (tie.spec visit-stands-requires returns mark-stands-requires returns-2 returns-3)
+record-size-spec = tie.close (tie.spec (λ c κs. search needs) returns (λ c κs. search needs) returns-2 returns-3)

@@ -5,8 +5,8 @@ use mathlib.Core.Bool.{true, false}
 use native.Mathlib.Omega.{arith}
 use borrow.Author.Tests.{not-true, not-false}
 use Rattle.fields.specs.Fields.{left}
-use Rattle.entries.specs.Visit.{isVisit}
-use Rattle.entries.specs.Mark.{isMark}
+use Rattle.log_records.specs.Visit.{isVisit}
+use Rattle.log_records.specs.Mark.{isMark}
 use Rattle.logs.specs.Records.{isRecord}
 use Rattle.logs.specs.Walked.{isEnd}
 use Rattle.logs.proofs.RecordLaws.{first-or, second-or, neither-or}
@@ -27,25 +27,16 @@ no-record c =
 the-end : (c : tie.Else4) → let args = c .before .before .before .before .before .before .before .before .before .args in isEnd (args .bs .now) (args .at) ≡ true
 the-end c = sym (c .before .begins3 .ensures) ∙ not-false _ (c .if4 .left)
 
-left-requires : tie.Need-left-requires
-left-requires c κs = search needs
-
 returns : tie.Need-returns
 returns c =
     let args = c .before .before .before .args in
     let some = c .before .left .ensures in
     sym (stop-short (args .bs .now) (args .at) (omega arith))
 
-begins-requires : tie.Need-begins-requires
-begins-requires c κs = search needs
-
 returns-2 : tie.Need-returns-2
 returns-2 c =
     let args = c .before .before .before .before .before .args in
     sym (stop-cut (args .bs .now) (args .at) (three (c .before .before)) (first-or (isVisit (args .bs .now) (args .at)) (isMark (args .bs .now) (args .at)) (sym (c .before .begins .ensures) ∙ c .if2 .taken)))
-
-begins-requires-2 : tie.Need-begins-requires-2
-begins-requires-2 c κs = search needs
 
 returns-3 : tie.Need-returns-3
 returns-3 c =
@@ -54,18 +45,12 @@ returns-3 c =
     let marked = second-or (isVisit (args .bs .now) (args .at)) (isMark (args .bs .now) (args .at)) (sym (c .before .begins2 .ensures) ∙ c .if3 .taken) in
     sym (stop-cut (args .bs .now) (args .at) (three (asked .before .before)) marked)
 
-begins-requires-3 : tie.Need-begins-requires-3
-begins-requires-3 c κs = search needs
-
 returns-4 : tie.Need-returns-4
 returns-4 c =
     let none = c .before .before in
     let asked = none .before .before in
     let args = asked .before .before .before .before .before .args in
     sym (stop-wrong (args .bs .now) (args .at) (three (asked .before .before)) (no-record none) (sym (c .before .begins3 .ensures) ∙ not-true _ (c .if4 .taken)))
-
-add-if5 : tie.Need-add-if5
-add-if5 c = search needs
 
 returns-5 : tie.Need-returns-5
 returns-5 c =
@@ -84,15 +69,5 @@ returns-6 c =
 pub stop-number-spec : {M : Type 1} → statement M
 stop-number-spec =
     tie.close
-    (tie.spec
-    left-requires
-    returns
-    begins-requires
-    returns-2
-    begins-requires-2
-    returns-3
-    begins-requires-3
-    returns-4
-    add-if5
-    returns-5
-    returns-6)
+    (tie.spec (λ c κs. search needs) returns (λ c κs. search needs) returns-2 (λ c κs. search needs) returns-3 (λ c κs. search needs) returns-4
+    (λ c. search needs) returns-5 returns-6)

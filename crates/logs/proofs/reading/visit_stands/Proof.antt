@@ -4,13 +4,10 @@ use mathlib.Core.Path.{refl, _∙_}
 use native.Mathlib.Omega.{arith}
 use lib.ListN.{length}
 use borrow.Author.Tests.{le-leb, lt-leb}
-use Rattle.entries.specs.Visit.{visitStands}
+use Rattle.log_records.specs.Visit.{visitStands}
 use borrow.Author.Needs.{needs}
 use Rattle.logs.proofs.reading.visit_stands.Statement.{statement}
 use Rattle.logs.proofs.reading.visit_stands.Tie as tie
-
-left-requires : tie.Need-left-requires
-left-requires c κs = search needs
 
 returns : tie.Need-returns
 unfolding visitStands
@@ -19,9 +16,6 @@ returns c =
     let left = c .before .left .ensures in
     let short : length (args .bs .now) < args .at + 20 = omega arith in
     rw (lt-leb _ _ short) refl
-
-begins-requires : tie.Need-begins-requires
-begins-requires c κs = search needs
 
 returns-2 : tie.Need-returns-2
 unfolding visitStands
@@ -32,4 +26,4 @@ returns-2 c =
     c .begins .ensures ∙ rw (le-leb _ _ whole) refl
 
 pub visit-stands-spec : {M : Type 1} → statement M
-visit-stands-spec = tie.close (tie.spec left-requires returns begins-requires returns-2)
+visit-stands-spec = tie.close (tie.spec (λ c κs. search needs) returns (λ c κs. search needs) returns-2)

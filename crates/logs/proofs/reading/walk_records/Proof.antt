@@ -38,9 +38,6 @@ loop-holds c =
     let bs = c .before .before .args .bs .now in
     (omega arith, c .record-size .ensures, (suc (length bs), (omega arith, refl)))
 
-record-size-requires : tie.Need-record-size-requires Inv-loop μ-loop
-record-size-requires c κs = search needs
-
 add-at : tie.Need-add-at Inv-loop μ-loop
 add-at c = omega (arith, there c .inside, c .before .loop .inv .1)
 
@@ -48,9 +45,6 @@ add-records : tie.Need-add-records Inv-loop μ-loop
 add-records c =
     let inv = c .before .loop .inv in
     omega (arith, there c .inside, there c .some, inv .0, inv .1)
-
-record-size-requires-2 : tie.Need-record-size-requires-2 Inv-loop μ-loop
-record-size-requires-2 c κs = search needs
 
 loop-less : tie.Need-loop-less Inv-loop μ-loop
 loop-less c = omega (arith, there (c .before) .inside, there (c .before) .some, c .before .before .loop .inv .1)
@@ -62,9 +56,6 @@ loop-again c =
     let inv = at-loop .loop .inv in
     let more = walk-more bs (at-loop .loop .records) (at-loop .loop .at) (inv .2 .0) _ (inv .2 .1 .0) (some (c .before)) (inv .2 .1 .1) in
     (omega (arith, there (c .before) .some, inv .0, inv .1), c .record-size2 .ensures, rw (inv .1) more)
-
-stop-number-requires : tie.Need-stop-number-requires Inv-loop μ-loop
-stop-number-requires c κs = search needs
 
 returns : tie.Need-returns Inv-loop μ-loop
 returns c =
@@ -80,15 +71,5 @@ returns c =
 pub walk-records-spec : {M : Type 1} → statement M
 walk-records-spec =
     tie.close
-    (tie.spec
-    Inv-loop
-    μ-loop
-    record-size-requires
-    loop-holds
-    add-at
-    add-records
-    record-size-requires-2
-    loop-less
-    loop-again
-    stop-number-requires
+    (tie.spec Inv-loop μ-loop (λ c κs. search needs) loop-holds add-at add-records (λ c κs. search needs) loop-less loop-again (λ c κs. search needs)
     returns)

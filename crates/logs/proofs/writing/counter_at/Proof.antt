@@ -8,18 +8,6 @@ use borrow.Author.Needs.{needs}
 use Rattle.logs.proofs.writing.counter_at.Statement.{statement}
 use Rattle.logs.proofs.writing.counter_at.Tie as tie
 
-low-bits-requires : tie.Need-low-bits-requires
-low-bits-requires c κs = search needs
-
-low-bits-requires-2 : tie.Need-low-bits-requires-2
-low-bits-requires-2 c κs = search needs
-
-wrapping-sub-u32-requires : tie.Need-wrapping-sub-u32-requires
-wrapping-sub-u32-requires c κs = search needs
-
-wrapping-add-u32-requires : tie.Need-wrapping-add-u32-requires
-wrapping-add-u32-requires c κs = search needs
-
 returns : tie.Need-returns
 unfolding counterAt
 returns c =
@@ -34,11 +22,4 @@ returns c =
     c .wrapping-add-u32 .ensures ∙ ap (λ (n : ℕ). (args .recorder .counter + n) % 2 ^ 32) rose
 
 pub counter-at-spec : {M : Type 1} → statement M
-counter-at-spec =
-    tie.close
-    (tie.spec
-    low-bits-requires
-    low-bits-requires-2
-    wrapping-sub-u32-requires
-    wrapping-add-u32-requires
-    returns)
+counter-at-spec = tie.close (tie.spec (λ c κs. search needs) (λ c κs. search needs) (λ c κs. search needs) (λ c κs. search needs) returns)

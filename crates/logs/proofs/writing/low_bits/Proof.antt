@@ -3,11 +3,5 @@ use borrow.Author.Needs.{needs}
 use Rattle.logs.proofs.writing.low_bits.Statement.{statement}
 use Rattle.logs.proofs.writing.low_bits.Tie as tie
 
-cast-result : tie.Need-cast-result
-cast-result c = search needs
-
-returns : tie.Need-returns
-returns c = search needs
-
 pub low-bits-spec : {M : Type 1} → statement M
-low-bits-spec = tie.close (tie.spec cast-result returns)
+low-bits-spec = tie.close (tie.spec (λ c. search needs) (λ c. search needs))

@@ -3,9 +3,9 @@ use Prim.Native.Nat.{_+_, _-_, _*_}
 use mathlib.Core.Path.{_≡_, _∙_}
 use native.Mathlib.Omega.{arith}
 use borrow.Author.Needs.{needs}
-use Rattle.units.specs.SmallLaws.{one-more}
+use Rattle.units.proofs.SmallLaws.{one-more}
 use Rattle.quotients.proofs.Promised.{promised}
-use Rattle.plans.specs.PlanLaws.{rotations-within, alpha-small}
+use Rattle.plans.proofs.PlanLaws.{rotations-within, alpha-small}
 use Rattle.units.specs.Vectors.{wholeRotations}
 use Rattle.plans.specs.Rules.{alpha}
 use Rattle.plans.proofs.shares.rotations.Statement.{statement}

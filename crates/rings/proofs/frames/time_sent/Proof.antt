@@ -4,9 +4,9 @@ use mathlib.Core.Path.{_≡_, refl, sym, ap, _∙_}
 use native.Mathlib.Omega.{arith}
 use borrow.Author.Needs.{needs}
 use Rattle.units.specs.Small.{roundedUp}
-use Rattle.units.specs.SmallLaws.{shares-enough, shares-least}
+use Rattle.units.proofs.SmallLaws.{shares-enough, shares-least}
 use Rattle.rings.specs.Frames.{framesSent, framesTime}
-use Rattle.rings.specs.FrameLaws.{frames-sent, frames-within}
+use Rattle.rings.proofs.FrameLaws.{frames-sent, frames-within}
 use Rattle.rings.proofs.frames.time_sent.Statement.{statement}
 use Rattle.rings.proofs.frames.time_sent.Tie as tie
 

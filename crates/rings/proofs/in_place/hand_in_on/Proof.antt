@@ -4,11 +4,11 @@ use mathlib.Core.Path.{_≡_, refl, sym, ap, _∙_}
 use mathlib.Core.Bool.{true}
 use native.Mathlib.Omega.{arith}
 use borrow.Author.Tests.{not-true, not-false}
-use Rattle.units.specs.JudgingLaws.{held, failed}
+use Rattle.units.proofs.JudgingLaws.{held, failed}
 use Rattle.rings.specs.Lent.{ringOf, ArrivalsFit}
 use Rattle.rings.specs.Sound.{isSound}
 use Rattle.rings.specs.HandingIn.{handInNumber, holding}
-use Rattle.rings.specs.RingLaws.{sound-sentences, sound-plan, taken-refused, taken-accepted, takes-holdable}
+use Rattle.rings.proofs.RingLaws.{sound-sentences, sound-plan, taken-refused, taken-accepted, takes-holdable}
 use Rattle.rings.specs.declared.Ring.{Ring}
 use Rattle.rings.specs.declared.Taken.{Taken}
 use borrow.Author.Needs.{needs}

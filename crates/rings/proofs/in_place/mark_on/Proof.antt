@@ -7,7 +7,7 @@ use borrow.Author.Needs.{needs}
 use Rattle.units.specs.Judging.{orElse}
 use Rattle.rings.specs.Lent.{ringOf}
 use Rattle.rings.specs.Marking.{markNumber, noneWithdrawn}
-use Rattle.rings.specs.MarkLaws.{withdrawal-number, mark-inside, marked-refused, marked-accepted}
+use Rattle.rings.proofs.MarkLaws.{withdrawal-number, mark-inside, marked-refused, marked-accepted}
 use Rattle.rings.specs.declared.Ring.{Ring}
 use Rattle.rings.specs.declared.MarkAnswer.{MarkAnswer}
 use Rattle.rings.specs.declared.MarkedRing.{MarkedRing}

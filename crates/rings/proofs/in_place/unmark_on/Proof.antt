@@ -8,7 +8,7 @@ use borrow.Author.Needs.{needs}
 use Rattle.units.specs.Judging.{orElse}
 use Rattle.rings.specs.Lent.{ringOf}
 use Rattle.rings.specs.Marking.{markNumber, switchedIn}
-use Rattle.rings.specs.MarkLaws.{mark-inside, unmarked-refused, unmarked-accepted}
+use Rattle.rings.proofs.MarkLaws.{mark-inside, unmarked-refused, unmarked-accepted}
 use Rattle.rings.specs.declared.Ring.{Ring}
 use Rattle.rings.specs.declared.Taken.{Taken}
 use Rattle.rings.proofs.in_place.unmark_on.Statement.{statement}

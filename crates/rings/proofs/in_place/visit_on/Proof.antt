@@ -7,7 +7,7 @@ use Rattle.rings.specs.Lent.{ringOf}
 use Rattle.rings.specs.Steps.{LengthNamed, asyncSent, blankRecord, firstRefusal, visitNumber}
 use Rattle.rings.specs.Bounds.{Safe, SafeTimers}
 use Rattle.rings.specs.Views.{viewOf, pointOf, MovesOf}
-use Rattle.rings.specs.RingLaws.{visit-passed, visit-refused, visit-safe}
+use Rattle.rings.proofs.RingLaws.{visit-passed, visit-refused, visit-safe}
 use Rattle.rings.specs.declared.Ring.{Ring}
 use Rattle.rings.specs.declared.Visited.{Visited}
 use Rattle.rings.specs.declared.VisitAnswer.{VisitAnswer}

@@ -2,7 +2,7 @@
 use mathlib.Core.Path.{sym, _∙_}
 use borrow.Author.Tests.{not-true, not-false, le-ltb, lt-ltb}
 use borrow.Author.Needs.{needs}
-use Rattle.units.specs.JudgingLaws.{failed, held}
+use Rattle.units.proofs.JudgingLaws.{failed, held}
 use Rattle.rings.proofs.marking.mark_number.Statement.{statement}
 use Rattle.rings.proofs.marking.mark_number.Tie as tie
 

@@ -1,7 +1,7 @@
 -- `switch_through` is right because its branch is the definition's, and so are its two stores.
 use Rattle.rings.specs.Marking.{switchedThrough}
-use Rattle.rings.specs.MarkLaws.{ring-marked, ring-unmarked}
-use Rattle.rings.specs.TimerLaws.{none-left}
+use Rattle.rings.proofs.MarkLaws.{ring-marked, ring-unmarked}
+use Rattle.rings.proofs.TimerLaws.{none-left}
 use mathlib.Core.Path.{sym}
 use borrow.Author.Needs.{needs}
 use Rattle.rings.proofs.marking.switch_through.Statement.{statement}

@@ -1,5 +1,5 @@
 -- `withdrawal_of` is right because its branch is the definition's own.
-use Rattle.rings.specs.MarkLaws.{withdrawn, not-withdrawn}
+use Rattle.rings.proofs.MarkLaws.{withdrawn, not-withdrawn}
 use mathlib.Core.Path.{sym, _∙_}
 use borrow.Author.Needs.{needs}
 use Rattle.rings.proofs.marking.withdrawal_of.Statement.{statement}

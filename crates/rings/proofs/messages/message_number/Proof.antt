@@ -9,7 +9,7 @@ use lib.Dec.{leb, ltb, eqb}
 use Rattle.units.specs.Places.{at}
 use Rattle.sets.specs.declared.Head.{Head}
 use Rattle.rings.specs.Lent.{ringOf}
-use Rattle.rings.specs.RingLaws.{message-9, message-10, message-11, message-15, message-12, message-0}
+use Rattle.rings.proofs.RingLaws.{message-9, message-10, message-11, message-15, message-12, message-0}
 use Rattle.rings.specs.declared.Ring.{Ring}
 use borrow.Author.Needs.{needs}
 use Rattle.rings.proofs.messages.message_number.Statement.{statement}

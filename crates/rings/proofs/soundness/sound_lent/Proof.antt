@@ -12,7 +12,7 @@ use Rattle.sets.specs.declared.Set.{Set}
 use Rattle.plans.specs.Lent.{allocOf}
 use Rattle.plans.specs.Planned.{judgedPlan}
 use Rattle.plans.specs.declared.Alloc.{Alloc}
-use Rattle.plans.specs.PlanLaws.{given-none}
+use Rattle.plans.proofs.PlanLaws.{given-none}
 use Rattle.rings.specs.Sound.{isSound}
 use borrow.Author.Needs.{needs}
 use Rattle.rings.proofs.soundness.sound_lent.Statement.{statement}

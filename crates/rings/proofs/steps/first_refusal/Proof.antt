@@ -1,7 +1,7 @@
 -- `first_refusal` is right because it asks the definition's three tests in the definition's order.
 use mathlib.Core.Path.{sym, _∙_}
 use borrow.Author.Tests.{not-true, not-false, lt-leb, le-leb}
-use Rattle.units.specs.JudgingLaws.{failed, held}
+use Rattle.units.proofs.JudgingLaws.{failed, held}
 use Rattle.rings.proofs.steps.first_refusal.Statement.{statement}
 use Rattle.rings.proofs.steps.first_refusal.Tie as tie
 

@@ -5,7 +5,7 @@ use lib.IntN.{subℕ, _-ℤ_}
 use mir.Syntax.{w64}
 use mir.Val.{toZ, ofZ, SFits}
 use mir.ValLaws.{toZ-pos, toZ-ofZ}
-use Rattle.rings.specs.RingLaws.{difference, difference-fits}
+use Rattle.rings.proofs.RingLaws.{difference, difference-fits}
 use borrow.Author.Needs.{needs}
 use Rattle.rings.proofs.steps.margin_of.Statement.{statement}
 use Rattle.rings.proofs.steps.margin_of.Tie as tie

@@ -1,8 +1,8 @@
 -- `most_sent` is right because its branch is the definition's: nothing for a marked station, else S.
 use mathlib.Core.Path.{sym, _∙_}
 use native.Mathlib.Omega.{arith}
-use Rattle.rings.specs.TimerLaws.{none-left}
-use Rattle.rings.specs.RingLaws.{most-marked, most-unmarked}
+use Rattle.rings.proofs.TimerLaws.{none-left}
+use Rattle.rings.proofs.RingLaws.{most-marked, most-unmarked}
 use Rattle.rings.specs.Views.{pointOf}
 use borrow.Author.Needs.{needs}
 use Rattle.rings.proofs.steps.most_sent.Statement.{statement}

@@ -10,8 +10,8 @@ use mir.ValLaws.{toZ-ofZ}
 use Rattle.rings.specs.Bounds.{Safe, Sendable}
 use Rattle.rings.specs.Timers.{limit}
 use Rattle.rings.specs.Steps.{syncStart, completes, deadline, finish, margin}
-use Rattle.rings.specs.RingLaws.{difference-fits}
-use Rattle.rings.specs.TimerLaws.{lead-within}
+use Rattle.rings.proofs.RingLaws.{difference-fits}
+use Rattle.rings.proofs.TimerLaws.{lead-within}
 use Rattle.rings.specs.Views.{pointOf, recordAt}
 use Rattle.rings.specs.declared.VisitRecord.{VisitRecord}
 use Rattle.rings.specs.declared.view.View.{View}

@@ -5,7 +5,7 @@ use mathlib.Core.Bool.{true, false, _&&_}
 use native.Mathlib.Omega.{arith}
 use lib.Dec.{leb, ltb}
 use Rattle.rings.specs.Steps.{mostSent}
-use Rattle.rings.specs.RingLaws.{served, not-served}
+use Rattle.rings.proofs.RingLaws.{served, not-served}
 use Rattle.rings.specs.Views.{pointOf}
 use borrow.Author.Needs.{needs}
 use Rattle.rings.proofs.steps.sync_sent.Statement.{statement}

@@ -1,8 +1,8 @@
 -- `count_on_token` is right because its branch is the definition's.
 use mathlib.Core.Path.{sym, ap}
 use native.Mathlib.Omega.{arith}
-use Rattle.timers.specs.Timers.{Timer}
-use Rattle.rings.specs.TimerLaws.{came-late, came-early}
+use Rattle.fddi_timer_rules.specs.Timers.{Timer}
+use Rattle.rings.proofs.TimerLaws.{came-late, came-early}
 use borrow.Author.Needs.{needs}
 use Rattle.rings.proofs.timing.count_on_token.Statement.{statement}
 use Rattle.rings.proofs.timing.count_on_token.Tie as tie

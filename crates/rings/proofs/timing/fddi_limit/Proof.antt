@@ -2,7 +2,7 @@
 use Prim.Native.Nat.{_-_}
 use mathlib.Core.Path.{_≡_, refl, sym, _∙_}
 use native.Mathlib.Omega.{arith}
-use Rattle.rings.specs.TimerLaws.{offered-late, offered-early}
+use Rattle.rings.proofs.TimerLaws.{offered-late, offered-early}
 use borrow.Author.Needs.{needs}
 use Rattle.rings.proofs.timing.fddi_limit.Statement.{statement}
 use Rattle.rings.proofs.timing.fddi_limit.Tie as tie

@@ -1,7 +1,7 @@
 -- `lead_of` is right because its branch is the definition's.
 use mathlib.Core.Path.{sym}
 use native.Mathlib.Omega.{arith}
-use Rattle.rings.specs.TimerLaws.{lead-all, lead-none}
+use Rattle.rings.proofs.TimerLaws.{lead-all, lead-none}
 use Rattle.rings.specs.Views.{pointOf}
 use Rattle.rings.proofs.timing.lead_of.Statement.{statement}
 use Rattle.rings.proofs.timing.lead_of.Tie as tie

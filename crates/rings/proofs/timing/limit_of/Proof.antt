@@ -1,7 +1,7 @@
 -- `limit_of` is right because its branch is the definition's: nothing for a marked station, else what the timers offer.
 use mathlib.Core.Path.{sym, _∙_}
 use native.Mathlib.Omega.{arith}
-use Rattle.rings.specs.TimerLaws.{none-left, limit-marked, limit-unmarked}
+use Rattle.rings.proofs.TimerLaws.{none-left, limit-marked, limit-unmarked}
 use Rattle.rings.specs.Views.{pointOf}
 use borrow.Author.Needs.{needs}
 use Rattle.rings.proofs.timing.limit_of.Statement.{statement}

@@ -3,7 +3,7 @@ use Prim.Native.Nat.{ℕ, min}
 use mathlib.Core.Path.{_≡_, ap, _∙_}
 use mathlib.Core.List.{List}
 use native.Mathlib.Omega.{arith}
-use Rattle.places.specs.Laps.{ranOn, lapsCounted}
+use Rattle.arrays.specs.Laps.{ranOn, lapsCounted}
 use borrow.Author.Needs.{needs}
 use Rattle.rings.proofs.timing.move_fddi.Statement.{statement}
 use Rattle.rings.proofs.timing.move_fddi.Tie as tie

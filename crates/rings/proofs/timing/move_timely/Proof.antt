@@ -3,7 +3,7 @@ use Prim.Native.Nat.{ℕ, min}
 use mathlib.Core.Path.{_≡_, ap, _∙_}
 use native.Mathlib.Omega.{arith}
 use lib.ListN.{set}
-use Rattle.places.specs.Held.{raisedHeld}
+use Rattle.arrays.specs.Held.{raisedHeld}
 use borrow.Author.Needs.{needs}
 use Rattle.rings.proofs.timing.move_timely.Statement.{statement}
 use Rattle.rings.proofs.timing.move_timely.Tie as tie

@@ -1,6 +1,6 @@
 -- `timers_offer` is right because it asks for the mode as the definition does.
 use mathlib.Core.Path.{sym, _∙_}
-use Rattle.rings.specs.TimerLaws.{offer-fddi, offer-timely}
+use Rattle.rings.proofs.TimerLaws.{offer-fddi, offer-timely}
 use Rattle.rings.specs.Views.{pointOf}
 use borrow.Author.Needs.{needs}
 use Rattle.rings.proofs.timing.timers_offer.Statement.{statement}

@@ -4,7 +4,7 @@ use mathlib.Core.Path.{_≡_, refl, _∙_}
 use native.Mathlib.Omega.{arith}
 use Rattle.sets.specs.Lent.{setOf}
 use Rattle.rings.specs.Timers.{timelySound, fddiSound, timersSound}
-use Rattle.rings.specs.TimerLaws.{fddi-true, fddi-false}
+use Rattle.rings.proofs.TimerLaws.{fddi-true, fddi-false}
 use borrow.Author.Needs.{needs}
 use Rattle.rings.proofs.timing.timers_sound.Statement.{statement}
 use Rattle.rings.proofs.timing.timers_sound.Tie as tie

@@ -7,41 +7,14 @@ use borrow.Author.Needs.{needs}
 use Rattle.sheets.proofs.bytes.put_number.Statement.{statement}
 use Rattle.sheets.proofs.bytes.put_number.Tie as tie
 
-low-byte-requires : tie.Need-low-byte-requires
-low-byte-requires c κs = search needs
-
-slice-write-out : tie.Need-slice-write-out
-slice-write-out c = search needs
-
-low-byte-requires-2 : tie.Need-low-byte-requires-2
-low-byte-requires-2 c κs = search needs
-
-add-out : tie.Need-add-out
-add-out c = search needs
-
 slice-write-out-2 : tie.Need-slice-write-out-2
 slice-write-out-2 c = simp length-set (omega arith)
-
-low-byte-requires-3 : tie.Need-low-byte-requires-3
-low-byte-requires-3 c κs = search needs
-
-add-out-2 : tie.Need-add-out-2
-add-out-2 c = search needs
 
 slice-write-out-3 : tie.Need-slice-write-out-3
 slice-write-out-3 c = simp length-set (omega arith)
 
-low-byte-requires-4 : tie.Need-low-byte-requires-4
-low-byte-requires-4 c κs = search needs
-
-add-out-3 : tie.Need-add-out-3
-add-out-3 c = search needs
-
 slice-write-out-4 : tie.Need-slice-write-out-4
 slice-write-out-4 c = simp length-set (omega arith)
-
-same-length : tie.Need-same-length
-same-length c = search needs
 
 returns : tie.Need-returns
 unfolding bytesOf
@@ -52,17 +25,5 @@ returns c =
 pub put-number-spec : {M : Type 1} → statement M
 put-number-spec =
     tie.close
-    (tie.spec
-    low-byte-requires
-    slice-write-out
-    low-byte-requires-2
-    add-out
-    slice-write-out-2
-    low-byte-requires-3
-    add-out-2
-    slice-write-out-3
-    low-byte-requires-4
-    add-out-3
-    slice-write-out-4
-    same-length
-    returns)
+    (tie.spec (λ c κs. search needs) (λ c. search needs) (λ c κs. search needs) (λ c. search needs) slice-write-out-2 (λ c κs. search needs)
+    (λ c. search needs) slice-write-out-3 (λ c κs. search needs) (λ c. search needs) slice-write-out-4 (λ c. search needs) returns)

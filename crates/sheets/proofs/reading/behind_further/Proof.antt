@@ -8,15 +8,6 @@ use borrow.Author.Needs.{needs}
 use Rattle.sheets.proofs.reading.behind_further.Statement.{statement}
 use Rattle.sheets.proofs.reading.behind_further.Tie as tie
 
-shared-slice-read-if1 : tie.Need-shared-slice-read-if1
-shared-slice-read-if1 c = search needs
-
-add-result : tie.Need-add-result
-add-result c = search needs
-
-further-size-requires : tie.Need-further-size-requires
-further-size-requires c κs = search needs
-
 add-result-2 : tie.Need-add-result-2
 add-result-2 c =
     let args = c .before .before .before .before .args in
@@ -33,12 +24,4 @@ returns-2 c =
     sym (behind-not (args .bs .now) (args .tag) (args .at) (c .if1 .left))
 
 pub behind-further-spec : {M : Type 1} → statement M
-behind-further-spec =
-    tie.close
-    (tie.spec
-    shared-slice-read-if1
-    add-result
-    further-size-requires
-    add-result-2
-    returns
-    returns-2)
+behind-further-spec = tie.close (tie.spec (λ c. search needs) (λ c. search needs) (λ c κs. search needs) add-result-2 returns returns-2)

@@ -5,12 +5,9 @@ use borrow.Author.Needs.{needs}
 use Rattle.sheets.proofs.reading.plan_passed.Statement.{statement}
 use Rattle.sheets.proofs.reading.plan_passed.Tie as tie
 
-allocations-for-requires : tie.Need-allocations-for-requires
-allocations-for-requires c κs = search needs
-
 returns : tie.Need-returns
 unfolding isAllowed
 returns c = rw (c .before .before .allocations-for .ensures) refl
 
 pub plan-passed-spec : {M : Type 1} → statement M
-plan-passed-spec = tie.close (tie.spec allocations-for-requires returns)
+plan-passed-spec = tie.close (tie.spec (λ c κs. search needs) returns)

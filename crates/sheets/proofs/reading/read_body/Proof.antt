@@ -7,21 +7,12 @@ use borrow.Author.Needs.{needs}
 use Rattle.sheets.proofs.reading.read_body.Statement.{statement}
 use Rattle.sheets.proofs.reading.read_body.Tie as tie
 
-shared-slice-read-wide : tie.Need-shared-slice-read-wide
-shared-slice-read-wide c = search needs
-
-wide-requires : tie.Need-wide-requires
-wide-requires c κs = search needs
-
 returns : tie.Need-returns
 unfolding bodyAt
 returns c =
     let one = c .before .before in
     let size : furtherSize (one .before .before .args .tag) ≡ 1 = ap furtherSize (one .if1 .taken) ∙ further-one in
     rw size (c .wide .ensures .same)
-
-number-at-requires : tie.Need-number-at-requires
-number-at-requires c κs = search needs
 
 returns-2 : tie.Need-returns-2
 unfolding bodyAt
@@ -31,5 +22,4 @@ returns-2 c =
     rw size (c .number-at .ensures)
 
 pub read-body-spec : {M : Type 1} → statement M
-read-body-spec =
-    tie.close (tie.spec shared-slice-read-wide wide-requires returns number-at-requires returns-2)
+read-body-spec = tie.close (tie.spec (λ c. search needs) (λ c κs. search needs) returns (λ c κs. search needs) returns-2)

@@ -1,7 +1,7 @@
 -- `read_sheet` is right because it keeps the number of the walk, and else hands out what the fields hold.
 use mathlib.Core.Path.{_≡_, sym, ap, subst, _∙_}
-use Rattle.scan.specs.Scanned.{scanned}
-use Rattle.scan.specs.declared.Scanned.{Scanned}
+use Rattle.field_reader.specs.Scanned.{scanned}
+use Rattle.field_reader.specs.declared.Scanned.{Scanned}
 use Rattle.sheets.specs.Bounds.{PassedFits}
 use Rattle.sheets.specs.Reading.{setOf, allocOf, fieldsAnswer}
 use Rattle.sheets.proofs.ReadingLaws.{scanned-fits, kept-misshapen, kept-read}

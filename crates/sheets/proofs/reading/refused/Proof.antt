@@ -3,14 +3,8 @@ use borrow.Author.Needs.{needs}
 use Rattle.sheets.proofs.reading.refused.Statement.{statement}
 use Rattle.sheets.proofs.reading.refused.Tie as tie
 
-blank-set-requires : tie.Need-blank-set-requires
-blank-set-requires c κs = search needs
-
-blank-alloc-requires : tie.Need-blank-alloc-requires
-blank-alloc-requires c κs = search needs
-
 returns : tie.Need-returns
 returns c = rw (c .before .blank-set .ensures, c .blank-alloc .ensures)
 
 pub refused-spec : {M : Type 1} → statement M
-refused-spec = tie.close (tie.spec blank-set-requires blank-alloc-requires returns)
+refused-spec = tie.close (tie.spec (λ c κs. search needs) (λ c κs. search needs) returns)

@@ -3,46 +3,10 @@ use mathlib.Core.Path.{refl}
 use native.Mathlib.Omega.{arith}
 use Rattle.fields.specs.Bytes.{bytesOf}
 use Rattle.fields.proofs.SegmentLaws.{laid-more}
-use Rattle.entries.specs.Visit.{visitBytes}
+use Rattle.log_records.specs.Visit.{visitBytes}
 use borrow.Author.Needs.{needs}
 use Rattle.sheets.proofs.records.lay_visit.Statement.{statement}
 use Rattle.sheets.proofs.records.lay_visit.Tie as tie
-
-put-start-requires : tie.Need-put-start-requires
-put-start-requires c κs = search needs
-
-add-put-byte : tie.Need-add-put-byte
-add-put-byte c = search needs
-
-put-byte-requires : tie.Need-put-byte-requires
-put-byte-requires c κs = search needs
-
-add-put-number : tie.Need-add-put-number
-add-put-number c = search needs
-
-put-number-requires : tie.Need-put-number-requires
-put-number-requires c κs = search needs
-
-add-put-number-2 : tie.Need-add-put-number-2
-add-put-number-2 c = search needs
-
-put-number-requires-2 : tie.Need-put-number-requires-2
-put-number-requires-2 c κs = search needs
-
-add-put-number-3 : tie.Need-add-put-number-3
-add-put-number-3 c = search needs
-
-put-number-requires-3 : tie.Need-put-number-requires-3
-put-number-requires-3 c κs = search needs
-
-add-put-number-4 : tie.Need-add-put-number-4
-add-put-number-4 c = search needs
-
-put-number-requires-4 : tie.Need-put-number-requires-4
-put-number-requires-4 c κs = search needs
-
-same-length : tie.Need-same-length
-same-length c = search needs
 
 returns : tie.Need-returns
 unfolding visitBytes bytesOf
@@ -63,17 +27,5 @@ returns c =
 pub lay-visit-spec : {M : Type 1} → statement M
 lay-visit-spec =
     tie.close
-    (tie.spec
-    put-start-requires
-    add-put-byte
-    put-byte-requires
-    add-put-number
-    put-number-requires
-    add-put-number-2
-    put-number-requires-2
-    add-put-number-3
-    put-number-requires-3
-    add-put-number-4
-    put-number-requires-4
-    same-length
-    returns)
+    (tie.spec (λ c κs. search needs) (λ c. search needs) (λ c κs. search needs) (λ c. search needs) (λ c κs. search needs) (λ c. search needs)
+    (λ c κs. search needs) (λ c. search needs) (λ c κs. search needs) (λ c. search needs) (λ c κs. search needs) (λ c. search needs) returns)

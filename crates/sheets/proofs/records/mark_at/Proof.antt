@@ -4,16 +4,10 @@ use mathlib.Core.Path.{refl, _∙_}
 use native.Mathlib.Omega.{arith}
 use lib.ListN.{length}
 use borrow.Author.Tests.{le-leb, lt-leb}
-use Rattle.entries.specs.Mark.{markOrBlank}
+use Rattle.log_records.specs.Mark.{markOrBlank}
 use borrow.Author.Needs.{needs}
 use Rattle.sheets.proofs.records.mark_at.Statement.{statement}
 use Rattle.sheets.proofs.records.mark_at.Tie as tie
-
-left-requires : tie.Need-left-requires
-left-requires c κs = search needs
-
-blank-mark-requires : tie.Need-blank-mark-requires
-blank-mark-requires c κs = search needs
 
 returns : tie.Need-returns
 unfolding markOrBlank
@@ -22,24 +16,6 @@ returns c =
     let left = c .before .before .left .ensures in
     let short : length (args .bs .now) < args .at + 5 = omega arith in
     c .blank-mark .ensures ∙ rw (lt-leb _ _ short) refl
-
-add-wide : tie.Need-add-wide
-add-wide c = search needs
-
-shared-slice-read-wide : tie.Need-shared-slice-read-wide
-shared-slice-read-wide c = search needs
-
-wide-requires : tie.Need-wide-requires
-wide-requires c κs = search needs
-
-add-wide-2 : tie.Need-add-wide-2
-add-wide-2 c = search needs
-
-shared-slice-read-wide-2 : tie.Need-shared-slice-read-wide-2
-shared-slice-read-wide-2 c = search needs
-
-wide-requires-2 : tie.Need-wide-requires-2
-wide-requires-2 c κs = search needs
 
 returns-2 : tie.Need-returns-2
 unfolding markOrBlank
@@ -54,14 +30,5 @@ returns-2 c =
 pub mark-at-spec : {M : Type 1} → statement M
 mark-at-spec =
     tie.close
-    (tie.spec
-    left-requires
-    blank-mark-requires
-    returns
-    add-wide
-    shared-slice-read-wide
-    wide-requires
-    add-wide-2
-    shared-slice-read-wide-2
-    wide-requires-2
-    returns-2)
+    (tie.spec (λ c κs. search needs) (λ c κs. search needs) returns (λ c. search needs) (λ c. search needs) (λ c κs. search needs) (λ c. search needs)
+    (λ c. search needs) (λ c κs. search needs) returns-2)

@@ -9,9 +9,6 @@ use Rattle.sheets.specs.Reading.{numberOrZero}
 use Rattle.sheets.proofs.records.number_from.Statement.{statement}
 use Rattle.sheets.proofs.records.number_from.Tie as tie
 
-left-requires : tie.Need-left-requires
-left-requires c κs = search needs
-
 returns : tie.Need-returns
 unfolding numberOrZero
 returns c =
@@ -19,9 +16,6 @@ returns c =
     let some = c .before .left .ensures in
     let short : left (args .bs .now) (args .at) < 4 = omega arith in
     rw (lt-leb 4 _ short) refl
-
-number-at-requires : tie.Need-number-at-requires
-number-at-requires c κs = search needs
 
 returns-2 : tie.Need-returns-2
 unfolding numberOrZero
@@ -32,4 +26,4 @@ returns-2 c =
     rw (le-leb 4 _ enough) (c .number-at .ensures)
 
 pub number-from-spec : {M : Type 1} → statement M
-number-from-spec = tie.close (tie.spec left-requires returns number-at-requires returns-2)
+number-from-spec = tie.close (tie.spec (λ c κs. search needs) returns (λ c κs. search needs) returns-2)

@@ -6,20 +6,11 @@ use borrow.Author.Needs.{needs}
 use Rattle.sheets.proofs.records.put_end.Statement.{statement}
 use Rattle.sheets.proofs.records.put_end.Tie as tie
 
-left-requires : tie.Need-left-requires
-left-requires c κs = search needs
-
 returns : tie.Need-returns
 returns c =
     let args = c .before .before .before .args in
     let left = c .before .left .ensures in
     put-short (args .out .now) (args .at) endBytes 0 (omega arith)
-
-put-start-requires : tie.Need-put-start-requires
-put-start-requires c κs = search needs
-
-same-length : tie.Need-same-length
-same-length c = search needs
 
 returns-2 : tie.Need-returns-2
 returns-2 c =
@@ -30,4 +21,4 @@ returns-2 c =
     put-there (args .out .now) (args .at) endBytes 0 _ (omega arith) (put .put-start .ensures)
 
 pub put-end-spec : {M : Type 1} → statement M
-put-end-spec = tie.close (tie.spec left-requires returns put-start-requires same-length returns-2)
+put-end-spec = tie.close (tie.spec (λ c κs. search needs) returns (λ c κs. search needs) (λ c. search needs) returns-2)

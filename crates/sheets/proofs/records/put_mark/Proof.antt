@@ -2,42 +2,18 @@
 use mathlib.Core.Path.{refl}
 use native.Mathlib.Omega.{arith}
 use Rattle.fields.proofs.SegmentLaws.{laid-more}
-use Rattle.entries.specs.Mark.{markBytes}
-use Rattle.entries.proofs.MarkLaws.{mark-length}
+use Rattle.log_records.specs.Mark.{markBytes}
+use Rattle.log_records.proofs.MarkLaws.{mark-length}
 use Rattle.sheets.proofs.WritingLaws.{put-short, put-there}
 use borrow.Author.Needs.{needs}
 use Rattle.sheets.proofs.records.put_mark.Statement.{statement}
 use Rattle.sheets.proofs.records.put_mark.Tie as tie
-
-left-requires : tie.Need-left-requires
-left-requires c κs = search needs
-
-add-if1 : tie.Need-add-if1
-add-if1 c = search needs
 
 returns : tie.Need-returns
 returns c =
     let args = c .before .before .before .args in
     let left = c .before .left .ensures in
     put-short (args .out .now) (args .at) (markBytes (args .mark)) 3 (omega (arith, mark-length (args .mark)))
-
-put-start-requires : tie.Need-put-start-requires
-put-start-requires c κs = search needs
-
-add-put-byte : tie.Need-add-put-byte
-add-put-byte c = search needs
-
-put-byte-requires : tie.Need-put-byte-requires
-put-byte-requires c κs = search needs
-
-add-put-byte-2 : tie.Need-add-put-byte-2
-add-put-byte-2 c = search needs
-
-put-byte-requires-2 : tie.Need-put-byte-requires-2
-put-byte-requires-2 c κs = search needs
-
-same-length : tie.Need-same-length
-same-length c = search needs
 
 returns-2 : tie.Need-returns-2
 unfolding markBytes
@@ -56,14 +32,5 @@ returns-2 c =
 pub put-mark-spec : {M : Type 1} → statement M
 put-mark-spec =
     tie.close
-    (tie.spec
-    left-requires
-    add-if1
-    returns
-    put-start-requires
-    add-put-byte
-    put-byte-requires
-    add-put-byte-2
-    put-byte-requires-2
-    same-length
-    returns-2)
+    (tie.spec (λ c κs. search needs) (λ c. search needs) returns (λ c κs. search needs) (λ c. search needs) (λ c κs. search needs) (λ c. search needs)
+    (λ c κs. search needs) (λ c. search needs) returns-2)

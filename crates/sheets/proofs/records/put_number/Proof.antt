@@ -7,20 +7,11 @@ use borrow.Author.Needs.{needs}
 use Rattle.sheets.proofs.records.put_number.Statement.{statement}
 use Rattle.sheets.proofs.records.put_number.Tie as tie
 
-left-requires : tie.Need-left-requires
-left-requires c κs = search needs
-
 returns : tie.Need-returns
 returns c =
     let args = c .before .before .before .args in
     let left = c .before .left .ensures in
     put-short (args .out .now) (args .at) (bytesOf (args .x)) 0 (omega (arith, bytes-length (args .x)))
-
-put-number-requires : tie.Need-put-number-requires
-put-number-requires c κs = search needs
-
-same-length : tie.Need-same-length
-same-length c = search needs
 
 returns-2 : tie.Need-returns-2
 returns-2 c =
@@ -31,4 +22,4 @@ returns-2 c =
     put-there (args .out .now) (args .at) (bytesOf (args .x)) 0 _ (omega (arith, bytes-length (args .x))) (put .put-number .ensures)
 
 pub put-number-spec : {M : Type 1} → statement M
-put-number-spec = tie.close (tie.spec left-requires returns put-number-requires same-length returns-2)
+put-number-spec = tie.close (tie.spec (λ c κs. search needs) returns (λ c κs. search needs) (λ c. search needs) returns-2)

@@ -4,16 +4,10 @@ use mathlib.Core.Path.{refl, _∙_}
 use native.Mathlib.Omega.{arith}
 use lib.ListN.{length}
 use borrow.Author.Tests.{le-leb, lt-leb}
-use Rattle.entries.specs.Visit.{visitOrBlank}
+use Rattle.log_records.specs.Visit.{visitOrBlank}
 use borrow.Author.Needs.{needs}
 use Rattle.sheets.proofs.records.visit_at.Statement.{statement}
 use Rattle.sheets.proofs.records.visit_at.Tie as tie
-
-left-requires : tie.Need-left-requires
-left-requires c κs = search needs
-
-blank-visit-requires : tie.Need-blank-visit-requires
-blank-visit-requires c κs = search needs
 
 returns : tie.Need-returns
 unfolding visitOrBlank
@@ -22,9 +16,6 @@ returns c =
     let left = c .before .before .left .ensures in
     let short : length (args .bs .now) < args .at + 20 = omega arith in
     c .blank-visit .ensures ∙ rw (lt-leb _ _ short) refl
-
-read-visit-requires : tie.Need-read-visit-requires
-read-visit-requires c κs = search needs
 
 returns-2 : tie.Need-returns-2
 unfolding visitOrBlank
@@ -35,5 +26,4 @@ returns-2 c =
     c .read-visit .ensures ∙ rw (le-leb _ _ whole) refl
 
 pub visit-at-spec : {M : Type 1} → statement M
-visit-at-spec =
-    tie.close (tie.spec left-requires blank-visit-requires returns read-visit-requires returns-2)
+visit-at-spec = tie.close (tie.spec (λ c κs. search needs) (λ c κs. search needs) returns (λ c κs. search needs) returns-2)

@@ -6,20 +6,11 @@ use borrow.Author.Needs.{needs}
 use Rattle.sheets.proofs.writing.fields_length.Statement.{statement}
 use Rattle.sheets.proofs.writing.fields_length.Tie as tie
 
-head-length-requires : tie.Need-head-length-requires
-head-length-requires c κs = search needs
-
 add-result : tie.Need-add-result
 add-result c = omega (arith, head-small (c .before .args .h) 3)
 
-mul-result : tie.Need-mul-result
-mul-result c = search needs
-
 add-result-2 : tie.Need-add-result-2
 add-result-2 c = omega (arith, head-small (c .before .args .h) 3)
-
-allocations-for-requires : tie.Need-allocations-for-requires
-allocations-for-requires c κs = search needs
 
 mul-result-2 : tie.Need-mul-result-2
 mul-result-2 c =
@@ -37,12 +28,4 @@ returns c = search needs
 pub fields-length-spec : {M : Type 1} → statement M
 fields-length-spec =
     tie.close
-    (tie.spec
-    head-length-requires
-    add-result
-    mul-result
-    add-result-2
-    allocations-for-requires
-    mul-result-2
-    add-result-3
-    returns)
+    (tie.spec (λ c κs. search needs) add-result (λ c. search needs) add-result-2 (λ c κs. search needs) mul-result-2 add-result-3 returns)

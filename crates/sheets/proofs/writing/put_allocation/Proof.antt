@@ -8,18 +8,6 @@ use borrow.Author.Needs.{needs}
 use Rattle.sheets.proofs.writing.put_allocation.Statement.{statement}
 use Rattle.sheets.proofs.writing.put_allocation.Tie as tie
 
-put-start-requires : tie.Need-put-start-requires
-put-start-requires c κs = search needs
-
-add-put-number : tie.Need-add-put-number
-add-put-number c = search needs
-
-put-number-requires : tie.Need-put-number-requires
-put-number-requires c κs = search needs
-
-same-length : tie.Need-same-length
-same-length c = search needs
-
 returns : tie.Need-returns
 unfolding allocationWith bytesOf
 returns c =
@@ -28,5 +16,4 @@ returns c =
     laid-more _ _ _ _ _ _ _ (marked .put-start .ensures) refl (numbered .put-number .ensures) (omega arith)
 
 pub put-allocation-spec : {M : Type 1} → statement M
-put-allocation-spec =
-    tie.close (tie.spec put-start-requires add-put-number put-number-requires same-length returns)
+put-allocation-spec = tie.close (tie.spec (λ c κs. search needs) (λ c. search needs) (λ c κs. search needs) (λ c. search needs) returns)

@@ -20,17 +20,11 @@ put-byte-requires c κs = omega (arith, c .before .before .before .pre, one (c .
 put-number-requires : tie.Need-put-number-requires
 put-number-requires c κs = omega (arith, c .before .before .before .pre, four (c .before))
 
-same-length : tie.Need-same-length
-same-length c = search needs
-
 returns : tie.Need-returns
 unfolding bodyOf
 returns c =
     let called = c .before .before in
     rw (one (called .before .before)) (called .put-byte .ensures)
-
-same-length-2 : tie.Need-same-length-2
-same-length-2 c = search needs
 
 returns-2 : tie.Need-returns-2
 unfolding bodyOf
@@ -39,6 +33,4 @@ returns-2 c =
     rw (four (called .before .before)) (called .put-number .ensures)
 
 pub put-body-spec : {M : Type 1} → statement M
-put-body-spec =
-    tie.close
-    (tie.spec put-byte-requires put-number-requires same-length returns same-length-2 returns-2)
+put-body-spec = tie.close (tie.spec put-byte-requires put-number-requires (λ c. search needs) returns (λ c. search needs) returns-2)

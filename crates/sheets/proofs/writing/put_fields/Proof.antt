@@ -19,27 +19,6 @@ set-of c = let a = c .args in setOf (a .h) (a .n) (a .w .now) (a .c .now) (a .d 
 abbrev alloc-of : tie.Start → Alloc
 alloc-of c = allocOf (c .args .s .now)
 
-allocations-for-requires : tie.Need-allocations-for-requires
-allocations-for-requires c κs = search needs
-
-head-length-requires : tie.Need-head-length-requires
-head-length-requires c κs = search needs
-
-add-from : tie.Need-add-from
-add-from c = search needs
-
-mul-behind : tie.Need-mul-behind
-mul-behind c = search needs
-
-add-behind : tie.Need-add-behind
-add-behind c = search needs
-
-put-head-requires : tie.Need-put-head-requires
-put-head-requires c κs = search needs
-
-put-stations-requires : tie.Need-put-stations-requires
-put-stations-requires c κs = search needs
-
 put-allocations-requires : tie.Need-put-allocations-requires
 put-allocations-requires c κs =
     let placed = c .before .before .before in
@@ -52,9 +31,6 @@ put-allocations-requires c κs =
     let begun = measured .head-length .ensures in
     let fit = start .pre in
     (omega arith, omega (arith, fit .1, said, begun, placed .put-stations .kept .0, headed .put-head .kept .0))
-
-same-length : tie.Need-same-length
-same-length c = search needs
 
 returns : tie.Need-returns
 returns c =
@@ -75,14 +51,5 @@ returns c =
 pub put-fields-spec : {M : Type 1} → statement M
 put-fields-spec =
     tie.close
-    (tie.spec
-    allocations-for-requires
-    head-length-requires
-    add-from
-    mul-behind
-    add-behind
-    put-head-requires
-    put-stations-requires
-    put-allocations-requires
-    same-length
-    returns)
+    (tie.spec (λ c κs. search needs) (λ c κs. search needs) (λ c. search needs) (λ c. search needs) (λ c. search needs) (λ c κs. search needs)
+    (λ c κs. search needs) put-allocations-requires (λ c. search needs) returns)

@@ -3,7 +3,7 @@ use Prim.Native.Nat.{_+_}
 use mathlib.Core.Path.{_≡_, refl, sym}
 use native.Mathlib.Omega.{arith}
 use Rattle.fields.specs.Fields.{furtherSize}
-use Rattle.fields.specs.RowLaws.{laid-none}
+use Rattle.fields.proofs.RowLaws.{laid-none}
 use Rattle.fields.proofs.SegmentLaws.{laid-more}
 use Rattle.fields.proofs.FieldLaws.{further-small}
 use Rattle.fields.proofs.HeaderLaws.{body-length}
@@ -17,23 +17,14 @@ use Rattle.sheets.proofs.writing.put_further.Tie as tie
 long : (c : tie.Then1) → furtherLength (c .before .before .args .tag) (c .before .before .args .number) ≡ 3 + furtherSize (c .before .before .args .tag)
 long c = length-some _ _ (c .if1 .taken)
 
-further-size-requires : tie.Need-further-size-requires
-further-size-requires c κs = search needs
-
 cast-short : tie.Need-cast-short
 cast-short c = omega (arith, c .further-size .ensures, further-small (c .before .before .before .args .tag))
 
 put-start-requires : tie.Need-put-start-requires
 put-start-requires c κs = omega (arith, long (c .before .before))
 
-add-put-body : tie.Need-add-put-body
-add-put-body c = search needs
-
 put-body-requires : tie.Need-put-body-requires
 put-body-requires c κs = omega (arith, long (c .before .before .before .before .before .before))
-
-same-length : tie.Need-same-length
-same-length c = search needs
 
 returns : tie.Need-returns
 returns c =
@@ -52,12 +43,4 @@ returns-2 c = rw (further-none _ _ (c .if1 .left)) (sym (laid-none _ _))
 pub put-further-spec : {M : Type 1} → statement M
 put-further-spec =
     tie.close
-    (tie.spec
-    further-size-requires
-    cast-short
-    put-start-requires
-    add-put-body
-    put-body-requires
-    same-length
-    returns
-    returns-2)
+    (tie.spec (λ c κs. search needs) cast-short put-start-requires (λ c. search needs) put-body-requires (λ c. search needs) returns returns-2)

@@ -12,7 +12,7 @@ use Rattle.fields.proofs.FieldLaws.{allocations-few}
 use Rattle.sheets.specs.Layout.{sheetLength}
 use Rattle.sheets.specs.Reading.{judgedSheet}
 use Rattle.sheets.proofs.WritingLaws.{head-small, number-judged, number-short, fields-refused, fields-all}
-use Rattle.sheets.specs.ReadLaws.{judged-kept}
+use Rattle.sheets.proofs.ReadLaws.{judged-kept}
 use borrow.Author.Needs.{needs}
 use Rattle.sheets.proofs.writing.write_fields.Statement.{statement}
 use Rattle.sheets.proofs.writing.write_fields.Tie as tie
@@ -34,12 +34,6 @@ few c =
     let start = c .before .before .before in
     judged-kept (start .args .plan) (set-of start) (alloc-of start) (judged-0 c) .count .1
 
-judge-sheet-requires : tie.Need-judge-sheet-requires
-judge-sheet-requires c κs = search needs
-
-refused-requires : tie.Need-refused-requires
-refused-requires c κs = search needs
-
 returns : tie.Need-returns
 returns c =
     let start = c .before .before .before .before in
@@ -58,9 +52,6 @@ add-if2 c =
     let n = few (c .before) in
     omega (arith, said, head-small (start .args .h) 3, allocations-few (start .args .plan) (start .args .n))
 
-refused-requires-2 : tie.Need-refused-requires-2
-refused-requires-2 c κs = search needs
-
 returns-2 : tie.Need-returns-2
 returns-2 c =
     let measured = c .before .before in
@@ -76,9 +67,6 @@ put-fields-requires c κs =
     let said = measured .fields-length .ensures in
     (few (measured .before), omega arith)
 
-same-length : tie.Need-same-length
-same-length c = search needs
-
 returns-3 : tie.Need-returns-3
 returns-3 c =
     let put = c .before .before in
@@ -92,14 +80,5 @@ returns-3 c =
 pub write-fields-spec : {M : Type 1} → statement M
 write-fields-spec =
     tie.close
-    (tie.spec
-    judge-sheet-requires
-    refused-requires
-    returns
-    fields-length-requires
-    add-if2
-    refused-requires-2
-    returns-2
-    put-fields-requires
-    same-length
-    returns-3)
+    (tie.spec (λ c κs. search needs) (λ c κs. search needs) returns fields-length-requires add-if2 (λ c κs. search needs) returns-2
+    put-fields-requires (λ c. search needs) returns-3)

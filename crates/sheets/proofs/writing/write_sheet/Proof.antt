@@ -16,12 +16,6 @@ set-of c = let a = c .args in setOf (a .h) (a .n) (a .w .now) (a .c .now) (a .d 
 abbrev alloc-of : tie.Start → Alloc
 alloc-of c = allocOf (c .args .s .now)
 
-write-fields-requires : tie.Need-write-fields-requires
-write-fields-requires c κs = search needs
-
-same-length : tie.Need-same-length
-same-length c = search needs
-
 returns : tie.Need-returns
 returns c =
     let wrote = c .before .before .before .before in
@@ -37,9 +31,6 @@ put-start-requires c κs =
     let end = fields-end (start .args .plan) (set-of start) (alloc-of start) (start .args .out .now) _ _ (wrote .write-fields .ensures) (else .if1 .left) in
     omega arith
 
-same-length-2 : tie.Need-same-length-2
-same-length-2 c = search needs
-
 returns-2 : tie.Need-returns-2
 returns-2 c =
     let put = c .before .before in
@@ -51,11 +42,7 @@ returns-2 c =
 pub write-sheet-spec : {M : Type 1} → statement M
 write-sheet-spec =
     tie.close
-    (tie.spec
-    write-fields-requires
-    same-length
-    returns
-    put-start-requires
+    (tie.spec (λ c κs. search needs) (λ c. search needs) returns put-start-requires
     (λ c.
     let else = c .before .before .before .before in
     let wrote = else .before .before .before .before in
@@ -63,5 +50,4 @@ write-sheet-spec =
     let fit = fields-fit (start .args .plan) (set-of start) (alloc-of start) (start .args .out .now) _ _ (wrote .write-fields .ensures) (else .if1 .left) in
     let end = fields-end (start .args .plan) (set-of start) (alloc-of start) (start .args .out .now) _ _ (wrote .write-fields .ensures) (else .if1 .left) in
     omega (arith, fit, end, start .good))
-    same-length-2
-    returns-2)
+    (λ c. search needs) returns-2)

@@ -3,8 +3,5 @@ use borrow.Author.Needs.{needs}
 use Rattle.streams.proofs.reading.further.Statement.{statement}
 use Rattle.streams.proofs.reading.further.Tie as tie
 
-returns-3 : tie.Need-returns-3
-returns-3 c = search needs
-
 pub further-spec : {M : Type 1} → statement M
-further-spec = tie.close (tie.spec (λ c. search needs) (λ c. search needs) (λ c. search needs) (λ c. search needs) returns-3)
+further-spec = tie.close (tie.spec (λ c. search needs) (λ c. search needs) (λ c. search needs) (λ c. search needs) (λ c. search needs))

@@ -5,7 +5,7 @@ use native.Mathlib.Omega.{arith}
 use lib.Dec.{eqb}
 use lib.ListN.{length}
 use Rattle.units.specs.Places.{at, allBelow}
-use Rattle.units.specs.PlaceLaws.{all-then}
+use Rattle.units.proofs.PlaceLaws.{all-then}
 use Rattle.versions.specs.Area.{zerosFrom}
 use borrow.Author.Needs.{needs}
 use Rattle.versions.proofs.area.zeros_from.Statement.{statement}

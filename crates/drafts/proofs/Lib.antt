@@ -1,3 +1,0 @@
--- The laws of a log's text, and the promises of this layer, proved.
-pub mod SentLaws
-pub mod Promised

@@ -1,1 +1,0 @@
-// What a call on a lent ring does stands in specs/, and is proved in proofs/ of what the same call by value gives. There is no code here; `lent` has it.

@@ -1,0 +1,2 @@
+-- The laws of this layer, for the proofs here and above.
+pub mod ScanLaws
