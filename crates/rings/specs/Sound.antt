@@ -1,4 +1,4 @@
--- 01's list of unsound states, line by line: first as sentences of a sound one, then as tests that can be run. `RingLaws` proves that the tests decide the sentences.
+-- 01's list of unsound states, line by line: first as sentences of a sound one, then as tests that can be run. `proofs/RingLaws.antt` proves that the tests decide the sentences.
 use Prim.Native.Nat.{ℕ, _^_, _≤_, _<_}
 use mathlib.Core.Path.{_≡_}
 use mathlib.Core.Bool.{Bool}
