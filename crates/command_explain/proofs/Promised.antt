@@ -8,6 +8,7 @@ use Rattle.command_explain.specs.Sheet.{isPlan, accountOf, explained}
 use Rattle.command_explain.specs.Promised.{Promised}
 use Rattle.command_explain.proofs.NumberLaws.{as-request, as-plan}
 use Rattle.command_explain.proofs.PlaceLaws as places
+use Rattle.command_explain.proofs.KindLaws.{kinds-all}
 use Rattle.command_explain.proofs.ListedLaws.{listed, header-listed}
 use Rattle.command_explain.proofs.RangeLaws.{four}
 use Rattle.command_explain.proofs.SaidLaws.{said, said-ttrt}
@@ -23,6 +24,7 @@ promised =
       plan = as-plan;
       place = places.place;
       passed = places.passed;
+      kinds-all = kinds-all;
       listed = listed;
       header-listed = header-listed;
       missing = missing;

@@ -16,6 +16,7 @@ use Rattle.reasons.specs.declared.Grounds.{Grounds}
 use Rattle.faults.specs.Holdings.{holdingAt}
 use Rattle.faults.specs.declared.Holding.{Holding}
 use Rattle.command_explain.specs.declared.Form.{Form}
+use Rattle.command_explain.specs.declared.Form.the-variants.{Refused}
 use Rattle.command_explain.specs.declared.Phrase.{Phrase}
 use Rattle.command_explain.specs.declared.Place.{Place}
 use Rattle.command_explain.specs.declared.Explained.{Explained}
@@ -51,9 +52,13 @@ plain e = with-form (said e)
 
 -- ---- before the stations
 
+refused-quiet : saysOut Refused ≡ false
+unfolding saysOut
+refused-quiet = refl
+
 verdict-quiet : (e : Explained) → Quiet (verdict e)
 unfolding verdict verdictForm saysOut
-verdict-quiet e = either (eqb (e .number) accepted) (with-form (either-form (e .plan) (said refl) (said refl))) (plain refl)
+verdict-quiet e = either (eqb (e .number) accepted) (with-form (either-form (e .plan) (said refl) (said refl))) (plain refused-quiet)
 
 kind-quiet : (k : ℕ) → QuietForm (kindAt k .form)
 unfolding saysOut
@@ -146,7 +151,7 @@ promise-quiet e j =
     either (eqb j 0) (plain refl)
     (either (eqb j 1) (plain refl)
     (either (eqb j 2) (either (eqb mode fddi) (plain refl) (plain refl))
-    (either (eqb j 3) (either (eqb mode fddi) (plain refl) (plain refl)) (either (eqb j 4) (offered-quiet mode (e .sums .spare)) (plain refl)))))
+    (either (eqb j 3) (either (eqb mode fddi) (plain refl) (either (eqb (e .set .n) 1) (plain refl) (plain refl))) (either (eqb j 4) (offered-quiet mode (e .sums .spare)) (plain refl)))))
 
 account-quiet : (e : Explained) (j : ℕ) → Quiet (accountPhrase e j)
 unfolding accountPhrase againstPhrase behindSum saysOut

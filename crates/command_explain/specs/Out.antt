@@ -3,7 +3,7 @@ use Prim.Native.Nat.{ℕ, _<_}
 use mathlib.Core.Path.{_≡_}
 use mathlib.Core.Bool.{Bool, true, false}
 use Rattle.command_explain.specs.declared.Form.{Form}
-use Rattle.command_explain.specs.declared.Form.the-variants.{Nothing, Refused, Planned, Accepted, Header, AsRequest, AsPlan, Start, Left, MayTtrt, MayStation, MayShare, MayMode, MayFrame, MayGrid, MayEnd, MayNothing, TtrtOut, ModeOut, FrameOut, GridOut, ModeOne, FrameOne, GridOne, WalkOut, LongestOut, DeadlineOut, GapOut, ShareOut, TauOut, Walk, Grounds, FddiGrounds, End, TooMuch, Times, FirstTime, Held, HeldMore, HeldShort, HeldOff, HeldShortOff, Sum, Missing, Spare, GridCause, Retired, Readable, Again, Back, OnlyShare, InTime, Burst, Offered, NotOffered, NoDeadline}
+use Rattle.command_explain.specs.declared.Form.the-variants.{Nothing, Refused, Planned, Accepted, Header, AsRequest, AsPlan, Start, Left, MayTtrt, MayStation, MayShare, MayMode, MayFrame, MayGrid, MayEnd, MayNothing, TtrtOut, ModeOut, FrameOut, GridOut, ModeOne, FrameOne, GridOne, WalkOut, LongestOut, DeadlineOut, GapOut, ShareOut, TauOut, Walk, Grounds, FddiGrounds, End, TooMuch, Times, FirstTime, Held, HeldMore, HeldShort, HeldOff, HeldShortOff, Sum, Missing, Spare, GridCause, Retired, Readable, Again, Back, OnlyShare, InTime, Burst, OwnBurst, Offered, NotOffered, NoDeadline}
 use Rattle.command_explain.specs.declared.Explained.{Explained}
 use Rattle.command_explain.specs.Phrases.{phraseAt, phraseCount}
 
@@ -62,6 +62,7 @@ saysOut Back = false
 saysOut OnlyShare = false
 saysOut InTime = false
 saysOut Burst = false
+saysOut OwnBurst = false
 saysOut Offered = false
 saysOut NotOffered = false
 saysOut NoDeadline = false

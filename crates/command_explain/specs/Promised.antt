@@ -6,8 +6,9 @@ use mathlib.Core.List.{List, [], _∷_}
 use mathlib.Core.Logic.{_↔_}
 use Rattle.units.specs.Numbers.{outOfRange}
 use Rattle.fields.specs.Bytes.{numberAt}
-use Rattle.fields.specs.Fields.{headTag, modeTag, gridTag, tagAt}
+use Rattle.fields.specs.Fields.{headTag, modeTag, gridTag, isAllowed, tagAt}
 use Rattle.fields.specs.Header.{placeOf, saidAt}
+use Rattle.fields.specs.declared.Passed.{Passed}
 use Rattle.field_reader.specs.FirstFault.{FirstFault}
 use Rattle.sheets.specs.Reading.{readRequest, readPlan}
 use Rattle.command_plan.specs.PlanSheet.{planningNumber}
@@ -15,7 +16,7 @@ use Rattle.reasons.specs.Shortages.{shortageOf}
 use Rattle.faults.specs.Ranges.{headerRange, rangeAt}
 use Rattle.command_explain.specs.declared.Explained.{Explained}
 use Rattle.command_explain.specs.Sheet.{isPlan, skippedBy, placeIn, explained}
-use Rattle.command_explain.specs.First.{phrase, nothing, rowAt, outForm, secondPhrase}
+use Rattle.command_explain.specs.First.{phrase, nothing, kindAt, rowAt, outForm, secondPhrase}
 use Rattle.command_explain.specs.Stations.{outForm as stationForm, stationPhrase}
 use Rattle.command_explain.specs.Out.{SomeOutSaid}
 
@@ -51,6 +52,10 @@ pub record Promised : Type 0 where
   pub place : (plan : Bool) (bs : List ℕ) (k : ℕ) (f : FirstFault plan bs k)
       → placeIn plan bs .byte ≡ f .place + skippedBy k
   pub passed : (plan : Bool) (bs : List ℕ) (k : ℕ) (f : FirstFault plan bs k) → placeIn plan bs .passed ≡ f .passed
+  -- what may stand there is one of the seven kinds that are tried: none is left out
+  pub kinds-all : (p : Passed) (tag size : ℕ)
+      → isAllowed p tag size ≡ true
+      → (k : ℕ) × ((k < 7) × ((kindAt k .tag ≡ tag) × (kindAt k .size ≡ size)))
   -- 4: no number of a station is left out of the list, and none is too many
   pub listed : (e : Explained) → e .number ≡ outOfRange → (i j : ℕ) → Listed e i j
   -- and none of the header
