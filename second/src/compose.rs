@@ -3,7 +3,7 @@
 
 use std::io::{self, Read, Write};
 
-use crate::lines::Lines;
+use crate::lines::{Line, Lines};
 use crate::notation::number;
 use crate::rules::MOST_STATIONS;
 use crate::rules::{header_number, require, Entry, MarkEntry, VisitEntry};
@@ -11,21 +11,125 @@ use crate::rules::{Head, Plan, Refusal, Request, Station};
 use crate::sheet::{end_field, record_field, write_plan, write_request};
 use crate::text::Fault;
 
+/// Why a text makes no sheet, and a second line on it where there is one.
+#[derive(Debug)]
+pub struct Complaint {
+    pub fault: Fault,
+    pub reason: Option<String>,
+}
+
 /// Writes the bytes of the sheet or log that a text describes. A line that cannot be read comes
 /// before every refusal. A fault behind the first record leaves a log without its end.
-pub fn compose(text: impl Read, out: &mut impl Write) -> io::Result<Result<(), Fault>> {
+pub fn compose(text: impl Read, out: &mut impl Write) -> io::Result<Result<(), Complaint>> {
     let mut lines = Lines::new(text);
     let mut draft = Draft::default();
+    let mut out_of_range = None;
     while let Some(line) = lines.next_line()? {
         match draft.take(&line.words()) {
-            None => return Ok(Err(Fault::Unreadable(line.number))),
+            None => {
+                let fault = Fault::Unreadable(line.number);
+                return Ok(Err(Complaint { fault, reason: Some(unreadable(&line)) }));
+            }
             Some(bytes) => out.write_all(&bytes)?,
         }
+        out_of_range = out_of_range.or_else(|| ranged(&line));
     }
     match draft.end() {
         Ok(bytes) => out.write_all(&bytes).map(Ok),
-        Err(refusal) => Ok(Err(Fault::Refused(refusal))),
+        Err(refusal) => {
+            let reason = out_of_range.filter(|_| refusal == Refusal::OutOfRange);
+            Ok(Err(Complaint { fault: Fault::Refused(refusal), reason }))
+        }
     }
+}
+
+/// Whether these words are a line.
+fn reads(words: &[&[u8]]) -> bool {
+    Draft::default().take(words).is_some()
+}
+
+/// Whether they begin one: some zeros behind them make it a line.
+fn begins(words: &[&[u8]]) -> bool {
+    (0..=5).any(|zeros| reads(&[words, &vec![&b"0"[..]; zeros]].concat()))
+}
+
+/// What was expected at the first word with which the words begin no line, or behind them all, and
+/// what stands there.
+fn unreadable(line: &Line) -> String {
+    let words = line.words();
+    let stuck = (0..words.len()).find(|&place| !begins(&words[..=place]));
+    let place = stuck.unwrap_or(words.len());
+    let takes = |word: &[u8]| begins(&[&words[..place], &[word]].concat());
+    let expected = if place == 0 {
+        "ttrt, mode, frame, grid, station, visit or mark".to_string()
+    } else if takes(b"4294967295") {
+        format!("number {place}, a whole number up to 4,294,967,295")
+    } else if takes(b"255") {
+        format!("number {place}, a whole number up to 255")
+    } else {
+        "the end of the line".to_string()
+    };
+    let found = match stuck {
+        Some(place) => line.raw[place].iter().map(|&byte| sign(byte)).collect(),
+        None => "the end of the line".to_string(),
+    };
+    format!("expected {expected}, found {found}")
+}
+
+fn sign(byte: u8) -> char {
+    if byte.is_ascii_graphic() {
+        char::from(byte)
+    } else {
+        '?'
+    }
+}
+
+/// The first number of a line that no set may have, tried one by one in a set that is right.
+fn ranged(line: &Line) -> Option<String> {
+    let words = line.words();
+    let numbers: Vec<u32> = words.iter().skip(1).filter_map(|word| number(word)).collect();
+    let what = match (*words.first()?, &numbers[..]) {
+        (b"ttrt", &[ttrt]) => {
+            head_out(ttrt, None, None, None).then_some("TTRT is not in 1 to 1,000,000")
+        }
+        (b"mode", &[mode]) => head_out(9, Some(mode), None, None)
+            .then_some("the mode is not in 2 to 3, leave the line out for 1"),
+        (b"frame", &[frame]) => head_out(9, None, Some(frame), None)
+            .then_some("F is not in 2 to 65,535, leave the line out for 1"),
+        (b"grid", &[grid]) => head_out(9, None, None, Some(grid))
+            .then_some("g is not in 2 to 1,000, leave the line out for 1"),
+        (b"station", &[walk, longest, deadline, gap, ref rest @ ..]) => {
+            let s = rest.first().copied().unwrap_or(0);
+            [
+                (station_out(walk, 1, 1, 1, 0), "w is not in 0 to 1,000,000"),
+                (station_out(1, longest, 1, 1, 0), "C is not in 0 to 100,000,000"),
+                (station_out(1, 1, deadline, 100_000_000, 0), "D is not in 1 to 100,000,000"),
+                (station_out(1, 1, deadline, gap, 0), "P is not in D to 100,000,000"),
+                (station_out(1, 1, 1, 1, s), "S is not in 0 to 1,000,000"),
+            ]
+            .into_iter()
+            .find_map(|(out, what)| out.then_some(what))
+        }
+        _ => None,
+    };
+    what.map(|what| format!("line {}: {what}", line.number))
+}
+
+fn head_out(ttrt: u32, mode: Option<u32>, frame: Option<u32>, grid: Option<u32>) -> bool {
+    let [mode, frame, grid] = [mode, frame, grid].map(header_number);
+    let station = Station { walk: 1, longest: 1, deadline: 1, gap: 1 };
+    is_out(Head { ttrt, mode, frame, grid }, station, 0)
+}
+
+fn station_out(walk: u32, longest: u32, deadline: u32, gap: u32, s: u32) -> bool {
+    let [mode, frame, grid] = [None; 3].map(header_number);
+    is_out(Head { ttrt: 9, mode, frame, grid }, Station { walk, longest, deadline, gap }, s)
+}
+
+/// Whether the plan of this one station has a number out of its range.
+fn is_out(head: Head, station: Station, s: u32) -> bool {
+    let plan = Plan { request: Request { head, stations: vec![station] }, allocation: vec![s] };
+    write_plan(&plan, usize::MAX) == Err(Refusal::OutOfRange)
 }
 
 /// What the lines so far said. At most one station too many is kept, to be refused.

@@ -197,12 +197,16 @@ fn accepted_lines(plan: &Plan) -> Vec<String> {
     lines.push(format!("the token is back within {within}"));
     lines.push("no station sends more than its S in a visit".to_string());
     if request.mode() == Mode::Fddi {
-        lines.push("it meets the rules of FDDI, which is retired and promises no deadline".to_string());
+        lines.push(
+            "it meets the rules of FDDI, which is retired and promises no deadline".to_string(),
+        );
         return lines;
     }
     let (count, most) = (request.stations.len(), spare + overrun);
     lines.push("every accepted message that is not withdrawn is sent by its deadline".to_string());
-    lines.push(format!("any {count} visits send asynchronously at most {most}"));
+    let visits =
+        if count == 1 { "visit sends".to_string() } else { format!("{count} visits send") };
+    lines.push(format!("any {visits} asynchronously at most {most}"));
     let offered = "every station that is not switched through is offered asynchronous time";
     match request.mode() {
         Mode::Earlier => lines

@@ -61,8 +61,10 @@ pub fn sheet(list: &[Wagon], planted: Planted) -> Result<Vec<u8>, Refusal> {
     let mut bytes = vec![];
     match compose(text.as_bytes(), &mut bytes).expect("bytes at hand") {
         Ok(()) => Ok(bytes),
-        Err(Fault::Refused(refusal)) => Err(refusal),
-        Err(Fault::Unreadable(line)) => panic!("line {line} of {text}"),
+        Err(complaint) => match complaint.fault {
+            Fault::Refused(refusal) => Err(refusal),
+            Fault::Unreadable(line) => panic!("line {line} of {text}"),
+        },
     }
 }
 

@@ -5,11 +5,17 @@ use std::io::{BufRead, BufReader, Read, Result};
 /// A line of more bytes than this, blanks, comment and leading zeros apart, cannot be read.
 const MOST_BYTES: usize = 200;
 
-/// A line with its number, tidied: words parted by one blank, no comment, no leading zeros.
+/// How many words of a line are kept as they stand, and how many bytes of each.
+const MOST_RAW: usize = 7;
+const RAW_BYTES: usize = 64;
+
+/// A line with its number, tidied: words parted by one blank, no comment, no leading zeros. Beside
+/// them its first words as they stand.
 #[derive(Debug, PartialEq, Eq)]
 pub struct Line {
     pub number: u64,
     pub text: Vec<u8>,
+    pub raw: Vec<Vec<u8>>,
 }
 
 impl Line {
@@ -42,7 +48,7 @@ impl<R: Read> Lines<R> {
         let mut tidy = Tidy::default();
         while !self.take_bytes(&mut tidy)? {}
         self.number += 1;
-        Ok(Some(Line { number: self.number, text: tidy.text }))
+        Ok(Some(Line { number: self.number, text: tidy.text, raw: tidy.raw }))
     }
 
     /// Takes what is at hand of the line; says whether the line has ended.
@@ -60,6 +66,9 @@ impl<R: Read> Lines<R> {
 #[derive(Default)]
 struct Tidy {
     text: Vec<u8>,
+    raw: Vec<Vec<u8>>,
+    words: usize,
+    in_word: bool,
     in_comment: bool,
 }
 
@@ -76,16 +85,32 @@ impl Tidy {
     }
 
     fn blank(&mut self) {
+        self.in_word = false;
         if !self.at_word_start() {
             self.push(b' ');
         }
     }
 
     fn visible(&mut self, byte: u8) {
+        self.keep(byte);
         if byte.is_ascii_digit() && self.ends_with_lone_zero() {
             self.text.pop();
         }
         self.push(byte);
+    }
+
+    fn keep(&mut self, byte: u8) {
+        if !self.in_word {
+            self.in_word = true;
+            self.words += 1;
+            if self.words <= MOST_RAW {
+                self.raw.push(vec![]);
+            }
+        }
+        let kept = self.raw.last_mut().filter(|word| word.len() < RAW_BYTES);
+        if let Some(word) = kept.filter(|_| self.words <= MOST_RAW) {
+            word.push(byte);
+        }
     }
 
     fn push(&mut self, byte: u8) {

@@ -69,8 +69,11 @@ impl<O: Write, E: Write> Streams<O, E> {
                 Err(fault) => self.fault(fault)?,
             },
             "compose" => {
-                if let Err(fault) = compose(input, &mut self.out)? {
-                    self.fault(fault)?;
+                if let Err(complaint) = compose(input, &mut self.out)? {
+                    self.fault(complaint.fault)?;
+                    if let Some(reason) = complaint.reason {
+                        writeln!(self.err, "{reason}")?;
+                    }
                 }
             }
             _ => return Ok(false),

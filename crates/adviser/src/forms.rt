@@ -24,6 +24,12 @@ fn put_promises(page: &mut [u8], form: Form, numbers: [u64; 6]) -> usize {
             b"any # visits send asynchronously at most #\n",
             numbers,
         ),
+        Form::OwnBurst => text::put_filled(
+            page,
+            0,
+            b"any visit sends asynchronously at most #\n",
+            numbers,
+        ),
         Form::Offered => text::put_filled(
             page,
             0,

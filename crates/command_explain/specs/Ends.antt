@@ -31,9 +31,12 @@ retiredForm j = getD (form.Retired ∷ form.Readable ∷ form.Again ∷ []) j fo
 unfoldable pub deadlinePromise : ℕ → Phrase
 deadlinePromise mode = cond (eqb mode fddi) (bare form.NoDeadline) (bare form.InTime)
 
+-- how much N visits send asynchronously at most; in a ring of one station each of them
 unfoldable pub burstPromise : Explained → Phrase
 burstPromise e =
-    cond (eqb (e .set .head .mode) fddi) nothing (phrase form.Burst (e .set .n ∷ e .sums .burst ∷ 0 ∷ 0 ∷ 0 ∷ 0 ∷ []))
+    cond (eqb (e .set .head .mode) fddi) nothing
+    (cond (eqb (e .set .n) 1) (phrase form.OwnBurst (e .sums .burst ∷ 0 ∷ 0 ∷ 0 ∷ 0 ∷ 0 ∷ []))
+    (phrase form.Burst (e .set .n ∷ e .sums .burst ∷ 0 ∷ 0 ∷ 0 ∷ 0 ∷ [])))
 
 unfoldable pub offeredPromise : ℕ → ℕ → Phrase
 offeredPromise mode spare =

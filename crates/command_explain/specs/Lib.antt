@@ -4,10 +4,12 @@
 --     Stations   the phrases of a station
 --     Ends       the phrases behind the stations'
 --     Phrases    all of them in their order
+--     Out        which of them say that a number is out of its range
 --     Promised   what is promised of them
 pub mod Sheet
 pub mod First
 pub mod Stations
 pub mod Ends
 pub mod Phrases
+pub mod Out
 pub mod Promised

@@ -127,7 +127,7 @@ fn deadline(mode: u32) -> Phrase
     bare(Form::InTime)
 }
 
-// How much N visits send asynchronously at most, which FDDI does not promise.
+// How much N visits send asynchronously at most, in a ring of one station each; FDDI does not promise it.
 fn burst(e: Explained) -> Phrase
     ensures { λ r. ⌜ r ≡ burstPromise e ⌝ }
 {
@@ -135,6 +135,12 @@ fn burst(e: Explained) -> Phrase
         return first::nothing();
     }
     let n = units::wide(e.set.n);
+    if n == 1 {
+        return Phrase {
+            form: Form::OwnBurst,
+            numbers: [e.sums.burst, 0, 0, 0, 0, 0],
+        };
+    }
     Phrase {
         form: Form::Burst,
         numbers: [n, e.sums.burst, 0, 0, 0, 0],

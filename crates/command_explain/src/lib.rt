@@ -79,6 +79,7 @@ pub enum Form {
     OnlyShare,
     InTime,
     Burst,
+    OwnBurst,
     Offered,
     NotOffered,
     NoDeadline,

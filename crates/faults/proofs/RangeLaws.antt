@@ -37,7 +37,7 @@ nth-last w c d p s (suc (suc (suc (suc j)))) l = refl
 -- ---- the header
 
 -- what holds at the four tags holds at each tag of the header
-each-tag : (P : ℕ → Type 0) → P 1 → P 4 → P 5 → P 6 → (tag : ℕ) → HeaderTag tag → P tag
+pub each-tag : (P : ℕ → Type 0) → P 1 → P 4 → P 5 → P 6 → (tag : ℕ) → HeaderTag tag → P tag
 each-tag P one four five six tag (inl e) = rw e one
 each-tag P one four five six tag (inr (low, high)) =
     ⊎-elim (λ (b : tag < 5). let e : tag ≡ 4 = omega arith in rw e four)

@@ -73,8 +73,10 @@ fn a_refused_plan() {
     assert_eq!(shown(&[&log[..], &[0]].concat()), "refused 3\n");
 }
 
+/// The bytes, and the first line on standard error.
 fn composed(text: &str) -> (Vec<u8>, String) {
-    said("compose", text.as_bytes())
+    let (out, err) = said("compose", text.as_bytes());
+    (out, err.split_inclusive('\n').take(1).collect())
 }
 
 fn refused(text: &str, number: u8) {

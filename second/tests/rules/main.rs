@@ -66,5 +66,5 @@ pub fn composed(text: &str) -> Result<Vec<u8>, Fault> {
     let mut bytes = vec![];
     let answer = compose(text.as_bytes(), &mut bytes).expect("bytes at hand");
     assert!(answer.is_ok() || bytes.is_empty(), "{text}");
-    answer.map(|()| bytes)
+    answer.map(|()| bytes).map_err(|complaint| complaint.fault)
 }

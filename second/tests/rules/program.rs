@@ -68,7 +68,12 @@ fn sheets_and_texts() {
 fn refusals_beside_bytes_go_to_standard_error() {
     let refusals: [(&str, &[u8], &[u8]); 3] = [
         ("compose", b"ttrt 100\n", b"refused 2\n"),
-        ("compose", b"ttrt 100\n\nstation\n", b"line 3: cannot be read\n"),
+        (
+            "compose",
+            b"ttrt 100\n\nstation\n",
+            b"line 3: cannot be read\n\
+              expected number 1, a whole number up to 4,294,967,295, found the end of the line\n",
+        ),
         ("plan-sheet", b"", b"refused 1\n"),
     ];
     for (command, input, refusal) in refusals {

@@ -1,4 +1,5 @@
 use crate::{composed, worked_plan, worked_request};
+use second::compose::compose;
 use second::lines::{Line, Lines};
 use second::notation::number;
 use second::rules::Refusal;
@@ -52,6 +53,82 @@ fn lines_that_cannot_be_read() {
     assert_eq!(unreadable(&long), 1);
 }
 
+/// The second line that is said of a text.
+fn reason(text: &[u8]) -> String {
+    let complaint = compose(text, &mut vec![]).expect("bytes at hand").expect_err("a fault");
+    complaint.reason.expect("a second line")
+}
+
+#[test]
+fn the_word_at_fault() {
+    let long = [b"0".repeat(70), b"x".to_vec()].concat();
+    let cases: [(&[u8], &str); 12] = [
+        (b"ttrt 1\nstop 1", "expected ttrt, mode, frame, grid, station, visit or mark, found stop"),
+        (
+            b"ttrt",
+            "expected number 1, a whole number up to 4,294,967,295, found the end of the line",
+        ),
+        (b"ttrt x12 y", "expected number 1, a whole number up to 4,294,967,295, found x12"),
+        (
+            b"ttrt 4294967296",
+            "expected number 1, a whole number up to 4,294,967,295, found 4294967296",
+        ),
+        (b"ttrt 1 2#3", "expected the end of the line, found 2"),
+        (
+            b"station 1 2 3#",
+            "expected number 4, a whole number up to 4,294,967,295, found the end of the line",
+        ),
+        (b"station 1 2 3 4 5 6 7", "expected the end of the line, found 6"),
+        (b"visit 256 1 1 1 1", "expected number 1, a whole number up to 255, found 256"),
+        (b"mark 1 0256", "expected number 2, a whole number up to 255, found 0256"),
+        (
+            b"tt\x00\xffrt 1",
+            "expected ttrt, mode, frame, grid, station, visit or mark, found tt??rt",
+        ),
+        (b"ttrtx 1", "expected ttrt, mode, frame, grid, station, visit or mark, found ttrtx"),
+        (
+            &[b"ttrt ", &long[..]].concat(),
+            &format!(
+                "expected number 1, a whole number up to 4,294,967,295, found {}",
+                "0".repeat(64)
+            ),
+        ),
+    ];
+    for (text, line) in cases {
+        assert_eq!(reason(text), line);
+    }
+}
+
+#[test]
+fn the_line_with_a_number_out_of_its_range() {
+    let cases = [
+        ("ttrt 0\nstation 1 1 1 0", "line 1: TTRT is not in 1 to 1,000,000"),
+        (
+            "ttrt 9\n\nmode 1\nstation 1 1 1 1",
+            "line 3: the mode is not in 2 to 3, leave the line out for 1",
+        ),
+        (
+            "ttrt 9\nframe 65536\nstation 1 1 1 1",
+            "line 2: F is not in 2 to 65,535, leave the line out for 1",
+        ),
+        (
+            "ttrt 9\ngrid 0\nstation 1 1 1 1",
+            "line 2: g is not in 2 to 1,000, leave the line out for 1",
+        ),
+        ("ttrt 9\nstation 1000001 100000001 1 1", "line 2: w is not in 0 to 1,000,000"),
+        ("ttrt 9\nstation 1 100000001 0 1", "line 2: C is not in 0 to 100,000,000"),
+        ("ttrt 9\nstation 1 1 0 100000001", "line 2: D is not in 1 to 100,000,000"),
+        ("ttrt 9\nstation 1 1 2 1", "line 2: P is not in D to 100,000,000"),
+        (
+            "ttrt 9\nstation 1 1 1 1 1\nstation 1 1 1 1 1000001",
+            "line 3: S is not in 0 to 1,000,000",
+        ),
+    ];
+    for (text, line) in cases {
+        assert_eq!(reason(text.as_bytes()), line);
+    }
+}
+
 #[test]
 fn texts_that_are_refused() {
     assert_eq!(refused(""), 2);
@@ -85,8 +162,9 @@ fn ttrt_stands_once_and_first() {
 #[test]
 fn lines_are_numbered_and_tidied() {
     let mut lines = Lines::new(&b"a  b # c\n\n  0001 00 0x0\r\nlast"[..]);
-    let mut next = || lines.next_line().expect("bytes at hand");
-    let line = |number, text: &str| Some(Line { number, text: text.into() });
+    let mut next =
+        || lines.next_line().expect("bytes at hand").map(|line| (line.number, line.text));
+    let line = |number, text: &str| Some((number, text.as_bytes().to_vec()));
     assert_eq!(next(), line(1, "a b "));
     assert_eq!(next(), line(2, ""));
     assert_eq!(next(), line(3, "1 0 0x0 "));
@@ -96,7 +174,7 @@ fn lines_are_numbered_and_tidied() {
 
 #[test]
 fn calls() {
-    let read = |text: &str| read_call(&Line { number: 9, text: text.into() });
+    let read = |text: &str| read_call(&Line { number: 9, text: text.into(), raw: vec![] });
     assert_eq!(read(""), Ok(None));
     assert_eq!(read("visit 4294967295"), Ok(Some(Call::Visit(u32::MAX.into()))));
     let call = read("message 3 18446744073709551615 7").expect("readable").expect("a call");

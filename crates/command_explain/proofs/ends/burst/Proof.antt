@@ -12,7 +12,15 @@ returns c = rw (eq-eqb _ _ (c .before .if1 .taken)) (c .nothing .ensures)
 
 returns-2 : tie.Need-returns-2
 unfolding burstPromise
-returns-2 c = rw (ne-eqb _ _ (c .before .if1 .left), c .wide .ensures .same) refl
+returns-2 c =
+    let here = c .before in
+    rw (ne-eqb _ _ (here .before .if1 .left), eq-eqb _ _ (rw (here .wide .ensures .same) at (c .if2 .taken))) refl
+
+returns-3 : tie.Need-returns-3
+unfolding burstPromise
+returns-3 c =
+    let here = c .before in
+    rw (ne-eqb _ _ (here .before .if1 .left), ne-eqb _ _ (rw (here .wide .ensures .same) at (c .if2 .left)), here .wide .ensures .same) refl
 
 pub burst-spec : {M : Type 1} → statement M
-burst-spec = tie.close (tie.spec (λ c κs. search needs) returns (λ c κs. search needs) returns-2)
+burst-spec = tie.close (tie.spec (λ c κs. search needs) returns (λ c κs. search needs) returns-2 returns-3)
