@@ -569,19 +569,19 @@ struct olivastrum_next_entry olivastrum_log_entry(const uint8_t *log, size_t len
  * say, could have given its visits, with any synchronous amount up to S at each visit of an unmarked station and some
  * request in frames; a marked station is visited with limit 0 and sends nothing. Else the first record that breaks a rule,
  * and the first rule that it breaks. Or 1 to 5 or 7, with the rest 0. */
-#define OLIVASTRUM_STACK_INSPECT_LOG 17408
+#define OLIVASTRUM_STACK_INSPECT_LOG 16384
 struct olivastrum_finding olivastrum_inspect_log(const uint8_t *log, size_t length);
 
 /* Inspects a log against a plan sheet, one answer in this order: the refusal of the plan sheet, 1 to 5 or 7; that of the
  * log; that their plans differ in a number of the header or of a station, or in the stations; or what
  * olivastrum_inspect_log says of the log. Plan and log may be the same bytes. */
-#define OLIVASTRUM_STACK_INSPECT_LOG_OF 22016
+#define OLIVASTRUM_STACK_INSPECT_LOG_OF 22528
 struct olivastrum_plan_finding olivastrum_inspect_log_of(const uint8_t *plan, size_t plan_length, const uint8_t *log, size_t length);
 
 /* Begins an inspection of a ring that runs, with the ring's set and allocation: the inspection that the host keeps, as it is
  * before the ring's first record, at the opening. Or 2, 4, 5 or 7, as olivastrum_read_log says of a log with this plan, with
  * the blank inspection. Mode 2, FDDI, is inspected as ever. */
-#define OLIVASTRUM_STACK_BEGIN_INSPECTION 7168
+#define OLIVASTRUM_STACK_BEGIN_INSPECTION 7680
 struct olivastrum_begun_inspection olivastrum_begin_inspection(struct olivastrum_set set, struct olivastrum_alloc alloc);
 
 /* Inspects one record more, a visit (kind 16) or a mark (kind 17), in the order in which they come; `next` is not looked at.
@@ -647,7 +647,7 @@ struct olivastrum_coupled olivastrum_couple_wagon(struct olivastrum_train train,
 struct olivastrum_coupled olivastrum_uncouple_wagon(struct olivastrum_train train);
 
 /* The most that a call of any of them needs. */
-#define OLIVASTRUM_STACK_MOST 22016
+#define OLIVASTRUM_STACK_MOST 22528
 
 #ifdef __cplusplus
 }

@@ -1,6 +1,6 @@
 // Loops over the first n places of arrays of 128. Each answers every n: of lent arrays 128 places are looked at and no more; past the end of an array by value a place reads as 0, and nothing is stored there.
 ghost use mathlib.Core.Path.{_≡_};
-ghost use Prim.Native.Nat.{_+_, _-_, min};
+ghost use Prim.Native.Nat.{_+_, _-_, _<_, min};
 ghost use lib.Dec.{leb, ltb};
 ghost use Rattle.units.specs.Places.{at, sumBelow, allBelow};
 ghost use Rattle.arrays.specs.Held.{held, raisedHeld, sumsToLast};
@@ -162,8 +162,63 @@ fn one_counted(count: u32, t: u32, x: u32, top: u32) -> u32
     units::least(units::wide(count) + times, LARGEST) as u32
 }
 
-// Each of the first n numbers runs on by x where it stands, less the top for each of two times that it has reached it.
-pub fn run(xs: &mut [u32; 128], n: u32, x: u32, top: u32)
+// Below the top, all in 32 bits: a number that runs on by x has reached the top if it was no further below it.
+fn narrow_once(t: u32, x: u32, top: u32) -> u32
+    requires { ⌜ x < top ⌝ }
+    ensures { λ r. ⌜ r ≡ lapped top (t + x) ⌝ }
+{
+    let gap = top - x;
+    if gap <= t { t - gap } else { t + x }
+}
+
+// What `less_top` says, in 32 bits.
+fn narrow_less(number: u32, top: u32) -> u32
+    ensures { λ r. ⌜ r ≡ lapped top number ⌝ }
+{
+    if top <= number { number - top } else { number }
+}
+
+// What `reached` says, in 32 bits.
+fn narrow_reached(number: u32, top: u32) -> u32
+    ensures { λ r. ⌜ r ≡ lap top number ⌝ }
+{
+    if top <= number { 1 } else { 0 }
+}
+
+// What `one_on` says of an x below the top, in 32 bits.
+fn narrow_on(t: u32, x: u32, top: u32) -> u32
+    requires { ⌜ x < top ⌝ }
+    ensures { λ r. ⌜ r ≡ held (lappedTwice top (t + x)) ⌝ }
+{
+    narrow_less(narrow_once(t, x, top), top)
+}
+
+// What `one_counted` says of an x below the top, in 32 bits.
+fn narrow_counted(count: u32, t: u32, x: u32, top: u32) -> u32
+    requires { ⌜ x < top ⌝ }
+    ensures { λ r. ⌜ r ≡ held (count + laps top (t + x)) ⌝ }
+{
+    let first = narrow_reached(t, top - x);
+    let second = narrow_reached(narrow_once(t, x, top), top);
+    let times = first + second;
+    lesser(count, u32::MAX - times) + times
+}
+
+// What `run` does with an x below the top: a loop in 32 bits and without a branch.
+fn run_narrow(xs: &mut [u32; 128], n: u32, x: u32, top: u32)
+    requires { ⌜ x < top ⌝ }
+    ensures { λ _. ⌜ now (xs .exit) ≡ ranOn (min n 128) x top (now (xs .entry)) ⌝ }
+{
+    let end = units::places(n);
+    let mut i: usize = 0;
+    while i < end {
+        xs[i] = narrow_on(xs[i], x, top);
+        i += 1;
+    }
+}
+
+// What it does with any x.
+fn run_wide(xs: &mut [u32; 128], n: u32, x: u32, top: u32)
     ensures { λ _. ⌜ now (xs .exit) ≡ ranOn (min n 128) x top (now (xs .entry)) ⌝ }
 {
     let end = units::places(n);
@@ -174,6 +229,17 @@ pub fn run(xs: &mut [u32; 128], n: u32, x: u32, top: u32)
     }
 }
 
+// Each of the first n numbers runs on by x where it stands, less the top for each of two times that it has reached it.
+pub fn run(xs: &mut [u32; 128], n: u32, x: u32, top: u32)
+    ensures { λ _. ⌜ now (xs .exit) ≡ ranOn (min n 128) x top (now (xs .entry)) ⌝ }
+{
+    if x < top {
+        run_narrow(&mut *xs, n, x, top);
+        return;
+    }
+    run_wide(&mut *xs, n, x, top);
+}
+
 // Each of the first n numbers has run on by x, less the top for each of two times that it has reached it.
 pub fn run_on(mut xs: [u32; 128], n: u32, x: u32, top: u32) -> [u32; 128]
     ensures { λ r. ⌜ r ≡ ranOn n x top xs ⌝ }
@@ -182,8 +248,21 @@ pub fn run_on(mut xs: [u32; 128], n: u32, x: u32, top: u32) -> [u32; 128]
     xs
 }
 
-// Each of the first n counts rises where it stands by how often its number, run on by x, has reached the top.
-pub fn count<'a>(counts: &'a mut [u32; 128], xs: &'a [u32; 128], n: u32, x: u32, top: u32)
+// What `count` does with an x below the top: a loop in 32 bits and without a branch.
+fn count_narrow<'a>(counts: &'a mut [u32; 128], xs: &'a [u32; 128], n: u32, x: u32, top: u32)
+    requires { ⌜ x < top ⌝ }
+    ensures { λ _. ⌜ now (counts .exit) ≡ lapsCounted (min n 128) x top (now (xs .entry)) (now (counts .entry)) ⌝ }
+{
+    let end = units::places(n);
+    let mut i: usize = 0;
+    while i < end {
+        counts[i] = narrow_counted(counts[i], xs[i], x, top);
+        i += 1;
+    }
+}
+
+// What it does with any x.
+fn count_wide<'a>(counts: &'a mut [u32; 128], xs: &'a [u32; 128], n: u32, x: u32, top: u32)
     ensures { λ _. ⌜ now (counts .exit) ≡ lapsCounted (min n 128) x top (now (xs .entry)) (now (counts .entry)) ⌝ }
 {
     let end = units::places(n);
@@ -192,6 +271,17 @@ pub fn count<'a>(counts: &'a mut [u32; 128], xs: &'a [u32; 128], n: u32, x: u32,
         counts[i] = one_counted(counts[i], xs[i], x, top);
         i += 1;
     }
+}
+
+// Each of the first n counts rises where it stands by how often its number, run on by x, has reached the top.
+pub fn count<'a>(counts: &'a mut [u32; 128], xs: &'a [u32; 128], n: u32, x: u32, top: u32)
+    ensures { λ _. ⌜ now (counts .exit) ≡ lapsCounted (min n 128) x top (now (xs .entry)) (now (counts .entry)) ⌝ }
+{
+    if x < top {
+        count_narrow(&mut *counts, xs, n, x, top);
+        return;
+    }
+    count_wide(&mut *counts, xs, n, x, top);
 }
 
 // Each of the first n counts has risen by how often its number, run on by x, has reached the top.

@@ -12,7 +12,7 @@ ghost use Rattle.host.specs.Told.{told};
 ghost use Rattle.logs.specs.Reading.{readLog};
 ghost use Rattle.logs.specs.Writing.{Began, Added, AddedMark, EndedLog};
 ghost use Rattle.inspection.specs.Findings.{findingIn};
-ghost use Rattle.inspection.specs.Kept.{inspectionBegun, toldOf};
+ghost use Rattle.inspection.specs.Kept.{inspectionBegun};
 ghost use Rattle.plan_inspections.specs.PlanFindings.{planFinding};
 ghost use Rattle.versions.specs.Answers.{Emptied, Stored, foundVersion, versionsIn};
 ghost use Rattle.hopper.specs.Wagons.{withMore, withoutLast};
@@ -27,9 +27,7 @@ use inspection::Finding;
 use inspection::KeptInspection;
 use inspection::LogEntry;
 use inspection::RecordFinding;
-use log_records::Entry;
 use log_records::MarkEntry;
-use log_records::NextEntry;
 use logs::ReadLog;
 use logs::Recorder;
 use plan_inspections::PlanFinding;
@@ -326,49 +324,34 @@ pub extern "C" fn olivastrum_read_log(log: &[u8]) -> ReadLog
     logs::read_log(log)
 }
 
-// An entry as a host is told of it.
-fn told_of(entry: Entry, next: usize) -> LogEntry
-    ensures { λ r. ⌜ r ≡ toldOf entry next ⌝ }
-{
-    match entry {
-        Entry::Visit(visit) => LogEntry {
-            kind: log_records::VISIT_TAG as u32,
-            visit,
-            mark: log_records::blank_mark(),
-            next,
-        },
-        Entry::Mark(mark) => LogEntry {
-            kind: log_records::MARK_TAG as u32,
-            visit: log_records::blank_visit(),
-            mark,
-            next,
-        },
-    }
-}
-
-// What was handed out, as a host is told of it.
-fn told_entry(handed: NextEntry) -> LogEntry
-    ensures { λ r. ⌜ r ≡ told handed ⌝ }
-{
-    if handed.next == 0 {
-        return LogEntry {
-            kind: 0,
-            visit: log_records::blank_visit(),
-            mark: log_records::blank_mark(),
-            next: 0,
-        };
-    }
-    let entry = handed.entry;
-    told_of(entry, handed.next)
-}
-
 // Hands out the entry whose field stands at the place of the lent bytes, and the place behind it.
 #[no_mangle]
 pub extern "C" fn olivastrum_log_entry(log: &[u8], at: usize) -> LogEntry
     ensures { λ r. ⌜ r ≡ told (nextEntry (now (log .entry)) at) ⌝ }
 {
-    let handed = logs::log_entry(log, at);
-    told_entry(handed)
+    let size = logs::reading::record_size(log, at);
+    if size == log_records::VISIT_LENGTH {
+        return LogEntry {
+            kind: log_records::VISIT_TAG as u32,
+            visit: sheets::records::visit_at(log, at),
+            mark: log_records::blank_mark(),
+            next: at + log_records::VISIT_LENGTH,
+        };
+    }
+    if size == log_records::MARK_LENGTH {
+        return LogEntry {
+            kind: log_records::MARK_TAG as u32,
+            visit: log_records::blank_visit(),
+            mark: sheets::records::mark_at(log, at),
+            next: at + log_records::MARK_LENGTH,
+        };
+    }
+    LogEntry {
+        kind: 0,
+        visit: log_records::blank_visit(),
+        mark: log_records::blank_mark(),
+        next: 0,
+    }
 }
 
 // Inspects a log on the lent bytes: whether a run could have given its records, or the first record and rule broken.

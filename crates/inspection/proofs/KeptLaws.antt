@@ -10,7 +10,9 @@ use Rattle.sets.specs.declared.Head.{Head}
 use Rattle.sets.specs.declared.Set.{Set}
 use Rattle.plans.specs.Lent.{allocOf}
 use Rattle.plans.specs.declared.Alloc.{Alloc}
+use Rattle.log_records.specs.Visit.{visitTag}
 use Rattle.log_records.specs.declared.Entry.{Entry}
+use Rattle.log_records.specs.declared.Entry.the-variants.{Visit, Mark}
 use Rattle.inspection.specs.Rules.{expected, brokenRule}
 use Rattle.inspection.specs.Records.{movedOn, stoppedAt, inspected}
 use Rattle.inspection.specs.Findings.{comparedBy, compared}
@@ -69,6 +71,15 @@ unfolding begunWith
 begun-accepted k i z = rw z
 
 -- ---- a record that is handed in
+
+-- by its kind it is a visit, or a mark
+pub entry-visit : (x : LogEntry) → x .kind ≡ visitTag → Visit (x .visit) ≡ entryOf x
+unfolding entryOf
+entry-visit x is = rw (eq-eqb (x .kind) visitTag is) refl
+
+pub entry-mark : (x : LogEntry) → x .kind ≢ visitTag → Mark (x .mark) ≡ entryOf x
+unfolding entryOf
+entry-mark x other = rw (ne-eqb (x .kind) visitTag other) refl
 
 recorded-refused : (k : ℕ) (i : KeptInspection) (e : Entry) → k ≢ 0 → recordedWith k i e ≡ i
 unfolding recordedWith

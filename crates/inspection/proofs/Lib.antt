@@ -1,5 +1,5 @@
 -- FrameLaws      the divisors of an amount come in pairs
--- RuleLaws       the first test that fails
+-- RuleLaws       how many rules a record has
 -- RecordLaws     one record more, and one after another
 -- KeptLaws       one record on lent arrays, and an inspection that a host keeps
 -- FindingLaws    the finding of a log

@@ -15,6 +15,7 @@ use Rattle.plans.specs.Planned.{judgedPlan}
 use Rattle.plans.specs.declared.Alloc.{Alloc}
 use Rattle.log_records.specs.Visit.{visitTag, blankVisit}
 use Rattle.log_records.specs.Mark.{markTag, blankMark}
+use Rattle.log_records.specs.declared.MarkEntry.{MarkEntry}
 use Rattle.log_records.specs.declared.Entry.{Entry}
 use Rattle.log_records.specs.declared.Entry.the-variants.{Visit, Mark}
 use Rattle.inspection.specs.Opening.{begun}
@@ -23,6 +24,7 @@ use Rattle.inspection.specs.Findings.{compared}
 use Rattle.inspection.specs.declared.Course.{Course}
 use Rattle.inspection.specs.declared.Inspection.{Inspection}
 use Rattle.inspection.specs.declared.Compared.{Compared}
+use Rattle.inspection.specs.declared.Step.{Step}
 use Rattle.inspection.specs.declared.LogEntry.{LogEntry}
 use Rattle.inspection.specs.declared.Progress.{Progress}
 use Rattle.inspection.specs.declared.KeptInspection.{KeptInspection}
@@ -49,6 +51,11 @@ comparedWhere (suc k) x = x
 pub record SteppedOn (s : Inspection) (head : Head) (n : ℕ) (w shares : List ℕ) (e : Entry) (s′ : Inspection) (x : Compared) : Type 0 where
   pub moved : (c d p : List ℕ) → s′ ≡ inspected s (setOf head n w c d p) (allocOf shares) e
   pub compared : (c d p : List ℕ) → x ≡ comparedWhere (s′ .rule) (compared s′ (setOf head n w c d p) (allocOf shares) e)
+
+-- a mark: of the plan N alone has a part in it, and of the arrays the marks, mark before it and mark′ behind it
+pub record MarkedOn (mark : List ℕ) (n : ℕ) (course : Course) (records : ℕ) (m : MarkEntry) (mark′ : List ℕ) (r : Step) : Type 0 where
+  pub stepped : (base sent w shares : List ℕ) (head : Head)
+      → SteppedOn (standing base sent mark course records 0) head n w shares (Mark m) (standing base sent mark′ (r .course) (r .records) (r .rule)) (r .compared)
 
 -- ---- what is kept
 

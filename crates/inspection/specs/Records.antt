@@ -10,6 +10,7 @@ use Rattle.units.specs.Places.{at}
 use Rattle.sets.specs.Lent.{setOf}
 use Rattle.sets.specs.declared.Head.{Head}
 use Rattle.sets.specs.declared.Set.{Set}
+use Rattle.plans.specs.Lent.{allocOf}
 use Rattle.plans.specs.declared.Alloc.{Alloc}
 use Rattle.log_records.specs.declared.VisitEntry.{VisitEntry}
 use Rattle.log_records.specs.declared.MarkEntry.{MarkEntry}
@@ -117,6 +118,10 @@ inspected s t a e = cond (eqb (s .rule) 0) (judged (brokenRule (expected s t a) 
 unfoldable pub inspectedAll : Inspection → Set → Alloc → List Entry → Inspection
 inspectedAll s t a [] = s
 inspectedAll s t a (e ∷ es) = inspectedAll (inspected s t a e) t a es
+
+-- the same with the plan's w and S lent: C, D and P have no part in it
+pub record InspectedLent (s : Inspection) (head : Head) (n : ℕ) (w shares : List ℕ) (es : List Entry) (s′ : Inspection) : Type 0 where
+  pub all : (c d p : List ℕ) → s′ ≡ inspectedAll s (setOf head n w c d p) (allocOf shares) es
 
 -- all records of a log with this plan
 abbrev pub inspectionOf : Set → Alloc → List Entry → Inspection

@@ -1,9 +1,9 @@
 -- What a record must say, and the first of the five rules that it breaks.
 use Prim.Native.Nat.{ℕ, _+_, _-_, _%_}
-use mathlib.Core.Bool.{Bool, true, cond, _&&_, _||_}
+use mathlib.Core.Path.{_≡_}
+use mathlib.Core.Bool.{Bool, cond, _&&_, _||_}
 use mathlib.Core.List.{List, [], _∷_}
 use lib.Dec.{leb, ltb, eqb}
-use lib.ListN.{getD}
 use Rattle.units.specs.Numbers.{fddi}
 use Rattle.units.specs.Places.{at}
 use Rattle.units.specs.Judging.{orElse}
@@ -86,10 +86,6 @@ rulesKept x (Visit v) =
     stationKept x v ∷ startKept x v ∷ limitKept x v ∷ synchronousKept x v ∷ asynchronousKept x v ∷ []
 rulesKept x (Mark m) = markKept x m ∷ []
 
--- rule k, from 1 on; one that the record does not have is kept
-abbrev pub ruleKept : Expected → Entry → ℕ → Bool
-ruleKept x e k = getD (rulesKept x e) (k - 1) true
-
 -- of tests that are numbered from k on the number of the first that fails, 0 if none does
 unfoldable pub firstFailed : ℕ → List Bool → ℕ
 firstFailed k [] = 0
@@ -98,3 +94,7 @@ firstFailed k (test ∷ tests) = orElse test k (firstFailed (k + 1) tests)
 -- the first rule that the record breaks, 0 if none
 abbrev pub brokenRule : Expected → Entry → ℕ
 brokenRule x e = firstFailed 1 (rulesKept x e)
+
+-- r is the first rule that a mark breaks; of what it must say N alone has a part in it
+abbrev pub MarkRule : ℕ → MarkEntry → ℕ → Type 0
+MarkRule n m r = (x : Expected) → x .count ≡ n → r ≡ brokenRule x (Mark m)

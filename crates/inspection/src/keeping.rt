@@ -8,7 +8,6 @@ use super::KeptNext;
 use super::LogEntry;
 use super::Progress;
 use super::RecordFinding;
-use log_records::Entry;
 use plans::Alloc;
 use sets::Head;
 use sets::Set;
@@ -118,26 +117,14 @@ pub fn begin_inspection(set: Set, alloc: Alloc) -> BegunInspection
     BegunInspection { inspection, number }
 }
 
-// The entry of what is handed in, by its kind.
-pub(crate) fn entry_of(told: LogEntry) -> Entry
-    ensures { λ r. ⌜ r ≡ entryOf told ⌝ }
+// A log's field can hold the numbers of what is handed in, by its kind.
+fn in_field(told: LogEntry) -> bool
+    ensures { λ r. ⌜ r ≡ inField (entryOf told) ⌝ }
 {
     if told.kind == log_records::VISIT_TAG as u32 {
-        let visit = told.visit;
-        return Entry::Visit(visit);
+        return told.visit.station < 256;
     }
-    let mark = told.mark;
-    Entry::Mark(mark)
-}
-
-// A log's field can hold the entry's numbers.
-fn in_field(entry: Entry) -> bool
-    ensures { λ r. ⌜ r ≡ inField entry ⌝ }
-{
-    match entry {
-        Entry::Visit(visit) => visit.station < 256,
-        Entry::Mark(mark) => (mark.station < 256) & (mark.mark < 256),
-    }
+    (told.mark.station < 256) & (told.mark.mark < 256)
 }
 
 // 8, 2 or 4, the first that applies, or 0: whether a record may be inspected.
@@ -153,8 +140,7 @@ pub(crate) fn record_number(n: u32, told: LogEntry) -> u8
     if !known {
         return numbers::WRONG_SHAPE;
     }
-    let entry = entry_of(told);
-    if !in_field(entry) {
+    if !in_field(told) {
         return numbers::OUT_OF_RANGE;
     }
     numbers::ACCEPTED

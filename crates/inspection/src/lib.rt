@@ -166,27 +166,7 @@ pub struct KeptNext {
 pub fn begin(set: Set, alloc: Alloc) -> Inspection
     ensures { λ r. ⌜ r ≡ begun set alloc ⌝ }
 {
-    let walks = set.w;
-    let shares = alloc.s;
-    let base = opening::passing_times(walks, set.n);
-    let clock = opening::shown(sets::walk_time(set));
-    let unused = opening::shown(units::sum_first(shares, set.n));
-    let course = Course {
-        token: 0,
-        clock,
-        unused,
-        first: true,
-        start: 0,
-        span: 0,
-    };
-    Inspection {
-        base,
-        sent: [0; 128],
-        mark: [0; 128],
-        course,
-        records: 0,
-        rule: 0,
-    }
+    opening::begin_lent(&set.w, &alloc.s, set.n)
 }
 
 // What the next record must say.
@@ -201,7 +181,7 @@ pub fn expect(state: Inspection, set: Set, alloc: Alloc) -> Expected
 }
 
 // What a visit must say by this rule, and what it says: the start as ticks after the visit before, of the asynchronous amount the limit.
-fn compare_visit(due: Expected, visit: VisitEntry, rule: u8) -> Compared
+pub(crate) fn compare_visit(due: Expected, visit: VisitEntry, rule: u8) -> Compared
     ensures { λ r. ⌜ r ≡ visitCompared rule due visit ⌝ }
 {
     let ticks = counter::between(due.last, visit.start);
@@ -286,9 +266,18 @@ pub fn inspect_log(log: &[u8]) -> Finding
     if read.number != numbers::ACCEPTED {
         return refused(read.number);
     }
-    let set = read.set;
-    let alloc = read.alloc;
-    let begun = begin(set, alloc);
-    let state = records::inspect_records(begun, set, alloc, log, read.first, read.records);
+    let head = read.set.head;
+    let n = read.set.n;
+    let begun = opening::begin_lent(&read.set.w, &read.alloc.s, n);
+    let state = records::inspect_lent(
+        begun,
+        head,
+        n,
+        &read.set.w,
+        &read.alloc.s,
+        log,
+        read.first,
+        read.records,
+    );
     found(state, read.records as u64)
 }

@@ -9,9 +9,9 @@ use log_records::VisitEntry;
 use sets::Head;
 use units::numbers;
 ghost use mathlib.Core.Path.{_≡_};
-ghost use Prim.Native.Nat.{_-_, _≤_};
-ghost use Rattle.log_records.specs.declared.Entry.the-variants.{Visit, Mark};
-ghost use Rattle.inspection.specs.Rules.{placeOf, limitWith, unlessMarked, dueWith, ruleKept, brokenRule};
+ghost use Prim.Native.Nat.{_-_};
+ghost use Rattle.log_records.specs.declared.Entry.the-variants.{Visit};
+ghost use Rattle.inspection.specs.Rules.{placeOf, limitWith, unlessMarked, dueWith, asynchronousKept, MarkRule, brokenRule};
 
 // The larger of a − b and 0.
 pub(crate) fn less(a: u32, b: u32) -> u32
@@ -62,52 +62,44 @@ pub(crate) fn due(course: Course, head: Head, n: u32, mark: u8, base: u32, share
     }
 }
 
-// The visit keeps this one of the rules, from 1 to 5.
-fn visit_kept(due: Expected, visit: VisitEntry, rule: u8) -> bool
-    requires { ⌜ (1 ≤ rule) × (rule ≤ 5) ⌝ }
-    ensures { λ r. ⌜ r ≡ ruleKept due (Visit visit) rule ⌝ }
+// The first rule that a visit breaks, 0 if none; whether frames give its asynchronous amount is told.
+pub(crate) fn visit_rule(due: Expected, visit: VisitEntry, fits: bool) -> u8
+    requires { ⌜ fits ≡ asynchronousKept due visit ⌝ }
+    ensures { λ r. ⌜ r ≡ brokenRule due (Visit visit) ⌝ }
 {
-    match rule {
-        1 => visit.station == due.station,
-        2 => due.first | (counter::between(due.last, visit.start) == due.span),
-        3 => visit.limit == due.limit,
-        4 => visit.synchronous <= due.share,
-        _ => frames::frames_fit(due.limit, due.longest, visit.asynchronous),
+    if visit.station != due.station {
+        return 1;
     }
+    let started = due.first | (counter::between(due.last, visit.start) == due.span);
+    if !started {
+        return 2;
+    }
+    if visit.limit != due.limit {
+        return 3;
+    }
+    if due.share < visit.synchronous {
+        return 4;
+    }
+    if fits { 0 } else { 5 }
 }
 
-// The mark keeps this one of the rules: the first, and it has no other.
-fn mark_kept(due: Expected, mark: MarkEntry, rule: u8) -> bool
-    requires { ⌜ 1 ≤ rule ⌝ }
-    ensures { λ r. ⌜ r ≡ ruleKept due (Mark mark) rule ⌝ }
+// The one rule of a mark, with N: 1 if it is broken, else 0.
+pub(crate) fn mark_rule(count: u32, mark: MarkEntry) -> u8
+    ensures { λ r. ⌜ MarkRule count mark r ⌝ }
 {
-    if rule == 1 {
-        return (mark.station < due.count) & (mark.mark < 2);
-    }
-    true
-}
-
-// The record keeps this one of the rules, from 1 to 5.
-pub(crate) fn rule_kept(due: Expected, entry: Entry, rule: u8) -> bool
-    requires { ⌜ (1 ≤ rule) × (rule ≤ 5) ⌝ }
-    ensures { λ r. ⌜ r ≡ ruleKept due entry rule ⌝ }
-{
-    match entry {
-        Entry::Visit(visit) => visit_kept(due, visit, rule),
-        Entry::Mark(mark) => mark_kept(due, mark, rule),
-    }
+    let kept = (mark.station < count) & (mark.mark < 2);
+    if kept { 0 } else { 1 }
 }
 
 // The first rule that the record breaks, 0 if none.
 pub(crate) fn broken_rule(due: Expected, entry: Entry) -> u8
     ensures { λ r. ⌜ r ≡ brokenRule due entry ⌝ }
 {
-    let mut rule: u8 = 1;
-    while rule <= 5 {
-        if !rule_kept(due, entry, rule) {
-            return rule;
+    match entry {
+        Entry::Visit(visit) => {
+            let fits = frames::frames_fit(due.limit, due.longest, visit.asynchronous);
+            visit_rule(due, visit, fits)
         }
-        rule += 1;
+        Entry::Mark(mark) => mark_rule(due.count, mark),
     }
-    0
 }

@@ -1,14 +1,20 @@
 -- What the inspection of a log against a plan sheet answers, for any bytes whatever (the yard's question).
 use Prim.Native.Nat.{ℕ, _+_}
+use mathlib.Core.Path.{_≡_}
 use mathlib.Core.Bool.{cond}
 use mathlib.Core.List.{List, [], _∷_}
 use lib.Dec.{eqb}
+use Rattle.sets.specs.Lent.{setOf}
+use Rattle.sets.specs.declared.Head.{Head}
+use Rattle.plans.specs.Lent.{allocOf}
 use Rattle.sheets.specs.Reading.{readPlan}
 use Rattle.log_records.specs.declared.Entry.{Entry}
 use Rattle.log_records.specs.declared.Entry.the-variants.{Visit, Mark}
 use Rattle.logs.specs.Reading.{readLog, entriesIn}
 use Rattle.differences.specs.Differences.{isSamePlan}
-use Rattle.inspection.specs.Findings.{foundIn}
+use Rattle.inspection.specs.Records.{inspectedAll}
+use Rattle.inspection.specs.Findings.{findingOf, foundIn}
+use Rattle.inspection.specs.declared.Inspection.{Inspection}
 use Rattle.inspection.specs.declared.Finding.{Finding}
 use Rattle.plan_inspections.specs.declared.PlanFinding.{PlanFinding}
 
@@ -41,6 +47,12 @@ withVisits f visits =
       number = 0;
       another = 0;
     }
+
+-- r is what is found of so many records more with these w and S: C, D and P have no part in it
+abbrev pub FoundLent : Inspection → Head → ℕ → List ℕ → List ℕ → List Entry → ℕ → PlanFinding → Type 0
+FoundLent begun head n w s es records r =
+    (c d p : List ℕ)
+    → r ≡ withVisits (findingOf (inspectedAll begun (setOf head n w c d p) (allocOf s) es) records) (visitsIn es)
 
 -- both are read: the finding of the log, if its plan is the plan sheet's
 unfoldable pub comparedFinding : List ℕ → List ℕ → PlanFinding

@@ -1,13 +1,11 @@
 // A log on lent bytes held to a plan sheet, as `inspect PLAN` does, with numbers for an answer.
 ghost use mathlib.Core.Path.{_≡_};
 ghost use Rattle.logs.specs.Reading.{handedFrom};
-ghost use Rattle.inspection.specs.Records.{inspectionOf};
-ghost use Rattle.inspection.specs.Findings.{findingOf};
-ghost use Rattle.plan_inspections.specs.PlanFindings.{visitCount, visitsIn, notInspected, withVisits, planFinding};
+ghost use Rattle.plan_inspections.specs.PlanFindings.{visitCount, visitsIn, notInspected, FoundLent, planFinding};
+use inspection::Inspection;
 use inspection::records;
 use log_records::Entry;
-use plans::Alloc;
-use sets::Set;
+use sets::Head;
 use units::numbers;
 
 // What the inspection of a log against a plan sheet answers: how many records the log has, visits and marks, and how many of them are visits; the first record that breaks a rule, from 1, and the rule, both 0 where none does. Or all of these are 0, and one is refused or the log's plan is another one.
@@ -72,12 +70,20 @@ fn not_inspected(refused: u8, number: u8, another: u8) -> PlanFinding
     }
 }
 
-// The records of a log that was read, inspected with its plan.
-fn found_with(log: &[u8], set: Set, alloc: Alloc, first: usize, records: usize) -> PlanFinding
-    ensures { λ r. ⌜ r ≡ withVisits (findingOf (inspectionOf set alloc (handedFrom records (now (log .entry)) first)) records) (visitsIn (handedFrom records (now (log .entry)) first)) ⌝ }
+// The records of a log that was read, inspected from its beginning with the w and S of its plan.
+fn found_with<'a>(
+    log: &[u8],
+    begun: Inspection,
+    head: Head,
+    n: u32,
+    w: &'a [u32; 128],
+    s: &'a [u32; 128],
+    first: usize,
+    records: usize,
+) -> PlanFinding
+    ensures { λ r. ⌜ FoundLent begun head n (now (w .entry)) (now (s .entry)) (handedFrom records (now (log .entry)) first) records r ⌝ }
 {
-    let begun = inspection::begin(set, alloc);
-    let state = records::inspect_records(begun, set, alloc, log, first, records);
+    let state = records::inspect_lent(begun, head, n, w, s, log, first, records);
     let finding = inspection::found(state, records as u64);
     let visits = count_visits(log, first, records);
     PlanFinding {
@@ -110,5 +116,16 @@ pub fn inspect_log_of(plan: &[u8], log: &[u8]) -> PlanFinding
     if !differences::same_plan(t, a, u, b) {
         return not_inspected(0, numbers::ACCEPTED, 1);
     }
-    found_with(log, u, b, read.first, read.records)
+    let begun = inspection::begin(u, b);
+    let head = u.head;
+    found_with(
+        log,
+        begun,
+        head,
+        u.n,
+        &read.set.w,
+        &read.alloc.s,
+        read.first,
+        read.records,
+    )
 }

@@ -5,10 +5,9 @@ use Rattle.plan_inspections.proofs.found_with.Statement.{statement}
 use Rattle.plan_inspections.proofs.found_with.Tie as tie
 
 returns : tie.Need-returns
-returns c =
+returns c x d p =
     let found = c .before in
-    let looped = found .before in
-    rw (c .count-visits .ensures, found .found .ensures, looped .inspect-records .ensures, looped .before .begin .ensures) refl
+    rw (c .count-visits .ensures, found .found .ensures, found .before .inspect-lent .ensures .all x d p) refl
 
 pub found-with-spec : {M : Type 1} → statement M
-found-with-spec = tie.close (tie.spec (λ c κs. search needs) (λ c κs. search needs) (λ c κs. search needs) (λ c κs. search needs) returns)
+found-with-spec = tie.close (tie.spec (λ c κs. search needs) (λ c κs. search needs) (λ c κs. search needs) returns)

@@ -1,5 +1,5 @@
 -- `record_number` is right because it asks the definition's three tests in the definition's order.
-use mathlib.Core.Path.{_≡_, sym, ap, _∙_}
+use mathlib.Core.Path.{_≡_, sym, _∙_}
 use borrow.Author.Needs.{needs}
 use borrow.Author.Tests.{not-true, not-false}
 use Rattle.units.proofs.JudgingLaws.{failed, held}
@@ -16,22 +16,22 @@ unfolding recordNumber
 returns-2 c = sym (held _ _ _ (not-false _ (c .before .before .before .if1 .left)) ∙ failed _ _ _ (not-true _ (c .if2 .taken)))
 
 -- whether a field holds the entry is asked of the entry that was handed in
-asked : (c : tie.After-in-field) → inField (entryOf (c .before .before .before .before .before .before .args .told)) ≡ c .in-field .result
-asked c = sym (c .in-field .ensures ∙ ap inField (c .before .entry-of .ensures))
+asked : (c : tie.After-in-field) → inField (entryOf (c .before .before .before .before .before .args .told)) ≡ c .in-field .result
+asked c = sym (c .in-field .ensures)
 
 returns-3 : tie.Need-returns-3
 unfolding recordNumber
 returns-3 c =
-    let known = c .before .before .before in
+    let known = c .before .before in
     sym (held _ _ _ (not-false _ (known .before .before .before .if1 .left)) ∙ held _ _ _ (not-false _ (known .if2 .left)) ∙ failed _ _ _ (asked (c .before) ∙ not-true _ (c .if3 .taken)))
 
 returns-4 : tie.Need-returns-4
 unfolding recordNumber
 returns-4 c =
-    let known = c .before .before .before in
+    let known = c .before .before in
     sym (held _ _ _ (not-false _ (known .before .before .before .if1 .left)) ∙ held _ _ _ (not-false _ (known .if2 .left)) ∙ held _ _ _ (asked (c .before) ∙ not-false _ (c .if3 .left)))
 
 pub record-number-spec : {M : Type 1} → statement M
 record-number-spec =
     tie.close
-    (tie.spec returns (λ c. search needs) (λ c. search needs) returns-2 (λ c κs. search needs) (λ c κs. search needs) returns-3 returns-4)
+    (tie.spec returns (λ c. search needs) (λ c. search needs) returns-2 (λ c κs. search needs) returns-3 returns-4)

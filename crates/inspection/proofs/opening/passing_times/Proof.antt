@@ -18,18 +18,18 @@ abbrev passed : List ℕ → ℕ → ℕ
 passed w j = sumBelow j (at w) % 2 ^ 32
 
 abbrev Inv-loop : tie.InvT-loop
-Inv-loop n w end times₀ walked₀ i₀ times walked i = (walked ≡ passed w i) × Filling (passed w) zeros times end i
+Inv-loop w n end times₀ walked₀ i₀ times walked i = (walked ≡ passed w i) × Filling (passed w) zeros times end i
 
 abbrev μ-loop : tie.MeasureT-loop
-μ-loop n w end times₀ walked₀ i₀ times walked i = end - i
+μ-loop w n end times₀ walked₀ i₀ times walked i = end - i
 
 loop-holds : tie.Need-loop-holds Inv-loop μ-loop
 loop-holds c = (rw (sum-none _) refl, filling-begins)
 
 loop-again : tie.Need-loop-again Inv-loop μ-loop
 loop-again c =
-    let at-loop = c .before .before in
-    let w = at-loop .before .before .args .t1 in
+    let at-loop = c .before .before .before in
+    let w = at-loop .before .before .args .w .now in
     let i = at-loop .loop .i in
     let inv = at-loop .loop .inv in
     let walked : c .later .result ≡ passed w (i + 1) =
