@@ -7,6 +7,7 @@ use std::path::Path;
 use crate::frames;
 use crate::gen::{self, Kind};
 use crate::notation::number;
+use crate::page::page;
 use crate::planted::Planted;
 use crate::rules::Refusal;
 use crate::sheet::PLAN_READ;
@@ -35,6 +36,9 @@ usage: second [--planted K] [COMMAND]
   inspect PLAN
               the same of a log that is to keep the plan in the file
                 second inspect ring.plan < ring.log
+  page LOG [PLAN]
+              a page in HTML about the log in the file, which is to keep the plan, out
+                second page ring.log ring.plan > page.html
   diff OLD NEW
               two plan sheets in, a line for each difference, or `same`, out
                 second diff left.plan came-back.plan
@@ -127,6 +131,23 @@ fn keep(path: &str, plan: &[u8], planted: Planted) -> io::Result<Result<u32, Ref
     })
 }
 
+/// Writes the page of the log in a file, which may have to keep the plan in another. A file that cannot
+/// be read is named.
+fn page_of(
+    log: &str,
+    plan: Option<&&str>,
+    planted: Planted,
+    out: &mut impl Write,
+) -> io::Result<()> {
+    let read = |path: &str, most: usize| {
+        let bytes = File::open(path).and_then(|file| at_most(file, most));
+        bytes.map_err(|error| io::Error::other(format!("page: {path}: {error}")))
+    };
+    let log = read(log, usize::MAX)?;
+    let plan = plan.map(|path| read(path, PLAN_READ)).transpose()?;
+    out.write_all(page(plan.as_deref(), &log, planted)?.as_bytes())
+}
+
 fn generate(arguments: &[&str]) -> io::Result<bool> {
     let (name, seed, count, folder) = match *arguments {
         [name, seed, count] | [name, seed, count, "-"] => (name, seed, count, None),
@@ -190,6 +211,9 @@ fn command(arguments: &[&str], planted: Planted) -> io::Result<bool> {
         ["run", path] => streams.run(&plan(path)?, input, planted)?,
         ["log", path] => streams.log(&plan(path)?, input, planted)?,
         ["inspect", path] => streams.inspect_of(&plan(path)?, input, planted)?,
+        ["page", log, plan @ ..] if plan.len() <= 1 => {
+            page_of(log, plan.first(), planted, &mut streams.out)?;
+        }
         ["refit", path] => streams.refit(&fs::read(path)?, input, planted)?,
         ["diff", old, new] => streams.diff(&plan(old)?, &plan(new)?, planted)?,
         ["empty-store", path] => empty_store(path)?,

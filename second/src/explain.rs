@@ -189,12 +189,7 @@ fn accepted_lines(plan: &Plan) -> Vec<String> {
     let mut lines =
         vec![token_line(plan), format!("available {} A* {spare}", available(&plan.request))];
     let Plan { request, .. } = plan;
-    let (ttrt, overrun) = (u64::from(request.head.ttrt), request.head.overrun());
-    let within = match request.mode() {
-        Mode::Fddi => ttrt + plan.allocated() + overrun,
-        Mode::Timely | Mode::Earlier => ttrt,
-    };
-    lines.push(format!("the token is back within {within}"));
+    lines.push(format!("the token is back within {}", plan.bound()));
     lines.push("no station sends more than its S in a visit".to_string());
     if request.mode() == Mode::Fddi {
         lines.push(
@@ -202,7 +197,7 @@ fn accepted_lines(plan: &Plan) -> Vec<String> {
         );
         return lines;
     }
-    let (count, most) = (request.stations.len(), spare + overrun);
+    let (count, most) = (request.stations.len(), spare + request.head.overrun());
     lines.push("every accepted message that is not withdrawn is sent by its deadline".to_string());
     let visits =
         if count == 1 { "visit sends".to_string() } else { format!("{count} visits send") };

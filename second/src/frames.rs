@@ -5,6 +5,7 @@ use crate::hopper::{read_wagon, read_wagons, show_wagons, Change, Train, MOST_WA
 use crate::inspect::{inspected, judge_to_inspect, Inspector};
 use crate::log::{noted, Counter, Recorder};
 use crate::notation::{from_hex, joined, number, parse, read_head, show_set, to_hex};
+use crate::page::page;
 use crate::planner;
 use crate::planted::Planted;
 use crate::ring::Ring;
@@ -467,7 +468,7 @@ fn train_line(train: &Train, answer: Result<(), Refusal>) -> String {
 }
 
 /// The `command` case: `NAME;HEX`, `run;HEXPLAN;HEX` and the same with `log`, `diff;HEX;HEX`,
-/// `inspect;HEX;HEX`, `refit;HEX;HEX`, and those of stores.
+/// `inspect;HEX;HEX`, `page;HEX`, `page;HEX;HEX`, `refit;HEX;HEX`, and those of stores.
 fn command(rest: &str, planted: Planted) -> Option<String> {
     let parts: Vec<&str> = rest.split(';').collect();
     let mut streams = Streams { out: vec![], err: vec![] };
@@ -483,6 +484,13 @@ fn command(rest: &str, planted: Planted) -> Option<String> {
         ["keep", area, plan] => return keeping(read_area(area)?, &from_hex(plan)?, planted),
         ["inspect", plan, log] => {
             streams.inspect_of(&from_hex(plan)?, &from_hex(log)?[..], planted).ok()?;
+        }
+        ["page", log] => {
+            streams.out = page(None, &from_hex(log)?, planted).ok()?.into_bytes();
+        }
+        ["page", plan, log] => {
+            let plan = from_hex(plan)?;
+            streams.out = page(Some(&plan), &from_hex(log)?, planted).ok()?.into_bytes();
         }
         ["refit", list, changes] => {
             streams.refit(&from_hex(list)?, &from_hex(changes)?[..], planted).ok()?;

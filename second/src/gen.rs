@@ -50,10 +50,11 @@ pub enum Kind {
     Returns,
     Orders,
     Explanations,
+    Pages,
 }
 
 impl Kind {
-    pub const ALL: [Kind; 25] = [
+    pub const ALL: [Kind; 26] = [
         Kind::Requests,
         Kind::Plans,
         Kind::Planning,
@@ -79,6 +80,7 @@ impl Kind {
         Kind::Returns,
         Kind::Orders,
         Kind::Explanations,
+        Kind::Pages,
     ];
 
     pub fn name(self) -> &'static str {
@@ -108,6 +110,7 @@ impl Kind {
             Kind::Returns => "returns",
             Kind::Orders => "orders",
             Kind::Explanations => "explanations",
+            Kind::Pages => "pages",
         }
     }
 
@@ -146,6 +149,7 @@ impl Kind {
             Kind::Explanations => {
                 vec![format!("command explain;{}", to_hex(&sheet_to_explain(random, sort)))]
             }
+            Kind::Pages => vec![format!("command page;{}", page_input(random, sort))],
             Kind::Commands => vec![command_case(random, sort)],
             Kind::Logs => vec![format!("log {}", to_hex(&logs::log(random, sort)))],
             Kind::Records => vec![record_case(random, sort)],
@@ -297,7 +301,7 @@ fn edge_cases(random: &mut Random, sort: Sort) -> Vec<String> {
 }
 
 fn command_case(random: &mut Random, sort: Sort) -> String {
-    const NAMES: [&str; 12] = [
+    const NAMES: [&str; 13] = [
         "plan",
         "plan-sheet",
         "explain",
@@ -306,6 +310,7 @@ fn command_case(random: &mut Random, sort: Sort) -> String {
         "run",
         "log",
         "inspect",
+        "page",
         "diff",
         "hopper",
         "hopper-sheet",
@@ -319,6 +324,7 @@ fn command_case(random: &mut Random, sort: Sort) -> String {
         "explain" => to_hex(&sheet_to_explain(random, sort)),
         "inspect" if of_log => departure_input(random, sort),
         "inspect" => to_hex(&logs::to_inspect(random, sort)),
+        "page" => page_input(random, sort),
         "show" if of_log => to_hex(&logs::log(random, sort)),
         "show" => to_hex(&sheets::sheet(random, kind, sort)),
         "compose" if random.once_in(100) => to_hex(&[]),
@@ -370,6 +376,15 @@ fn diff_input(random: &mut Random, sort: Sort) -> String {
 fn departure_input(random: &mut Random, sort: Sort) -> String {
     let (plan, log) = pairs::departure(random, sort);
     format!("{};{}", to_hex(&plan), to_hex(&log))
+}
+
+/// A log to draw, or one beside the plan that it is to keep.
+fn page_input(random: &mut Random, sort: Sort) -> String {
+    match random.between(0, 6) {
+        0..=2 => to_hex(&logs::to_draw(random, sort)),
+        3 | 4 => departure_input(random, sort),
+        _ => to_hex(&logs::to_inspect(random, sort)),
+    }
 }
 
 /// The text of a wagon list; for `refit` that of changes too.

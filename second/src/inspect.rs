@@ -166,7 +166,28 @@ impl Inspector {
         (self.ttrt() - kept - self.since(here)).max(0) as u32
     }
 
-    fn unused(&self) -> Ticks {
+    /// What the timer of the station that the token is at shows.
+    pub fn timer(&self) -> Ticks {
+        self.since(self.station())
+    }
+
+    /// The start of the last visit and what it took, by the counter; none before the first visit.
+    pub fn before(&self) -> Option<(u32, u32)> {
+        (self.visits > 0).then(|| (self.last, self.counter().wrapping_sub(self.last)))
+    }
+
+    /// The most synchronous time of the visit that is next: nothing at a marked station.
+    pub fn share(&self) -> u32 {
+        let here = self.station();
+        match self.planted {
+            _ if self.marked() => 0,
+            Planted::SynchronousUpToC => self.plan.request.stations[here].longest,
+            _ => self.plan.allocation[here],
+        }
+    }
+
+    /// u, over all stations what of S they last did not send.
+    pub fn unused(&self) -> Ticks {
         let sent: Ticks = self.memories.iter().map(|memory| Ticks::from(memory.sent)).sum();
         self.plan.allocated() as Ticks - sent
     }
@@ -217,11 +238,7 @@ impl Inspector {
         unless(limit == expected || !compared, Rule::Limit, || {
             format!("expected limit {expected}, found {limit}")
         })?;
-        let most = match self.planted {
-            _ if self.marked() => 0,
-            Planted::SynchronousUpToC => self.plan.request.stations[here].longest,
-            _ => self.plan.allocation[here],
-        };
+        let most = self.share();
         unless(synchronous <= most, Rule::Synchronous, || {
             format!("expected at most {most}, found {synchronous}")
         })?;

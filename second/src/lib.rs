@@ -12,6 +12,7 @@ pub mod inspect;
 pub mod lines;
 pub mod log;
 pub mod notation;
+pub mod page;
 pub mod planner;
 pub mod planted;
 pub mod raising;

@@ -124,10 +124,16 @@ pub enum Planted {
     OneTickMoreMissing,
     /// 60: the place of a fault is the one behind its field.
     FaultBehindField,
+    /// 61: of what each station did the last record is left out.
+    LastRecordLeftOut,
+    /// 62: the longest time between two visits is taken between visits of two stations.
+    BetweenTwoStations,
+    /// 63: the record before the named one is framed.
+    FramedTooEarly,
 }
 
 impl Planted {
-    pub const ALL: [Planted; 60] = [
+    pub const ALL: [Planted; 63] = [
         Planted::TimeForNobody,
         Planted::RoundedDown,
         Planted::LimitWithoutUnused,
@@ -188,6 +194,9 @@ impl Planted {
         Planted::GapNotListed,
         Planted::OneTickMoreMissing,
         Planted::FaultBehindField,
+        Planted::LastRecordLeftOut,
+        Planted::BetweenTwoStations,
+        Planted::FramedTooEarly,
     ];
 
     /// Whether the error is one of states, and a ring on its time line does not have it.

@@ -264,6 +264,15 @@ impl Plan {
         }
     }
 
+    /// The most ticks that the token is away from a station of a judged set.
+    pub fn bound(&self) -> u64 {
+        let ttrt = u64::from(self.request.head.ttrt);
+        match self.request.mode() {
+            Mode::Timely | Mode::Earlier => ttrt,
+            Mode::Fddi => ttrt + self.allocated() + self.request.head.overrun(),
+        }
+    }
+
     /// Numbers 2, 4, 5 and 7, in this order.
     pub fn judge(&self) -> Result<(), Refusal> {
         self.judge_with(Planted::Nothing)

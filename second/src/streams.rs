@@ -1,5 +1,6 @@
 //! What each command puts out of what it takes in, from bytes to bytes.
 
+use std::fmt;
 use std::io::{self, Read, Write};
 
 use crate::check::WatchedRing;
@@ -58,11 +59,7 @@ impl<O: Write, E: Write> Streams<O, E> {
                 self.text(&explain::explained(&sheet, planted))?;
             }
             "show" => self.show(input)?,
-            "inspect" => {
-                let found = inspected(input, planted)?;
-                let text = |inspector: Inspector| finding_text(&inspector);
-                self.text(&found.map_or_else(refused, text))?;
-            }
+            "inspect" => self.text(&found(None, input, planted)?.to_string())?,
             "hopper" => self.hopper(input, planted)?,
             "hopper-sheet" => match hopper::read_list(input)? {
                 Ok(list) => self.sheet(hopper::sheet(&list, planted))?,
@@ -113,15 +110,7 @@ impl<O: Write, E: Write> Streams<O, E> {
 
     /// What is found in a log of any length that is to keep a plan.
     pub fn inspect_of(&mut self, plan: &[u8], log: impl Read, planted: Planted) -> io::Result<()> {
-        let found = inspected(log, planted)?;
-        self.text(&match (read_plan(plan), found) {
-            (Err(refusal), _) => format!("plan {}", refused(refusal)),
-            (_, Err(refusal)) => refused(refusal),
-            (Ok(plan), Ok(inspector)) => match departures(&plan, inspector.plan(), planted) {
-                lines if lines.is_empty() => finding_text(&inspector),
-                lines => format!("another plan\n{lines}"),
-            },
-        })
+        self.text(&found(Some(plan), log, planted)?.to_string())
     }
 
     /// The plan of a wagon list. A line that cannot be read goes to standard error.
@@ -281,12 +270,41 @@ pub fn departures(plan: &Plan, own: &Plan, planted: Planted) -> String {
     }
 }
 
-/// What was found, and what was expected there.
-fn finding_text(inspector: &Inspector) -> String {
-    match inspector.finding() {
-        None => format!("accepted {}\n", inspector.records()),
-        Some(finding) => format!("{finding}\n{}\n", finding.words),
+/// What is found in a log: why it, or the plan that it is to keep, is none, the lines to another plan,
+/// or what its records are.
+pub enum Found {
+    PlanRefused(Refusal),
+    Refused(Refusal),
+    Another(String),
+    Judged(Inspector),
+}
+
+impl fmt::Display for Found {
+    fn fmt(&self, f: &mut fmt::Formatter) -> fmt::Result {
+        match self {
+            Found::PlanRefused(refusal) => write!(f, "plan {}", refused(*refusal)),
+            Found::Refused(refusal) => f.write_str(&refused(*refusal)),
+            Found::Another(lines) => write!(f, "another plan\n{lines}"),
+            Found::Judged(inspector) => match inspector.finding() {
+                None => writeln!(f, "accepted {}", inspector.records()),
+                Some(finding) => write!(f, "{finding}\n{}\n", finding.words),
+            },
+        }
     }
+}
+
+/// What is found in a log of any length, which may have to keep a plan.
+pub fn found(plan: Option<&[u8]>, log: impl Read, planted: Planted) -> io::Result<Found> {
+    let found = inspected(log, planted)?;
+    Ok(match (plan.map(read_plan), found) {
+        (Some(Err(refusal)), _) => Found::PlanRefused(refusal),
+        (_, Err(refusal)) => Found::Refused(refusal),
+        (None, Ok(inspector)) => Found::Judged(inspector),
+        (Some(Ok(plan)), Ok(inspector)) => match departures(&plan, inspector.plan(), planted) {
+            lines if lines.is_empty() => Found::Judged(inspector),
+            lines => Found::Another(lines),
+        },
+    })
 }
 
 fn refused(refusal: Refusal) -> String {

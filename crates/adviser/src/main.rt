@@ -15,8 +15,7 @@ fn say_phrase(e: Explained, k: usize) -> bool {
     let mut page = io::buffer();
     let phrase = command_explain::phrase_at(e, k);
     let put = forms::put_phrase(&mut page, phrase);
-    let length = reading::further(0, put, page.len());
-    ending::say(&page[..length])
+    ending::say_put(&page, put)
 }
 
 // Writes all phrases.

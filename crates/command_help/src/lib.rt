@@ -52,6 +52,7 @@ With no command it is `plan`. For example:
   olivastrum log four.plan < examples/worked-run.calls > worked.log
   olivastrum inspect < worked.log
   olivastrum inspect four.plan < worked.log
+  olivastrum page worked.log > page.html
   olivastrum diff examples/left.plan examples/came-back.plan
   olivastrum hopper < examples/hopper-twelve.wagons
   olivastrum hopper-sheet < examples/hopper-twelve.wagons > twelve.request

@@ -17,7 +17,7 @@ use Rattle.commands.specs.Words.{sameBytes}
 use Rattle.commands.specs.Asked.{whose, commandOf, takes, countedFor, askedFor}
 use Rattle.commands.specs.Promised.{Promised}
 use Rattle.commands.specs.declared.Command.{Command}
-use Rattle.commands.specs.declared.Command.the-variants.{Plan, PlanSheet, Explain, Compose, Show, Run, Log, Inspect, Diff, Hopper, HopperSheet, Refit, EmptyStore, Keep, Kept, Versions, Version, Help, Unknown}
+use Rattle.commands.specs.declared.Command.the-variants.{Plan, PlanSheet, Explain, Compose, Show, Run, Log, Inspect, Page, Diff, Hopper, HopperSheet, Refit, EmptyStore, Keep, Kept, Versions, Version, Help, Unknown}
 use Rattle.commands.specs.declared.Asked.the-variants.{Do, Miscounted, Nothing}
 
 -- ---- words
@@ -32,6 +32,7 @@ by-word Show = refl
 by-word Run = refl
 by-word Log = refl
 by-word Inspect = refl
+by-word Page = refl
 by-word Diff = refl
 by-word Hopper = refl
 by-word HopperSheet = refl

@@ -4,11 +4,11 @@ use mathlib.Core.Path.{_≡_}
 use mathlib.Core.List.{List, [], _∷_}
 use lib.ListN.{getD}
 use Rattle.commands.specs.declared.Command.{Command}
-use Rattle.commands.specs.declared.Command.the-variants.{Plan, PlanSheet, Explain, Compose, Show, Run, Log, Inspect, Diff, Hopper, HopperSheet, Refit, EmptyStore, Keep, Kept, Versions, Version, Help, Unknown}
+use Rattle.commands.specs.declared.Command.the-variants.{Plan, PlanSheet, Explain, Compose, Show, Run, Log, Inspect, Page, Diff, Hopper, HopperSheet, Refit, EmptyStore, Keep, Kept, Versions, Version, Help, Unknown}
 
 -- all of them, in the order of the table
 abbrev pub commands : List Command
-commands = Plan ∷ PlanSheet ∷ Explain ∷ Compose ∷ Show ∷ Run ∷ Log ∷ Inspect ∷ Diff ∷ Hopper ∷ HopperSheet ∷ Refit ∷ EmptyStore ∷ Keep ∷ Kept ∷ Versions ∷ Version ∷ Help ∷ []
+commands = Plan ∷ PlanSheet ∷ Explain ∷ Compose ∷ Show ∷ Run ∷ Log ∷ Inspect ∷ Page ∷ Diff ∷ Hopper ∷ HopperSheet ∷ Refit ∷ EmptyStore ∷ Keep ∷ Kept ∷ Versions ∷ Version ∷ Help ∷ []
 
 -- the command at a place of the table; behind the last of them there is none
 abbrev pub commandAt : ℕ → Command
@@ -24,6 +24,7 @@ wordOf Show = 115 ∷ 104 ∷ 111 ∷ 119 ∷ []
 wordOf Run = 114 ∷ 117 ∷ 110 ∷ []
 wordOf Log = 108 ∷ 111 ∷ 103 ∷ []
 wordOf Inspect = 105 ∷ 110 ∷ 115 ∷ 112 ∷ 101 ∷ 99 ∷ 116 ∷ []
+wordOf Page = 112 ∷ 97 ∷ 103 ∷ 101 ∷ []
 wordOf Diff = 100 ∷ 105 ∷ 102 ∷ 102 ∷ []
 wordOf Hopper = 104 ∷ 111 ∷ 112 ∷ 112 ∷ 101 ∷ 114 ∷ []
 wordOf HopperSheet = 104 ∷ 111 ∷ 112 ∷ 112 ∷ 101 ∷ 114 ∷ 45 ∷ 115 ∷ 104 ∷ 101 ∷ 101 ∷ 116 ∷ []
@@ -46,6 +47,7 @@ leastOf Show = 0
 leastOf Run = 1
 leastOf Log = 1
 leastOf Inspect = 0
+leastOf Page = 1
 leastOf Diff = 2
 leastOf Hopper = 0
 leastOf HopperSheet = 0
@@ -68,6 +70,7 @@ mostOf Show = 0
 mostOf Run = 1
 mostOf Log = 1
 mostOf Inspect = 1
+mostOf Page = 2
 mostOf Diff = 2
 mostOf Hopper = 0
 mostOf HopperSheet = 0

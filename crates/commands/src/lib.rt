@@ -17,6 +17,7 @@ pub enum Command {
     Run,
     Log,
     Inspect,
+    Page,
     Diff,
     Hopper,
     HopperSheet,
@@ -31,7 +32,7 @@ pub enum Command {
 }
 
 // How many commands there are.
-pub const COUNT: usize = 18;
+pub const COUNT: usize = 19;
 
 // The commands in the order of the table; behind the last of them there is none.
 pub fn command_at(place: usize) -> Command
@@ -46,16 +47,17 @@ pub fn command_at(place: usize) -> Command
         5 => Command::Run,
         6 => Command::Log,
         7 => Command::Inspect,
-        8 => Command::Diff,
-        9 => Command::Hopper,
-        10 => Command::HopperSheet,
-        11 => Command::Refit,
-        12 => Command::EmptyStore,
-        13 => Command::Keep,
-        14 => Command::Kept,
-        15 => Command::Versions,
-        16 => Command::Version,
-        17 => Command::Help,
+        8 => Command::Page,
+        9 => Command::Diff,
+        10 => Command::Hopper,
+        11 => Command::HopperSheet,
+        12 => Command::Refit,
+        13 => Command::EmptyStore,
+        14 => Command::Keep,
+        15 => Command::Kept,
+        16 => Command::Versions,
+        17 => Command::Version,
+        18 => Command::Help,
         _ => Command::Unknown,
     }
 }
@@ -73,6 +75,7 @@ fn has_word(command: Command, word: &[u8]) -> bool
         Command::Run => words::same_bytes(word, b"run"),
         Command::Log => words::same_bytes(word, b"log"),
         Command::Inspect => words::same_bytes(word, b"inspect"),
+        Command::Page => words::same_bytes(word, b"page"),
         Command::Diff => words::same_bytes(word, b"diff"),
         Command::Hopper => words::same_bytes(word, b"hopper"),
         Command::HopperSheet => words::same_bytes(word, b"hopper-sheet"),
@@ -106,6 +109,7 @@ fn following(command: Command) -> Range
         Command::Run => Range { least: 1, most: 1 },
         Command::Log => Range { least: 1, most: 1 },
         Command::Inspect => Range { least: 0, most: 1 },
+        Command::Page => Range { least: 1, most: 2 },
         Command::Diff => Range { least: 2, most: 2 },
         Command::Hopper => Range { least: 0, most: 0 },
         Command::HopperSheet => Range { least: 0, most: 0 },

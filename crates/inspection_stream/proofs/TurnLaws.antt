@@ -22,6 +22,13 @@ use Rattle.inspection_stream.specs.Inspecting.{lookedAt, lookedAll}
 use Rattle.inspection_stream.specs.declared.Looked.{Looked}
 use Rattle.inspection_stream.proofs.LookLaws.{look-append}
 
+-- a record that was read stands in the bytes of its field
+pub read-stands : (v : Gathered) → entryIn v .next ≢ 0 → entryIn v ≡ nextEntry (v .bytes) 0
+unfolding entryIn
+read-stands v =
+    ⊎-elim (λ (e : eqb (v .count) (recordSize (v .bytes) 0) ≡ true). rw e (λ some. refl)) (λ (e : eqb (v .count) (recordSize (v .bytes) 0) ≡ false). rw e (λ some. absurd (some refl)))
+    (true-or-false (eqb (v .count) (recordSize (v .bytes) 0)))
+
 module _ (t : Set) (a : Alloc) where
   -- ---- the record that a byte ends, if it ends one
 
@@ -32,13 +39,6 @@ module _ (t : Set) (a : Alloc) where
   one-looked : (l : Looked) (n : NextEntry) → n .next ≢ 0 → lookedAt t a l (n .entry) ≡ lookedAll t a l (entriesOf n)
   unfolding entriesOf lookedAll
   one-looked l n e = rw (ne-eqb (n .next) 0 e) refl
-
-  -- a record that was read stands in the bytes of its field
-  read-stands : (v : Gathered) → entryIn v .next ≢ 0 → entryIn v ≡ nextEntry (v .bytes) 0
-  unfolding entryIn
-  read-stands v =
-      ⊎-elim (λ (e : eqb (v .count) (recordSize (v .bytes) 0) ≡ true). rw e (λ some. refl)) (λ (e : eqb (v .count) (recordSize (v .bytes) 0) ≡ false). rw e (λ some. absurd (some refl)))
-      (true-or-false (eqb (v .count) (recordSize (v .bytes) 0)))
 
   pub field-looked : (l : Looked) (v : Gathered) (n : NextEntry) → n ≡ entryIn v → n .next ≢ 0 → lookedAt t a l (nextEntry (v .bytes) 0 .entry) ≡ lookedAll t a l (entriesOf (entryIn v))
   field-looked l v n is some =

@@ -163,6 +163,10 @@ module _ (bs : List ℕ) (z : readLog bs .number ≡ 0) where
   was-read : record { set = planStart bs .set; alloc = planStart bs .alloc; first = planStart bs .at; records = walked bs (planStart bs .at) .records; number = 0 } ≡ readLog bs
   was-read = log-whole bs (planStart bs) refl passed (walked bs (planStart bs .at)) refl (both .0) (both .1)
 
+  -- the records that are handed out on the way are all of its records
+  pub handed-read : handedOver (inspectFrom (planStart bs) .gathered) (drop (planStart bs .at) bs) ≡ entriesIn bs
+  handed-read = handed-all bs passed ∙ ap (λ (r : ReadLog). handedFrom (r .records) bs (r .first)) was-read
+
   pub plan-read : (inspectStart bs .start .set ≡ readLog bs .set) × (inspectStart bs .start .alloc ≡ readLog bs .alloc)
   plan-read = (ap (λ (r : ReadLog). r .set) was-read, ap (λ (r : ReadLog). r .alloc) was-read)
 
@@ -170,8 +174,8 @@ module _ (bs : List ℕ) (z : readLog bs .number ≡ 0) where
   looked-read =
       let t = planStart bs .set in
       let a = planStart bs .alloc in
-      ap (lookedAll t a (noneLooked t a)) (handed-all bs passed)
-      ∙ ap (λ (r : ReadLog). lookedAll (r .set) (r .alloc) (noneLooked (r .set) (r .alloc)) (handedFrom (r .records) bs (r .first))) was-read
+      ap (lookedAll t a (noneLooked t a)) handed-read
+      ∙ ap (λ (r : ReadLog). lookedAll (r .set) (r .alloc) (noneLooked (r .set) (r .alloc)) (entriesIn bs)) was-read
 
   pub inspection-read : inspectStart bs .looked .inspection ≡ inspectionOf (readLog bs .set) (readLog bs .alloc) (entriesIn bs)
   inspection-read =

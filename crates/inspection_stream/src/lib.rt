@@ -41,7 +41,7 @@ fn look_first(set: Set, alloc: Alloc) -> Looked
 }
 
 // One record more, whose field was read. Behind a broken rule nothing is looked at.
-fn look(gathered: Gathered, looked: Looked, set: Set, alloc: Alloc) -> Looked
+pub fn look(gathered: Gathered, looked: Looked, set: Set, alloc: Alloc) -> Looked
     ensures { λ r. ⌜ r ≡ lookedAt set alloc looked (nextEntry (gathered .bytes) 0 .entry) ⌝ }
 {
     let state = looked.inspection;
@@ -80,7 +80,7 @@ fn gathered_from(passed: bool, number: u8) -> Gathered
 }
 
 // The plan was read, and no byte of the records.
-fn begin(start: PlanStart) -> Inspecting
+pub fn begin(start: PlanStart) -> Inspecting
     ensures { λ r. ⌜ r ≡ inspectFrom start ⌝ }
 {
     let set = start.set;

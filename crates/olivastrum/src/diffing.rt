@@ -1,7 +1,7 @@
 // `diff OLD NEW`: the plan sheets in two files are read, and then what differs is printed.
-use crate::loading;
 use commands::status;
 use streams::ending;
+use streams::loading;
 
 // Prints what differs; the status is 0 exactly where that is `same`.
 fn compare(old: &[u8], new: &[u8]) -> u8 {

@@ -1,9 +1,9 @@
 // `inspect`: whether a run could have given the records of the log on standard input, or its first fault; `inspect PLAN`: whether its plan is the one in PLAN, too.
-use crate::loading;
 use commands::status;
 use inspection_stream::Inspecting;
 use libc::STDIN_FILENO;
 use streams::ending;
+use streams::loading;
 use streams::reading;
 use streams::words;
 

@@ -3,7 +3,6 @@ mod complaining;
 mod composing;
 mod diffing;
 mod inspecting;
-mod loading;
 mod logging;
 mod planned;
 mod running;

@@ -5,6 +5,7 @@ use libc::STDIN_FILENO;
 use streams::ending;
 use streams::reading;
 use streams::usage;
+use streams::version;
 use streams::words;
 
 // `plan`: the plan of the request sheet on standard input, or the refusal. The longest, of 128 stations with a mode, F and g, has 2,460 bytes; one more tells that a byte follows it.
@@ -39,9 +40,15 @@ fn plan_sheet() -> u8 {
     ending::answer(&out[..length], status::DONE)
 }
 
-// `version`: the version, here and nowhere else in the sources.
+// `version`: a line.
 fn version() -> u8 {
-    ending::answer(b"0.16.2\n", status::DONE)
+    let mut page = io::buffer();
+    let named = version::put(&mut page, 0);
+    let put = text::put_end(&mut page, named);
+    if !ending::say_put(&page, put) {
+        return status::FAILED;
+    }
+    status::DONE
 }
 
 // Does what the words from this one on ask for.

@@ -2,6 +2,7 @@
 ghost use mathlib.Core.Path.{_≡_};
 ghost use Rattle.commands.specs.Status.{statusOf};
 ghost use Rattle.streams.specs.Ends.{Ends, failed};
+use crate::reading;
 use commands::status;
 use libc::STDERR_FILENO;
 use libc::STDOUT_FILENO;
@@ -49,6 +50,12 @@ pub fn say(text: &[u8]) -> bool {
         unwritten_output();
     }
     wrote
+}
+
+// Writes what was put at the start of a page, up to this place.
+pub fn say_put(page: &[u8], put: usize) -> bool {
+    let length = reading::further(0, put, page.len());
+    say(&page[..length])
 }
 
 // With this status, where what was to be said could be written.

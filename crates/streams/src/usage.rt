@@ -42,6 +42,10 @@ pub fn put_line(to: i32, command: Command) -> bool {
             to,
             b"olivastrum inspect [PLAN] < LOG   say whether a run could have given the log's records, or the first that breaks a rule; with the plan sheet in the file PLAN, first what differs from that plan\n",
         ),
+        Command::Page => io::write_all(
+            to,
+            b"olivastrum page LOG [PLAN]        write a page about the log in the file LOG, for a browser or for paper: the finding, the plan, what each station did, and a picture of the rotations; with PLAN as `inspect`\n",
+        ),
         Command::Diff => io::write_all(
             to,
             b"olivastrum diff OLD NEW           print the differences of two plan sheets, or `same`\n",

@@ -1,5 +1,5 @@
-//! Logs: of runs, with any numbers in their records, and damaged; and logs to inspect, of which one
-//! number is wrong, or that are cut and joined.
+//! Logs: of runs, with any numbers in their records, and damaged; logs to inspect, of which one number
+//! is wrong, or that are cut and joined; and such to draw, of many rotations.
 
 use super::random::Random;
 use super::sort::Sort;
@@ -212,6 +212,28 @@ pub fn to_inspect(random: &mut Random, sort: Sort) -> Vec<u8> {
                 spoil(random, &plan, &mut entries[index]);
             }
         }
+    }
+    log_of(&plan, &entries).expect("the plan is sound")
+}
+
+/// A log to draw: of more rotations than a page has, where the stations are few; some with a wrong
+/// number, most often near the end, and now and then without a record.
+pub fn to_draw(random: &mut Random, sort: Sort) -> Vec<u8> {
+    let plan = match random.once_in(2) {
+        true => sets::small_plan(random, sort),
+        false => sets::plan_to_run(random, sort),
+    };
+    let count = plan.allocation.len();
+    let most = match random.once_in(12) {
+        true => 0,
+        false if count <= 3 => 120 * count,
+        false => 2 * count.min(20),
+    };
+    let mut entries = free_run(random, &plan, most, sort);
+    let wrong = random.pick(&[0, 1, 1, 2]).min(entries.len());
+    for _ in 0..wrong {
+        let index = place(random, entries.len());
+        spoil(random, &plan, &mut entries[index]);
     }
     log_of(&plan, &entries).expect("the plan is sound")
 }

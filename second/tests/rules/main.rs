@@ -17,6 +17,7 @@ mod layers;
 mod log_texts;
 mod logs;
 mod marks;
+mod page;
 mod planted;
 mod program;
 mod promises;

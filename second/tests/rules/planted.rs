@@ -105,6 +105,9 @@ fn shown_by(planted: Planted) -> (Kind, &'static [Sort]) {
         Planted::GapNotListed | Planted::OneTickMoreMissing | Planted::FaultBehindField => {
             (Kind::Explanations, &Sort::ALL)
         }
+        Planted::LastRecordLeftOut | Planted::BetweenTwoStations | Planted::FramedTooEarly => {
+            (Kind::Pages, &Sort::ALL)
+        }
         _ => (Kind::Runs, TIMELY),
     }
 }
@@ -123,21 +126,23 @@ fn comparing_finds_every_planted_error() {
         Kind::Trains,
         Kind::Departures,
         Kind::Explanations,
+        Kind::Pages,
     ];
+    let others = [Kind::Openings, Kind::Departures, Kind::Orders, Kind::Explanations, Kind::Pages];
     let retired = &Planted::ALL[52..57];
     let every = kinds.map(|kind| Sort::ALL.map(|sort| (kind, sort))).concat();
     let sorted = |(kind, sort): &(Kind, Sort)| kind.has_sorts() || *sort == Sort::TIMELY;
     for (kind, sort) in every.into_iter().filter(sorted) {
         let answered = answered(kind, sort);
         for planted in Planted::ALL {
-            let elsewhere = [Kind::Openings, Kind::Departures, Kind::Orders, Kind::Explanations]
-                .contains(&kind)
+            let elsewhere = others.contains(&kind)
                 || planted == Planted::MarkedLimitByTimers
                 || retired.contains(&planted);
             if elsewhere && shown_by(planted).0 != kind {
                 // An error in the ring may show in the one that is opened, too, and the limits of
                 // marked visits in logs; errors in the inspection and in `diff` show in logs beside
-                // their plans, and errors in planning and in the rules of a plan in what is explained. A
+                // their plans and on pages, and errors in planning and in the rules of a plan in what is
+                // explained. A
                 // wrong 16 shows wherever a ring is planned, opened or looked at.
                 continue;
             }
@@ -152,7 +157,7 @@ fn comparing_finds_every_planted_error() {
             assert!(as_expected, "{planted:?}: {found} in {kind:?} of {sort:?}");
         }
     }
-    assert_eq!([0, 61].map(Planted::from_number), [None, None]);
+    assert_eq!([0, 64].map(Planted::from_number), [None, None]);
     assert_eq!(Planted::from_number(20), Some(Planted::FirstStartCompared));
     assert_eq!(Planted::from_number(24), Some(Planted::LogByTheLaterEdition));
     assert_eq!(Planted::from_number(27), Some(Planted::OffGridOutOfRange));
@@ -166,6 +171,7 @@ fn comparing_finds_every_planted_error() {
     assert_eq!(Planted::from_number(53), Some(Planted::RetiredBeforeWalkSum));
     assert_eq!(Planted::from_number(57), Some(Planted::LogRetired));
     assert_eq!(Planted::from_number(60), Some(Planted::FaultBehindField));
+    assert_eq!(Planted::from_number(63), Some(Planted::FramedTooEarly));
 }
 
 /// Every promise that the runs with the error break.

@@ -170,6 +170,27 @@ fn two_plans_side_by_side() {
 }
 
 #[test]
+fn a_page_in_a_file() {
+    let plan = file("paged.plan", &plan_sheet());
+    let calls = "message 0 20 0\nvisit 1000\nvisit 0\n";
+    let log = file("paged.log", &second(&["log", &plan], calls.as_bytes()).stdout);
+    let page = said(&["page", &log], b"not read");
+    assert!(page.contains("<pre class=\"finding\">accepted 2\n</pre>"));
+    let held = said(&["page", &log, &plan], b"");
+    assert!(page.contains("No plan sheet was named") && !held.contains("No plan sheet was named"));
+    assert!(held.contains("<p>The log has the plan of the plan sheet that was named.</p>"));
+    let refused = said(&["page", &log, &log], b"");
+    assert!(refused.contains("<pre class=\"finding\">plan refused 2\n</pre>"));
+    fs::remove_file(&plan).expect("the file is there");
+    for words in [&["page", &plan][..], &["page", &log, &plan], &["page", &plan, &log]] {
+        let output = second(words, b"");
+        assert!(!output.status.success() && output.stdout.is_empty());
+        assert!(String::from_utf8_lossy(&output.stderr).contains(&plan), "it names the file");
+    }
+    fs::remove_file(&log).expect("the file is there");
+}
+
+#[test]
 fn versions_in_a_file() {
     let store = file("yard.store", b"");
     assert!(!second(&["empty-store", &store], b"").status.success());
@@ -254,6 +275,7 @@ fn usage_for_anything_else() {
         "run PLAN",
         "log PLAN",
         "inspect",
+        "page LOG [PLAN]",
         "diff OLD NEW",
         "empty-store STORE",
         "keep STORE",
@@ -264,11 +286,13 @@ fn usage_for_anything_else() {
     ] {
         assert!(usage.contains(&format!("  {name}")), "{name}");
     }
-    let others: [&[&str]; 13] = [
+    let others: [&[&str]; 15] = [
         &["else"],
         &["plan", "more"],
         &["run"],
         &["diff", "old"],
+        &["page"],
+        &["page", "log", "plan", "more"],
         &["empty-store"],
         &["kept", "store"],
         &["kept", "store", ""],

@@ -1,0 +1,6 @@
+-- The laws of a log that is read for its picture, and the promises of this layer, proved.
+pub mod TurnLaws
+pub mod OverLaws
+pub mod KeptLaws
+pub mod StopLaws
+pub mod Promised

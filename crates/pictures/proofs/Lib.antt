@@ -1,0 +1,8 @@
+-- The proof of what `specs/Promised.antt` promises, and the laws that it cites.
+--     PlacedLaws   places of moments behind the end of a line
+--     ChoiceLaws   what is taken by a test
+--     WholeLaws    a visit that ends within its line
+pub mod PlacedLaws
+pub mod ChoiceLaws
+pub mod WholeLaws
+pub mod Promised
