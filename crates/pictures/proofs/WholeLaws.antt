@@ -8,7 +8,7 @@ use borrow.Author.Tests.{le-ltb}
 use Rattle.units.specs.Places.{at}
 use Rattle.log_records.specs.declared.VisitEntry.{VisitEntry}
 use Rattle.tallies.specs.declared.Lap.{Lap}
-use Rattle.pictures.specs.Parts.{part, placed, synchronousAt, asynchronousAt, walkAt, endAt, barOf, lineOf, cutMark}
+use Rattle.pictures.specs.Parts.{part, placed, synchronousAt, asynchronousAt, walkAt, endAt, limitAt, drawnTo, barOf, lineOf, cutMark}
 use Rattle.pictures.specs.Promised.{DrawnWhole}
 use Rattle.pictures.specs.declared.Shape.{Shape}
 use Rattle.pictures.specs.declared.Shape.the-variants as shape
@@ -54,5 +54,8 @@ module _ (c : Scene) (l : Lap) (v : VisitEntry) where
         synchronous = bar-whole shape.Synchronous c _ _ (omega (arith, synchronous-ends));
         asynchronous = bar-whole shape.Asynchronous c _ _ (omega (arith, asynchronous-ends));
         walk = line-whole shape.Walk c 2 (walkAt l v) _ (endAt c l v) (omega arith) h;
-        not-cut = rw (le-ltb _ _ h) refl;
+        limit = λ ends. line-whole shape.Limit c 3 (asynchronousAt c l v) _ (limitAt c l v) refl ends;
+        not-cut = λ ends.
+            let all : drawnTo c l v ≤ c .bound = omega arith in
+            rw (le-ltb _ _ all) refl;
       }
