@@ -5,6 +5,7 @@ pub mod picture;
 pub mod records;
 pub mod words;
 
+use std::collections::BTreeSet;
 use std::io;
 
 use crate::inspect::{Inspector, Rule};
@@ -13,7 +14,7 @@ use crate::rules::{Entry, MarkEntry, Mode, Plan, Refusal, Station, VisitEntry};
 use crate::sheet::read_log;
 use crate::streams::{found, Found};
 use picture::{picture, rotations, Named};
-use records::{seen, Seen};
+use records::{seen, switched_through, Seen};
 use words::VERSION;
 
 /// The page of a log, which may have to keep a plan.
@@ -51,14 +52,14 @@ fn large(found: &Found) -> String {
 }
 
 fn refused(refusal: Refusal) -> String {
-    words::sentence(refusal.number()).to_string()
+    [words::sentence(refusal.number()), words::NOT_JUDGED].concat()
 }
 
 /// All behind the finding of a log whose records were judged.
 fn judged(plan: &Plan, entries: &[Entry], inspector: &Inspector, planted: Planted) -> String {
     let place = inspector.finding().map(|finding| finding.record as usize - 1);
     let kept = place.unwrap_or(entries.len());
-    let visits = seen(plan, entries);
+    let (visits, through) = (seen(plan, entries), switched_through(&entries[..kept]));
     let named = place.map(|place| Named { place, mark: mark_of(&entries[place]) });
     let drawn = match rotations(plan.request.stations.len(), &visits, named) {
         0 => "<p>The log has no visit.</p>\n".to_string(),
@@ -69,10 +70,11 @@ fn judged(plan: &Plan, entries: &[Entry], inspector: &Inspector, planted: Plante
         }
     };
     [
-        &meaning(place),
+        &meaning(place, visits.is_empty()),
         &place.map_or(String::new(), |place| named_table(&entries[place], place, inspector)),
         &plan_tables(plan),
         &did(plan, &visits, kept, place, planted),
+        &still_through(&through, place),
         words::PICTURE,
         &drawn,
     ]
@@ -86,8 +88,9 @@ fn mark_of(entry: &Entry) -> Option<MarkEntry> {
     }
 }
 
-fn meaning(named: Option<usize>) -> String {
+fn meaning(named: Option<usize>, empty: bool) -> String {
     let first = match named {
+        None if empty => words::NO_VISIT.to_string(),
         None => words::ACCEPTED.to_string(),
         Some(place) => format!(
             "<p>Record {} is the first that breaks a rule. All records before it keep every rule. \
@@ -152,9 +155,10 @@ fn visit_rows(visit: &VisitEntry, inspector: &Inspector) -> Vec<RuleRow> {
     let share_source = if inspector.marked() { through } else { "S of the station".to_string() };
     let (frames_expected, frames_source) = match (inspector.limit(), head.frame) {
         (limit, 1) => (format!("at most {limit}"), "the limit".to_string()),
-        (limit, frame) => {
-            (format!("begun below {limit}"), format!("the limit; whole frames of one length up to F {frame}"))
-        }
+        (limit, frame) => (
+            format!("begun below {limit}"),
+            format!("the limit; whole frames of one length up to F {frame}"),
+        ),
     };
     let turn = "the station whose turn it is".to_string();
     let share = format!("at most {}", inspector.share());
@@ -175,11 +179,17 @@ fn plan_tables(plan: &Plan) -> String {
         Mode::Fddi => "2, FDDI, which is retired",
         Mode::Earlier => "3, timely-token, 2002 edition",
     };
+    let or_none = |number: u32, none: &str| match number {
+        1 => format!("1 ({none})"),
+        _ => number.to_string(),
+    };
+    let frame = or_none(request.head.frame, "no frames: asynchronous traffic may stop at any tick");
+    let grid = or_none(request.head.grid, "no grid: S may be any whole number");
     let numbers = [
         ("TTRT, the target time of a rotation", request.head.ttrt.to_string()),
         ("mode", mode.to_string()),
-        ("F, the longest asynchronous frame", request.head.frame.to_string()),
-        ("g, the step in which S is held", request.head.grid.to_string()),
+        ("F, the longest asynchronous frame", frame),
+        ("g, the step in which S is held", grid),
         ("tau, all walk times together", request.walk_sum().to_string()),
         ("the sum of all S", plan.allocated().to_string()),
         ("A*, the spare time", plan.spare().to_string()),
@@ -257,6 +267,19 @@ fn did(
     let rows: String =
         (0..plan.allocation.len()).map(|index| did_row(plan, kept, index, planted)).collect();
     format!("{}<p>{told}</p>\n{}{rows}</table>\n", words::DID, words::DID_HEAD)
+}
+
+/// Who is switched through behind the records before the named one.
+fn still_through(through: &BTreeSet<u8>, named: Option<usize>) -> String {
+    let stations: Vec<String> =
+        through.iter().map(|station| format!("station {station}")).collect();
+    let stations = if stations.is_empty() { "no station".to_string() } else { stations.join(", ") };
+    match named {
+        None => format!("<p>Switched through when the log ends: {stations}.</p>\n"),
+        Some(place) => {
+            format!("<p>Switched through before record {}: {stations}.</p>\n", place + 1)
+        }
+    }
 }
 
 fn did_row(plan: &Plan, kept: &[Seen], index: usize, planted: Planted) -> String {

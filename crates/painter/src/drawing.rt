@@ -20,10 +20,12 @@ pub(crate) struct Canvas {
     pub wrote: bool,
 }
 
-// The parts of a record, one behind the other on a page.
+// The parts of a record, one behind the other on a page. The first, where it begins a line, has the record's number in its words too, as part 3 has it.
 fn put_parts(page: &mut [u8], scene: Scene, pen: Pen, drawn: Drawn) -> usize {
-    let mut at: usize = 0;
-    let mut k: usize = 0;
+    let label = pictures::part_at(scene, pen, drawn, 0);
+    let record = pictures::part_at(scene, pen, drawn, 3);
+    let mut at = shapes::put_label(page, 0, label, record);
+    let mut k: usize = 1;
     while k < pictures::PART_COUNT {
         let part = pictures::part_at(scene, pen, drawn, k);
         at = shapes::put_part(page, at, part);

@@ -101,6 +101,28 @@ fn say_stations(form: Form, numbers: [u64; 6]) -> bool {
     }
 }
 
+// F, which is 1 where the plan names none.
+fn say_frame(numbers: [u64; 6]) -> bool {
+    if numbers[0] == 1 {
+        return texts::no_frame();
+    }
+    fill(
+        b"<tr><td>F, the longest asynchronous frame</td><td>#</td></tr>\n",
+        numbers,
+    )
+}
+
+// g, in the same way.
+fn say_grid(numbers: [u64; 6]) -> bool {
+    if numbers[0] == 1 {
+        return texts::no_grid();
+    }
+    fill(
+        b"<tr><td>g, the step in which S is held</td><td>#</td></tr>\n",
+        numbers,
+    )
+}
+
 // The plan's header.
 fn say_plan(form: Form, numbers: [u64; 6]) -> bool {
     match form {
@@ -121,14 +143,8 @@ fn say_plan(form: Form, numbers: [u64; 6]) -> bool {
             b"<tr><td>mode</td><td>3, timely-token, 2002 edition</td></tr>\n",
             numbers,
         ),
-        Form::LongestFrame => fill(
-            b"<tr><td>F, the longest asynchronous frame</td><td>#</td></tr>\n",
-            numbers,
-        ),
-        Form::Grid => fill(
-            b"<tr><td>g, the step in which S is held</td><td>#</td></tr>\n",
-            numbers,
-        ),
+        Form::LongestFrame => say_frame(numbers),
+        Form::Grid => say_grid(numbers),
         _ => say_stations(form, numbers),
     }
 }
@@ -207,7 +223,7 @@ fn say_named(form: Form, numbers: [u64; 6]) -> bool {
 // What the finding means.
 fn say_meaning(form: Form, numbers: [u64; 6]) -> bool {
     match form {
-        Form::Sentence => texts::sentence(numbers[0]),
+        Form::Sentence => texts::sentence(numbers[0]) && texts::not_judged(),
         Form::MeansAnother => texts::means() && texts::another(),
         Form::MeansBroken => texts::means()
             && fill(b"<p>Record # is the first that breaks a rule.", numbers)

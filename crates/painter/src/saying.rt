@@ -47,17 +47,83 @@ fn say_either(given: bool, plan: &[u8], watching: Watching) -> bool {
     ending::say_put(&page, put)
 }
 
-// The parts from the second on.
-fn say_parts(account: Account) -> bool {
-    let count = command_page::part_count(account);
-    let mut k: usize = 1;
-    while k < count {
+// The second part, what the finding means: of an accepted log without a visit that nothing was held to the rules.
+fn say_meaning(account: Account) -> bool {
+    let outcome = account.outcome;
+    if is_accepted(outcome) & (account.lines == 0) {
+        return texts::means() && texts::no_visit();
+    }
+    forms::say_part(command_page::part_at(account, 1))
+}
+
+// The parts from the third on, up to the last, which begins the picture.
+fn say_parts(account: Account, last: usize) -> bool {
+    let mut k: usize = 2;
+    while k < last {
         if !forms::say_part(command_page::part_at(account, k)) {
             return false;
         }
         k += 1;
     }
     true
+}
+
+// A station's number, behind those before it.
+fn say_station(any: bool, station: u64) -> bool {
+    if any {
+        return forms::fill(b", station #", [station, 0, 0, 0, 0, 0]);
+    }
+    forms::fill(b"station #", [station, 0, 0, 0, 0, 0])
+}
+
+// The stations that are marked.
+fn say_marked(mark: [u8; 128], n: u32) -> bool {
+    let end = units::places(n);
+    let mut any = false;
+    let mut i: usize = 0;
+    while i < end {
+        if mark[i] != 0 {
+            if !say_station(any, i as u64) {
+                return false;
+            }
+            any = true;
+        }
+        i += 1;
+    }
+    any || ending::say(b"no station")
+}
+
+// Behind which records that is said.
+fn say_when(named: u64) -> bool {
+    if named == 0 {
+        return ending::say(b"<p>Switched through when the log ends: ");
+    }
+    forms::fill(
+        b"<p>Switched through before record #: ",
+        [named, 0, 0, 0, 0, 0],
+    )
+}
+
+// Who is switched through behind the records that keep every rule, by the inspection's own marks.
+fn say_through(watching: Watching, account: Account) -> bool {
+    let outcome = account.outcome;
+    if !is_judged(outcome) {
+        return true;
+    }
+    let looked = watching.inspecting.looked;
+    let state = looked.inspection;
+    let mark = state.mark;
+    let set = account.set;
+    say_when(account.named) && say_marked(mark, set.n) && ending::say(b".</p>\n")
+}
+
+// All parts behind the first one; below what each station did it is said who is switched through.
+fn say_account(watching: Watching, account: Account) -> bool {
+    let last = command_page::part_count(account) - 1;
+    say_meaning(account)
+        && say_parts(account, last)
+        && say_through(watching, account)
+        && forms::say_part(command_page::part_at(account, last))
 }
 
 // The foot: the version, and how many bytes the log has.
@@ -82,7 +148,7 @@ fn say_first(given: bool, plan: &[u8], watching: Watching, account: Account) -> 
         && say_either(given, plan, watching)
         && texts::end_finding()
         && say_held(given, outcome)
-        && say_parts(account)
+        && say_account(watching, account)
 }
 
 // What a reading found, in numbers: the log's refusal, the rule that is broken, how many records keep every rule, and what was compared.
@@ -195,6 +261,14 @@ fn say_held(given: bool, outcome: Outcome) -> bool {
 fn is_judged(outcome: Outcome) -> bool {
     match outcome {
         Outcome::Broken => true,
+        Outcome::Accepted => true,
+        _ => false,
+    }
+}
+
+// Every rule is kept.
+fn is_accepted(outcome: Outcome) -> bool {
+    match outcome {
         Outcome::Accepted => true,
         _ => false,
     }

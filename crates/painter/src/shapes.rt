@@ -122,15 +122,25 @@ fn put_record(page: &mut [u8], at: usize, shape: Shape, numbers: [u64; 6]) -> us
     }
 }
 
-// A shape in its words, with a number in the place of each `#`.
-fn put_shape(page: &mut [u8], at: usize, shape: Shape, numbers: [u64; 6]) -> usize {
+// The label of a line that a record begins: the rotation's number, and the record's, which its own beginning has.
+pub(crate) fn put_label(page: &mut [u8], at: usize, label: Part, record: Part) -> usize {
+    let shape = label.shape;
+    let rotation = label.numbers;
+    let number = record.numbers;
     match shape {
         Shape::RotationBegin => text::put_filled(
             page,
             at,
-            b"<figure>\n<figcaption>rotation #</figcaption>\n",
-            numbers,
+            b"<figure>\n<figcaption>rotation #, from record #</figcaption>\n",
+            [rotation[0], number[0], 0, 0, 0, 0],
         ),
+        _ => at,
+    }
+}
+
+// A shape in its words, with a number in the place of each `#`.
+fn put_shape(page: &mut [u8], at: usize, shape: Shape, numbers: [u64; 6]) -> usize {
+    match shape {
         Shape::LineBegin => text::put_filled(
             page,
             at,

@@ -94,8 +94,16 @@ pub(crate) fn broken() -> bool {
 // Every rule is kept.
 pub(crate) fn accepted() -> bool {
     ending::say(
-        b"<p>A ring that was opened with this plan and keeps the published steps could have written just these records: every station had the token in time, none sent more than its S synchronously, and no frame was begun behind a limit. Of a log without a visit all this says nothing.</p>
-<p>It does not say that messages met their deadlines, that every station is switched in again when the log ends, or that the recorder is honest.</p>
+        b"<p>A ring that was opened with this plan and keeps the published steps could have written just these records: every station had the token in time, none sent more than its S synchronously, and no frame was begun behind a limit.</p>
+<p>It does not say that messages met their deadlines, that every station is switched in again when the log ends (see below what each station did), or that the recorder is honest.</p>
+",
+    )
+}
+
+// Every rule is kept, and there is no visit.
+pub(crate) fn no_visit() -> bool {
+    ending::say(
+        b"<p>There is no visit in this log, so nothing that a station did was held to the rules. Accepted says only that the log and its plan can be read, and that its marks, if it has any, are 0 or 1 and of stations of the plan. It shows nothing of a trip, and the set must not leave on it.</p>
 ",
     )
 }
@@ -175,7 +183,7 @@ pub(crate) fn picture() -> bool {
 // What the picture shows.
 pub(crate) fn key() -> bool {
     ending::say(
-        b"<p class=\"key\">A line is a rotation, as many visits as there are stations, one behind the other, and as long as the token may be away. A visit that sent nothing has no number. <span class=\"ks\">synchronous</span> <span class=\"ka\">asynchronous</span> <span class=\"kw\">walk</span> <span class=\"kl\">limit</span> <span class=\"km\">(number) switched through</span> <span class=\"kb\">bound</span> <span class=\"kf\">the named record</span></p>
+        b"<p class=\"key\">A line is a rotation, as many visits as there are stations, one behind the other, and as long as the token may be away. A visit that sent nothing has no number. An arrow at the end of a line says that a visit, or its limit, goes on behind it. <span class=\"ks\">synchronous</span> <span class=\"ka\">asynchronous</span> <span class=\"kw\">walk</span> <span class=\"kl\">limit</span> <span class=\"km\">(number) switched through</span> <span class=\"kb\">bound</span> <span class=\"kf\">the named record</span></p>
 ",
     )
 }
@@ -205,6 +213,26 @@ pub(crate) fn sentence(number: u64) -> bool {
         ),
         _ => ending::say(b"<p>It is refused.</p>\n"),
     }
+}
+
+// Behind the sentence of a refusal.
+pub(crate) fn not_judged() -> bool {
+    ending::say(
+        b"<p>Nothing of this log was held to the rules, and the set must not leave on it.</p>\n",
+    )
+}
+
+// A plan that names no F, and one that names no g.
+pub(crate) fn no_frame() -> bool {
+    ending::say(
+        b"<tr><td>F, the longest asynchronous frame</td><td>1 (no frames: asynchronous traffic may stop at any tick)</td></tr>\n",
+    )
+}
+
+pub(crate) fn no_grid() -> bool {
+    ending::say(
+        b"<tr><td>g, the step in which S is held</td><td>1 (no grid: S may be any whole number)</td></tr>\n",
+    )
 }
 
 // The plan was named, and it is the log's.

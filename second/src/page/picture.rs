@@ -16,13 +16,14 @@ struct Line {
 }
 
 impl Line {
-    fn begin(rotation: usize, bound: u64, began: u64, mode: Mode) -> Line {
+    fn begin(rotation: usize, first: usize, bound: u64, began: u64, mode: Mode) -> Line {
         let (wide, high) = (100 * bound, 4 * bound);
         let drawn = format!(
-            "<figure>\n<figcaption>rotation {}</figcaption>\n\
+            "<figure>\n<figcaption>rotation {}, from record {}</figcaption>\n\
              <svg xmlns=\"http://www.w3.org/2000/svg\" viewBox=\"0 0 {wide} {high}\">\n\
              <line class=\"b\" x1=\"{wide}\" y1=\"0\" x2=\"{wide}\" y2=\"{high}\"/>\n",
-            rotation + 1
+            rotation + 1,
+            first + 1
         );
         Line { bound, began, mode, free: 0, drawn }
     }
@@ -173,9 +174,11 @@ pub fn picture(
         let from = (rotation * count).min(visits.len());
         let its = &visits[from..visits.len().min(from + count)];
         let before = visits[..from].last().map_or(0, |seen| seen.ended);
-        let mut line = Line::begin(rotation, plan.bound(), before, plan.request.mode());
         // A named mark stands before the first visit behind it.
         let mut mark = named.filter(|_| of_named == Some(rotation));
+        let drawn = its.iter().map(|seen| seen.place).chain(mark.map(|named| named.place));
+        let first = drawn.min().expect("a line has a record");
+        let mut line = Line::begin(rotation, first, plan.bound(), before, plan.request.mode());
         let mut now = before;
         for seen in its {
             if let Some(Named { place, mark: Some(its) }) = mark.filter(|it| it.place < seen.place)

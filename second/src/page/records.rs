@@ -1,7 +1,7 @@
 //! A log in memory as its page has it: when each record began, in ticks from the first on, and which
 //! visits are of stations that are switched through.
 
-use std::collections::HashSet;
+use std::collections::{BTreeSet, HashSet};
 use std::ops::Range;
 
 use crate::rules::{Entry, MarkEntry, Plan, VisitEntry};
@@ -50,6 +50,19 @@ pub fn seen(plan: &Plan, entries: &[Entry]) -> Vec<Seen> {
         }
     }
     seen
+}
+
+/// The stations that are switched through behind these records, all of which keep the rules.
+pub fn switched_through(entries: &[Entry]) -> BTreeSet<u8> {
+    let mut through = BTreeSet::new();
+    for entry in entries {
+        match *entry {
+            Entry::Mark(MarkEntry { station, mark: 0 }) => through.remove(&station),
+            Entry::Mark(MarkEntry { station, .. }) => through.insert(station),
+            Entry::Visit(_) => false,
+        };
+    }
+    through
 }
 
 /// The rotations that are drawn of so many: those up to the one of the named record and two behind it,

@@ -65,9 +65,17 @@ pub const ANOTHER: &str = r##"<p>The log was made with another plan than the one
 "##;
 
 /// What an accepted log means, and what it does not.
-pub const ACCEPTED: &str = r##"<p>A ring that was opened with this plan and keeps the published steps could have written just these records: every station had the token in time, none sent more than its S synchronously, and no frame was begun behind a limit. Of a log without a visit all this says nothing.</p>
-<p>It does not say that messages met their deadlines, that every station is switched in again when the log ends, or that the recorder is honest.</p>
+pub const ACCEPTED: &str = r##"<p>A ring that was opened with this plan and keeps the published steps could have written just these records: every station had the token in time, none sent more than its S synchronously, and no frame was begun behind a limit.</p>
+<p>It does not say that messages met their deadlines, that every station is switched in again when the log ends (see below what each station did), or that the recorder is honest.</p>
 "##;
+
+/// What an accepted log without a visit means.
+pub const NO_VISIT: &str = r##"<p>There is no visit in this log, so nothing that a station did was held to the rules. Accepted says only that the log and its plan can be read, and that its marks, if it has any, are 0 or 1 and of stations of the plan. It shows nothing of a trip, and the set must not leave on it.</p>
+"##;
+
+/// Behind the sentence of a refusal.
+pub const NOT_JUDGED: &str =
+    "<p>Nothing of this log was held to the rules, and the set must not leave on it.</p>\n";
 
 /// The five rules.
 pub const RULES: &str = r##"<table>
@@ -114,7 +122,7 @@ pub const PICTURE: &str = r##"<h2>The rotations</h2>
 "##;
 
 /// What the picture is made of.
-pub const KEY: &str = r##"<p class="key">A line is a rotation, as many visits as there are stations, one behind the other, and as long as the token may be away. A visit that sent nothing has no number. <span class="ks">synchronous</span> <span class="ka">asynchronous</span> <span class="kw">walk</span> <span class="kl">limit</span> <span class="km">(number) switched through</span> <span class="kb">bound</span> <span class="kf">the named record</span></p>
+pub const KEY: &str = r##"<p class="key">A line is a rotation, as many visits as there are stations, one behind the other, and as long as the token may be away. A visit that sent nothing has no number. An arrow at the end of a line says that a visit, or its limit, goes on behind it. <span class="ks">synchronous</span> <span class="ka">asynchronous</span> <span class="kw">walk</span> <span class="kl">limit</span> <span class="km">(number) switched through</span> <span class="kb">bound</span> <span class="kf">the named record</span></p>
 "##;
 
 /// The sentence of a refusal.

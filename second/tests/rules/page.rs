@@ -80,7 +80,8 @@ fn logs_that_are_not_judged() {
         &behind,
         &[
             "NOT JUDGED",
-            "refused 3\n</pre>\n</div>\n<p>3: a byte follows the end field.</p>\n<footer>",
+            "refused 3\n</pre>\n</div>\n<p>3: a byte follows the end field.</p>\n\
+             <p>Nothing of this log was held to the rules, and the set must not leave on it.</p>\n<footer>",
         ],
     );
     has(&of_bytes(b""), &["refused 1\n</pre>\n</div>\n<p>1: ", "The log has 0 bytes."]);
@@ -109,8 +110,14 @@ fn a_log_without_a_visit() {
         let page = of(&worked_plan(), &entries);
         has(
             &page,
-            &["ACCEPTED", "<tr><td>0</td><td>0</td><td>0</td><td>-</td><td>100</td><td>0</td>"],
+            &[
+                "ACCEPTED",
+                "<p>There is no visit in this log, so nothing that a station did was held to the rules. ",
+                "<tr><td>0</td><td>0</td><td>0</td><td>-</td><td>100</td><td>0</td>",
+                "<p>Switched through when the log ends: no station.</p>",
+            ],
         );
+        assert!(!page.contains("had the token in time"));
         has(&page, &["<h2>The rotations</h2>\n<p>The log has no visit.</p>\n<footer>"]);
     }
     let page = of(&worked_plan(), &[mark(3, 1), mark(4, 0)]);
@@ -248,18 +255,25 @@ fn at_most_sixty_rotations() {
     let mut entries: Vec<Entry> = (0..70).map(|count| visit(0, 10 * count, 66, 0, 0)).collect();
     entries[0] = visit(0, 0, 66, 0, 0);
     assert_eq!(inspected(&plan, &entries, Planted::Nothing).1, None);
-    has(&of(&plan, &entries), &["Rotations 1 to 60 of 70.", ">rotation 1<", ">rotation 60<"]);
+    has(
+        &of(&plan, &entries),
+        &[
+            "Rotations 1 to 60 of 70.",
+            ">rotation 1, from record 1<",
+            ">rotation 60, from record 60<",
+        ],
+    );
     entries[65] = mark(1, 1);
     let page = of(&plan, &entries);
     has(
         &page,
         &[
             "Rotations 9 to 68 of 69.",
-            ">rotation 9<",
-            ">rotation 66<",
+            ">rotation 9, from record 9<",
+            ">rotation 66, from record 66<",
             "record 66: mark of",
             "record 67: ",
-            ">rotation 68<",
+            ">rotation 68, from record 69<",
         ],
     );
     assert_eq!(page.matches("class=\"f\"").count(), 1);
