@@ -190,7 +190,7 @@ fn accepted_lines(plan: &Plan) -> Vec<String> {
         vec![token_line(plan), format!("available {} A* {spare}", available(&plan.request))];
     let Plan { request, .. } = plan;
     lines.push(format!("the token is back within {}", plan.bound()));
-    lines.push("no station sends more than its S in a visit".to_string());
+    lines.push("no station sends more than its S synchronously in a visit".to_string());
     if request.mode() == Mode::Fddi {
         lines.push(
             "it meets the rules of FDDI, which is retired and promises no deadline".to_string(),

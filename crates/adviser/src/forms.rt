@@ -9,7 +9,7 @@ fn put_promises(page: &mut [u8], form: Form, numbers: [u64; 6]) -> usize {
         Form::OnlyShare => text::put_filled(
             page,
             0,
-            b"no station sends more than its S in a visit\n",
+            b"no station sends more than its S synchronously in a visit\n",
             numbers,
         ),
         Form::InTime => text::put_filled(

@@ -33,7 +33,7 @@ fn plan_sheet(plan: &Plan) -> Vec<u8> {
     fields(&plan.request, &plan.allocation).concat()
 }
 
-const PROMISES: &str = "no station sends more than its S in a visit\n\
+const PROMISES: &str = "no station sends more than its S synchronously in a visit\n\
      every accepted message that is not withdrawn is sent by its deadline\n";
 
 #[test]
@@ -78,7 +78,7 @@ fn accepted_plans() {
     let expected = "accepted 2 100 2 58\nTTRT 100 mode 2 F 5 g 1\n\
          station 0 C 20 D 300 q 3 r 0 S 20 X(S) 40\nstation 1 C 20 D 250 q 2 r 50 S 20 X(S) 40\n\
          sum of S 40 tau 2 F-1 4 TTRT 100\navailable 94 A* 58\nthe token is back within 144\n\
-         no station sends more than its S in a visit\n\
+         no station sends more than its S synchronously in a visit\n\
          it meets the rules of FDDI, which is retired and promises no deadline\n";
     assert_eq!(of_text(older), expected);
 }
