@@ -2,6 +2,7 @@
 use crate::drawing;
 use crate::drawing::Canvas;
 use crate::drawing::Easel;
+use libc::STDERR_FILENO;
 use picture_stream::Watching;
 use streams::loading;
 use streams::reading;
@@ -20,9 +21,15 @@ struct Turn {
     more: bool,
 }
 
+// Where an open file ends; below 0 where it has no places, as a pipe. It is read from its first byte on.
+fn end_of(file: i32) -> i64 {
+    let end = libc::lseek(file, 0, libc::SEEK_END);
+    libc::lseek(file, 0, libc::SEEK_SET);
+    end
+}
+
 // A log of which nothing can be read.
-fn unread(path: &[u8]) -> Read {
-    loading::name(b"page: ", path);
+fn unread() -> Read {
     let canvas = Canvas {
         watching: picture_stream::watch_start(b""),
         pen: pictures::pen_up(),
@@ -33,6 +40,23 @@ fn unread(path: &[u8]) -> Read {
         bytes: 0,
         failed: true,
     }
+}
+
+// A file that cannot be opened is named, with what the system says of it.
+fn unopened(path: &[u8]) -> Read {
+    loading::name(b"page: ", path);
+    unread()
+}
+
+// A file that is no regular one is named too: it cannot be read twice, or has no end.
+fn irregular(path: &[u8]) -> Read {
+    io::write_all(STDERR_FILENO, b"page: ");
+    io::write_all(STDERR_FILENO, path);
+    io::write_all(
+        STDERR_FILENO,
+        b": not a regular file; a log is read twice\n",
+    );
+    unread()
 }
 
 // How it stands behind so many bytes: where a read failed, the file is named.
@@ -91,18 +115,31 @@ fn rest(path: &[u8], file: i32, easel: Easel, begun: Read) -> Read {
     stands
 }
 
+// All bytes of an open file that ends there. One that ends at 0 and has bytes is a device.
+fn read_open(path: &[u8], file: i32, end: i64, easel: Easel) -> Read {
+    let turn = first(path, file, easel);
+    let begun = turn.read;
+    if (end == 0) & (begun.bytes > 0) {
+        return irregular(path);
+    }
+    if turn.more {
+        return rest(path, file, easel, begun);
+    }
+    begun
+}
+
 // The whole file.
 pub(crate) fn read_all(path: &[u8], easel: Easel) -> Read {
     let file = os::open_read(path);
     if file < 0 {
-        return unread(path);
+        return unopened(path);
     }
-    let turn = first(path, file, easel);
-    let begun = turn.read;
-    let mut all = begun;
-    if turn.more {
-        all = rest(path, file, easel, begun);
+    let end = end_of(file);
+    if end < 0 {
+        libc::close(file);
+        return irregular(path);
     }
+    let all = read_open(path, file, end, easel);
     libc::close(file);
     all
 }
