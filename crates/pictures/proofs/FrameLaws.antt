@@ -9,7 +9,7 @@ use Rattle.log_records.specs.declared.Entry.{Entry}
 use Rattle.log_records.specs.declared.Entry.the-variants.{Visit, Mark}
 use Rattle.tallies.specs.declared.Lap.{Lap}
 use Rattle.tallies.specs.declared.Drawn.{Drawn}
-use Rattle.pictures.specs.Parts.{numberOf, rotationBegin, lineBegin, boundMark, rotationEnd, isLast, endAt, beginShape, tick, isShown, isRoomy, numberShape, firstBar, secondBar, cutMark, frame, visitPart, visitBehind, markPart, entryPart, partAt}
+use Rattle.pictures.specs.Parts.{numberOf, rotationBegin, lineBegin, boundMark, rotationEnd, isLast, drawnTo, beginShape, tick, isShown, isRoomy, numberShape, firstBar, secondBar, cutMark, frame, visitPart, visitBehind, markPart, entryPart, partAt}
 use Rattle.pictures.specs.declared.Shape.the-variants as shape
 use Rattle.pictures.specs.declared.Part.{Part}
 use Rattle.pictures.specs.declared.Scene.{Scene}
@@ -43,7 +43,7 @@ module _ (c : Scene) (p : Pen) (l : Lap) (k : ℕ) where
 
   cut-none : (v : VisitEntry) → Only (cutMark c l v)
   unfolding cutMark
-  cut-none v = either (ltb (c .bound) (endAt c l v)) _ _ (λ h. λ e. ((cc), (cc))) (λ e. ((cc), (cc)))
+  cut-none v = either (ltb (c .bound) (drawnTo c l v)) _ _ (λ h. λ e. ((cc), (cc))) (λ e. ((cc), (cc)))
 
   visit-behind : (v : VisitEntry) → Only (visitBehind c l v k)
   unfolding visitBehind

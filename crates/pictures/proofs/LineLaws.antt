@@ -10,7 +10,7 @@ use Rattle.log_records.specs.declared.Entry.{Entry}
 use Rattle.log_records.specs.declared.Entry.the-variants.{Visit, Mark}
 use Rattle.tallies.specs.declared.Lap.{Lap}
 use Rattle.tallies.specs.declared.Drawn.{Drawn}
-use Rattle.pictures.specs.Parts.{part, numberOf, endAt, rotationBegin, lineBegin, boundMark, rotationEnd, isLast, beginShape, tick, isShown, isRoomy, numberShape, firstBar, secondBar, cutMark, frame, visitPart, visitBehind, markPart, entryPart, partAt, penAfter, lineEnd}
+use Rattle.pictures.specs.Parts.{part, numberOf, endAt, drawnTo, rotationBegin, lineBegin, boundMark, rotationEnd, isLast, beginShape, tick, isShown, isRoomy, numberShape, firstBar, secondBar, cutMark, frame, visitPart, visitBehind, markPart, entryPart, partAt, penAfter, lineEnd}
 use Rattle.pictures.specs.Picture.{partsFrom, partsOf, penOver, partsOver, pictureOf, isLineMark, lineMarks}
 use Rattle.pictures.specs.Promised.{NoneLast, lineBegun, lineEnded, firstOr, OneLine}
 use Rattle.pictures.specs.declared.Shape.the-variants as shape
@@ -26,6 +26,11 @@ parts-append c p [] es = refl
 parts-append c p (d ∷ ds) es =
     ap (λ (qs : List Part). partsOf c p d ++ qs) (parts-append c (penAfter c p d) ds es)
     ∙ sym (append-assoc (partsOf c p d) (partsOver c (penAfter c p d) ds) (partsOver c (penOver c (penAfter c p d) ds) es))
+
+pub pen-append : (c : Scene) (p : Pen) (ds es : List Drawn) → penOver c p (ds ++ es) ≡ penOver c (penOver c p ds) es
+unfolding penOver
+pen-append c p [] es = refl
+pen-append c p (d ∷ ds) es = pen-append c (penAfter c p d) ds es
 
 -- ---- a part that is no line mark
 
@@ -55,7 +60,7 @@ module _ (c : Scene) (p : Pen) (through : Bool) (l : Lap) where
 
   cut-plain : (v : VisitEntry) → Plain (cutMark c l v)
   unfolding isLineMark cutMark
-  cut-plain v = either (ltb (c .bound) (endAt c l v)) _ _ refl refl
+  cut-plain v = either (ltb (c .bound) (drawnTo c l v)) _ _ refl refl
 
   frame-plain : (to : ℕ) → Plain (frame c l to)
   unfolding isLineMark frame

@@ -1,5 +1,5 @@
 -- The place of a moment is that of the moment as far as a line asks for it: what lies behind the end of a line is cut.
-use Prim.Native.Nat.{ℕ, _+_, _≤_, _<_}
+use Prim.Native.Nat.{ℕ, _+_, max, _≤_, _<_}
 use mathlib.Core.Path.{_≡_, refl}
 use native.Mathlib.Omega.{arith}
 use Rattle.tallies.specs.declared.Lap.{Lap}
@@ -14,12 +14,16 @@ placed-held c m = omega arith
 pub placed-on : (c : Scene) (m x : ℕ) → placed c (held c m + x) ≡ placed c (m + x)
 placed-on c m x = omega arith
 
--- a moment that lies behind the end of the line, and one that does not
-pub past : (c : Scene) (m : ℕ) → c .bound < held c m → c .bound < m
-past c m h = omega arith
+pub held-on : (c : Scene) (m x : ℕ) → held c (held c m + x) ≡ held c (m + x)
+held-on c m x = omega arith
 
-pub within : (c : Scene) (m : ℕ) → held c m ≤ c .bound → m ≤ c .bound
-within c m h = omega arith
+-- of two moments the later one lies behind the end of the line, or does not
+module _ (c : Scene) (m n : ℕ) {a b later : ℕ} (first : a ≡ held c m) (second : b ≡ held c n) (is : later ≡ max a b) where
+  pub past : c .bound < later → c .bound < max m n
+  past h = omega arith
+
+  pub within : later ≤ c .bound → max m n ≤ c .bound
+  within h = omega arith
 
 pub bar-held : (s : Shape) (c : Scene) (m x : ℕ) → barOf s c (held c m) x ≡ barOf s c m x
 bar-held s c m x = rw (placed-on c m x, placed-held c m) refl

@@ -12,13 +12,13 @@ use Rattle.log_records.specs.declared.Entry.{Entry}
 use Rattle.log_records.specs.declared.Entry.the-variants.{Visit, Mark}
 use Rattle.tallies.specs.declared.Lap.{Lap}
 use Rattle.tallies.specs.declared.Drawn.{Drawn}
-use Rattle.pictures.specs.Parts.{part, nothing, synchronousAt, asynchronousAt, endAt, firstBar, secondBar, cutMark, rotationBegin, lineBegin, boundMark, rotationEnd, isLast, frameAt, frameWidth, visitPart, visitBehind, markPart, entryPart, penAfter, partAt}
+use Rattle.pictures.specs.Parts.{part, nothing, synchronousAt, asynchronousAt, drawnTo, firstBar, secondBar, cutMark, rotationBegin, lineBegin, boundMark, rotationEnd, isLast, frameAt, frameWidth, visitPart, visitBehind, markPart, entryPart, penAfter, partAt}
 use Rattle.pictures.specs.Promised.{Order, LineBegun, VisitParts, MarkParts, Promised}
 use Rattle.pictures.specs.declared.Shape.the-variants as shape
 use Rattle.pictures.specs.declared.Scene.{Scene}
 use Rattle.pictures.specs.declared.Pen.{Pen}
 use Rattle.pictures.proofs.ChoiceLaws.{chosen, left-out}
-use Rattle.pictures.proofs.WholeLaws.{whole, limit-whole}
+use Rattle.pictures.proofs.WholeLaws.{whole}
 use Rattle.pictures.proofs.FrameLaws.{frame-named, frame-only}
 use Rattle.pictures.proofs.LineLaws.{parts-append, one-line, last-line}
 
@@ -30,7 +30,7 @@ order c l v =
       asynchronous-first = λ e. (sym (chosen _ _ e), (sym (chosen _ _ e), (sym (chosen _ _ e), sym (chosen _ _ e))));
     }
 
-cut : (c : Scene) (l : Lap) (v : VisitEntry) → c .bound < endAt c l v
+cut : (c : Scene) (l : Lap) (v : VisitEntry) → c .bound < drawnTo c l v
     → cutMark c l v ≡ part shape.Cut (98 * c .bound ∷ c .bound ∷ 3 * c .bound ∷ 100 * c .bound ∷ 2 * c .bound ∷ 0 ∷ [])
 unfolding cutMark
 cut c l v h = rw (lt-ltb _ _ h) refl
@@ -120,7 +120,6 @@ promised =
       frame-only = frame-only;
       visit-parts = visit-parts;
       mark-parts = mark-parts;
-      limit-whole = limit-whole;
       picture-pieces = parts-append;
       one-line = one-line;
       last-line = last-line;

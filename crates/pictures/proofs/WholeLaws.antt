@@ -8,7 +8,7 @@ use borrow.Author.Tests.{le-ltb}
 use Rattle.units.specs.Places.{at}
 use Rattle.log_records.specs.declared.VisitEntry.{VisitEntry}
 use Rattle.tallies.specs.declared.Lap.{Lap}
-use Rattle.pictures.specs.Parts.{part, placed, synchronousAt, asynchronousAt, walkAt, endAt, barOf, lineOf, limitLine, cutMark}
+use Rattle.pictures.specs.Parts.{part, placed, synchronousAt, asynchronousAt, walkAt, endAt, limitAt, drawnTo, barOf, lineOf, cutMark}
 use Rattle.pictures.specs.Promised.{DrawnWhole}
 use Rattle.pictures.specs.declared.Shape.{Shape}
 use Rattle.pictures.specs.declared.Shape.the-variants as shape
@@ -54,9 +54,8 @@ module _ (c : Scene) (l : Lap) (v : VisitEntry) where
         synchronous = bar-whole shape.Synchronous c _ _ (omega (arith, synchronous-ends));
         asynchronous = bar-whole shape.Asynchronous c _ _ (omega (arith, asynchronous-ends));
         walk = line-whole shape.Walk c 2 (walkAt l v) _ (endAt c l v) (omega arith) h;
-        not-cut = rw (le-ltb _ _ h) refl;
+        limit = λ ends. line-whole shape.Limit c 3 (asynchronousAt c l v) _ (limitAt c l v) refl ends;
+        not-cut = λ ends.
+            let all : drawnTo c l v ≤ c .bound = omega arith in
+            rw (le-ltb _ _ all) refl;
       }
-
-  pub limit-whole : asynchronousAt c l v + v .limit ≤ c .bound
-      → limitLine c l v ≡ part shape.Limit (100 * asynchronousAt c l v ∷ 3 * c .bound ∷ 100 * (asynchronousAt c l v + v .limit) ∷ 3 * c .bound ∷ 0 ∷ 0 ∷ [])
-  limit-whole h = line-whole shape.Limit c 3 (asynchronousAt c l v) _ _ refl h

@@ -57,6 +57,13 @@ walkAt l v = l .elapsed + (v .synchronous + v .asynchronous)
 abbrev pub endAt : Scene → Lap → VisitEntry → ℕ
 endAt c l v = l .elapsed + tookBy (c .w) v
 
+-- where its limit ends, which counts from where its asynchronous part begins; and how far it is drawn: as far as the later of the two
+abbrev pub limitAt : Scene → Lap → VisitEntry → ℕ
+limitAt c l v = asynchronousAt c l v + v .limit
+
+abbrev pub drawnTo : Scene → Lap → VisitEntry → ℕ
+drawnTo c l v = max (endAt c l v) (limitAt c l v)
+
 -- so many ticks from a moment on, as a bar and as a line at a height
 abbrev pub barOf : Shape → Scene → ℕ → ℕ → Part
 barOf s c from ticks =
@@ -154,10 +161,10 @@ walkLine c l v = lineOf shape.Walk c 2 (walkAt l v) (at (c .w) (v .station))
 abbrev pub limitLine : Scene → Lap → VisitEntry → Part
 limitLine c l v = lineOf shape.Limit c 3 (asynchronousAt c l v) (v .limit)
 
--- a visit that ends behind the end of the line
+-- a visit that ends behind the end of the line, or whose limit does
 unfoldable pub cutMark : Scene → Lap → VisitEntry → Part
 cutMark c l v =
-    cond (ltb (c .bound) (endAt c l v))
+    cond (ltb (c .bound) (drawnTo c l v))
     (part shape.Cut
     (98 * c .bound ∷ c .bound ∷ 3 * c .bound ∷ 100 * c .bound ∷ 2 * c .bound ∷ 0 ∷ []))
     nothing

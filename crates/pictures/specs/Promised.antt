@@ -9,14 +9,14 @@ use Rattle.log_records.specs.declared.Entry.the-variants.{Visit, Mark}
 use Rattle.tallies.specs.Laps.{wrapped}
 use Rattle.tallies.specs.declared.Lap.{Lap}
 use Rattle.tallies.specs.declared.Drawn.{Drawn}
-use Rattle.pictures.specs.Parts.{part, bare, nothing, numberOf, synchronousAt, asynchronousAt, walkAt, endAt, visitBegin, markBegin, tick, stationNumber, firstBar, secondBar, synchronousBar, asynchronousBar, walkLine, limitLine, cutMark, frame, frameAt, frameWidth, isLast, penAfter, partAt}
+use Rattle.pictures.specs.Parts.{part, bare, nothing, numberOf, synchronousAt, asynchronousAt, walkAt, endAt, limitAt, drawnTo, visitBegin, markBegin, tick, stationNumber, firstBar, secondBar, synchronousBar, asynchronousBar, walkLine, limitLine, cutMark, frame, frameAt, frameWidth, isLast, penAfter, partAt}
 use Rattle.pictures.specs.Picture.{penOver, partsOver, pictureOf, lineMarks}
 use Rattle.pictures.specs.declared.Shape.the-variants as shape
 use Rattle.pictures.specs.declared.Part.{Part}
 use Rattle.pictures.specs.declared.Scene.{Scene}
 use Rattle.pictures.specs.declared.Pen.{Pen}
 
--- a visit that ends within its line is drawn as it is: every bar is as wide as its ticks, each stands where the one before it ends, and nothing is cut
+-- a visit that ends within its line is drawn as it is: every bar is as wide as its ticks, and each stands where the one before it ends; where its limit ends within the line too, that is drawn as it is, and nothing is cut
 pub record DrawnWhole (c : Scene) (l : Lap) (v : VisitEntry) : Type 0 where
   pub synchronous : synchronousBar c l v
       ≡ part shape.Synchronous
@@ -27,7 +27,11 @@ pub record DrawnWhole (c : Scene) (l : Lap) (v : VisitEntry) : Type 0 where
   pub walk : walkLine c l v
       ≡ part shape.Walk
       (100 * walkAt l v ∷ 2 * c .bound ∷ 100 * endAt c l v ∷ 2 * c .bound ∷ 0 ∷ 0 ∷ [])
-  pub not-cut : cutMark c l v ≡ nothing
+  pub limit : limitAt c l v ≤ c .bound
+      → limitLine c l v
+      ≡ part shape.Limit
+      (100 * asynchronousAt c l v ∷ 3 * c .bound ∷ 100 * limitAt c l v ∷ 3 * c .bound ∷ 0 ∷ 0 ∷ [])
+  pub not-cut : limitAt c l v ≤ c .bound → cutMark c l v ≡ nothing
 
 -- in the mode's order: the 2003 edition and FDDI send synchronously first, the 2002 edition asynchronously
 pub record Order (c : Scene) (l : Lap) (v : VisitEntry) : Type 0 where
@@ -92,8 +96,8 @@ pub record OneLine (c : Scene) (p : Pen) (ds : List Drawn) (last : Drawn) (rest 
 pub record Promised : Type 0 where
   pub whole : (c : Scene) (l : Lap) (v : VisitEntry) → endAt c l v ≤ c .bound → DrawnWhole c l v
   pub order : (c : Scene) (l : Lap) (v : VisitEntry) → Order c l v
-  -- a visit that ends behind its line is marked as cut
-  pub cut : (c : Scene) (l : Lap) (v : VisitEntry) → c .bound < endAt c l v
+  -- a visit that ends behind its line, or whose limit does, is marked as cut
+  pub cut : (c : Scene) (l : Lap) (v : VisitEntry) → c .bound < drawnTo c l v
       → cutMark c l v ≡ part shape.Cut (98 * c .bound ∷ c .bound ∷ 3 * c .bound ∷ 100 * c .bound ∷ 2 * c .bound ∷ 0 ∷ [])
   -- where no line has begun a record begins one, with its rotation's number, and where one has it begins none
   pub line-begins : (c : Scene) (p : Pen) (d : Drawn) → p .begun ≡ false → LineBegun c p d
@@ -116,11 +120,6 @@ pub record Promised : Type 0 where
       → VisitParts c p (record { lap = l; entry = Visit v; through = through }) v
   pub mark-parts : (c : Scene) (p : Pen) (l : Lap) (through : Bool) (m : MarkEntry)
       → MarkParts c p (record { lap = l; entry = Mark m; through = through }) m
-  -- a limit that ends within the line is drawn as it is, from where the asynchronous part begins
-  pub limit-whole : (c : Scene) (l : Lap) (v : VisitEntry) → asynchronousAt c l v + v .limit ≤ c .bound
-      → limitLine c l v
-      ≡ part shape.Limit
-      (100 * asynchronousAt c l v ∷ 3 * c .bound ∷ 100 * (asynchronousAt c l v + v .limit) ∷ 3 * c .bound ∷ 0 ∷ 0 ∷ [])
   -- the picture may be drawn in pieces: the pen is all that goes from one to the next
   pub picture-pieces : (c : Scene) (p : Pen) (ds es : List Drawn)
       → partsOver c p (ds ++ es) ≡ partsOver c p ds ++ partsOver c (penOver c p ds) es

@@ -1,6 +1,6 @@
 // What is drawn of a visit: where it begins, its station's number, what it sent, its walk and its limit.
 ghost use mathlib.Core.Path.{_≡_};
-ghost use Rattle.pictures.specs.Parts.{held, synchronousAt, asynchronousAt, walkAt, endAt, beginShape, visitBegin, tick, numberShape, stationNumber, synchronousBar, asynchronousBar, firstBar, secondBar, walkLine, limitLine, cutMark};
+ghost use Rattle.pictures.specs.Parts.{held, synchronousAt, asynchronousAt, walkAt, endAt, limitAt, beginShape, visitBegin, tick, numberShape, stationNumber, synchronousBar, asynchronousBar, firstBar, secondBar, walkLine, limitLine, cutMark};
 use crate::Part;
 use crate::Pen;
 use crate::Scene;
@@ -49,6 +49,14 @@ pub(crate) fn end_at(scene: Scene, lap: Lap, v: VisitEntry) -> u64
     let walk = tallies::walk_of(&w, v.station);
     let sent = units::wide(v.synchronous) + units::wide(v.asynchronous);
     places::moment(scene, lap.elapsed, sent + walk)
+}
+
+// Where its limit ends.
+fn limit_at(scene: Scene, lap: Lap, v: VisitEntry) -> u64
+    ensures { λ r. ⌜ r ≡ held scene (limitAt scene lap v) ⌝ }
+{
+    let from = asynchronous_at(scene, lap, v);
+    places::moment(scene, from, v.limit as u64)
 }
 
 // ---- where it begins
@@ -189,13 +197,15 @@ pub(crate) fn limit_line(scene: Scene, lap: Lap, v: VisitEntry) -> Part
     places::line(Shape::Limit, scene, 3, from, v.limit as u64)
 }
 
-// The mark of a visit that ends behind the end of the line.
+// The mark of a visit that ends behind the end of the line, or whose limit does.
 pub(crate) fn cut_mark(scene: Scene, lap: Lap, v: VisitEntry) -> Part
     ensures { λ r. ⌜ r ≡ cutMark scene lap v ⌝ }
 {
     let bound = units::wide(scene.bound);
     let end = end_at(scene, lap, v);
-    if bound < end {
+    let limit = limit_at(scene, lap, v);
+    let far = places::larger(end, limit);
+    if bound < far {
         return Part {
             shape: Shape::Cut,
             numbers: [98 * bound, bound, 3 * bound, 100 * bound, 2 * bound, 0],

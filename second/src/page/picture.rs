@@ -107,8 +107,9 @@ impl Line {
             from += u64::from(ticks);
         }
         self.along("w", from, seen.ended, 2);
-        self.along("l", limit_from, limit_from + u64::from(limit), 3);
-        if seen.ended - self.began > self.bound {
+        let limit_to = limit_from + u64::from(limit);
+        self.along("l", limit_from, limit_to, 3);
+        if seen.ended.max(limit_to) - self.began > self.bound {
             let [left, right, top, middle, foot] = [98, 100, 1, 2, 3].map(|by| by * self.bound);
             self.put(&format!("<path class=\"c\" d=\"M{left} {top}V{foot}L{right} {middle}Z\"/>"));
         }
