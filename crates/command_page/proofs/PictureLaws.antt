@@ -6,7 +6,6 @@ use mathlib.Core.List.{List, [], _∷_, _++_}
 use native.Mathlib.Omega.{arith}
 use lib.ListN.{length, drop, drop-of-length-le}
 use lib.Seq.{drop-drop, drop-append-seam}
-use Rattle.tallies.specs.declared.Drawn.{Drawn}
 use Rattle.picture_stream.specs.Watching.{watchedFrom, watchOver, drawnOver}
 use Rattle.picture_stream.specs.Promised.{GoesOn}
 use Rattle.picture_stream.specs.declared.Window.{Window}
@@ -16,7 +15,6 @@ use Rattle.picture_stream.proofs.OverLaws.{watch-append, drawn-append}
 use Rattle.picture_stream.proofs.StopLaws.{goes-on}
 use Rattle.pictures.specs.Parts.{penAfter}
 use Rattle.pictures.specs.Picture.{penOver, partsOf, partsOver}
-use Rattle.pictures.specs.declared.Part.{Part}
 use Rattle.pictures.specs.declared.Scene.{Scene}
 use Rattle.pictures.specs.declared.Pen.{Pen}
 use Rattle.pictures.proofs.LineLaws.{pen-append}

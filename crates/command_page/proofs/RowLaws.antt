@@ -1,28 +1,25 @@
 -- The rows of what each station did are those of the log's records: of those before the named one, of all where none is named.
-use Prim.Native.Nat.{ℕ, _+_, _^_, _<_}
+use Prim.Native.Nat.{ℕ, _+_, _<_}
 use mathlib.Core.Path.{_≡_, refl, sym, ap, subst, _∙_}
 use mathlib.Core.Bool.{Bool, true, false, false≢true}
 use mathlib.Core.List.{List, [], _∷_}
 use native.Mathlib.Omega.{arith}
 use borrow.Author.Tests.{eqb-true}
 use lib.Dec.{eqb}
-use lib.ListN.{length}
 use Rattle.units.specs.Places.{at}
 use Rattle.units.proofs.JudgingLaws.{and-true}
-use Rattle.sheets.specs.Reading.{planStart}
 use Rattle.sheets.specs.declared.ReadPlan.{ReadPlan}
 use Rattle.log_records.specs.declared.Entry.{Entry}
-use Rattle.logs.specs.Reading.{readLog, entriesIn}
-use Rattle.inspection_stream.specs.Inspecting.{inspectStart, inspectNumber}
+use Rattle.logs.specs.Reading.{readLog}
+use Rattle.inspection_stream.specs.Inspecting.{inspectNumber}
 use Rattle.inspection_stream.specs.declared.Inspecting.{Inspecting}
 use Rattle.inspection_stream.proofs.WholeLaws.{number-whole}
 use Rattle.tallies.specs.Laps.{wrapped}
 use Rattle.tallies.specs.Tallies.{visitsColumn, throughColumn, longestColumn, mostColumn, synchronousColumn, asynchronousColumn, nothingSeen, seenAll}
-use Rattle.tallies.specs.Shown.{moment, visitsOf, throughOf, mostOf, synchronousOf, asynchronousOf, Longest}
+use Rattle.tallies.specs.Shown.{visitsOf, throughOf, mostOf, synchronousOf, asynchronousOf, Longest}
 use Rattle.tallies.specs.Promised.{StationShown}
 use Rattle.tallies.proofs.Promised.{promised as of-tallies}
 use Rattle.picture_stream.specs.Watching.{watchAll}
-use Rattle.picture_stream.specs.Promised.{KeptSeen}
 use Rattle.picture_stream.proofs.Promised.{promised as of-stream}
 use Rattle.command_page.specs.declared.Outcome.{Outcome}
 use Rattle.command_page.specs.declared.Outcome.the-variants as outcome
@@ -72,16 +69,20 @@ module _ (x : Account) (judged : isJudged (x .outcome) ≡ true) (n : ℕ) (w : 
   unfolding didPart
   longest-row = did-row x judged i 1 there (omega arith) ∙ ap (λ (v : ℕ). longestPart v (did x longestColumn i) (x .sums .bound)) (column visitsColumn _ (s .visits))
 
+  longest-of : Longest w i es (did x longestColumn i) → LongestRow x w es i
+  longest-of h =
+      record {
+        longest = did x longestColumn i;
+        is = h;
+        row = longest-row;
+      }
+
   rows : RowsShown x w es i
   rows =
       record {
         visits = visits-row;
         sent = sent-row;
-        longest = λ few short. record {
-          longest = did x longestColumn i;
-          is = subst (Longest w i es) (sym (column longestColumn _ refl)) (s .longest few short);
-          row = longest-row;
-        };
+        longest = λ few short. longest-of (subst (Longest w i es) (sym (column longestColumn _ refl)) (s .longest few short));
       }
 
 -- ---- of a log

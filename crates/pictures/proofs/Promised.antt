@@ -87,7 +87,13 @@ between c p l through m k more few =
 
 mark-parts : (c : Scene) (p : Pen) (l : Lap) (through : Bool) (m : MarkEntry) → MarkParts c p (record { lap = l; entry = Mark m; through = through }) m
 unfolding partAt markPart
-mark-parts c p l through m = record { begin = refl; frame = refl; end = refl; no-more = between c p l through m }
+mark-parts c p l through m =
+    record {
+      begin = refl;
+      frame = refl;
+      end = refl;
+      no-more = between c p l through m;
+    }
 
 -- none of the parts is asked for
 past : (k j : ℕ) → 14 ≤ k → j < 14 → eqb k j ≡ false
