@@ -3,8 +3,10 @@
 --     PartLaws      which part stands where
 --     RowLaws       the rows of what each station did
 --     PictureLaws   a log that is read and drawn piece by piece
+--     LogLines      the lines of a log's picture
 pub mod AccountLaws
 pub mod PartLaws
 pub mod RowLaws
 pub mod PictureLaws
+pub mod LogLines
 pub mod Promised

@@ -16,6 +16,7 @@ use Rattle.command_page.proofs.AccountLaws.{says-accepted, only-accepte
 use Rattle.command_page.proofs.PartLaws.{station-row, did-row, none-at}
 use Rattle.command_page.proofs.RowLaws.{table-shown}
 use Rattle.command_page.proofs.PictureLaws.{gone-then, draws-on}
+use Rattle.command_page.proofs.LogLines.{lines-drawn}
 
 timely-limit : (s : Inspection) (t : Set) (a : Alloc) → dueOf s t a .through ≡ false → t .head .mode ≢ fddi
     → dueOf s t a .expected .limit ≡ t .head .ttrt - (t .head .frame - 1) - dueOf s t a .unused - dueOf s t a .run
@@ -50,5 +51,6 @@ promised =
       draws-on = draws-on;
       goes-over = gone-then;
       picture = λ c x bs z. ap (pictureOf c noPen) (of-stream .drawn x bs z);
+      lines = lines-drawn;
       not-judged = none-at;
     }

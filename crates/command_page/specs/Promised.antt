@@ -19,13 +19,13 @@ use Rattle.inspection_stream.specs.declared.Inspecting.{Inspecting}
 use Rattle.command_inspect.specs.FindingText.{isAccepted}
 use Rattle.tallies.specs.Laps.{wrapped, noLap}
 use Rattle.tallies.specs.Shown.{moment, visitsOf, throughOf, mostOf, synchronousOf, asynchronousOf, Longest}
-use Rattle.picture_stream.specs.Watching.{watchedFrom, drawnOver, watchAll}
+use Rattle.picture_stream.specs.Watching.{watchedFrom, drawnOver, watchAll, windowOf}
 use Rattle.picture_stream.specs.Promised.{drawnIn, KeptSeen}
 use Rattle.picture_stream.specs.declared.Window.{Window}
 use Rattle.picture_stream.specs.declared.Watching.{Watching}
 use Rattle.picture_stream.specs.declared.Watched.{Watched}
 use Rattle.pictures.specs.Parts.{noPen, penAfter}
-use Rattle.pictures.specs.Picture.{partsOf, partsOver, pictureOf}
+use Rattle.pictures.specs.Picture.{partsOf, partsOver, pictureOf, lineMarks}
 use Rattle.pictures.specs.declared.Scene.{Scene}
 use Rattle.pictures.specs.declared.Pen.{Pen}
 use Rattle.command_page.specs.declared.Outcome.the-variants as outcome
@@ -37,7 +37,7 @@ use Rattle.command_page.specs.Parts.{firstCount, stationsOf, partAt}
 use Rattle.command_page.specs.Named.{part, nothing, isJudged}
 use Rattle.command_page.specs.Plan.{stationPart}
 use Rattle.command_page.specs.Did.{longestPart, didPart}
-use Rattle.command_page.specs.Picture.{pictureIn, GoneOver}
+use Rattle.command_page.specs.Picture.{pictureIn, GoneOver, linesFrom}
 
 -- the log is accepted: it is read and keeps every rule, and where it is held to a plan sheet, that is read and its plan is the same
 pub record Accepting (given : Bool) (p : ReadPlan) (k : Inspecting) : Type 0 where
@@ -136,5 +136,9 @@ pub record Promised : Type 0 where
   pub picture : (c : Scene) (x : Window) (bs : List ℕ) → readLog bs .number ≡ 0
       → pictureIn c x bs
       ≡ pictureOf c noPen (drawnIn x (readLog bs .set .n) (readLog bs .set .w) noLap zeros (entriesIn bs))
+  -- in it each rotation of the window begins one line, with its number, and ends it, in their order
+  pub lines : (c : Scene) (bs : List ℕ) → readLog bs .number ≡ 0 → readLog bs .records + 2 < 2 ^ 64
+      → c .n ≡ readLog bs .set .n
+      → let x = windowOf (watchAll bs) in lineMarks (pictureIn c x bs) ≡ linesFrom (x .first) (x .end - x .first)
   -- where the records were not judged, nothing is said of them
   pub not-judged : (x : Account) → isJudged (x .outcome) ≡ false → (k : ℕ) → 2 ≤ k → partAt x k ≡ nothing

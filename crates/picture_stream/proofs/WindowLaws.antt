@@ -183,6 +183,13 @@ module _ (bs : List ℕ) (z : readLog bs .number ≡ 0) where
         let r = around (broken-named some) in
         (omega (arith, r .inside, r .behind), r .inside)
 
+    there : x .named ≢ 0 → x .end ≤ max (linesIn (lappedAll (t .n) (t .w) noLap es)) (rotationOf t es (x .named) + 1)
+    there some =
+        let last = last-is k (broken-named some) in
+        let r = rotation-is (broken-named some) in
+        let all = ap linesIn (ks .all ∙ all-lap t a nothingSeen es) in
+        omega (arith, last, r, all)
+
     first-lines : x .named ≡ 0 → (x .first ≡ 0) × (x .end ≡ min 60 (linesIn (lappedAll (t .n) (t .w) noLap es)))
     first-lines none =
         let kept : rule ≡ 0 = ⊎-elim (λ y. y) (λ (some : rule ≢ 0). absurd (number-some some none)) (zero-or-not rule) in
@@ -210,5 +217,6 @@ module _ (bs : List ℕ) (z : readLog bs .number ≡ 0) where
           first-lines = first-lines;
           named-in = named-in;
           two-behind = λ some. around (broken-named some) .behind;
+          there = there;
           named-drawn = named-drawn;
         }

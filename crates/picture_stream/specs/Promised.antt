@@ -1,5 +1,5 @@
 -- What is promised of a log that is read for its picture; `proofs/Promised.antt` proves it.
-use Prim.Native.Nat.{ℕ, _+_, _-_, _^_, _≤_, _<_, min}
+use Prim.Native.Nat.{ℕ, _+_, _-_, _^_, _≤_, _<_, min, max}
 use mathlib.Core.Path.{_≡_}
 use mathlib.Core.Bool.{true, false, cond}
 use mathlib.Core.List.{List, [], _∷_, _++_}
@@ -71,6 +71,9 @@ pub record WindowShown (t : Set) (es : List Entry) (x : Window) : Type 0 where
   -- where one is: its rotation is one of them, and at most two behind it are
   pub named-in : x .named ≢ 0 → (x .first ≤ rotationOf t es (x .named)) × (rotationOf t es (x .named) < x .end)
   pub two-behind : x .named ≢ 0 → x .end ≤ rotationOf t es (x .named) + 3
+  -- no line is behind the log's last, which is the named record's at least
+  pub there : x .named ≢ 0
+      → x .end ≤ max (linesIn (lappedAll (t .n) (t .w) noLap es)) (rotationOf t es (x .named) + 1)
   -- and the named record is drawn, a visit or a mark
   pub named-drawn : (before : List Entry) (e : Entry) (behind : List Entry)
       → es ≡ before ++ e ∷ behind → x .named ≡ length before + 1
