@@ -7,7 +7,7 @@ use mathlib.Core.Logic.{_≢_, _⊎_, ⊎-elim, inl, inr}
 use native.Mathlib.Nat.{mod-eq-of-lt, mod-lt, mod-add-mod, add-assoc, zero-add, zero-max}
 use native.Mathlib.Omega.{arith}
 use borrow.Author.Tests.{eqb-true, eqb-false, eq-eqb, ne-eqb}
-use lib.Dec.{eqb}
+use lib.Dec.{eqb, ltb}
 use lib.ListN.{length, length-set, length-replicate, getD-replicate}
 use lib.Seq.{getD-set-same, getD-set-other}
 use Rattle.units.specs.Places.{at}
@@ -17,7 +17,7 @@ use Rattle.log_records.specs.declared.MarkEntry.{MarkEntry}
 use Rattle.log_records.specs.declared.Entry.{Entry}
 use Rattle.log_records.specs.declared.Entry.the-variants.{Visit, Mark}
 use Rattle.tallies.specs.Laps.{wrapped}
-use Rattle.tallies.specs.Tallies.{visitsColumn, throughColumn, mostColumn, synchronousColumn, asynchronousColumn, placeOf, switchOf, visitTallied, switchedBy, nothingSeen, seen, seenAll}
+use Rattle.tallies.specs.Tallies.{visitsColumn, throughColumn, mostColumn, synchronousColumn, asynchronousColumn, placeOf, switchOf, markedBy, visitTallied, switchedBy, nothingSeen, seen, seenAll}
 use Rattle.tallies.specs.Shown.{Known, ofStation, visitsOf, throughOf, mostOf, synchronousOf, asynchronousOf}
 use Rattle.tallies.specs.declared.Seen.{Seen}
 use Rattle.tallies.proofs.VisitLaws.{tallied-long, visits-there, through-there, most-there, synchronous-there, asynchronous-there, elsewhere}
@@ -43,17 +43,23 @@ pub switch-twice : (mark : ℕ) → switchOf (switchOf mark) ≡ switchOf mark
 unfolding switchOf
 switch-twice mark = ⊎-elim (λ (h : eqb mark 0 ≡ true). rw h refl) (λ (h : eqb mark 0 ≡ false). rw h refl) (true-or-false (eqb mark 0))
 
+-- a mark that was 0 or 1 is so behind any other
+marked-switch : (before mark : ℕ) → switchOf before ≡ before → switchOf (markedBy before mark) ≡ markedBy before mark
+unfolding markedBy
+marked-switch before mark was =
+    ⊎-elim (λ (h : ltb 1 mark ≡ true). rw h was) (λ (h : ltb 1 mark ≡ false). rw h (switch-twice mark)) (true-or-false (ltb 1 mark))
+
 -- the mark of station i behind a mark
 module _ (mark : List ℕ) (m : MarkEntry) (i : ℕ) (long : length mark ≡ 128) (known : m .station < 128) where
-  switched-at : at (switchedBy mark (Mark m)) i ≡ cond (eqb (m .station) i) (switchOf (m .mark)) (at mark i)
+  switched-at : at (switchedBy mark (Mark m)) i ≡ cond (eqb (m .station) i) (markedBy (at mark i) (m .mark)) (at mark i)
   switched-at =
-      let own = own-place (m .station) known in
+      let after = markedBy (at mark (m .station)) (m .mark) in
       ⊎-elim
       (λ (h : eqb (m .station) i ≡ true).
       let same : m .station ≡ i = eqb-true (m .station) i h in
-      rw (h, own, ← same) (getD-set-same mark (m .station) (switchOf (m .mark)) 0 (omega arith)))
+      rw (h, ← same) (getD-set-same mark (m .station) after 0 (omega arith)))
       (λ (h : eqb (m .station) i ≡ false).
-      rw (h, own) (getD-set-other mark (m .station) i (switchOf (m .mark)) 0 (λ e. eqb-false (m .station) i h (sym e))))
+      rw h (getD-set-other mark (m .station) i after 0 (λ e. eqb-false (m .station) i h (sym e))))
       (true-or-false (eqb (m .station) i))
 
 -- ---- a column
@@ -70,7 +76,7 @@ pub record Column (i c : ℕ) (join both : ℕ → ℕ → ℕ) (part : ℕ → 
   pub there : (xs : List ℕ) (mark clock : ℕ) (v : VisitEntry) → length xs ≡ 896 → at (visitTallied xs i mark clock v) (c + i) ≡ join (at xs (c + i)) (part mark v)
   pub total-none : (mark : ℕ) → total mark [] ≡ 0
   pub total-visit : (mark : ℕ) (v : VisitEntry) (es : List Entry) → switchOf mark ≡ mark → total mark (Visit v ∷ es) ≡ both (ofStation i v (part mark v)) (total mark es)
-  pub total-mark : (mark : ℕ) (m : MarkEntry) (es : List Entry) → total mark (Mark m ∷ es) ≡ total (cond (eqb (m .station) i) (switchOf (m .mark)) mark) es
+  pub total-mark : (mark : ℕ) (m : MarkEntry) (es : List Entry) → total mark (Mark m ∷ es) ≡ total (cond (eqb (m .station) i) (markedBy mark (m .mark)) mark) es
 
 -- what was seen has all its places, and the marks are 0 and 1
 pub record Whole (i : ℕ) (s : Seen) : Type 0 where
@@ -93,10 +99,10 @@ module _ (n : ℕ) (w : List ℕ) (i : ℕ) (inside : i < 128) where
   whole-mark s m known h =
       record {
         long = h .long;
-        marks = length-set (s .mark) (placeOf (m .station)) (switchOf (m .mark)) ∙ h .marks;
+        marks = length-set (s .mark) (m .station) (markedBy (at (s .mark) (m .station)) (m .mark)) ∙ h .marks;
         switch =
             rw (switched-at (s .mark) m i (h .marks) known)
-            (⊎-elim (λ (e : eqb (m .station) i ≡ true). rw e (switch-twice (m .mark))) (λ (e : eqb (m .station) i ≡ false). rw e (h .switch)) (true-or-false (eqb (m .station) i)));
+            (⊎-elim (λ (e : eqb (m .station) i ≡ true). rw e (marked-switch (at (s .mark) i) (m .mark) (h .switch))) (λ (e : eqb (m .station) i ≡ false). rw e (h .switch)) (true-or-false (eqb (m .station) i)));
       }
 
   module _ (c : ℕ) (join both : ℕ → ℕ → ℕ) (part : ℕ → VisitEntry → ℕ) (total : ℕ → List Entry → ℕ) (Fits : ℕ → Type 0) (joined : Joined join both Fits) (col : Column i c join both part total) where

@@ -9,7 +9,6 @@ use lib.Dec.{eqb}
 use lib.ListN.{set}
 use Rattle.units.specs.Places.{at}
 use Rattle.log_records.specs.declared.VisitEntry.{VisitEntry}
-use Rattle.log_records.specs.declared.MarkEntry.{MarkEntry}
 use Rattle.log_records.specs.declared.Entry.{Entry}
 use Rattle.log_records.specs.declared.Entry.the-variants.{Visit, Mark}
 use Rattle.tallies.specs.Laps.{lapped}
@@ -19,17 +18,13 @@ use Rattle.tallies.specs.declared.Lap.{Lap}
 use Rattle.tallies.specs.declared.Course.{Course}
 
 -- the mark of its station, whichever kind it is
-pub through-at : (mark : List ℕ) (e : Entry) → not (eqb (at mark (placeOf (stationOf e))) 0) ≡ isThrough mark e
+pub through-at : (mark : List ℕ) (e : Entry) → not (eqb (at mark (stationOf e)) 0) ≡ isThrough mark e
 through-at mark (Visit v) = refl
 through-at mark (Mark m) = refl
 
 -- the numbers behind a visit, by its place and its station's mark
 pub visit-tallied : (numbers mark : List ℕ) (clock : ℕ) (v : VisitEntry) (p through : ℕ) → p ≡ placeOf (v .station) → through ≡ at mark p → visitTallied numbers p through clock v ≡ tallied numbers mark clock (Visit v)
 visit-tallied numbers mark clock v p through there was = rw (was, there) refl
-
--- the marks behind a mark, by its place and what is stored there
-pub mark-switched : (mark : List ℕ) (m : MarkEntry) (p x : ℕ) → p ≡ placeOf (m .station) → x ≡ switchOf (m .mark) → set mark p x ≡ switchedBy mark (Mark m)
-mark-switched mark m p x there is = rw (there, is) refl
 
 -- the numbers, one after another
 pub visit-counted : (xs : List ℕ) (p mark clock : ℕ) (v : VisitEntry) {gap through sync async : ℕ} {raised once counted most sent all : List ℕ}

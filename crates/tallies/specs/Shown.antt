@@ -9,7 +9,7 @@ use Rattle.log_records.specs.declared.VisitEntry.{VisitEntry}
 use Rattle.log_records.specs.declared.Entry.{Entry}
 use Rattle.log_records.specs.declared.Entry.the-variants.{Visit, Mark}
 use Rattle.tallies.specs.Laps.{tookBy}
-use Rattle.tallies.specs.Tallies.{switchOf}
+use Rattle.tallies.specs.Tallies.{markedBy}
 
 -- each record is of one of 128 stations
 abbrev pub stationOf : Entry → ℕ
@@ -46,7 +46,7 @@ visitsOf i (Mark m ∷ es) = visitsOf i es
 unfoldable pub throughOf : ℕ → ℕ → List Entry → ℕ
 throughOf i mark [] = 0
 throughOf i mark (Visit v ∷ es) = ofStation i v mark + throughOf i mark es
-throughOf i mark (Mark m ∷ es) = throughOf i (cond (eqb (m .station) i) (switchOf (m .mark)) mark) es
+throughOf i mark (Mark m ∷ es) = throughOf i (cond (eqb (m .station) i) (markedBy mark (m .mark)) mark) es
 
 -- the most that station i sent synchronously in a visit
 unfoldable pub mostOf : ℕ → List Entry → ℕ

@@ -3,10 +3,11 @@ use Prim.Native.Nat.{ℕ, _+_, _-_, _%_, _^_, max}
 use mathlib.Core.Path.{_≡_}
 use mathlib.Core.Bool.{Bool, cond, not}
 use mathlib.Core.List.{List, [], _∷_}
-use lib.Dec.{eqb}
+use lib.Dec.{eqb, ltb}
 use lib.ListN.{set, replicate}
 use Rattle.units.specs.Places.{at, zeros}
 use Rattle.log_records.specs.declared.VisitEntry.{VisitEntry}
+use Rattle.log_records.specs.declared.MarkEntry.{MarkEntry}
 use Rattle.log_records.specs.declared.Entry.{Entry}
 use Rattle.log_records.specs.declared.Entry.the-variants.{Visit, Mark}
 use Rattle.tallies.specs.Laps.{wrapped, tookBy, noLap, lapped}
@@ -62,6 +63,10 @@ gapOf visits last clock = cond (eqb visits 0) 0 (ticksSince last clock)
 unfoldable pub switchOf : ℕ → ℕ
 switchOf mark = cond (eqb mark 0) 0 1
 
+-- the mark of a station behind a record that marks it: 0 switches it in and 1 through, and any other changes nothing
+unfoldable pub markedBy : ℕ → ℕ → ℕ
+markedBy before mark = cond (ltb 1 mark) before (switchOf mark)
+
 -- the numbers behind a visit of the station at place p, at this moment, which is switched through or not
 unfoldable pub visitTallied : List ℕ → ℕ → ℕ → ℕ → VisitEntry → List ℕ
 visitTallied xs p mark clock v =
@@ -80,15 +85,19 @@ abbrev pub clockAfter : List ℕ → ℕ → Entry → ℕ
 clockAfter w clock (Visit v) = wrapped (clock + tookBy w v)
 clockAfter w clock (Mark m) = clock
 
+-- the marks behind a mark: one of a station behind their last place switches nobody
+abbrev pub markSwitched : List ℕ → MarkEntry → List ℕ
+markSwitched mark m = set mark (m .station) (markedBy (at mark (m .station)) (m .mark))
+
 -- the marks behind a record
 abbrev pub switchedBy : List ℕ → Entry → List ℕ
 switchedBy mark (Visit v) = mark
-switchedBy mark (Mark m) = set mark (placeOf (m .station)) (switchOf (m .mark))
+switchedBy mark (Mark m) = markSwitched mark m
 
--- the station of a record is switched through before it
+-- the station of a record is switched through before it; one behind their last place never is
 abbrev pub isThrough : List ℕ → Entry → Bool
-isThrough mark (Visit v) = not (eqb (at mark (placeOf (v .station))) 0)
-isThrough mark (Mark m) = not (eqb (at mark (placeOf (m .station))) 0)
+isThrough mark (Visit v) = not (eqb (at mark (v .station)) 0)
+isThrough mark (Mark m) = not (eqb (at mark (m .station)) 0)
 
 -- ---- all of it
 

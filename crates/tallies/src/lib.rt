@@ -1,13 +1,15 @@
 // What each station did in a log's records: its visits, the longest time between two of them, and what it sent; and how far the records have come, rotation by rotation.
 ghost use mathlib.Core.Path.{_≡_};
 ghost use Prim.Native.Nat.{_<_, max};
+ghost use mathlib.Core.Bool.{not};
 ghost use lib.Dec.{eqb};
 ghost use Rattle.units.specs.Places.{at as placeAt, allBelow};
 ghost use Rattle.units.specs.Small.{Same};
 ghost use Rattle.tallies.specs.Laps.{tookBy, noLap, visitLapped, lapped};
-ghost use Rattle.tallies.specs.Tallies.{placeOf, addedAt, raisedAt, gapOf, switchOf, visitTallied, isThrough, seenOf, nothingSeen, SeenOn};
+ghost use Rattle.tallies.specs.Tallies.{placeOf, addedAt, raisedAt, gapOf, switchOf, markedBy, visitTallied, markSwitched, isThrough, seenOf, nothingSeen, SeenOn};
 ghost use Rattle.tallies.specs.Shown.{stationOf};
 use log_records::Entry;
+use log_records::MarkEntry;
 use log_records::VisitEntry;
 
 // How many numbers there are of the stations: seven columns of 128.
@@ -199,6 +201,27 @@ fn switch_of(mark: u32) -> u8
     if mark == 0 { 0 } else { 1 }
 }
 
+// The mark of a station behind a record that marks it. One that is neither 0 nor 1 changes nothing.
+fn marked_by(before: u8, mark: u32) -> u8
+    ensures { λ r. ⌜ r ≡ markedBy before mark ⌝ }
+{
+    if 1 < mark {
+        return before;
+    }
+    switch_of(mark)
+}
+
+// A mark of a station behind the last place switches nobody.
+fn switch_on(mark: &mut [u8], switched: MarkEntry)
+    ensures { λ _. ⌜ now (mark .exit) ≡ markSwitched (now (mark .entry)) switched ⌝ }
+{
+    let p = switched.station as usize;
+    if mark.len() <= p {
+        return;
+    }
+    mark[p] = marked_by(mark[p], switched.mark);
+}
+
 // The numbers behind a visit of the station at this place.
 fn tally_visit(numbers: &mut [u64; 896], p: usize, mark: u32, clock: u64, visit: VisitEntry)
     requires { ⌜ p < 128 ⌝ }
@@ -231,12 +254,21 @@ fn station_of(entry: Entry) -> u32
     }
 }
 
+// Whether there is a mark at a place. Behind the last one there is none.
+fn is_marked(mark: &[u8], p: usize) -> bool
+    ensures { λ r. ⌜ r ≡ not (eqb (placeAt (now (mark .entry)) p) 0) ⌝ }
+{
+    if mark.len() <= p {
+        return false;
+    }
+    mark[p] != 0
+}
+
 // Whether the station of a record is switched through.
 pub fn is_through(mark: &[u8; 128], entry: Entry) -> bool
     ensures { λ r. ⌜ r ≡ isThrough (now (mark .entry)) entry ⌝ }
 {
-    let p = place_of(station_of(entry));
-    mark[p] != 0
+    is_marked(mark, station_of(entry) as usize)
 }
 
 // Nothing was seen yet.
@@ -290,8 +322,7 @@ pub fn see_on<'a>(
             }
         }
         Entry::Mark(switched) => {
-            let p = place_of(switched.station);
-            mark[p] = switch_of(switched.mark);
+            switch_on(&mut *mark, switched);
             if rule != 0 {
                 return Course { clock, kept, all };
             }

@@ -1,12 +1,13 @@
 //! A log in memory as its page has it: when each record began, in ticks from the first on, and which
 //! visits are of stations that are switched through.
 
+use std::collections::HashSet;
 use std::ops::Range;
 
 use crate::rules::{Entry, MarkEntry, Plan, VisitEntry};
 
-/// The table of the marks has so many places; a station of a broken record may be above them.
-const MARKS: usize = 128;
+/// A station of a broken record may be above all that a plan can have; a mark of it switches nobody.
+const STATIONS: usize = 128;
 
 /// A visit of a log: its place among all records, from 0 on, its own numbers, when it began and when
 /// the token was at the next station, in ticks from the log's first record on, and whether its station
@@ -22,14 +23,18 @@ pub struct Seen {
 
 /// All visits of a log, in their order. A station that the plan has not walks nothing.
 pub fn seen(plan: &Plan, entries: &[Entry]) -> Vec<Seen> {
-    let mut marked = [false; MARKS];
+    let mut through = HashSet::new();
     let mut now = 0;
     let mut seen = vec![];
     for (place, entry) in entries.iter().enumerate() {
         match *entry {
-            Entry::Mark(MarkEntry { station, mark }) => {
-                marked[usize::from(station) % MARKS] = mark != 0;
+            Entry::Mark(MarkEntry { station, mark: 1 }) if usize::from(station) < STATIONS => {
+                through.insert(station);
             }
+            Entry::Mark(MarkEntry { station, mark: 0 }) => {
+                through.remove(&station);
+            }
+            Entry::Mark(_) => {}
             Entry::Visit(entry) => {
                 let station = usize::from(entry.station);
                 let walk = plan.request.stations.get(station).map_or(0, |it| it.walk);
@@ -38,7 +43,7 @@ pub fn seen(plan: &Plan, entries: &[Entry]) -> Vec<Seen> {
                         .map(u64::from)
                         .iter()
                         .sum::<u64>();
-                let through = marked[station % MARKS];
+                let through = through.contains(&entry.station);
                 seen.push(Seen { place, entry, began: now, ended, through });
                 now = ended;
             }

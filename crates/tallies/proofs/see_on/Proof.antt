@@ -1,7 +1,7 @@
 -- `see_on` is right because it goes by the kind of the record, and by whether a rule is broken: then the numbers stay.
 use mathlib.Core.Path.{sym, ap, _∙_}
 use Rattle.tallies.specs.Tallies.{tallied, clockAfter, switchedBy}
-use Rattle.tallies.proofs.SeenLaws.{visit-tallied, mark-switched, seen-broken, seen-kept}
+use Rattle.tallies.proofs.SeenLaws.{visit-tallied, seen-broken, seen-kept}
 use borrow.Author.Needs.{needs}
 use Rattle.tallies.proofs.see_on.Statement.{statement}
 use Rattle.tallies.proofs.see_on.Tie as tie
@@ -16,11 +16,10 @@ returns c =
 returns-2 : tie.Need-returns-2
 returns-2 c =
     let switched = c .before in
-    let placed = switched .before in
-    let told = placed .before .before in
+    let told = switched .before .before .before in
     let come = told .before .before .before in
     let args = come .before .before .args in
-    seen-broken _ _ _ _ _ _ _ (come .lap-on .ensures) (c .if2 .taken) (mark-switched (args .mark .now) _ _ _ (placed .place-of2 .ensures) (switched .switch-of .ensures) ∙ ap (switchedBy (args .mark .now)) (sym (told .entry2 .given .1)))
+    seen-broken _ _ _ _ _ _ _ (come .lap-on .ensures) (c .if2 .taken) (switched .switch-on .ensures ∙ ap (switchedBy (args .mark .now)) (sym (told .entry2 .given .1)))
 
 returns-3 : tie.Need-returns-3
 returns-3 c =
@@ -41,18 +40,17 @@ returns-3 c =
 returns-4 : tie.Need-returns-4
 returns-4 c =
     let switched = c .before in
-    let placed = switched .before in
-    let told = placed .before .before in
+    let told = switched .before .before .before in
     let come = told .before .before .before in
     let args = come .before .before .args in
     let is = sym (told .entry2 .given .1) in
     seen-kept _ _ _ _ _ _ _ (come .lap-on .ensures) (c .if2 .left)
     (ap (tallied (args .numbers .now) (args .mark .now) (args .course .clock)) is)
-    (mark-switched (args .mark .now) _ _ _ (placed .place-of2 .ensures) (switched .switch-of .ensures) ∙ ap (switchedBy (args .mark .now)) is)
+    (switched .switch-on .ensures ∙ ap (switchedBy (args .mark .now)) is)
     (ap (clockAfter (args .w .now) (args .course .clock)) is)
 
 pub see-on-spec : {M : Type 1} → statement M
 see-on-spec =
     tie.close
     (tie.spec (λ c κs. search needs) (λ c. search needs) returns (λ c κs. search needs) (λ c. search needs) (λ c κs. search needs) (λ c κs. search needs)
-    (λ c κs. search needs) (λ c κs. search needs) (λ c. search needs) (λ c κs. search needs) (λ c κs. search needs) (λ c. search needs) returns-2 returns-3 returns-4)
+    (λ c κs. search needs) (λ c κs. search needs) (λ c. search needs) (λ c κs. search needs) returns-2 returns-3 returns-4)
