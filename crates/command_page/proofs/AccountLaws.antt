@@ -2,7 +2,7 @@
 use Prim.Native.Nat.{ℕ, _-_, _≤_, _^_}
 use mathlib.Core.Path.{_≡_, refl}
 use mathlib.Core.Bool.{Bool, true, false, cond, not, _&&_, false≢true}
-use mathlib.Core.Logic.{_⊎_, ⊎-elim, _≢_}
+use mathlib.Core.Logic.{⊎-elim, _≢_, _↔_}
 use native.Mathlib.Omega.{arith}
 use borrow.Author.Tests.{lt-ltb, le-ltb, eq-eqb, ne-eqb, eqb-true, eqb-false, not-true, not-false}
 use lib.Dec.{eqb}
@@ -21,8 +21,8 @@ use Rattle.inspection_stream.specs.Inspecting.{inspectNumber}
 use Rattle.inspection_stream.specs.declared.Inspecting.{Inspecting}
 use Rattle.command_page.specs.declared.Outcome.{Outcome}
 use Rattle.command_page.specs.declared.Outcome.the-variants as outcome
-use Rattle.command_page.specs.Account.{isOther, outcomeOf, boundTicks, boundOf}
-use Rattle.command_page.specs.Promised.{Accepting}
+use Rattle.command_page.specs.Account.{isOther, outcomeOf, refusalOf, boundTicks, boundOf}
+use Rattle.command_page.specs.Promised.{Accepting, PlanRefusing, Refusing, Differing, Breaking}
 
 -- ---- the answer
 
@@ -58,6 +58,107 @@ unfolding outcomeOf
 only-accepted given p k e =
     let tests = by-tests given (eqb (p .number) 0) (eqb (inspectNumber k) 0) (isOther p k) (eqb (k .looked .inspection .rule) 0) e in
     record { found = tests .0; plan = λ g. (eqb-true _ _ (tests .1 g .0), tests .1 g .1) }
+
+-- ---- the other words, by the tests alone
+
+by-plan-refused : (given plan read other kept : Bool) → answered given plan read other kept ≡ outcome.PlanRefused → (given ≡ true) × (plan ≡ false)
+by-plan-refused true true true true kept e = ((cc), (cc))
+by-plan-refused true true true false true e = ((cc), (cc))
+by-plan-refused true true true false false e = ((cc), (cc))
+by-plan-refused true true false other kept e = ((cc), (cc))
+by-plan-refused true false read other kept e = (refl, refl)
+by-plan-refused false plan true other true e = ((cc), (cc))
+by-plan-refused false plan true other false e = ((cc), (cc))
+by-plan-refused false plan false other kept e = ((cc), (cc))
+
+by-refused : (given plan read other kept : Bool) → answered given plan read other kept ≡ outcome.Refused → (given ≡ true → plan ≡ true) × (read ≡ false)
+by-refused true true true true kept e = ((λ g. cc), (cc))
+by-refused true true true false true e = ((λ g. cc), (cc))
+by-refused true true true false false e = ((λ g. cc), (cc))
+by-refused true true false other kept e = ((λ g. refl), refl)
+by-refused true false read other kept e = ((λ g. cc), (cc))
+by-refused false plan true other true e = ((λ g. cc), (cc))
+by-refused false plan true other false e = ((λ g. cc), (cc))
+by-refused false plan false other kept e = ((λ g. absurd (false≢true g)), refl)
+
+by-another : (given plan read other kept : Bool) → answered given plan read other kept ≡ outcome.Another → (given ≡ true) × ((plan ≡ true) × ((read ≡ true) × (other ≡ true)))
+by-another true true true true kept e = (refl, (refl, (refl, refl)))
+by-another true true true false true e = ((cc), ((cc), ((cc), (cc))))
+by-another true true true false false e = ((cc), ((cc), ((cc), (cc))))
+by-another true true false other kept e = ((cc), ((cc), ((cc), (cc))))
+by-another true false read other kept e = ((cc), ((cc), ((cc), (cc))))
+by-another false plan true other true e = ((cc), ((cc), ((cc), (cc))))
+by-another false plan true other false e = ((cc), ((cc), ((cc), (cc))))
+by-another false plan false other kept e = ((cc), ((cc), ((cc), (cc))))
+
+by-broken : (given plan read other kept : Bool) → answered given plan read other kept ≡ outcome.Broken → (given ≡ true → (plan ≡ true) × (other ≡ false)) × ((read ≡ true) × (kept ≡ false))
+by-broken true true true true kept e = ((λ g. ((cc), (cc))), ((cc), (cc)))
+by-broken true true true false true e = ((λ g. ((cc), (cc))), ((cc), (cc)))
+by-broken true true true false false e = ((λ g. (refl, refl)), (refl, refl))
+by-broken true true false other kept e = ((λ g. ((cc), (cc))), ((cc), (cc)))
+by-broken true false read other kept e = ((λ g. ((cc), (cc))), ((cc), (cc)))
+by-broken false plan true other true e = ((λ g. ((cc), (cc))), ((cc), (cc)))
+by-broken false plan true other false e = ((λ g. absurd (false≢true g)), (refl, refl))
+by-broken false plan false other kept e = ((λ g. ((cc), (cc))), ((cc), (cc)))
+
+-- and back
+are-refused : (given plan read other kept : Bool) → (given ≡ true → plan ≡ true) → read ≡ false → answered given plan read other kept ≡ outcome.Refused
+are-refused true plan read other kept g h = rw (g refl, h) refl
+are-refused false plan read other kept g h = rw h refl
+
+are-broken : (given plan read other kept : Bool) → (given ≡ true → (plan ≡ true) × (other ≡ false)) → read ≡ true → kept ≡ false → answered given plan read other kept ≡ outcome.Broken
+are-broken true plan read other kept g h f = rw (g refl .0, h, g refl .1, f) refl
+are-broken false plan read other kept g h f = rw (h, f) refl
+
+module _ (given : Bool) (p : ReadPlan) (k : Inspecting) where
+  abbrev plan : Bool
+  plan = eqb (p .number) 0
+
+  abbrev read : Bool
+  read = eqb (inspectNumber k) 0
+
+  abbrev kept : Bool
+  kept = eqb (k .looked .inspection .rule) 0
+
+  pub says-plan-refused : (outcomeOf given p k ≡ outcome.PlanRefused) ↔ PlanRefusing given p
+  unfolding outcomeOf
+  says-plan-refused = (
+    λ e. let h = by-plan-refused given plan read (isOther p k) kept e in (h .0, eqb-false _ _ (h .1)),
+    λ h. rw (h .0, ne-eqb (p .number) 0 (h .1)) refl,
+  )
+
+  pub says-refused : (outcomeOf given p k ≡ outcome.Refused) ↔ Refusing given p k
+  unfolding outcomeOf
+  says-refused = (
+    λ e. let h = by-refused given plan read (isOther p k) kept e in (λ g. eqb-true _ _ (h .0 g), eqb-false _ _ (h .1)),
+    λ h. are-refused given plan read (isOther p k) kept (λ g. eq-eqb (p .number) 0 (h .0 g)) (ne-eqb (inspectNumber k) 0 (h .1)),
+  )
+
+  pub says-another : (outcomeOf given p k ≡ outcome.Another) ↔ Differing given p k
+  unfolding outcomeOf
+  says-another = (
+    λ e. let h = by-another given plan read (isOther p k) kept e in (h .0, (eqb-true _ _ (h .1 .0), (eqb-true _ _ (h .1 .1 .0), h .1 .1 .1))),
+    λ h. rw (h .0, eq-eqb (p .number) 0 (h .1 .0), eq-eqb (inspectNumber k) 0 (h .1 .1 .0), h .1 .1 .1) refl,
+  )
+
+  pub says-broken : (outcomeOf given p k ≡ outcome.Broken) ↔ Breaking given p k
+  unfolding outcomeOf
+  says-broken = (
+    λ e. let h = by-broken given plan read (isOther p k) kept e in (λ g. (eqb-true _ _ (h .0 g .0), h .0 g .1), (eqb-true _ _ (h .1 .0), eqb-false _ _ (h .1 .1))),
+    λ h. are-broken given plan read (isOther p k) kept (λ g. (eq-eqb (p .number) 0 (h .0 g .0), h .0 g .1)) (eq-eqb (inspectNumber k) 0 (h .1 .0)) (ne-eqb (k .looked .inspection .rule) 0 (h .1 .1)),
+  )
+
+  pub plan-number : outcomeOf given p k ≡ outcome.PlanRefused → refusalOf given p k ≡ p .number
+  unfolding refusalOf
+  plan-number e = let h = says-plan-refused .0 e in rw (h .0, ne-eqb (p .number) 0 (h .1)) refl
+
+log-number-of : (given : Bool) (p : ReadPlan) (k : Inspecting) → (given ≡ true → p .number ≡ 0) → refusalOf given p k ≡ inspectNumber k
+unfolding refusalOf
+log-number-of true p k h = rw (eq-eqb (p .number) 0 (h refl)) refl
+log-number-of false p k h = refl
+
+pub log-number : (given : Bool) (p : ReadPlan) (k : Inspecting) → outcomeOf given p k ≡ outcome.Refused → refusalOf given p k ≡ inspectNumber k
+log-number given p k e = log-number-of given p k (says-refused given p k .0 e .0)
 
 -- ---- where the limit comes from
 

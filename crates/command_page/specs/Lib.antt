@@ -4,10 +4,12 @@
 --     Plan       the parts of the plan, and what its mode promises
 --     Did        the parts of what each station did
 --     Parts      all of them in their order
+--     Picture    the picture of a log as one list of parts
 --     Promised   what is promised of them
 pub mod Account
 pub mod Named
 pub mod Plan
 pub mod Did
 pub mod Parts
+pub mod Picture
 pub mod Promised

@@ -31,7 +31,7 @@ module _ (t : Set) (a : Alloc) where
       over-lap (lookedAt t a l e) (seen (t .n) (t .w) rule s e) es
       ∙ ap (λ (x : Lap). lappedAll (t .n) (t .w) x es) (seen-lap (t .n) (t .w) rule s e)
 
-  all-lap : (s : Seen) (es : List Entry) → seenAll (t .n) (t .w) s es .course .all ≡ lappedAll (t .n) (t .w) (s .course .all) es
+  pub all-lap : (s : Seen) (es : List Entry) → seenAll (t .n) (t .w) s es .course .all ≡ lappedAll (t .n) (t .w) (s .course .all) es
   unfolding seenAll lappedAll
   all-lap s [] = refl
   all-lap s (e ∷ es) = all-lap (seen (t .n) (t .w) 0 s e) es ∙ ap (λ (x : Lap). lappedAll (t .n) (t .w) x es) (seen-lap (t .n) (t .w) 0 s e)

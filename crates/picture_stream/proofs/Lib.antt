@@ -2,5 +2,7 @@
 pub mod TurnLaws
 pub mod OverLaws
 pub mod KeptLaws
+pub mod KnownLaws
+pub mod WindowLaws
 pub mod StopLaws
 pub mod Promised

@@ -5,22 +5,29 @@ use mathlib.Core.Bool.{true, false, cond}
 use mathlib.Core.List.{List, [], _∷_, _++_, append-assoc}
 use mathlib.Core.Logic.{⊎-elim}
 use lib.Dec.{eqb}
+use lib.ListN.{drop}
+use lib.Seq.{drop-append-le}
 use Rattle.units.proofs.JudgingLaws.{true-or-false}
 use Rattle.sets.specs.declared.Set.{Set}
 use Rattle.plans.specs.declared.Alloc.{Alloc}
+use Rattle.sheets.specs.Reading.{planStart}
+use Rattle.sheets.specs.declared.PlanStart.{PlanStart}
+use Rattle.sheets.proofs.FirstLaws.{start-inside}
 use Rattle.log_records.specs.declared.Entry.{Entry}
 use Rattle.log_records.specs.declared.NextEntry.{NextEntry}
 use Rattle.log_stream.specs.Pieces.{stepped, entryIn, entriesOf, readOver, handedOver}
 use Rattle.log_stream.specs.declared.Gathered.{Gathered}
-use Rattle.inspection_stream.specs.Inspecting.{lookedAt, lookedAll, inspectOver}
+use Rattle.inspection_stream.specs.Inspecting.{lookedAt, lookedAll, inspectFrom, inspectOver}
+use Rattle.inspection_stream.specs.Promised.{Enough}
 use Rattle.inspection_stream.specs.declared.Looked.{Looked}
 use Rattle.inspection_stream.proofs.LookLaws.{look-append}
+use Rattle.inspection_stream.proofs.WholeLaws.{start-stays}
 use Rattle.tallies.specs.Laps.{lapped}
 use Rattle.tallies.specs.Tallies.{switchedBy, seen}
 use Rattle.tallies.specs.declared.Lap.{Lap}
 use Rattle.tallies.specs.declared.Drawn.{Drawn}
 use Rattle.tallies.specs.declared.Seen.{Seen}
-use Rattle.picture_stream.specs.Watching.{isDrawn, drawnOf, recordWatched, byteWatched, stepWatched, stops, stopsAt, drawnAt, watchOver, drawnOver}
+use Rattle.picture_stream.specs.Watching.{isDrawn, drawnOf, recordWatched, byteWatched, stepWatched, stops, stopsAt, drawnAt, watchFrom, watchStart, watchOver, drawnOver, watchAll, drawnAll}
 use Rattle.picture_stream.specs.Promised.{drawnIn}
 use Rattle.picture_stream.specs.declared.Window.{Window}
 use Rattle.picture_stream.specs.declared.Watching.{Watching}
@@ -126,3 +133,27 @@ drawn-is x k (b ∷ bs) =
     ∙ ap (λ (l : Lap). drawnIn x n w l (recordWatched k v e .seen .mark) (handedOver v bs)) (seen-lap n w rule (k .seen) e)
     ∙ ap (λ (mark : List ℕ). drawnIn x n w (lapped n w (k .seen .course .all) e) mark (handedOver v bs)) (seen-mark n w rule (k .seen) e))))
     (true-or-false (eqb (got .next) 0))
+
+-- ---- the first piece
+
+module _ (head rest : List ℕ) (enough : Enough head rest) where
+  -- the records of the first piece and those behind it are those of the whole log
+  first-bytes : drop (planStart head .at) head ++ rest ≡ drop (planStart head .at) (head ++ rest)
+  first-bytes = sym (drop-append-le (planStart head .at) head rest (start-inside head))
+
+  same-start : planStart head ≡ planStart (head ++ rest)
+  same-start = sym (start-stays head rest enough)
+
+  pub first-piece : watchOver (watchAll head) rest ≡ watchAll (head ++ rest)
+  first-piece =
+      let s = planStart head in
+      sym (watch-append (watchStart head) (drop (s .at) head) rest)
+      ∙ ap (watchOver (watchStart head)) first-bytes
+      ∙ ap (λ (x : PlanStart). watchOver (watchFrom (inspectFrom x)) (drop (x .at) (head ++ rest))) same-start
+
+  pub drawn-first : (x : Window) → drawnAll x head ++ drawnOver x (watchAll head) rest ≡ drawnAll x (head ++ rest)
+  drawn-first x =
+      let s = planStart head in
+      sym (drawn-append x (watchStart head) (drop (s .at) head) rest)
+      ∙ ap (drawnOver x (watchStart head)) first-bytes
+      ∙ ap (λ (y : PlanStart). drawnOver x (watchFrom (inspectFrom y)) (drop (y .at) (head ++ rest))) same-start

@@ -1,20 +1,23 @@
 -- The promises of this layer, proved.
-use Prim.Native.Nat.{ℕ}
-use mathlib.Core.Path.{_≡_, refl, ap, _∙_}
+use Prim.Native.Nat.{ℕ, _≤_}
+use mathlib.Core.Path.{_≡_, refl, sym, ap, subst, _∙_}
 use mathlib.Core.List.{List}
 use lib.ListN.{drop}
+use Rattle.sets.specs.declared.Set.{Set}
 use Rattle.sheets.specs.Reading.{planStart}
 use Rattle.logs.specs.Reading.{readLog, entriesIn}
 use Rattle.inspection.specs.Opening.{begun}
 use Rattle.inspection_stream.specs.Inspecting.{noneLooked}
 use Rattle.inspection_stream.proofs.WholeLaws.{handed-read, plan-read}
 use Rattle.tallies.specs.Tallies.{nothingSeen}
-use Rattle.picture_stream.specs.Watching.{watchStart, watchOver, drawnOver}
+use Rattle.picture_stream.specs.Watching.{watchStart, watchOver, drawnOver, watchAll}
 use Rattle.picture_stream.specs.Promised.{drawnIn, KeptSeen, Promised}
 use Rattle.picture_stream.specs.declared.Window.{Window}
 use Rattle.picture_stream.specs.declared.Watching.{Watching}
-use Rattle.picture_stream.proofs.OverLaws.{watch-append, drawn-append, seenOver, over-is, inspects-over, drawn-is}
+use Rattle.picture_stream.proofs.OverLaws.{watch-append, drawn-append, seenOver, over-is, inspects-over, drawn-is, first-piece, drawn-first}
 use Rattle.picture_stream.proofs.KeptLaws.{kept-from, laps-of-all}
+use Rattle.picture_stream.proofs.KnownLaws.{few-stations, all-known}
+use Rattle.picture_stream.proofs.WindowLaws.{named-is, window-shown}
 use Rattle.picture_stream.proofs.StopLaws.{goes-on}
 
 module _ (bs : List ℕ) (z : readLog bs .number ≡ 0) where
@@ -24,7 +27,7 @@ module _ (bs : List ℕ) (z : readLog bs .number ≡ 0) where
       ap (λ (k : Watching). k .seen) (over-is (watchStart bs) (drop (s .at) bs))
       ∙ ap (seenOver (s .set) (s .alloc) (noneLooked (s .set) (s .alloc)) nothingSeen) (handed-read bs z)
 
-  kept-seen : KeptSeen (readLog bs .set) (readLog bs .alloc) (entriesIn bs) (watchOver (watchStart bs) (drop (planStart bs .at) bs) .seen)
+  kept-seen : KeptSeen (readLog bs .set) (readLog bs .alloc) (entriesIn bs) (watchAll bs .seen)
   unfolding begun
   kept-seen =
       let t = planStart bs .set in
@@ -38,6 +41,7 @@ module _ (bs : List ℕ) (z : readLog bs .number ≡ 0) where
         place = k .place;
         rule = k .rule;
         named = k .named;
+        known = all-known t a (subst (λ (u : Set). u .n ≤ 128) (sym (plan .0)) (few-stations bs z)) (l .inspection) (k .kept) refl (k .rule);
         numbers = k .numbers;
         lap = k .lap;
         all = laps-of-all t a l nothingSeen (entriesIn bs);
@@ -56,7 +60,11 @@ promised =
       drawn-pieces = drawn-append;
       inspects = inspects-over;
       inspects-all = λ bs. inspects-over (watchStart bs) (drop (planStart bs .at) bs);
+      first-piece = first-piece;
+      drawn-first = λ x head rest enough. drawn-first head rest enough x;
       goes-on = goes-on;
       kept-seen = kept-seen;
       drawn = λ x bs z. drawn-read bs z x;
+      window = λ bs z few. window-shown bs z few (kept-seen bs z);
+      window-named = named-is;
     }

@@ -3,6 +3,7 @@ use Prim.Native.Nat.{ℕ, _+_, _-_, min, max}
 use mathlib.Core.Bool.{Bool, true, false, cond, _&&_}
 use mathlib.Core.List.{List, [], _∷_, _++_}
 use lib.Dec.{leb, ltb, eqb}
+use lib.ListN.{drop}
 use Rattle.sheets.specs.Reading.{planStart}
 use Rattle.sheets.specs.declared.PlanStart.{PlanStart}
 use Rattle.log_records.specs.Entry.{blankEntry}
@@ -112,6 +113,13 @@ watchOver k (b ∷ bs) = watchOver (stepWatched k b) bs
 unfoldable pub drawnOver : Window → Watching → List ℕ → List Drawn
 drawnOver x k [] = []
 drawnOver x k (b ∷ bs) = cond (stopsAt x k b) (drawnAt k b ∷ []) [] ++ drawnOver x (stepWatched k b) bs
+
+-- a whole log: the plan is read from its first bytes, and the records behind it
+abbrev pub watchAll : List ℕ → Watching
+watchAll bs = watchOver (watchStart bs) (drop (planStart bs .at) bs)
+
+abbrev pub drawnAll : Window → List ℕ → List Drawn
+drawnAll x bs = drawnOver x (watchStart bs) (drop (planStart bs .at) bs)
 
 -- ---- the window of a log that was read whole
 

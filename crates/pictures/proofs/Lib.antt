@@ -2,7 +2,11 @@
 --     PlacedLaws   places of moments behind the end of a line
 --     ChoiceLaws   what is taken by a test
 --     WholeLaws    a visit that ends within its line
+--     FrameLaws    which part is the frame
+--     LineLaws     the parts that begin and end lines
 pub mod PlacedLaws
 pub mod ChoiceLaws
 pub mod WholeLaws
+pub mod FrameLaws
+pub mod LineLaws
 pub mod Promised

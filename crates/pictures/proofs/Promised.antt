@@ -7,17 +7,20 @@ use native.Mathlib.Omega.{arith}
 use lib.Dec.{eqb}
 use borrow.Author.Tests.{lt-ltb, ne-eqb}
 use Rattle.log_records.specs.declared.VisitEntry.{VisitEntry}
+use Rattle.log_records.specs.declared.MarkEntry.{MarkEntry}
 use Rattle.log_records.specs.declared.Entry.{Entry}
 use Rattle.log_records.specs.declared.Entry.the-variants.{Visit, Mark}
 use Rattle.tallies.specs.declared.Lap.{Lap}
 use Rattle.tallies.specs.declared.Drawn.{Drawn}
 use Rattle.pictures.specs.Parts.{part, nothing, synchronousAt, asynchronousAt, drawnTo, firstBar, secondBar, cutMark, rotationBegin, lineBegin, boundMark, rotationEnd, isLast, frameAt, frameWidth, visitPart, visitBehind, markPart, entryPart, penAfter, partAt}
-use Rattle.pictures.specs.Promised.{Order, LineBegun, Promised}
+use Rattle.pictures.specs.Promised.{Order, LineBegun, VisitParts, MarkParts, Promised}
 use Rattle.pictures.specs.declared.Shape.the-variants as shape
 use Rattle.pictures.specs.declared.Scene.{Scene}
 use Rattle.pictures.specs.declared.Pen.{Pen}
 use Rattle.pictures.proofs.ChoiceLaws.{chosen, left-out}
 use Rattle.pictures.proofs.WholeLaws.{whole}
+use Rattle.pictures.proofs.FrameLaws.{frame-named, frame-only}
+use Rattle.pictures.proofs.LineLaws.{parts-append, one-line, last-line}
 
 order : (c : Scene) (l : Lap) (v : VisitEntry) → Order c l v
 unfolding firstBar secondBar synchronousAt asynchronousAt
@@ -33,11 +36,12 @@ unfolding cutMark
 cut c l v h = rw (lt-ltb _ _ h) refl
 
 line-begins : (c : Scene) (p : Pen) (d : Drawn) → p .begun ≡ false → LineBegun c p d
-unfolding partAt rotationBegin lineBegin
+unfolding partAt rotationBegin lineBegin boundMark
 line-begins c p d e =
     record {
       rotation = sym (left-out _ _ e);
       line = sym (left-out _ _ e);
+      bound = sym (left-out _ _ e);
     }
 
 line-begun : (c : Scene) (p : Pen) (d : Drawn) → p .begun ≡ true
@@ -57,6 +61,39 @@ line-goes-on c p d e = (rw e refl, rw e refl)
 
 framed : (c : Scene) (from to : ℕ) → frameAt c from + frameWidth c from to ≤ 100 * c .bound
 framed c from to = omega arith
+
+visit-parts : (c : Scene) (p : Pen) (l : Lap) (through : Bool) (v : VisitEntry) → VisitParts c p (record { lap = l; entry = Visit v; through = through }) v
+unfolding partAt visitPart visitBehind
+visit-parts c p l through v =
+    record {
+      begin = refl;
+      tick = refl;
+      number = refl;
+      first-bar = refl;
+      second-bar = refl;
+      walk = refl;
+      limit = refl;
+      cut = refl;
+      frame = refl;
+      end = refl;
+    }
+
+between : (c : Scene) (p : Pen) (l : Lap) (through : Bool) (m : MarkEntry) (k : ℕ) → 4 ≤ k → k ≤ 10 → partAt c p (record { lap = l; entry = Mark m; through = through }) k ≡ nothing
+unfolding partAt markPart
+between c p l through m k more few =
+    let low : (j : ℕ) → j < 4 → eqb k j ≡ false = λ j h. ne-eqb k j (λ e. omega arith) in
+    let high : (j : ℕ) → 10 < j → eqb k j ≡ false = λ j h. ne-eqb k j (λ e. omega arith) in
+    rw (low 0 (omega arith), low 1 (omega arith), low 2 (omega arith), high 12 (omega arith), high 13 (omega arith), low 3 (omega arith), high 11 (omega arith)) refl
+
+mark-parts : (c : Scene) (p : Pen) (l : Lap) (through : Bool) (m : MarkEntry) → MarkParts c p (record { lap = l; entry = Mark m; through = through }) m
+unfolding partAt markPart
+mark-parts c p l through m =
+    record {
+      begin = refl;
+      frame = refl;
+      end = refl;
+      no-more = between c p l through m;
+    }
 
 -- none of the parts is asked for
 past : (k j : ℕ) → 14 ≤ k → j < 14 → eqb k j ≡ false
@@ -85,5 +122,12 @@ promised =
       line-ends = line-ends;
       line-goes-on = line-goes-on;
       framed = framed;
+      frame-named = frame-named;
+      frame-only = frame-only;
+      visit-parts = visit-parts;
+      mark-parts = mark-parts;
+      picture-pieces = parts-append;
+      one-line = one-line;
+      last-line = last-line;
       no-more = λ c p d k more. none c p k more d;
     }

@@ -53,7 +53,7 @@ module _ (n : ℕ) (w : List ℕ) where
   one-more-of : (a b x y : ℕ) → b ≡ wrapped (a + 1) → y ≡ 1 + x → wrapped (b + x) ≡ wrapped (a + y)
   one-more-of a b x y first more = ap (λ (k : ℕ). wrapped (k + x)) first ∙ mod-add-mod (a + 1) (2 ^ 64) x ∙ ap wrapped (omega arith)
 
-  records-all : (l : Lap) (es : List Entry) → l .records < 2 ^ 64 → lappedAll n w l es .records ≡ wrapped (l .records + length es)
+  pub records-all : (l : Lap) (es : List Entry) → l .records < 2 ^ 64 → lappedAll n w l es .records ≡ wrapped (l .records + length es)
   unfolding lappedAll
   records-all l [] few = omega arith
   records-all l (e ∷ es) few =
