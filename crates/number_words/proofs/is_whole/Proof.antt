@@ -6,10 +6,10 @@ use borrow.Author.Tests.{eq-eqb, ne-eqb}
 use lib.ListN.{length}
 use Rattle.units.specs.Places.{at, allBelow}
 use Rattle.units.proofs.PlaceLaws.{all-then, all-none}
-use Rattle.command_versions.specs.VersionWord.{isDigit, isWhole}
+use Rattle.number_words.specs.Words.{isDigit, isWhole}
 use borrow.Author.Needs.{needs}
-use Rattle.command_versions.proofs.words.is_whole.Statement.{statement}
-use Rattle.command_versions.proofs.words.is_whole.Tie as tie
+use Rattle.number_words.proofs.is_whole.Statement.{statement}
+use Rattle.number_words.proofs.is_whole.Tie as tie
 
 abbrev Inv-loop : tie.InvT-loop
 Inv-loop word all₀ i₀ all i = (i ≤ length word) × (all ≡ allBelow i (λ k. isDigit (at word k)))

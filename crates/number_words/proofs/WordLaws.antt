@@ -1,4 +1,4 @@
--- The laws of words, for the proofs of this layer. No rule stands here.
+-- The laws of words, for the proofs here and above. No rule stands here.
 use Prim.Native.Nat.{ℕ, zero, suc, _+_, _-_, _*_, _/_, _%_, _≤_, _<_, min}
 use mathlib.Core.Path.{_≡_, refl, ap, _∙_}
 use mathlib.Core.Bool.{true}
@@ -16,7 +16,7 @@ use Rattle.units.proofs.JudgingLaws.{true-and}
 use Rattle.units.proofs.SmallLaws.{below-or-not}
 use Rattle.text.specs.Text.{digit, decimalWithin, decimalOf}
 use Rattle.text.specs.Promised.{valueOn}
-use Rattle.command_versions.specs.VersionWord.{isDigit, isWhole, grown, firstDigits}
+use Rattle.number_words.specs.Words.{isDigit, isWhole, grown, firstDigits}
 
 -- ---- digits
 
