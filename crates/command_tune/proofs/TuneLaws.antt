@@ -7,7 +7,6 @@ use mathlib.Core.Logic.{_≢_, ⊎-elim}
 use native.Mathlib.Omega.{arith}
 use borrow.Author.Tests.{lt-ltb, le-ltb, ltb-true}
 use Rattle.units.specs.Numbers.{mostTtrt}
-use Rattle.units.specs.Judging.{orElse, Decides}
 use Rattle.units.proofs.JudgingLaws.{decides-le, decides-both, true-or-false, held, failed}
 use Rattle.units.proofs.SmallLaws.{below-or-not}
 use Rattle.sets.specs.declared.Set.{Set}
