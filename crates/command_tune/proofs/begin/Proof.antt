@@ -4,9 +4,10 @@ use mathlib.Core.Path.{_≡_, sym, ap, _∙_}
 use mathlib.Core.Bool.{true, false}
 use borrow.Author.Tests.{not-true, not-false}
 use Rattle.field_reader.specs.Scanned.{scanned}
+use Rattle.field_reader.specs.declared.Scanned.{Scanned}
 use Rattle.sheets.specs.declared.ReadPlan.{ReadPlan}
 use Rattle.tuning.specs.Tunings.{judgedAtAll}
-use Rattle.command_tune.specs.Tune.{isRange, requested}
+use Rattle.command_tune.specs.Tune.{isRange, requested, refusedWith}
 use Rattle.command_tune.proofs.TuneLaws.{ranged, by-scan, by-range, given-set, by-set, none-refused}
 use native.Mathlib.Omega.{arith}
 use Rattle.command_tune.proofs.begin.Statement.{statement}
@@ -33,8 +34,8 @@ judged c = c .judge .ensures ∙ ap judgedAtAll (read (c .before .before))
 returns : tie.Need-returns
 returns c =
     let args = c .before .before .before .before .before .args in
-    let is = c .before .before .before .scan-sheet .ensures in
-    c .refused .ensures ∙ rw is (by-scan (args .sheet .now) (args .from) (args .to) (rw is at (c .before .if1 .taken)))
+    let is : c .before .before .before .scan-sheet .result .number ≡ scanned false (args .sheet .now) .number = ap (λ (r : Scanned). r .number) (c .before .before .before .scan-sheet .ensures) in
+    c .refused .ensures ∙ ap refusedWith is ∙ by-scan (args .sheet .now) (args .from) (args .to) (λ e. c .before .if1 .taken (is ∙ e))
 
 returns-2 : tie.Need-returns-2
 returns-2 c =
@@ -49,7 +50,8 @@ returns-3 c =
     let is = judged (c .before .before) in
     let else2 = c .before .before .before .before .before in
     c .refused3 .ensures
-    ∙ rw is (by-set (args .sheet .now) (args .from) (args .to) (passed (else2 .before .before)) (in-range else2) (λ e. c .before .if3 .taken (is ∙ e)))
+    ∙ ap refusedWith is
+    ∙ by-set (args .sheet .now) (args .from) (args .to) (passed (else2 .before .before)) (in-range else2) (λ e. c .before .if3 .taken (is ∙ e))
 
 cast-t11 : tie.Need-cast-t11
 cast-t11 c =

@@ -28,7 +28,8 @@ returns-3 : tie.Need-returns-3
 unfolding lineAt
 returns-3 c =
     let second = c .before .before in
-    rw (lt-leb _ _ (there (second .before .before)), eq-eqb _ _ (second .if2 .left), lt-ltb _ _ (c .before .if3 .taken)) (c .first .ensures)
+    let few : second .before .before .before .before .args .i < 3 = c .before .if3 .taken in
+    rw (lt-leb _ _ (there (second .before .before)), eq-eqb _ _ (second .if2 .left), lt-ltb _ _ few) (c .first .ensures)
 
 returns-4 : tie.Need-returns-4
 unfolding lineAt
