@@ -195,7 +195,7 @@ def build_driver():
 
 def build_commands():
     """What answers the `command` cases: the proved programs, with the sheets, stores and lists in files."""
-    for name in sorted({program_of([word]) for word in ["diff", "explain", "inspect", "page", "keep", "hopper", "hopper-sheet", "refit"]}):
+    for name in sorted({program_of([word]) for word in ["diff", "explain", "tune", "inspect", "page", "keep", "hopper", "hopper-sheet", "refit"]}):
         build_proved(name)
     return [os.path.join(ROOT, "tests", "driver", "commands")]
 

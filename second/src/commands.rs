@@ -6,7 +6,7 @@ use std::path::Path;
 
 use crate::frames;
 use crate::gen::{self, Kind};
-use crate::notation::number;
+use crate::notation::{number, whole};
 use crate::page::page;
 use crate::planted::Planted;
 use crate::rules::Refusal;
@@ -23,6 +23,9 @@ usage: second [--planted K] [COMMAND]
                 second compose < ring.txt > ring.request
   explain     a request sheet or a plan sheet in, why it is accepted or refused out
                 second explain < ring.request
+  tune [FROM TO]
+              a request sheet in, at which TTRT from FROM to TO, or of all, it has a plan out
+                second tune 450 550 < ring.request
   show        a request sheet, a plan sheet or a log in, its text out
                 second show < ring.request
   plan-sheet  a request sheet in, its plan sheet out
@@ -206,8 +209,11 @@ fn command(arguments: &[&str], planted: Planted) -> io::Result<bool> {
     let mut streams = Streams { out, err: vec![] };
     let plan = |path: &str| at_most(File::open(path)?, PLAN_READ);
     let area = |path: &str| at_most(File::open(path)?, AREA + 1);
-    let whole = |word: &str| !word.is_empty() && word.bytes().all(|byte| byte.is_ascii_digit());
     match arguments {
+        ["tune"] => streams.tune(None, input, planted)?,
+        ["tune", from, to] if whole(from) && whole(to) => {
+            streams.tune(Some([from, to]), input, planted)?;
+        }
         ["run", path] => streams.run(&plan(path)?, input, planted)?,
         ["log", path] => streams.log(&plan(path)?, input, planted)?,
         ["inspect", path] => streams.inspect_of(&plan(path)?, input, planted)?,

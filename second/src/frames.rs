@@ -3,14 +3,15 @@
 use crate::check::WatchedRing;
 use crate::hopper::{read_wagon, read_wagons, show_wagons, Change, Train, MOST_WAGONS};
 use crate::inspect::{inspected, judge_to_inspect, Inspector};
+use crate::local::local;
 use crate::log::{noted, Counter, Recorder};
-use crate::notation::{from_hex, joined, number, parse, read_head, show_set, to_hex};
+use crate::notation::{from_hex, joined, number, parse, read_head, show_set, to_hex, whole};
 use crate::page::page;
 use crate::planner;
 use crate::planted::Planted;
 use crate::ring::Ring;
 use crate::rules::{Entry, MarkEntry, VisitEntry, MOST_STATIONS};
-use crate::rules::{Plan, Refusal, Request, Station};
+use crate::rules::{Mode, Plan, Refusal, Request, Station};
 use crate::sheet::{read_log, read_plan, read_plan_with, read_request};
 use crate::sheet::{write_plan, write_request};
 use crate::state::{Place, State};
@@ -46,6 +47,7 @@ fn try_answer(case: &str, planted: Planted) -> Option<String> {
             Some(line(plan, |plan| counted(&plan.request, &plan.allocation)))
         }
         "planning" => planning(rest, planted),
+        "rivals" => rivals(rest),
         "write-request" => writing_request(rest),
         "write-plan" => writing_plan(rest),
         "open" => opening(rest, planted),
@@ -90,6 +92,24 @@ fn planning(rest: &str, planted: Planted) -> Option<String> {
     let request = read_set(&mut parts)?;
     let show = |plan: Plan| format!("{} {}", plan.spare(), joined(&plan.allocation));
     Some(line(planner::plan(&request, planted), show))
+}
+
+/// What a set would have in FDDI: its least vector, and what the local rule gives it with a = 1 and with
+/// a = 1/3, each where it keeps FDDI's rules.
+fn rivals(rest: &str) -> Option<String> {
+    let mut request = read_set(&mut rest.split(';'))?;
+    request.head.mode = Mode::Fddi.number();
+    if let Err(refusal) = request.judge() {
+        return Some(refusal.number().to_string());
+    }
+    let keeps = |allocation: Vec<u32>| {
+        let plan = Plan { request: request.clone(), allocation };
+        plan.judge().ok().map(|()| joined(&plan.allocation))
+    };
+    let least = planner::least_plan(&request).ok().map(|plan| plan.allocation);
+    let each = [least, local(&request, 1), local(&request, 3)];
+    let shown = each.map(|it| it.and_then(keeps).unwrap_or("-".to_string()));
+    Some(format!("0 {}", shown.join("|")))
 }
 
 fn writing_request(rest: &str) -> Option<String> {
@@ -468,7 +488,8 @@ fn train_line(train: &Train, answer: Result<(), Refusal>) -> String {
 }
 
 /// The `command` case: `NAME;HEX`, `run;HEXPLAN;HEX` and the same with `log`, `diff;HEX;HEX`,
-/// `inspect;HEX;HEX`, `page;HEX`, `page;HEX;HEX`, `refit;HEX;HEX`, and those of stores.
+/// `inspect;HEX;HEX`, `page;HEX`, `page;HEX;HEX`, `refit;HEX;HEX`, `tune;FROM;TO;HEX`, and those of
+/// stores.
 fn command(rest: &str, planted: Planted) -> Option<String> {
     let parts: Vec<&str> = rest.split(';').collect();
     let mut streams = Streams { out: vec![], err: vec![] };
@@ -478,6 +499,9 @@ fn command(rest: &str, planted: Planted) -> Option<String> {
         }
         ["log", plan, calls] => {
             streams.log(&from_hex(plan)?, &from_hex(calls)?[..], planted).ok()?;
+        }
+        ["tune", from, to, request] if whole(from) && whole(to) => {
+            streams.tune(Some([from, to]), &from_hex(request)?[..], planted).ok()?;
         }
         ["kept", area, number] => streams.kept(read_area(area)?, number, planted).ok()?,
         ["versions", area] => streams.versions(&read_area(area)?).ok()?,

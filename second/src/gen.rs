@@ -11,6 +11,7 @@ pub mod states;
 pub mod stores;
 pub mod texts;
 pub mod trains;
+pub mod tunings;
 
 use std::io::{Result, Write};
 
@@ -51,10 +52,11 @@ pub enum Kind {
     Orders,
     Explanations,
     Pages,
+    Tunings,
 }
 
 impl Kind {
-    pub const ALL: [Kind; 26] = [
+    pub const ALL: [Kind; 27] = [
         Kind::Requests,
         Kind::Plans,
         Kind::Planning,
@@ -81,6 +83,7 @@ impl Kind {
         Kind::Orders,
         Kind::Explanations,
         Kind::Pages,
+        Kind::Tunings,
     ];
 
     pub fn name(self) -> &'static str {
@@ -111,6 +114,7 @@ impl Kind {
             Kind::Orders => "orders",
             Kind::Explanations => "explanations",
             Kind::Pages => "pages",
+            Kind::Tunings => "tunings",
         }
     }
 
@@ -150,6 +154,7 @@ impl Kind {
                 vec![format!("command explain;{}", to_hex(&sheet_to_explain(random, sort)))]
             }
             Kind::Pages => vec![format!("command page;{}", page_input(random, sort))],
+            Kind::Tunings => vec![format!("command tune;{}", tune_input(random, sort))],
             Kind::Commands => vec![command_case(random, sort)],
             Kind::Logs => vec![format!("log {}", to_hex(&logs::log(random, sort)))],
             Kind::Records => vec![record_case(random, sort)],
@@ -301,10 +306,11 @@ fn edge_cases(random: &mut Random, sort: Sort) -> Vec<String> {
 }
 
 fn command_case(random: &mut Random, sort: Sort) -> String {
-    const NAMES: [&str; 13] = [
+    const NAMES: [&str; 14] = [
         "plan",
         "plan-sheet",
         "explain",
+        "tune",
         "show",
         "compose",
         "run",
@@ -322,6 +328,7 @@ fn command_case(random: &mut Random, sort: Sort) -> String {
     let input = match name {
         "plan" | "plan-sheet" => to_hex(&sheets::sheet(random, SheetKind::Request, sort)),
         "explain" => to_hex(&sheet_to_explain(random, sort)),
+        "tune" => tune_input(random, sort),
         "inspect" if of_log => departure_input(random, sort),
         "inspect" => to_hex(&logs::to_inspect(random, sort)),
         "page" => page_input(random, sort),
@@ -353,6 +360,12 @@ fn sheet_to_explain(random: &mut Random, sort: Sort) -> Vec<u8> {
         16..=18 => fields(&sets::request(random, sort), &[]).concat(),
         _ => logs::log(random, sort),
     }
+}
+
+/// A range of TTRT and a request to plan at each of it.
+fn tune_input(random: &mut Random, sort: Sort) -> String {
+    let ([from, to], sheet) = tunings::input(random, sort);
+    format!("{from};{to};{}", to_hex(&sheet))
 }
 
 /// A script for its plan; now and then the plan's sheet is damaged, or a log.

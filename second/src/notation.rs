@@ -17,6 +17,11 @@ pub fn parse<T: FromStr>(word: &str) -> Option<T> {
     number(word.as_bytes())
 }
 
+/// Whether a word is a whole number of any length.
+pub fn whole(word: &str) -> bool {
+    !word.is_empty() && word.bytes().all(|byte| byte.is_ascii_digit())
+}
+
 /// `HEAD;W,C,D,P;...`, and with an allocation `HEAD;W,C,D,P,S;...`.
 pub fn show_set(request: &Request, allocation: &[u32]) -> String {
     let mut parts = vec![show_head(&request.head)];

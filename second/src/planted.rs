@@ -130,10 +130,16 @@ pub enum Planted {
     BetweenTwoStations,
     /// 63: the record before the named one is framed.
     FramedTooEarly,
+    /// 64: of the range of TTRT that is tried the end is left out.
+    EndLeftOut,
+    /// 65: the best TTRT goes by A* and not by its part of the rotation.
+    BestBySpare,
+    /// 66: a TTRT at which the set is refused with 5 counts as one with a plan.
+    WalkSumCounted,
 }
 
 impl Planted {
-    pub const ALL: [Planted; 63] = [
+    pub const ALL: [Planted; 66] = [
         Planted::TimeForNobody,
         Planted::RoundedDown,
         Planted::LimitWithoutUnused,
@@ -197,6 +203,9 @@ impl Planted {
         Planted::LastRecordLeftOut,
         Planted::BetweenTwoStations,
         Planted::FramedTooEarly,
+        Planted::EndLeftOut,
+        Planted::BestBySpare,
+        Planted::WalkSumCounted,
     ];
 
     /// Whether the error is one of states, and a ring on its time line does not have it.

@@ -19,6 +19,7 @@ use crate::sheet::{end_field, read_plan, read_request, record_field, write_plan}
 use crate::sheet::{Sheet, ANY_TABLE, LOG_TABLE, PLAN_READ, REQUEST_READ};
 use crate::store::{self, Area};
 use crate::text::{self, answer_line, read_call, Fault};
+use crate::tune;
 
 /// Where a command writes: standard output and standard error.
 pub struct Streams<O, E> {
@@ -76,6 +77,16 @@ impl<O: Write, E: Write> Streams<O, E> {
             _ => return Ok(false),
         }
         Ok(true)
+    }
+
+    /// At which TTRT between two whole numbers, or at which of all, a request has a plan.
+    pub fn tune(
+        &mut self,
+        between: Option<[&str; 2]>,
+        input: impl Read,
+        planted: Planted,
+    ) -> io::Result<()> {
+        self.text(&tune::tuned(&at_most(input, REQUEST_READ)?, between, planted))
     }
 
     /// The text of a request, a plan or a log of any length. That of a log goes out as it is read,

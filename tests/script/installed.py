@@ -225,6 +225,12 @@ def entries(page, heading):
     return [(plain(name.removeprefix(".B ")), plain(text)) for name, text in found]
 
 
+def call_and_rest(usage):
+    """The call of a command's line, in capitals what is to be filled in, and what it does."""
+    call = re.match(r"olivastrum [a-z-]+( (<|\[?[A-Z]+\]?))*", usage).group()
+    return call, usage.removeprefix(call)
+
+
 @test
 def the_page_has_all(project):
     page = page_of(project)
@@ -232,7 +238,7 @@ def the_page_has_all(project):
     header = re.findall(r"^    OLIVASTRUM_\w+ = (\d+)", content("include", "olivastrum.h"), re.MULTILINE)
     found = [] if [row[0] for row in numbers] == header[1:] else [f"the guide's numbers are not the header's, {header}"]
     found += [] if [row[0] for row in statuses] == ["0", "1", "2", "other"] else ["the guide's statuses are not 0, 1, 2 and other"]
-    calls = [tuple(re.split("  +", row[4], maxsplit=1)) for row in ROWS]
+    calls = [call_and_rest(row[4]) for row in ROWS]
     for heading, rows in [("COMMANDS", calls), ("EXIT STATUS", statuses), ("REFUSAL NUMBERS", numbers)]:
         expected = [(plain(name), plain(text)) for name, text in rows]
         said = entries(page, heading)
@@ -252,7 +258,7 @@ def the_page_is_shown(project):
     done = subprocess.run(["groff", "-ww", "-man", "-Tutf8", "-P-cbou"], input=page.encode(), capture_output=True, timeout=PATIENCE)
     found = [] if (done.returncode, done.stderr) == (0, b"") else [f"groff ended with {done.returncode} and said {done.stderr!r}"]
     shown = " ".join(done.stdout.decode().replace("−", "-").split())
-    calls = [re.split("  +", row[4], maxsplit=1)[0] for row in ROWS]
+    calls = [call_and_rest(row[4])[0] for row in ROWS]
     return found + [f"`{call}` is not shown" for call in calls if call not in shown]
 
 

@@ -1,5 +1,7 @@
-// The program of `explain`: it reads a sheet, asks for the phrases one after another, writes each in its words, and says how it ended.
+// The program of `explain` and `tune`: it reads a sheet, asks for the phrases or lines one after another, writes each in its words, and says how it ended.
 mod forms;
+mod lines;
+mod trying;
 
 use command_explain::Explained;
 use commands::Command;
@@ -46,10 +48,11 @@ fn explain() -> u8 {
     status::status_of(e.number)
 }
 
-// Does what the words from this one on ask for.
-fn obey(first: usize) -> u8 {
+// Does what the words from this one on ask for; the second and the third are behind it.
+fn obey(first: usize, second: usize, third: usize) -> u8 {
     match words::command(first) {
         Command::Explain => explain(),
+        Command::Tune => trying::tune(second, third),
         Command::Unknown => status::FAILED,
         _ => usage::elsewhere(),
     }
@@ -57,9 +60,9 @@ fn obey(first: usize) -> u8 {
 
 fn main() {
     if !words::status_asked() {
-        obey(1);
+        obey(1, 2, 3);
         return;
     }
-    let status = obey(2);
+    let status = obey(2, 3, 4);
     ending::tell(status);
 }

@@ -46,6 +46,7 @@ With no command it is `plan`. For example:
   olivastrum plan < examples/four-stations.request
   olivastrum plan-sheet < examples/four-stations.request > four.plan
   olivastrum explain < examples/one-tick-short.request
+  olivastrum tune 450 550 < examples/hopper-full.request
   olivastrum compose < examples/four-stations.txt > four.request
   olivastrum show < four.plan
   olivastrum run four.plan < examples/worked-run.calls

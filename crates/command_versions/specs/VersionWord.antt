@@ -1,28 +1,10 @@
 -- The word by which a version is asked for: a whole number, of any size.
-use Prim.Native.Nat.{ℕ, zero, suc, _+_, _-_, _*_, min}
-use mathlib.Core.Bool.{Bool, false, cond, _&&_}
+use Prim.Native.Nat.{ℕ}
+use mathlib.Core.Bool.{cond}
 use mathlib.Core.List.{List}
-use lib.Dec.{leb, eqb}
-use lib.ListN.{length}
-use Rattle.units.specs.Places.{at, allBelow}
-
--- a digit's byte
-abbrev pub isDigit : ℕ → Bool
-isDigit b = leb 48 b && leb b 57
-
--- a whole number: a digit or more, and nothing else
-unfoldable pub isWhole : List ℕ → Bool
-isWhole word = cond (eqb (length word) 0) false (allBelow (length word) (λ i. isDigit (at word i)))
-
--- a number with one digit more; it stays at the first above all numbers of 32 bits
-abbrev pub grown : ℕ → ℕ → ℕ
-grown value b = min (value * 10 + (b - 48)) 4_294_967_296
-
--- the number that the first digits write
-unfoldable pub firstDigits : ℕ → List ℕ → ℕ
-firstDigits zero word = 0
-firstDigits (suc i) word = grown (firstDigits i word) (at word i)
+use lib.Dec.{eqb}
+use Rattle.number_words.specs.Words.{valueIn}
 
 -- the version that it asks for; 0, which no version has, for a number of more than 32 bits
 abbrev pub versionAsked : List ℕ → ℕ
-versionAsked word = cond (eqb (firstDigits (length word) word) 4_294_967_296) 0 (firstDigits (length word) word)
+versionAsked word = cond (eqb (valueIn word) 4_294_967_296) 0 (valueIn word)

@@ -3,13 +3,11 @@ mod listing;
 mod saying;
 mod words;
 
-ghost use mathlib.Core.Path.{_≡_};
 ghost use Rattle.text.specs.Text.{Says};
 ghost use Rattle.versions.specs.Answers.{versionsIn};
 ghost use Rattle.command_versions.specs.VersionsText.{versionsPrinted};
 ghost use Rattle.command_versions.specs.KeepText.{keepPrinted};
 ghost use Rattle.command_versions.specs.Kept.{KeptAt};
-ghost use Rattle.command_versions.specs.VersionWord.{isWhole};
 use text::PAGE_SIZE;
 use text::Said;
 use units::numbers;
@@ -59,13 +57,6 @@ pub fn versions_text(area: &[u8], page: &mut [u8]) -> Said
     }
     let length = listing::put_versions(page, area, kept);
     Said { length, number }
-}
-
-// The word is a whole number.
-pub fn is_whole(word: &[u8]) -> bool
-    ensures { λ r. ⌜ r ≡ isWhole (now (word .entry)) ⌝ }
-{
-    words::is_whole(word)
 }
 
 // Where the plan stands of the version that a whole number asks for.

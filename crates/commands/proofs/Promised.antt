@@ -17,7 +17,7 @@ use Rattle.commands.specs.Words.{sameBytes}
 use Rattle.commands.specs.Asked.{whose, commandOf, takes, countedFor, askedFor}
 use Rattle.commands.specs.Promised.{Promised}
 use Rattle.commands.specs.declared.Command.{Command}
-use Rattle.commands.specs.declared.Command.the-variants.{Plan, PlanSheet, Explain, Compose, Show, Run, Log, Inspect, Page, Diff, Hopper, HopperSheet, Refit, EmptyStore, Keep, Kept, Versions, Version, Help, Unknown}
+use Rattle.commands.specs.declared.Command.the-variants.{Plan, PlanSheet, Explain, Tune, Compose, Show, Run, Log, Inspect, Page, Diff, Hopper, HopperSheet, Refit, EmptyStore, Keep, Kept, Versions, Version, Help, Unknown}
 use Rattle.commands.specs.declared.Asked.the-variants.{Do, Miscounted, Nothing}
 
 -- ---- words
@@ -27,6 +27,7 @@ unfolding whose sameBytes allBelow
 by-word Plan = refl
 by-word PlanSheet = refl
 by-word Explain = refl
+by-word Tune = refl
 by-word Compose = refl
 by-word Show = refl
 by-word Run = refl

@@ -4,11 +4,11 @@ use mathlib.Core.Path.{_≡_}
 use mathlib.Core.List.{List, [], _∷_}
 use lib.ListN.{getD}
 use Rattle.commands.specs.declared.Command.{Command}
-use Rattle.commands.specs.declared.Command.the-variants.{Plan, PlanSheet, Explain, Compose, Show, Run, Log, Inspect, Page, Diff, Hopper, HopperSheet, Refit, EmptyStore, Keep, Kept, Versions, Version, Help, Unknown}
+use Rattle.commands.specs.declared.Command.the-variants.{Plan, PlanSheet, Explain, Tune, Compose, Show, Run, Log, Inspect, Page, Diff, Hopper, HopperSheet, Refit, EmptyStore, Keep, Kept, Versions, Version, Help, Unknown}
 
 -- all of them, in the order of the table
 abbrev pub commands : List Command
-commands = Plan ∷ PlanSheet ∷ Explain ∷ Compose ∷ Show ∷ Run ∷ Log ∷ Inspect ∷ Page ∷ Diff ∷ Hopper ∷ HopperSheet ∷ Refit ∷ EmptyStore ∷ Keep ∷ Kept ∷ Versions ∷ Version ∷ Help ∷ []
+commands = Plan ∷ PlanSheet ∷ Explain ∷ Tune ∷ Compose ∷ Show ∷ Run ∷ Log ∷ Inspect ∷ Page ∷ Diff ∷ Hopper ∷ HopperSheet ∷ Refit ∷ EmptyStore ∷ Keep ∷ Kept ∷ Versions ∷ Version ∷ Help ∷ []
 
 -- the command at a place of the table; behind the last of them there is none
 abbrev pub commandAt : ℕ → Command
@@ -19,6 +19,7 @@ abbrev pub wordOf : Command → List ℕ
 wordOf Plan = 112 ∷ 108 ∷ 97 ∷ 110 ∷ []
 wordOf PlanSheet = 112 ∷ 108 ∷ 97 ∷ 110 ∷ 45 ∷ 115 ∷ 104 ∷ 101 ∷ 101 ∷ 116 ∷ []
 wordOf Explain = 101 ∷ 120 ∷ 112 ∷ 108 ∷ 97 ∷ 105 ∷ 110 ∷ []
+wordOf Tune = 116 ∷ 117 ∷ 110 ∷ 101 ∷ []
 wordOf Compose = 99 ∷ 111 ∷ 109 ∷ 112 ∷ 111 ∷ 115 ∷ 101 ∷ []
 wordOf Show = 115 ∷ 104 ∷ 111 ∷ 119 ∷ []
 wordOf Run = 114 ∷ 117 ∷ 110 ∷ []
@@ -42,6 +43,7 @@ abbrev pub leastOf : Command → ℕ
 leastOf Plan = 0
 leastOf PlanSheet = 0
 leastOf Explain = 0
+leastOf Tune = 0
 leastOf Compose = 0
 leastOf Show = 0
 leastOf Run = 1
@@ -65,6 +67,7 @@ abbrev pub mostOf : Command → ℕ
 mostOf Plan = 0
 mostOf PlanSheet = 0
 mostOf Explain = 0
+mostOf Tune = 2
 mostOf Compose = 0
 mostOf Show = 0
 mostOf Run = 1

@@ -12,6 +12,7 @@ pub enum Command {
     Plan,
     PlanSheet,
     Explain,
+    Tune,
     Compose,
     Show,
     Run,
@@ -32,7 +33,7 @@ pub enum Command {
 }
 
 // How many commands there are.
-pub const COUNT: usize = 19;
+pub const COUNT: usize = 20;
 
 // The commands in the order of the table; behind the last of them there is none.
 pub fn command_at(place: usize) -> Command
@@ -42,22 +43,23 @@ pub fn command_at(place: usize) -> Command
         0 => Command::Plan,
         1 => Command::PlanSheet,
         2 => Command::Explain,
-        3 => Command::Compose,
-        4 => Command::Show,
-        5 => Command::Run,
-        6 => Command::Log,
-        7 => Command::Inspect,
-        8 => Command::Page,
-        9 => Command::Diff,
-        10 => Command::Hopper,
-        11 => Command::HopperSheet,
-        12 => Command::Refit,
-        13 => Command::EmptyStore,
-        14 => Command::Keep,
-        15 => Command::Kept,
-        16 => Command::Versions,
-        17 => Command::Version,
-        18 => Command::Help,
+        3 => Command::Tune,
+        4 => Command::Compose,
+        5 => Command::Show,
+        6 => Command::Run,
+        7 => Command::Log,
+        8 => Command::Inspect,
+        9 => Command::Page,
+        10 => Command::Diff,
+        11 => Command::Hopper,
+        12 => Command::HopperSheet,
+        13 => Command::Refit,
+        14 => Command::EmptyStore,
+        15 => Command::Keep,
+        16 => Command::Kept,
+        17 => Command::Versions,
+        18 => Command::Version,
+        19 => Command::Help,
         _ => Command::Unknown,
     }
 }
@@ -70,6 +72,7 @@ fn has_word(command: Command, word: &[u8]) -> bool
         Command::Plan => words::same_bytes(word, b"plan"),
         Command::PlanSheet => words::same_bytes(word, b"plan-sheet"),
         Command::Explain => words::same_bytes(word, b"explain"),
+        Command::Tune => words::same_bytes(word, b"tune"),
         Command::Compose => words::same_bytes(word, b"compose"),
         Command::Show => words::same_bytes(word, b"show"),
         Command::Run => words::same_bytes(word, b"run"),
@@ -104,6 +107,7 @@ fn following(command: Command) -> Range
         Command::Plan => Range { least: 0, most: 0 },
         Command::PlanSheet => Range { least: 0, most: 0 },
         Command::Explain => Range { least: 0, most: 0 },
+        Command::Tune => Range { least: 0, most: 2 },
         Command::Compose => Range { least: 0, most: 0 },
         Command::Show => Range { least: 0, most: 0 },
         Command::Run => Range { least: 1, most: 1 },

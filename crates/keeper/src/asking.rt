@@ -31,7 +31,7 @@ fn find(path: &[u8], number: &[u8]) -> u8 {
 pub(crate) fn kept(first: usize, second: usize) -> u8 {
     let mut number = io::buffer();
     let digits = os::arg(second, &mut number);
-    if !command_versions::is_whole(&number[..digits]) {
+    if !number_words::is_whole(&number[..digits]) {
         return usage::misused(Command::Kept);
     }
     let mut path = io::buffer();

@@ -22,6 +22,10 @@ pub fn put_line(to: i32, command: Command) -> bool {
             to,
             b"olivastrum explain < SHEET        say why a request sheet or plan sheet is accepted or refused, in numbers that can be checked by hand\n",
         ),
+        Command::Tune => io::write_all(
+            to,
+            b"olivastrum tune [FROM TO] < REQUEST plan the set of a request sheet at every TTRT from FROM to TO, or at all: how many have a plan, and which leaves most for asynchronous traffic\n",
+        ),
         Command::Compose => io::write_all(
             to,
             b"olivastrum compose < TEXT         write the request sheet, plan sheet or log of a text\n",

@@ -108,6 +108,9 @@ fn shown_by(planted: Planted) -> (Kind, &'static [Sort]) {
         Planted::LastRecordLeftOut | Planted::BetweenTwoStations | Planted::FramedTooEarly => {
             (Kind::Pages, &Sort::ALL)
         }
+        Planted::EndLeftOut | Planted::BestBySpare | Planted::WalkSumCounted => {
+            (Kind::Tunings, TIMELY)
+        }
         _ => (Kind::Runs, TIMELY),
     }
 }
@@ -127,8 +130,16 @@ fn comparing_finds_every_planted_error() {
         Kind::Departures,
         Kind::Explanations,
         Kind::Pages,
+        Kind::Tunings,
     ];
-    let others = [Kind::Openings, Kind::Departures, Kind::Orders, Kind::Explanations, Kind::Pages];
+    let others = [
+        Kind::Openings,
+        Kind::Departures,
+        Kind::Orders,
+        Kind::Explanations,
+        Kind::Pages,
+        Kind::Tunings,
+    ];
     let retired = &Planted::ALL[52..57];
     let every = kinds.map(|kind| Sort::ALL.map(|sort| (kind, sort))).concat();
     let sorted = |(kind, sort): &(Kind, Sort)| kind.has_sorts() || *sort == Sort::TIMELY;
@@ -141,9 +152,9 @@ fn comparing_finds_every_planted_error() {
             if elsewhere && shown_by(planted).0 != kind {
                 // An error in the ring may show in the one that is opened, too, and the limits of
                 // marked visits in logs; errors in the inspection and in `diff` show in logs beside
-                // their plans and on pages, and errors in planning and in the rules of a plan in what is
-                // explained. A
-                // wrong 16 shows wherever a ring is planned, opened or looked at.
+                // their plans and on pages, errors in planning and in the rules of a plan in what is
+                // explained, and errors in planning at other TTRT. A wrong 16 shows wherever a ring is
+                // planned, opened or looked at.
                 continue;
             }
             let differs = |(case, right): &&(String, String)| answer(case, planted) != *right;
@@ -157,7 +168,7 @@ fn comparing_finds_every_planted_error() {
             assert!(as_expected, "{planted:?}: {found} in {kind:?} of {sort:?}");
         }
     }
-    assert_eq!([0, 64].map(Planted::from_number), [None, None]);
+    assert_eq!([0, 67].map(Planted::from_number), [None, None]);
     assert_eq!(Planted::from_number(20), Some(Planted::FirstStartCompared));
     assert_eq!(Planted::from_number(24), Some(Planted::LogByTheLaterEdition));
     assert_eq!(Planted::from_number(27), Some(Planted::OffGridOutOfRange));
@@ -172,6 +183,7 @@ fn comparing_finds_every_planted_error() {
     assert_eq!(Planted::from_number(57), Some(Planted::LogRetired));
     assert_eq!(Planted::from_number(60), Some(Planted::FaultBehindField));
     assert_eq!(Planted::from_number(63), Some(Planted::FramedTooEarly));
+    assert_eq!(Planted::from_number(66), Some(Planted::WalkSumCounted));
 }
 
 /// Every promise that the runs with the error break.

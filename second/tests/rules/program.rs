@@ -84,6 +84,20 @@ fn refusals_beside_bytes_go_to_standard_error() {
 }
 
 #[test]
+fn a_request_at_every_ttrt() {
+    let lines = "own 100 plan\nplans 2\nsmallest 99\nlargest 100\nbelow 99\nabove -\nbest 100\n\
+                 plan 4 100 2 18\n";
+    assert_eq!(
+        said(&["tune", "99", "0100"], &request_sheet()),
+        "tried 99 to 100\n".to_string() + lines
+    );
+    let all = said(&["tune"], &request_sheet());
+    assert!(all.starts_with("tried 1 to 1000000\nown 100 plan\nplans "), "{all}");
+    assert_eq!(said(&["tune", "5", "4"], &request_sheet()), "refused 4\n");
+    assert_eq!(said(&["tune"], &plan_sheet()), "refused 2\n");
+}
+
+#[test]
 fn the_longest_waits() {
     let text = said(&["waits", "1", "300"], b"");
     let seen =
@@ -271,6 +285,7 @@ fn usage_for_anything_else() {
         "compose",
         "show",
         "explain",
+        "tune [FROM TO]",
         "plan-sheet",
         "run PLAN",
         "log PLAN",
@@ -286,7 +301,7 @@ fn usage_for_anything_else() {
     ] {
         assert!(usage.contains(&format!("  {name}")), "{name}");
     }
-    let others: [&[&str]; 15] = [
+    let others: [&[&str]; 19] = [
         &["else"],
         &["plan", "more"],
         &["run"],
@@ -297,6 +312,10 @@ fn usage_for_anything_else() {
         &["kept", "store"],
         &["kept", "store", ""],
         &["kept", "store", "-1"],
+        &["tune", "1"],
+        &["tune", "1", ""],
+        &["tune", "-1", "2"],
+        &["tune", "1", "2", "3"],
         &["diff", "old", "new", "more"],
         &["--planted", "99", "plan"],
         &["--planted"],

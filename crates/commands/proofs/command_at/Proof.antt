@@ -22,7 +22,7 @@ past (suc n) place none =
     let other : place ≡ n → ⊥ = none .1 in
     omega arith
 
-behind : tie.Need-returns-20
+behind : tie.Need-returns-21
 unfolding NoneBelow
 behind c = sym (List·getD-eq-default commands Unknown (past (length commands) (c .before .args .place) (c .match .rest)))
 
@@ -33,4 +33,5 @@ command-at-spec =
     (λ c. search needs) (λ c. search needs) (λ c. search needs) (λ c. search needs) (λ c. search needs)
     (λ c. search needs) (λ c. search needs) (λ c. search needs) (λ c. search needs) (λ c. search needs)
     (λ c. search needs) (λ c. search needs) (λ c. search needs) (λ c. search needs) (λ c. search needs)
-    (λ c. search needs) (λ c. search needs) (λ c. search needs) (λ c. search needs) behind)
+    (λ c. search needs) (λ c. search needs) (λ c. search needs) (λ c. search needs) (λ c. search needs)
+    behind)
