@@ -80,8 +80,8 @@
 /* The version of the header and the library, as `./olivastrum version` prints it. */
 #define OLIVASTRUM_VERSION_MAJOR 0
 #define OLIVASTRUM_VERSION_MINOR 16
-#define OLIVASTRUM_VERSION_PATCH 3
-#define OLIVASTRUM_VERSION "0.16.3"
+#define OLIVASTRUM_VERSION_PATCH 5
+#define OLIVASTRUM_VERSION "0.16.5"
 
 #ifdef __cplusplus
 extern "C" {

@@ -1,7 +1,7 @@
 //! The fixed texts of the page: what is on it whatever the log says.
 
 /// The version of Olivastrum, which is that of the proved program: a test holds it to include/olivastrum.h.
-pub const VERSION: &str = "0.16.3";
+pub const VERSION: &str = "0.16.5";
 
 /// What stands before the finding.
 pub const HEAD: &str = r##"<!DOCTYPE html>
