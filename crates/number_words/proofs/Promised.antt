@@ -12,4 +12,9 @@ printed : (n : ℕ) → n < 2 ^ 32 → valueIn (decimalOf n) ≡ n
 printed n l = omega (arith, digits-write (decimalOf n), text-promised .decimal n (omega arith))
 
 pub promised : Promised
-promised = record { written = digits-write; whole = decimal-whole; printed = printed }
+promised =
+    record {
+      written = λ word. digits-write word;
+      whole = λ n. decimal-whole n;
+      printed = λ n l. printed n l;
+    }
