@@ -1,4 +1,5 @@
 // `tune`: the request sheet on standard input, planned at every TTRT of a range.
+ghost use Rattle.command_tune.specs.Tune.{TriedAll};
 use crate::lines;
 use command_tune::Tune;
 use commands::Command;
@@ -69,7 +70,9 @@ fn say_progress(k: Tune) {
 }
 
 // Tries every TTRT. Where standard error is a terminal, it says from the second second on how far it is.
-fn try_all(first: Tune) -> Tune {
+fn try_all(first: Tune) -> Tune
+    ensures { λ r. ⌜ TriedAll first r ⌝ }
+{
     let shown = libc::isatty(STDERR_FILENO) == 1;
     let mut watch = Watch {
         second: clock(),

@@ -3,9 +3,9 @@ use Prim.Native.Nat.{ℕ, zero, suc, _+_, _-_, _*_, _≤_, _<_, min}
 use mathlib.Core.Path.{_≡_, refl, sym, ap, _∙_}
 use mathlib.Core.Bool.{true, false}
 use mathlib.Core.List.{List}
-use mathlib.Core.Logic.{_≢_, ⊎-elim}
+use mathlib.Core.Logic.{_↔_, _≢_, ⊎-elim}
 use native.Mathlib.Omega.{arith}
-use borrow.Author.Tests.{lt-ltb, le-ltb, ltb-true}
+use borrow.Author.Tests.{eq-eqb, ne-eqb, lt-ltb, le-ltb, ltb-true}
 use Rattle.units.specs.Numbers.{mostTtrt}
 use Rattle.units.proofs.JudgingLaws.{decides-le, decides-both, true-or-false, held, failed}
 use Rattle.units.proofs.SmallLaws.{below-or-not}
@@ -13,10 +13,12 @@ use Rattle.sets.specs.declared.Set.{Set}
 use Rattle.field_reader.specs.Scanned.{scanned}
 use Rattle.sheets.specs.Reading.{givenAnswer, givenSheet}
 use Rattle.sheets.proofs.ReadLaws.{then-keeps, then-rest, then-none}
-use Rattle.tuning.specs.Tunings.{judgedAtAll, noTuning, tunedOver, tuned}
+use Rattle.tuning.specs.Shown.{PlannedIn, Shown}
+use Rattle.tuning.specs.Tunings.{withTtrt, judgedAtAll, spareAt, noTuning, tunedOver, tuned}
 use Rattle.tuning.specs.declared.Tuning.{Tuning}
 use Rattle.tuning.proofs.Promised as tuning
-use Rattle.command_tune.specs.Tune.{isRange, requested, tuneNumber, triedTo, refusedWith, begunWith, begun, isDone, furtherOf, wentOn, wentOnFor, endedWith}
+use Rattle.command_tune.specs.Tune.{isRange, requested, tuneNumber, triedTo, refusedWith, begunWith, begun, isDone, furtherOf, wentOn, wentOnFor, endedWith, ended}
+use Rattle.command_tune.specs.Lines.{foundLine, planLineOf, numberOf}
 use Rattle.command_tune.specs.declared.Tune.{Tune}
 
 -- ---- FROM and TO
@@ -78,6 +80,14 @@ went-more k e = rw e refl
 pub went-done : (k : Tune) → isDone k ≡ true → wentOn k ≡ k
 unfolding wentOn
 went-done k e = rw e refl
+
+pub went-none : (k : Tune) → wentOnFor 0 k ≡ k
+unfolding wentOnFor
+went-none k = refl
+
+pub went-again : (i : ℕ) (k : Tune) → wentOnFor (suc i) k ≡ wentOn (wentOnFor i k)
+unfolding wentOnFor
+went-again i k = refl
 
 -- how many were tried after i times
 abbrev doneOf : ℕ → ℕ → ℕ → ℕ
@@ -160,3 +170,58 @@ module _ (t : Set) (from to : ℕ) where
   unfolding begunWith
   ends-with zero range = ends t from to (range refl)
   ends-with (suc k) range = rw (refused-stays (suc k) 245) refl
+
+-- ---- what is shown
+
+module _ (t : Set) (from to : ℕ) where
+  ended-seen : (k : ℕ) → k ≡ 0 → endedWith k t from to ≡ triedTo t from to (to + 1) (tuned t from (to + 1 - from))
+  unfolding endedWith
+  ended-seen k e = rw e refl
+
+  ended-refused : (k : ℕ) → k ≢ 0 → endedWith k t from to ≡ refusedWith k
+  unfolding endedWith
+  ended-refused zero n = absurd (n refl)
+  ended-refused (suc k) n = refl
+
+module _ (bs : List ℕ) (from to : ℕ) where
+  pub seen-is : tuneNumber bs from to ≡ 0 → ended bs from to ≡ triedTo (requested bs) from to (to + 1) (tuned (requested bs) from (to + 1 - from))
+  seen-is e = ended-seen (requested bs) from to (tuneNumber bs from to) e
+
+  pub shown : tuneNumber bs from to ≡ 0 → Shown (requested bs) from (to + 1 - from) (ended bs from to .seen)
+  shown e = rw (seen-is e) (tuning.promised .shown (requested bs) from (to + 1 - from))
+
+  -- 6 exactly where nothing is counted
+  six-for : (k : Tune) → k .number ≡ 0 → k .seen .count ≡ 0 → numberOf k ≡ 6
+  unfolding numberOf
+  six-for k e z = then-rest (k .number) _ e ∙ rw (eq-eqb (k .seen .count) 0 z) refl
+
+  none-for : (k : Tune) → k .number ≡ 0 → k .seen .count ≢ 0 → numberOf k ≡ 0
+  unfolding numberOf
+  none-for k e n = then-rest (k .number) _ e ∙ rw (ne-eqb (k .seen .count) 0 n) refl
+
+  pub status : tuneNumber bs from to ≡ 0 → (numberOf (ended bs from to) ≡ 0) ↔ ((x : ℕ) × PlannedIn (requested bs) from (to + 1 - from) x)
+  status e =
+      let k = ended bs from to in
+      let accepted : k .number ≡ 0 = ap (λ (j : Tune). j .number) (seen-is e) in
+      let none = tuning.promised .none (requested bs) from (to + 1 - from) in
+      let counted : k .seen .count ≡ tuned (requested bs) from (to + 1 - from) .count = ap (λ (j : Tune). j .seen .count) (seen-is e) in
+      let smallest = shown e .smallest in (
+        λ n.
+            ⊎-elim (λ (l : 0 < k .seen .smallest). (k .seen .smallest, smallest .one l))
+            (λ (l : k .seen .smallest ≤ 0). absurd (omega (arith, n, six-for k accepted (counted ∙ none .1 (smallest .none (omega arith))))))
+            (below-or-not 0 (k .seen .smallest)),
+        λ h. none-for k accepted (λ z. none .0 (sym counted ∙ z) (h .0) (h .1)),
+      )
+
+  pub refused : tuneNumber bs from to ≢ 0 → numberOf (ended bs from to) ≡ tuneNumber bs from to
+  unfolding numberOf
+  refused n = rw (ended-refused (requested bs) from to (tuneNumber bs from to) n) (then-keeps _ _ n)
+
+  pub plan-line : tuneNumber bs from to ≡ 0 → 0 < ended bs from to .seen .best → foundLine (ended bs from to) 8 ≡ planLineOf (withTtrt (requested bs) (ended bs from to .seen .best))
+  unfolding foundLine
+  plan-line e l =
+      let t = requested bs in
+      let k = ended bs from to in
+      let set : k .set ≡ t = ap (λ (j : Tune). j .set) (seen-is e) in
+      let spare : k .seen .spare ≡ spareAt t (k .seen .best) = shown e .spare l in
+      rw (set, spare) refl

@@ -5,7 +5,11 @@ use mathlib.Core.List.{List, [], _∷_}
 use lib.Dec.{leb, ltb, eqb}
 use lib.ListN.{replicate}
 use Rattle.units.specs.Numbers.{accepted, noAllocation}
+use Rattle.units.specs.Places.{at}
 use Rattle.sets.specs.Rules.{tau}
+use Rattle.sets.specs.declared.Set.{Set}
+use Rattle.plans.specs.Rules.{spareTime}
+use Rattle.plans.specs.Planned.{planned}
 use Rattle.sheets.specs.Reading.{thenNumber}
 use Rattle.command_tune.specs.declared.Form.{Form}
 use Rattle.command_tune.specs.declared.Form.the-variants as form
@@ -51,6 +55,11 @@ foundLine k i =
     (cond (eqb i 6) (orNone form.Above form.NoneAbove (k .seen .above))
     (cond (eqb i 7) (one form.Best (k .seen .best))
     (line form.Plan (k .set .n ∷ k .seen .best ∷ tau (k .set) ∷ k .seen .spare ∷ 0 ∷ 0 ∷ []))))))
+
+-- the numbers of the first line that `plan` prints of a set that has a plan: N, TTRT, τ, A*
+abbrev pub planLineOf : Set → Line
+planLineOf t =
+    line form.Plan (t .n ∷ t .head .ttrt ∷ tau t ∷ spareTime t (at (planned t .alloc .s)) ∷ 0 ∷ 0 ∷ [])
 
 -- the refusal, or 6 where no TTRT of the range has a plan
 unfoldable pub numberOf : Tune → ℕ

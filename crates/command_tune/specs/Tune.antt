@@ -1,6 +1,7 @@
 -- `tune`: which requests are refused, and a range of TTRT tried some at a time.
 use Prim.Native.Nat.{ℕ, zero, suc, _+_, _-_, min}
-use mathlib.Core.Bool.{Bool, false, cond, _&&_}
+use mathlib.Core.Path.{_≡_}
+use mathlib.Core.Bool.{Bool, true, false, cond, _&&_}
 use mathlib.Core.List.{List}
 use lib.Dec.{leb, ltb}
 use Rattle.units.specs.Numbers.{outOfRange, mostTtrt}
@@ -73,6 +74,12 @@ wentOn k = cond (isDone k) k (furtherOf k)
 unfoldable pub wentOnFor : ℕ → Tune → Tune
 wentOnFor zero k = k
 wentOnFor (suc i) k = wentOn (wentOnFor i k)
+
+-- gone on with until all were tried
+pub record TriedAll (first r : Tune) : Type 0 where
+  pub times : ℕ
+  pub is : r ≡ wentOnFor times first
+  pub done : isDone r ≡ true
 
 -- all of the range at once
 unfoldable pub endedWith : ℕ → Set → ℕ → ℕ → Tune

@@ -24,7 +24,7 @@ pub fn put_line(to: i32, command: Command) -> bool {
         ),
         Command::Tune => io::write_all(
             to,
-            b"olivastrum tune [FROM TO] < REQUEST plan the set of a request sheet at every TTRT from FROM to TO, or at all: how many have a plan, and which leaves most for asynchronous traffic\n",
+            b"olivastrum tune [FROM TO] < REQUEST plan the set of a request sheet at every TTRT from FROM to TO, or at all: how many have a plan, and which leaves the largest part of the rotation for asynchronous traffic\n",
         ),
         Command::Compose => io::write_all(
             to,

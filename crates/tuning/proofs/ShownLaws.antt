@@ -1,8 +1,8 @@
 -- What a range shows goes on by one TTRT: the new one is above all that were tried, so each choice stays or is the new one.
-use Prim.Native.Nat.{ℕ, zero, suc, _+_, _*_, _≤_, _<_, min}
+use Prim.Native.Nat.{ℕ, zero, suc, _+_, _-_, _*_, _≤_, _<_, min}
 use mathlib.Core.Path.{_≡_, refl, sym, ap, _∙_}
 use mathlib.Core.Bool.{Bool, true, false, cond, _&&_, _||_, true≢false}
-use mathlib.Core.Logic.{_≢_, _⊎_, inl, inr, ⊎-elim}
+use mathlib.Core.Logic.{_↔_, _≢_, _⊎_, inl, inr, ⊎-elim}
 use native.Mathlib.Numerals.{add-one}
 use native.Mathlib.Omega.{arith}
 use native.Mathlib.Nat.{mul-le-mul-right, mul-lt-mul-of-pos-right, lt-of-mul-lt-mul-right, mul-right-comm}
@@ -10,7 +10,7 @@ use borrow.Author.Tests.{eqb-true, eqb-false, eq-eqb, ne-eqb, ltb-true, ltb-fals
 use lib.Dec.{eqb, ltb}
 use Rattle.units.specs.Numbers.{mostTtrt}
 use Rattle.units.specs.Places.{sumBelow}
-use Rattle.units.proofs.PlaceLaws.{sum-step, sum-none}
+use Rattle.units.proofs.PlaceLaws.{sum-step, sum-none, sum-part}
 use Rattle.units.proofs.JudgingLaws.{true-or-false, and-true, true-and, decides-not}
 use Rattle.units.proofs.SmallLaws.{below-or-not}
 use Rattle.sets.proofs.SetLaws.{allowed}
@@ -42,11 +42,20 @@ at-most-one : (b : Bool) → cond b 1 0 ≤ 1
 at-most-one true = omega arith
 at-most-one false = omega arith
 
--- no more than there are
-few-ones : (t : Set) (from n : ℕ) → sumBelow n (ones t from) ≤ n
+-- TTRT 0 has none
+none-at-zero : (t : Set) (from n : ℕ) → from + n ≡ 0 → ones t from n ≡ 0
+none-at-zero t from n e =
+    let none : hasPlan t (from + n) ≡ false = decides-not _ _ (decides-plan t (from + n)) .1 (λ p. omega (arith, ranged t (from + n) p .0)) in
+    rw none refl
+
+-- fewer than the next TTRT
+few-ones : (t : Set) (from n : ℕ) → sumBelow n (ones t from) ≤ from + n - 1
 unfolding sumBelow
 few-ones t from zero = omega arith
-few-ones t from (suc n) = omega (arith, few-ones t from n, at-most-one (hasPlan t (from + n)))
+few-ones t from (suc n) =
+    ⊎-elim (λ (l : 0 < from + n). omega (arith, few-ones t from n, at-most-one (hasPlan t (from + n))))
+    (λ (l : from + n ≤ 0). omega (arith, few-ones t from n, none-at-zero t from n (omega arith)))
+    (below-or-not 0 (from + n))
 
 module _ (t : Set) (from n : ℕ) where
   -- ---- who is in the range with one more
@@ -170,16 +179,16 @@ module _ (t : Set) (from n : ℕ) (k : Tuning) (s : Shown t from n k) (found : h
   spare-of true l = refl
   spare-of false l = s .spare l
 
-  count : n < mostTtrt → min (k .count + 1) mostTtrt ≡ sumBelow (n + 1) (ones t from)
-  count room =
+  count : min (k .count + 1) mostTtrt ≡ sumBelow (n + 1) (ones t from)
+  count =
       let one : ones t from n ≡ 1 = rw found refl in
-      omega (arith, s .count, few-ones t from n, sum-step n (ones t from), one)
+      omega (arith, s .count, few-ones t from n, some, ranged t (from + n) (here .plan) .1, sum-step n (ones t from), one)
 
-  pub with-plan : n < mostTtrt → Shown t from (n + 1) (counted (t .head .ttrt) (from + n) (spareAt t (from + n)) k)
+  pub with-plan : Shown t from (n + 1) (counted (t .head .ttrt) (from + n) (spareAt t (from + n)) k)
   unfolding counted
-  with-plan room =
+  with-plan =
       record {
-        count = count room;
+        count = count;
         smallest = smallest;
         largest = largest;
         below = below;
@@ -205,9 +214,9 @@ module _ (t : Set) (from n : ℕ) (k : Tuning) (s : Shown t from n k) (none : ha
       }
 
 -- one TTRT more
-goes-on : (t : Set) (from n : ℕ) (k : Tuning) → n < mostTtrt → Shown t from n k → Shown t from (n + 1) (triedAt t (from + n) k)
-goes-on t from n k room s =
-    ⊎-elim (λ e. rw (tried-plan t (from + n) k e) (with-plan t from n k s e room)) (λ e. rw (tried-none t (from + n) k e) (without-plan t from n k s e))
+goes-on : (t : Set) (from n : ℕ) (k : Tuning) → Shown t from n k → Shown t from (n + 1) (triedAt t (from + n) k)
+goes-on t from n k s =
+    ⊎-elim (λ e. rw (tried-plan t (from + n) k e) (with-plan t from n k s e)) (λ e. rw (tried-none t (from + n) k e) (without-plan t from n k s e))
     (true-or-false (hasPlan t (from + n)))
 
 -- nothing is chosen of nothing
@@ -227,10 +236,10 @@ begins t from =
       spare = λ l. absurd (omega arith);
     }
 
-pub shown : (t : Set) (from n : ℕ) → n ≤ mostTtrt → Shown t from n (tuned t from n)
+pub shown : (t : Set) (from n : ℕ) → Shown t from n (tuned t from n)
 unfolding tunedOver
-shown t from zero room = begins t from
-shown t from (suc n) room = rw add-one at (goes-on t from n (tuned t from n) (omega arith) (shown t from n (omega arith)))
+shown t from zero = begins t from
+shown t from (suc n) = rw add-one at (goes-on t from n (tuned t from n) (shown t from n))
 
 pub joined : (t : Set) (from a b : ℕ) (k : Tuning) → tunedOver t (from + a) b (tunedOver t from a k) ≡ tunedOver t from (a + b) k
 unfolding tunedOver
@@ -241,3 +250,26 @@ joined t from a (suc b) k =
     ap (triedAt t (from + a + b)) (joined t from a b k)
     ∙ ap (λ (x : ℕ). triedAt t x (tunedOver t from (a + b) k)) place
     ∙ ap (λ (n : ℕ). tunedOver t from n k) whole
+
+-- ---- none
+
+no-ones : (t : Set) (from n : ℕ) → ((i : ℕ) → i < n → ones t from i ≡ 0) → sumBelow n (ones t from) ≡ 0
+unfolding sumBelow
+no-ones t from zero h = refl
+no-ones t from (suc n) h = omega (arith, no-ones t from n (λ i l. h i (omega arith)), h n (omega arith))
+
+pub none-counted : (t : Set) (from n : ℕ) → (tuned t from n .count ≡ 0) ↔ ((x : ℕ) → ¬ PlannedIn t from n x)
+none-counted t from n = (
+  λ e x h.
+      let i = x - from in
+      let place : from + i ≡ x = omega (arith, h .first) in
+      let one : ones t from i ≡ 1 = rw (place, decides-plan t x .1 (h .plan)) refl in
+      let part : ones t from i ≤ sumBelow n (ones t from) = sum-part n (ones t from) i (omega (arith, h .first, h .last)) in
+      omega (arith, shown t from n .count, one, part),
+  λ none.
+      shown t from n .count
+      ∙ no-ones t from n (λ i l.
+      let plain : hasPlan t (from + i) ≡ false =
+      decides-not _ _ (decides-plan t (from + i)) .1 (λ p. none (from + i) (record { first = omega arith; last = omega arith; plan = p })) in
+      rw plain refl),
+)

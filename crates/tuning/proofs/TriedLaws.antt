@@ -1,23 +1,23 @@
 -- A TTRT tried by plain numbers is the TTRT tried: of a set whose other numbers are allowed, planning finds a plan exactly where TTRT and τ are in their ranges and the smallest S fit, and what is left is A*.
 use Prim.Native.Nat.{ℕ, zero, suc, _+_, _-_, _≤_}
 use mathlib.Core.Path.{_≡_, refl, sym, ap, _∙_}
-use mathlib.Core.Bool.{true, false}
+use mathlib.Core.Bool.{true, false, not}
 use mathlib.Core.List.{List}
-use mathlib.Core.Logic.{_↔_, ⊎-elim}
+use mathlib.Core.Logic.{_↔_, _≢_, ⊎-elim}
 use native.Mathlib.Numerals.{add-one}
 use native.Mathlib.Omega.{arith}
 use borrow.Author.Tests.{eqb-true, eq-eqb}
 use Rattle.units.specs.Numbers.{mostTtrt}
 use Rattle.units.specs.Judging.{Decides}
-use Rattle.units.proofs.JudgingLaws.{decides-both, decides-between, decides-le, decides-not, same-test, true-or-false, given-later, iff-then, iff-under}
+use Rattle.units.proofs.JudgingLaws.{decides-both, decides-between, decides-le, decides-not, same-test, true-or-false, held, failed, given-later, iff-then, iff-under}
 use Rattle.units.specs.Places.{at}
 use Rattle.units.proofs.PlaceLaws.{sum-same}
-use Rattle.sets.specs.Rules.{tau, CountAllowed, NumbersAllowed}
+use Rattle.sets.specs.Rules.{tau, CountAllowed, NumbersAllowed, countAllowed, numbersAllowed}
 use Rattle.sets.proofs.SetLaws.{decides-count, decides-numbers, allowed}
 use Rattle.sets.specs.declared.Set.{Set}
-use Rattle.plans.specs.Rules.{lost, Retired}
+use Rattle.plans.specs.Rules.{lost, isFddi, Retired}
 use Rattle.plans.specs.Planned.{smallestAt}
-use Rattle.plans.proofs.PlanLaws.{decides-in-use, spare-timely, use-timely}
+use Rattle.plans.proofs.PlanLaws.{decides-fddi, decides-in-use, spare-timely, use-timely}
 use Rattle.reasons.specs.Shortages.{Plannable}
 use Rattle.reasons.proofs.PlanningLaws.{plan-plannable, plan-is, plan-s}
 use Rattle.tuning.specs.Bounds.{neededAt, fitsAt, triedWith, triedOver}
@@ -77,22 +77,51 @@ judged-tunable t =
     (iff-under (iff-then (given-later _ _ 16 0 0 (decides-in-use t) (omega arith)) ((λ h. h .0), λ m. (m, refl))))))
     ((λ h. record { count = h .0; numbers = h .1 .0; in-use = h .1 .1 }), λ h. (h .count, (h .numbers, h .in-use))))
 
+-- ---- what is refused whatever TTRT is, test by test
+
+module _ (t : Set) where
+  pub judged-count : countAllowed t ≡ false → judgedAtAll t ≡ 2
+  unfolding judgedAtAll
+  judged-count h = failed _ _ _ h
+
+  pub judged-number : countAllowed t ≡ true → numbersAllowed (withTtrt t mostTtrt) ≡ false → judgedAtAll t ≡ 4
+  unfolding judgedAtAll
+  judged-number h₂ h₄ = held _ _ _ h₂ ∙ failed _ _ _ h₄
+
+  pub judged-mode : countAllowed t ≡ true → numbersAllowed (withTtrt t mostTtrt) ≡ true → Retired t → judgedAtAll t ≡ 16
+  unfolding judgedAtAll
+  judged-mode h₂ h₄ m = held _ _ _ h₂ ∙ held _ _ _ h₄ ∙ failed _ _ _ (ap not (decides-fddi t .1 m))
+
+  pub not-tunable : countAllowed t ≡ true → numbersAllowed (withTtrt t mostTtrt) ≡ true → judgedAtAll t ≢ 0 → Retired t
+  not-tunable h₂ h₄ n =
+      ⊎-elim (λ e. decides-fddi t .0 e)
+      (λ e.
+      absurd (n (judged-tunable t .1 (record { count = decides-count t .0 h₂; numbers = decides-numbers (withTtrt t mostTtrt) .0 h₄; in-use = decides-not _ _ (decides-fddi t) .0 e }))))
+      (true-or-false (isFddi t))
+
+  -- the numbers of one TTRT are those of another
+  pub at-most : (x : ℕ) → NumbersAllowed (withTtrt t x) → NumbersAllowed (withTtrt t mostTtrt)
+  at-most x all =
+      let any : (1 ≤ mostTtrt) × (mostTtrt ≤ mostTtrt) = (omega arith, omega arith) in
+      record {
+        header = record { ttrt = any; mode = all .header .mode; frame = all .header .frame; grid = all .header .grid };
+        stations = all .stations;
+      }
+
+  pub at-range : (x : ℕ) → (1 ≤ x) × (x ≤ mostTtrt) → numbersAllowed (withTtrt t mostTtrt) ≡ true → NumbersAllowed (withTtrt t x)
+  at-range x range e =
+      let all = decides-numbers (withTtrt t mostTtrt) .0 e in
+      record {
+        header = record { ttrt = range; mode = all .header .mode; frame = all .header .frame; grid = all .header .grid };
+        stations = all .stations;
+      }
+
 -- with a plan at some TTRT it is so
 pub plan-tunable : (t : Set) (x : ℕ) → plannedAt t x .number ≡ 0 → Tunable t
 plan-tunable t x e =
     let h = plan-plannable (withTtrt t x) e in
     let all = allowed (withTtrt t x) .0 (h .0) in
-    let head = all .1 .0 .header in
-    let any : (1 ≤ mostTtrt) × (mostTtrt ≤ mostTtrt) = (omega arith, omega arith) in
-    record {
-      count = all .0;
-      numbers =
-          record {
-            header = record { ttrt = any; mode = head .mode; frame = head .frame; grid = head .grid };
-            stations = all .1 .0 .stations;
-          };
-      in-use = h .1;
-    }
+    record { count = all .0; numbers = at-most t x (all .1 .0); in-use = h .1 }
 
 record FitsAt (h : Terms) (c d : List ℕ) (x : ℕ) : Type 0 where
   range : (1 ≤ x) × (x ≤ mostTtrt)
@@ -111,9 +140,7 @@ decides-plan t x = (eqb-true _ _, eq-eqb _ _)
 
 module _ (t : Set) (x : ℕ) (h : Tunable t) where
   pub at-numbers : (1 ≤ x) × (x ≤ mostTtrt) → NumbersAllowed (withTtrt t x)
-  at-numbers range =
-      let head = h .numbers .header in
-      record { header = record { ttrt = range; mode = head .mode; frame = head .frame; grid = head .grid }; stations = h .numbers .stations }
+  at-numbers range = at-range t x range (decides-numbers (withTtrt t mostTtrt) .1 (h .numbers))
 
   -- where TTRT and τ are in their ranges, planning answers 6 or a plan
   pub at-plannable : (1 ≤ x) × (x ≤ mostTtrt) → (1 ≤ tau t) × (tau t ≤ x) → Plannable (withTtrt t x)

@@ -9,7 +9,7 @@ abbrev pub worked : Set
 worked = four 1 1
 
 pub record Cases : Type 0 where
-  -- up to TTRT 100 one whole rotation fits into D, and S is 20 at each station; at 101 and 102 none does, and S is 21 and 22. A* is 16, 17, 18, 15 and 12, and 18 of 100 is the largest part
+  -- from 60 to 100 one whole rotation fits into D, and S is 20 at each station; at 101 and 102 none does, and S is 21 and 22. A* is 16, 17, 18, 15 and 12, and 18 of 100 is the largest part
   pub around : tuned worked 98 5
       ≡ record { count = 5; smallest = 98; largest = 102; below = 99; above = 101; best = 100; spare = 18 }
   -- at 52 S is 12 at each station, and 50 ticks are needed; at 53 it is 13, and 54 are: a larger TTRT may have no plan where a smaller one has
