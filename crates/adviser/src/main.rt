@@ -1,4 +1,6 @@
 // The program of `explain` and `tune`: it reads a sheet, asks for the phrases or lines one after another, writes each in its words, and says how it ended.
+#![tactic(auto)]
+
 mod forms;
 mod lines;
 mod trying;

@@ -8,14 +8,14 @@ use libc::{STDERR_FILENO, STDIN_FILENO};
 use streams::{ending, reading, usage, words};
 
 // What a word writes, and whether it is a whole number.
-#[derive(Drop)]
+#[derive(Clone, Copy)]
 struct Number {
     value: u64,
     whole: bool,
 }
 
 // The second by the clock that was seen last, and how often it was another one, up to two: then more than a second has passed.
-#[derive(Drop)]
+#[derive(Clone, Copy)]
 struct Watch {
     second: i64,
     changes: u8,

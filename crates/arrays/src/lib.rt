@@ -1,4 +1,6 @@
 // Loops over the first n places of arrays of 128. Each answers every n: of lent arrays 128 places are looked at and no more; past the end of an array by value a place reads as 0, and nothing is stored there.
+#![tactic(auto)]
+
 ghost use Rattle.std.specs.Prelude.{◌≡◌, ◌+◌, ◌-◌, ◌<◌, min, leb, ltb};
 ghost use Rattle.units.specs.Places.{at, sum_below, all_below};
 ghost use Rattle.arrays.specs.Held.{held, raised_held, sums_to_last};

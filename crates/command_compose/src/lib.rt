@@ -1,4 +1,6 @@
 // What `compose` makes of a text: a set, for a plan with its allocation, read line by line; and a log's bytes as its lines are read.
+#![tactic(auto)]
+
 mod sending;
 
 ghost use Rattle.std.specs.Prelude.{◌≡◌, ◌<◌, ◌^◌, min, length};
@@ -32,7 +34,7 @@ const PIECE_SIZE: usize = 2_048;
 
 // What was read of a text, line by line.
 #[repr(C)]
-#[derive(Drop)]
+#[derive(Clone, Copy)]
 pub struct Draft {
     pub set: Set,
     pub alloc: Alloc,
@@ -50,7 +52,7 @@ pub struct Draft {
 
 // A text that is being read: the draft, and what was read of the line.
 #[repr(C)]
-#[derive(Drop)]
+#[derive(Clone, Copy)]
 pub struct Composing {
     pub draft: Draft,
     pub scan: Scan,
@@ -58,7 +60,7 @@ pub struct Composing {
 
 // The text goes on: where its reading stands, and how many bytes of the page go out.
 #[repr(C)]
-#[derive(Drop)]
+#[derive(Clone, Copy)]
 pub struct Composed {
     pub composing: Composing,
     pub length: usize,

@@ -1,4 +1,6 @@
 // What `diff` prints of two plan sheets: a line for each difference, `same`, or which side is refused.
+#![tactic(auto)]
+
 mod putting;
 
 ghost use Rattle.sheets.specs.Reading.{read_plan};
@@ -14,7 +16,7 @@ use units::numbers;
 
 // How many bytes of the page are the answer, and whether it is `same`.
 #[repr(C)]
-#[derive(Drop)]
+#[derive(Clone, Copy)]
 pub struct Diffed {
     pub length: usize,
     pub same: bool,

@@ -48,7 +48,7 @@ fn verdict(e: Explained) -> Phrase
 // ---- 1, 2, 3
 
 // A kind of field: its tag, its one length, and the form that says that it may stand there.
-#[derive(Drop)]
+#[derive(Clone, Copy)]
 pub(crate) struct Kind {
     tag: u8,
     size: u8,
@@ -201,7 +201,7 @@ fn fault_phrase(e: Explained, j: usize) -> Phrase
 // ---- 4
 
 // A field of the header: its tag, the least number that may stand in it, and the forms of one that is out of range, and of a 1.
-#[derive(Drop)]
+#[derive(Clone, Copy)]
 pub(crate) struct Row {
     tag: u8,
     low: u64,

@@ -1,4 +1,6 @@
 // What `explain` says of a sheet's bytes, as a list of phrases: each is a form of words, by its name, and the numbers that stand in it. The words of the forms are the program's.
+#![tactic(auto)]
+
 mod ends;
 mod first;
 mod sheet;
@@ -14,7 +16,7 @@ use reasons::Rooms;
 use sets::{Head, Set};
 
 // The forms of words. What each of them says stands in `adviser`.
-#[derive(Drop)]
+#[derive(Clone, Copy)]
 pub enum Form {
     // No words.
     Nothing,
@@ -86,14 +88,14 @@ pub enum Form {
 }
 
 // A form, and its numbers in their order; behind the last of them zeros.
-#[derive(Drop)]
+#[derive(Clone, Copy)]
 pub struct Phrase {
     pub form: Form,
     pub numbers: [u64; 6],
 }
 
 // Where the walk over the bytes stopped: the byte, of 3 the one behind the end field; how many bytes there are from it on; the tag and the length there, if three bytes are left; and the fields that passed.
-#[derive(Drop)]
+#[derive(Clone, Copy)]
 pub struct Place {
     pub byte: u64,
     pub left: u64,
@@ -103,7 +105,7 @@ pub struct Place {
 }
 
 // The sum of S with what it is held against, and what follows of it.
-#[derive(Drop)]
+#[derive(Clone, Copy)]
 pub struct Sums {
     pub sum: u64,
     pub tau: u64,
@@ -122,7 +124,7 @@ pub struct Sums {
 }
 
 // All that the phrases are made of.
-#[derive(Drop)]
+#[derive(Clone, Copy)]
 pub struct Explained {
     // The bytes are explained as a plan sheet, not as a request sheet.
     pub plan: bool,

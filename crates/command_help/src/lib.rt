@@ -1,4 +1,6 @@
 // What `help` prints: `commands.txt` has the same, and `tests/table` holds the two together.
+#![tactic(auto)]
+
 ghost use Rattle.streams.specs.Ends.{Ends};
 
 use commands::status;

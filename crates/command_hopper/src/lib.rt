@@ -1,4 +1,6 @@
 // The texts of `hopper`, `hopper-sheet` and `refit`: wagons and changes read line by line, and what is printed of a list and of a change.
+#![tactic(auto)]
+
 mod change_lines;
 mod wagon_lines;
 
@@ -13,7 +15,7 @@ use text::{PAGE_SIZE, Said};
 
 // A text of wagons that is being read.
 #[repr(C)]
-#[derive(Drop)]
+#[derive(Clone, Copy)]
 pub struct Listing {
     pub list: WagonList,
     pub scan: Scan,
@@ -24,7 +26,7 @@ pub struct Listing {
 }
 
 // What a line of changes was answered.
-#[derive(Drop)]
+#[derive(Clone, Copy)]
 pub enum Change {
     // The line is empty.
     Nothing,
@@ -35,7 +37,7 @@ pub enum Change {
 }
 
 // What a line did: the train behind it, the answer, and whether the line cannot be read.
-#[derive(Drop)]
+#[derive(Clone, Copy)]
 pub(crate) struct Changed {
     train: Train,
     change: Change,
@@ -44,7 +46,7 @@ pub(crate) struct Changed {
 
 // A text of changes that is being read: the train, what was read of the line, and the line's number.
 #[repr(C)]
-#[derive(Drop)]
+#[derive(Clone, Copy)]
 pub struct Refit {
     pub train: Train,
     pub scan: Scan,
@@ -53,7 +55,7 @@ pub struct Refit {
 
 // What a byte did: where the changes stand, how many bytes of the page are the answer, and whether a line ended there that cannot be read.
 #[repr(C)]
-#[derive(Drop)]
+#[derive(Clone, Copy)]
 pub struct Refitted {
     pub refit: Refit,
     pub length: usize,

@@ -1,4 +1,6 @@
 // What `inspect` prints of a log that was read whole: `accepted N`; `record K RULE` and a line for people; or `refused N`.
+#![tactic(auto)]
+
 ghost use Rattle.std.specs.Prelude.{◌≡◌, ◌∷◌, ◌+◌, ◌≤◌, length};
 ghost use Rattle.text.specs.Text.{space, PutShort, Printed, page_size};
 ghost use Rattle.command_inspect.specs.FindingText.{accepted_line, rule_word, record_line, frames_aim, aim_of, before_of, unit_of, compared_line, mark_line, people_line, broken_text, finding_text, is_accepted, FoundOn};
@@ -11,7 +13,7 @@ use units::numbers;
 
 // What was found is on a page: how many bytes it is, and whether the log is accepted.
 #[repr(C)]
-#[derive(Drop)]
+#[derive(Clone, Copy)]
 pub struct Found {
     pub length: usize,
     pub accepted: bool,

@@ -1,4 +1,6 @@
 // What `inspect PLAN` prints of a plan sheet and of a log that was read whole: `plan refused N`; `refused N` of the log; `another plan` and what differs; or what was found in the log.
+#![tactic(auto)]
+
 ghost use Rattle.std.specs.Prelude.{◌≡◌, ◌+◌, ◌≤◌, length};
 ghost use Rattle.sheets.specs.Reading.{read_plan};
 ghost use Rattle.text.specs.Text.{PutShort, page_size};

@@ -1,4 +1,6 @@
 // What `log` writes: the calls are read line by line, and each visit, marking and unmarking that the ring accepted goes out as a field of the log.
+#![tactic(auto)]
+
 ghost use Rattle.std.specs.Prelude.{◌≡◌, [], ◌+◌, ◌≤◌, length};
 ghost use Rattle.sheets.specs.Reading.{read_plan};
 ghost use Rattle.log_records.specs.declared.Entry.TheVariants.{Visit, Mark};
@@ -16,7 +18,7 @@ use units::{Station, numbers};
 
 // A run that is recorded: where it stands; the recorder's counter, as it was at this clock of the ring; and the first line that cannot be read, 0 where each can.
 #[repr(C)]
-#[derive(Drop)]
+#[derive(Clone, Copy)]
 pub struct Recording {
     pub run: Run,
     pub clock: u64,
@@ -26,7 +28,7 @@ pub struct Recording {
 
 // The recording goes on: where it stands, and how many bytes of the page are fields of records.
 #[repr(C)]
-#[derive(Drop)]
+#[derive(Clone, Copy)]
 pub struct Recorded {
     pub recording: Recording,
     pub length: usize,
@@ -34,7 +36,7 @@ pub struct Recorded {
 
 // A recording that begins, how many bytes of the buffer are the plan's fields, and 0. Refused: no byte, and the refusal; the recording is that of a blank ring, or with 14 that of the opened ring.
 #[repr(C)]
-#[derive(Drop)]
+#[derive(Clone, Copy)]
 pub struct OpenedLog {
     pub recording: Recording,
     pub length: usize,

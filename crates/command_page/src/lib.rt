@@ -1,4 +1,6 @@
 // What `page` says of a log around its picture, as a list of parts: each is a form of words, by its name, and the numbers that stand in it. The words of the forms are the program's.
+#![tactic(auto)]
+
 mod answer;
 mod did;
 mod forms;
@@ -20,7 +22,7 @@ use sets::Set;
 use units::numbers;
 
 // What is answered, the first of these that applies.
-#[derive(Drop)]
+#[derive(Clone, Copy)]
 pub enum Outcome {
     // The plan sheet in PLAN is refused.
     PlanRefused,
@@ -34,7 +36,7 @@ pub enum Outcome {
 }
 
 // The forms of words. What each of them says stands in the program.
-#[derive(Drop)]
+#[derive(Clone, Copy)]
 pub enum Form {
     // No words.
     Nothing,
@@ -107,14 +109,14 @@ pub enum Form {
 }
 
 // A form, and its numbers in their order; behind the last of them zeros.
-#[derive(Drop)]
+#[derive(Clone, Copy)]
 pub struct Part {
     pub form: Form,
     pub numbers: [u64; 6],
 }
 
 // What the named record must have, and where it comes from.
-#[derive(Drop)]
+#[derive(Clone, Copy)]
 pub struct Due {
     pub expected: Expected,
     // The start of a visit that is not the first: that of the visit before, and what it took.
@@ -127,7 +129,7 @@ pub struct Due {
 }
 
 // The plan as a whole.
-#[derive(Drop)]
+#[derive(Clone, Copy)]
 pub struct Sums {
     pub sum: u64,
     pub tau: u64,
@@ -140,7 +142,7 @@ pub struct Sums {
 }
 
 // All that the parts are made of.
-#[derive(Drop)]
+#[derive(Clone, Copy)]
 pub struct Account {
     pub outcome: Outcome,
     // The refusal, of the plan sheet or of the log; 0 where neither is refused.

@@ -1,4 +1,6 @@
 // What `plan` and `plan-sheet` put out, as functions on bytes.
+#![tactic(auto)]
+
 mod planning;
 
 ghost use Rattle.std.specs.Prelude.{◌≡◌};

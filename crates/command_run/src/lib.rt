@@ -1,4 +1,6 @@
 // What `run` prints: the calls are read line by line, and each is answered by the ring.
+#![tactic(auto)]
+
 ghost use Rattle.std.specs.Prelude.{◌≡◌, true, ◌∷◌, ◌+◌, ◌≤◌, min, length};
 ghost use Rattle.sheets.specs.Reading.{read_plan};
 ghost use Rattle.text.specs.Text.{PutShort, space, line_on};
@@ -26,7 +28,7 @@ const PIECE_SIZE: usize = 256;
 
 // A run: the ring, what was read of the line, and the line's number.
 #[repr(C)]
-#[derive(Drop)]
+#[derive(Clone, Copy)]
 pub struct Run {
     pub ring: Ring,
     pub scan: Scan,
@@ -34,7 +36,7 @@ pub struct Run {
 }
 
 // What a line was answered.
-#[derive(Drop)]
+#[derive(Clone, Copy)]
 pub enum Answer {
     // The line is empty.
     Nothing,
@@ -51,7 +53,7 @@ pub enum Answer {
 }
 
 // What a line did: the ring behind it, the answer, and whether the line cannot be read.
-#[derive(Drop)]
+#[derive(Clone, Copy)]
 pub(crate) struct Called {
     ring: Ring,
     answer: Answer,
@@ -59,7 +61,7 @@ pub(crate) struct Called {
 }
 
 // What a byte did: where the run stands behind it, and of a line that ended there the answer, and whether it cannot be read.
-#[derive(Drop)]
+#[derive(Clone, Copy)]
 pub struct LineStep {
     pub run: Run,
     pub answer: Answer,
@@ -68,7 +70,7 @@ pub struct LineStep {
 
 // A run that begins, and 0; or the run of a blank ring, and the refusal.
 #[repr(C)]
-#[derive(Drop)]
+#[derive(Clone, Copy)]
 pub struct OpenedRun {
     pub run: Run,
     pub number: u8,
@@ -76,7 +78,7 @@ pub struct OpenedRun {
 
 // The run goes on: where it stands, how many bytes of the page are its answers, and whether one of its lines cannot be read.
 #[repr(C)]
-#[derive(Drop)]
+#[derive(Clone, Copy)]
 pub struct Ran {
     pub run: Run,
     pub length: usize,

@@ -1,4 +1,6 @@
 // What `show` prints: a request or plan sheet as text, on byte slices.
+#![tactic(auto)]
+
 mod showing;
 
 ghost use Rattle.std.specs.Prelude.{◌≤◌, length};

@@ -1,4 +1,6 @@
 // What `show` prints of a log: the plan's text, then a line for each record as it is read. Requests and plans are answered as ever.
+#![tactic(auto)]
+
 ghost use Rattle.std.specs.Prelude.{◌≡◌, ◌+◌, ◌≤◌, min, length};
 ghost use Rattle.sheets.specs.Reading.{plan_start};
 ghost use Rattle.text.specs.Text.{PutShort, Printed, Says, page_size};
@@ -18,7 +20,7 @@ const PIECE_SIZE: usize = 512;
 
 // A log that is being shown: what is kept of its records, and the refusal of its plan.
 #[repr(C)]
-#[derive(Drop)]
+#[derive(Clone, Copy)]
 pub struct Showing {
     pub gathered: Gathered,
     pub number: u8,
@@ -26,7 +28,7 @@ pub struct Showing {
 
 // The log goes on: where it stands, and how many bytes of the page are its lines.
 #[repr(C)]
-#[derive(Drop)]
+#[derive(Clone, Copy)]
 pub struct Shown {
     pub showing: Showing,
     pub length: usize,
@@ -34,7 +36,7 @@ pub struct Shown {
 
 // The first bytes were shown: what is kept for the records, whether there are some, where they begin, how many bytes of the page are the answer, and the number of the refusal that it says.
 #[repr(C)]
-#[derive(Drop)]
+#[derive(Clone, Copy)]
 pub struct Begun {
     pub showing: Showing,
     pub log: bool,

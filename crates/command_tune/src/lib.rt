@@ -1,4 +1,6 @@
 // `tune`: a request sheet planned at every TTRT of a range, some of them at a time, and the lines that say what was found: each is a form of words, by its name, and its numbers. The words of the forms are the program's.
+#![tactic(auto)]
+
 mod lines;
 
 ghost use Rattle.std.specs.Prelude.{◌≡◌};
@@ -10,7 +12,7 @@ use tuning::Tuning;
 use units::numbers;
 
 // The forms of words. What each of them says stands in `adviser`.
-#[derive(Drop)]
+#[derive(Clone, Copy)]
 pub enum Form {
     // No words.
     Nothing,
@@ -33,14 +35,14 @@ pub enum Form {
 }
 
 // A form, and its numbers in their order; behind the last of them zeros.
-#[derive(Drop)]
+#[derive(Clone, Copy)]
 pub struct Line {
     pub form: Form,
     pub numbers: [u64; 6],
 }
 
 // A range of TTRT, tried up to the next one.
-#[derive(Drop)]
+#[derive(Clone, Copy)]
 pub struct Tune {
     pub set: Set,
     // 0, or the refusal.

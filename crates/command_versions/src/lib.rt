@@ -1,4 +1,6 @@
 // What the commands on a store put out, as functions on bytes: the line of `keep`, the lines of `versions`, and for `kept` where a version's plan stands.
+#![tactic(auto)]
+
 mod listing;
 mod saying;
 mod words;
@@ -14,7 +16,7 @@ use units::numbers;
 use versions::StoredPlan;
 
 // A version's plan in a store: from one place up to another, and 0; or the refusal, with no byte.
-#[derive(Drop)]
+#[derive(Clone, Copy)]
 pub struct KeptPlan {
     pub from: usize,
     pub end: usize,

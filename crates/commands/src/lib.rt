@@ -1,4 +1,6 @@
 // The commands of Olivastrum: their words, what a caller's words ask for, and the status that a command ends with. `commands.txt` has the same table for the script, and `tests/table` holds the two together.
+#![tactic(auto)]
+
 pub mod status;
 pub mod words;
 
@@ -8,7 +10,7 @@ ghost use Rattle.commands.specs.Words.{same_bytes};
 ghost use Rattle.commands.specs.Asked.{command_of, counted_for, asked_for};
 
 // A command for each row of the table; and what a word that is none asks for.
-#[derive(Drop)]
+#[derive(Clone, Copy)]
 pub enum Command {
     Plan,
     PlanSheet,
@@ -95,7 +97,7 @@ fn has_word(command: Command, word: &[u8]) -> bool
 }
 
 // How many words may follow a command: at least, and at most.
-#[derive(Drop)]
+#[derive(Clone, Copy)]
 struct Range {
     least: usize,
     most: usize,
@@ -147,7 +149,7 @@ fn command_of(word: &[u8]) -> Command
 }
 
 // What a caller's words ask for.
-#[derive(Drop)]
+#[derive(Clone, Copy)]
 pub enum Asked {
     // A command with as many words as it takes.
     Do(Command),

@@ -51,7 +51,7 @@ fn name_length(word: &[u8]) -> usize
 }
 
 // The bytes by which a word that is no command is named: the first so many of these.
-#[derive(Drop)]
+#[derive(Clone, Copy)]
 pub struct Name {
     pub bytes: [u8; NAME_SIZE],
     pub length: usize,

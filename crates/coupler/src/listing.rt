@@ -2,7 +2,7 @@
 use command_hopper::Listing;
 
 // The list behind one reading, whether the file goes on, and whether reading failed.
-#[derive(Drop)]
+#[derive(Clone, Copy)]
 pub(crate) struct Listed {
     pub(crate) listing: Listing,
     pub(crate) more: bool,

@@ -7,7 +7,7 @@ use libc::{STDERR_FILENO, STDIN_FILENO};
 use streams::ending;
 
 // The changes behind one reading: whether the input goes on, whether a line could not be read, and whether reading or writing failed.
-#[derive(Drop)]
+#[derive(Clone, Copy)]
 struct Heard {
     refit: Refit,
     more: bool,

@@ -1,4 +1,6 @@
 // Whether two plans differ. The list of their differences is a definition: no code hands it out.
+#![tactic(auto)]
+
 ghost use Rattle.std.specs.Prelude.{◌≡◌, ◌≤◌, ◌<◌};
 ghost use Rattle.differences.specs.Views.{header_of, number_of};
 ghost use Rattle.differences.specs.Differences.{gathered, headers_changed, station_changed, is_none, is_same_plan};

@@ -1,4 +1,6 @@
 // What is wrong with a given plan, or with the numbers of a set, place by place.
+#![tactic(auto)]
+
 ghost use Rattle.std.specs.Prelude.{◌≡◌, not};
 ghost use Rattle.units.specs.Grid.{on_grid};
 ghost use Rattle.differences.specs.Views.{nth_of, header_of};
@@ -10,7 +12,7 @@ use sets::{Head, Set};
 use units::numbers;
 
 // What a station of a given plan holds.
-#[derive(Drop)]
+#[derive(Clone, Copy)]
 pub struct Holding {
     // X, by the mode.
     pub time: u64,
@@ -23,7 +25,7 @@ pub struct Holding {
 }
 
 // The sum of S of a given plan against the token rule.
-#[derive(Drop)]
+#[derive(Clone, Copy)]
 pub struct Token {
     pub sum: u64,
     // TTRT − τ − (F − 1), held at 0.
@@ -33,7 +35,7 @@ pub struct Token {
 }
 
 // A number, the range that it is held to, and whether it is out of it.
-#[derive(Drop)]
+#[derive(Clone, Copy)]
 pub struct Ranged {
     pub value: u32,
     pub low: u32,

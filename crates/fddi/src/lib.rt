@@ -1,4 +1,6 @@
 // FDDI's rules: X over the whole vector, and the test of a given vector. Nothing is planned by them any more.
+#![tactic(auto)]
+
 mod shares;
 
 ghost use Rattle.std.specs.Prelude.{◌≡◌, ◌≤◌};
@@ -8,7 +10,7 @@ ghost use Rattle.fddi.specs.Rules.{least_time, terms_of};
 ghost use Rattle.fddi.specs.Lent.{lent_load, deadlines_in};
 
 // What a plan is judged by, for the statements; the code lends its parts: TTRT, what no station may plan with (τ and F − 1), the grid, and C and D at each station. Only the first N places are ever looked at.
-#[derive(Drop)]
+#[derive(Clone, Copy)]
 pub struct Load {
     pub n: u32,
     pub ttrt: u32,

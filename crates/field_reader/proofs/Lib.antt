@@ -1,5 +1,4 @@
 pub mod Asked
-pub mod Lending
 pub mod CursorLaws
 pub mod ScannedLaws
 pub mod PassedLaws

@@ -1,5 +1,7 @@
 // The fields of a sheet, handed out one after another from the lent bytes. A reader holds the bytes and a cursor; nothing is copied.
 // The functions over the struct are thin: all choices stand in `fields::field_at` and in `after`.
+#![tactic(auto)]
+
 ghost use Rattle.std.specs.Prelude.{◌≡◌, ◌+◌, ◌<◌, ◌^◌};
 ghost use Rattle.fields.specs.Fields.{field_at};
 ghost use Rattle.field_reader.specs.Cursor.{cursor_after, field_of, step_of, Advanced};
@@ -9,7 +11,7 @@ use fields::{Field, Passed};
 use units::numbers;
 
 // The lent bytes of a sheet, and where the next field begins.
-#[derive(Drop)]
+#[derive(Clone, Copy)]
 pub struct Reader<'a> {
     pub sheet: &'a [u8],
     pub at: usize,
@@ -56,7 +58,7 @@ pub fn field_of(sheet: &[u8], at: usize, passed: Passed) -> Field
 }
 
 // A field, and where the cursor stands after it.
-#[derive(Drop)]
+#[derive(Clone, Copy)]
 pub struct Step {
     pub field: Field,
     pub at: usize,
@@ -77,7 +79,7 @@ pub fn step_of(sheet: &[u8], at: usize, passed: Passed) -> Step
 // ---- a whole sheet
 
 // What a walk over a sheet has seen: the number, 0 or 1, 2, 3; the fields that passed; and the place of the field at which it stopped.
-#[derive(Drop)]
+#[derive(Clone, Copy)]
 pub struct Scanned {
     pub number: u8,
     pub passed: Passed,

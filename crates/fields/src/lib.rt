@@ -1,4 +1,6 @@
 // The fields of a sheet, one at a place: a tag byte, two length bytes, then the body.
+#![tactic(auto)]
+
 pub mod bytes;
 
 ghost use Rattle.std.specs.Prelude.{◌≡◌};
@@ -41,7 +43,7 @@ pub const END_TAG: u8 = 255;
 pub const END_SIZE: usize = 0;
 
 // Which sheet it is, a plan or a request, and which of its fields have passed: the highest tag of the header's fields, 0 before the first; where the header's fields end and the stations begin; how many stations, and how many allocations.
-#[derive(Drop)]
+#[derive(Clone, Copy)]
 pub struct Passed {
     pub plan: bool,
     pub head: u8,
@@ -51,7 +53,7 @@ pub struct Passed {
 }
 
 // A field that is handed out: its tag, where its body begins, and where the next field does. With a refusal these are 0.
-#[derive(Drop)]
+#[derive(Clone, Copy)]
 pub struct Field {
     pub number: u8,
     pub tag: u8,

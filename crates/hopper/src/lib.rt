@@ -1,4 +1,6 @@
 // The hopper set: a list of wagons becomes a request, is planned, and a change that is refused leaves the old list and plan in force.
+#![tactic(auto)]
+
 mod requests;
 mod trains;
 mod wagons;
@@ -19,7 +21,7 @@ pub const MOST_BOXES: u32 = 8;
 
 // A wagon: how many axle boxes it has, and whether a brake unit and a door unit are fitted, 1 or 0.
 #[repr(C)]
-#[derive(Drop)]
+#[derive(Clone, Copy)]
 pub struct Wagon {
     pub boxes: u32,
     pub brake: u32,
@@ -28,7 +30,7 @@ pub struct Wagon {
 
 // The wagons of a train from its head on, one place of each array for each. Only the first n places are ever looked at.
 #[repr(C)]
-#[derive(Drop)]
+#[derive(Clone, Copy)]
 pub struct WagonList {
     pub n: u32,
     pub boxes: [u32; 12],
@@ -38,7 +40,7 @@ pub struct WagonList {
 
 // A train: the list of its wagons and the plan that is in force.
 #[repr(C)]
-#[derive(Drop)]
+#[derive(Clone, Copy)]
 pub struct Train {
     pub list: WagonList,
     pub plan: Alloc,
@@ -46,7 +48,7 @@ pub struct Train {
 
 // What coupling or changing a train answers: the number, 0 with the new train, or a refusal with the train as it was.
 #[repr(C)]
-#[derive(Drop)]
+#[derive(Clone, Copy)]
 pub struct Coupled {
     pub train: Train,
     pub number: u8,

@@ -1,1 +1,3 @@
 // What is promised of the hopper set. No code.
+#![tactic(auto)]
+

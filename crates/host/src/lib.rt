@@ -1,5 +1,7 @@
 // What a host in C calls: sheets and logs on lent bytes, planning and opening by value, and the ring and the inspection lent by the host, changed where they stand in the host's memory.
 // All are thin over the layers below; include/olivastrum.h declares them.
+#![tactic(auto)]
+
 ghost use Rattle.std.specs.Prelude.{◌≡◌, true, false};
 ghost use Rattle.plans.specs.Planned.{blank_alloc, planned};
 ghost use Rattle.sheets.specs.Reading.{read_request, read_plan};

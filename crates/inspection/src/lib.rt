@@ -1,4 +1,6 @@
 // The inspection of another maker's log: record by record, what the published steps allow, and the first rule that is broken.
+#![tactic(auto)]
+
 mod counter;
 mod frames;
 pub mod in_place;
@@ -19,7 +21,7 @@ use sets::{Head, Set};
 use units::numbers;
 
 // What the records so far leave of the ring as a whole.
-#[derive(Drop)]
+#[derive(Clone, Copy)]
 pub struct Course {
     // The station that has the token.
     pub token: u32,
@@ -35,7 +37,7 @@ pub struct Course {
 }
 
 // How far an inspection has come: what the records so far leave of each station and of the ring, and the finding.
-#[derive(Drop)]
+#[derive(Clone, Copy)]
 pub struct Inspection {
     // For each station where the clock stood when its timer was at 0; an FDDI timer counts with TTRT for each time that it is late.
     pub base: [u32; 128],
@@ -51,7 +53,7 @@ pub struct Inspection {
 }
 
 // What the next record must say: of a mark the last number alone is looked at.
-#[derive(Drop)]
+#[derive(Clone, Copy)]
 pub struct Expected {
     pub station: u32,
     // The first visit may start at any moment.
@@ -69,7 +71,7 @@ pub struct Expected {
 }
 
 // What a record must say by a rule, and what it says.
-#[derive(Drop)]
+#[derive(Clone, Copy)]
 pub struct Compared {
     pub expected: u32,
     pub found: u32,
@@ -77,7 +79,7 @@ pub struct Compared {
 
 // What the inspection of a log answers: how many records it has, visits and marks; the first record that breaks a rule, from 1, and the rule, 1 station, 2 start, 3 limit, 4 synchronous, 5 asynchronous; both 0 where none does. Or the refusal of reading it, with all else 0.
 #[repr(C)]
-#[derive(Drop)]
+#[derive(Clone, Copy)]
 pub struct Finding {
     pub records: u64,
     pub record: u64,
@@ -86,7 +88,7 @@ pub struct Finding {
 }
 
 // One record more: the ring as a whole behind it, the records so far that keep every rule, the rule that it breaks, 0 for none, and what was compared by that rule; both numbers 0 where none is broken.
-#[derive(Drop)]
+#[derive(Clone, Copy)]
 pub struct Step {
     pub course: Course,
     pub records: u64,
@@ -98,7 +100,7 @@ pub struct Step {
 
 // What stands at a place of a log, and what a host hands in to be inspected: no enum crosses to a host, so a number says the kind. It is the field's tag, 16 of a visit and 17 of a mark; 0 where no entry stands. The numbers of another kind are 0, and are not looked at.
 #[repr(C)]
-#[derive(Drop)]
+#[derive(Clone, Copy)]
 pub struct LogEntry {
     pub kind: u32,
     pub visit: VisitEntry,
@@ -109,7 +111,7 @@ pub struct LogEntry {
 
 // How far an inspection has come, in numbers: any bytes are a value.
 #[repr(C)]
-#[derive(Drop)]
+#[derive(Clone, Copy)]
 pub struct Progress {
     // The records so far that keep every rule, visits and marks.
     pub records: u64,
@@ -130,7 +132,7 @@ pub struct Progress {
 
 // An inspection as a host keeps it: of the plan what a record is held to, the header, N, w and S; what the records so far leave of each station; and how far they have come.
 #[repr(C)]
-#[derive(Drop)]
+#[derive(Clone, Copy)]
 pub struct KeptInspection {
     pub head: Head,
     pub n: u32,
@@ -147,7 +149,7 @@ pub struct KeptInspection {
 
 // An inspection that begins, with 0; or a refusal with the blank one.
 #[repr(C)]
-#[derive(Drop)]
+#[derive(Clone, Copy)]
 pub struct BegunInspection {
     pub inspection: KeptInspection,
     pub number: u8,
@@ -155,7 +157,7 @@ pub struct BegunInspection {
 
 // What a record is answered: its number among the records, from 1; the rule that it breaks, 0 for none; and by that rule what it must say and what it says, both 0 where none is broken. Behind a broken rule nothing is looked at: record and rule stay, and both numbers are 0. Or a refusal, with all else 0.
 #[repr(C)]
-#[derive(Drop)]
+#[derive(Clone, Copy)]
 pub struct RecordFinding {
     pub record: u64,
     pub expected: u32,
@@ -165,7 +167,7 @@ pub struct RecordFinding {
 }
 
 // What a record leaves of an inspection beside its arrays, the call's number, and the answer.
-#[derive(Drop)]
+#[derive(Clone, Copy)]
 pub struct KeptNext {
     pub progress: Progress,
     pub number: u8,

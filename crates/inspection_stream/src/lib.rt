@@ -1,4 +1,6 @@
 // A log of any length inspected as it is read, in pieces of any length: the finding is kept until all was read.
+#![tactic(auto)]
+
 ghost use Rattle.std.specs.Prelude.{◌≡◌, drop};
 ghost use Rattle.log_records.specs.Entry.{next_entry};
 ghost use Rattle.inspection_stream.specs.Inspecting.{none_looked, looked_at, gathered_from, inspect_from, inspect_over, inspect_start, inspect_number};
@@ -12,7 +14,7 @@ use sheets::PlanStart;
 use units::numbers;
 
 // What was found in the records so far: the inspection, the record that was looked at last, and the one before it. Behind a broken rule the last is the record that breaks it.
-#[derive(Drop)]
+#[derive(Clone, Copy)]
 pub struct Looked {
     pub inspection: Inspection,
     pub before: Entry,
@@ -20,7 +22,7 @@ pub struct Looked {
 }
 
 // A log that is being inspected: its plan, what is kept of the bytes of its records, and what was found in them.
-#[derive(Drop)]
+#[derive(Clone, Copy)]
 pub struct Inspecting {
     pub start: PlanStart,
     pub gathered: Gathered,

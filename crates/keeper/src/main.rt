@@ -1,4 +1,6 @@
 // The program of the commands on a store of plan versions: it reads and replaces files, hands the bytes to the crates below, writes what comes back, and says how it ended.
+#![tactic(auto)]
+
 mod asking;
 mod files;
 mod keeping;

@@ -15,7 +15,7 @@ const LAST: usize = PATH_MAX - 1;
 const LINK: i32 = 0;
 
 // The path of the file beside a store, in the first bytes; of no byte where it is too long.
-#[derive(Drop)]
+#[derive(Clone, Copy)]
 pub(crate) struct NewPath {
     pub(crate) bytes: [u8; PATH_MAX],
     pub(crate) length: usize,

@@ -1,4 +1,6 @@
 // A line of text, read byte after byte: a word, and up to five numbers behind it.
+#![tactic(auto)]
+
 ghost use Rattle.std.specs.Prelude.{◌≡◌, ◌+◌, ◌-◌, ◌*◌, ◌<◌, ◌≤◌, ◌^◌, ltb};
 ghost use Rattle.units.specs.Small.{Same};
 ghost use Rattle.line_reader.specs.Scan.{is_blank, is_digit, is_letter, fresh_scan, in_phase, letter_read, number_begun, digit_read, character_read, stepped, is_empty_line, next_line};
@@ -17,7 +19,7 @@ pub const UNREADABLE: u8 = 4;
 
 // What was read of a line so far.
 #[repr(C)]
-#[derive(Drop)]
+#[derive(Clone, Copy)]
 pub struct Scan {
     // The numbers, in their order; 0 where none was read.
     pub values: [u64; 5],

@@ -1,4 +1,6 @@
 // An entry of a log: one visit, five numbers; or one mark, two.
+#![tactic(auto)]
+
 ghost use Rattle.std.specs.Prelude.{◌≡◌};
 ghost use Rattle.log_records.specs.Visit.{blank_visit};
 ghost use Rattle.log_records.specs.Mark.{blank_mark};
@@ -19,7 +21,7 @@ pub const MARK_LENGTH: usize = 5;
 
 // A visit of a log. Any numbers may stand here.
 #[repr(C)]
-#[derive(Drop)]
+#[derive(Clone, Copy)]
 pub struct VisitEntry {
     // 0 to 255 in a log; in a good one below N.
     pub station: u32,
@@ -33,7 +35,7 @@ pub struct VisitEntry {
 
 // A mark of a log: a station was switched through, or is in again. Any numbers may stand here.
 #[repr(C)]
-#[derive(Drop)]
+#[derive(Clone, Copy)]
 pub struct MarkEntry {
     // 0 to 255 in a log; in a good one below N.
     pub station: u32,
@@ -42,14 +44,14 @@ pub struct MarkEntry {
 }
 
 // An entry of a log.
-#[derive(Drop)]
+#[derive(Clone, Copy)]
 pub enum Entry {
     Visit(VisitEntry),
     Mark(MarkEntry),
 }
 
 // An entry that is handed out, and the place behind its field; the blank visit and 0 where no entry stands.
-#[derive(Drop)]
+#[derive(Clone, Copy)]
 pub struct NextEntry {
     pub entry: Entry,
     pub next: usize,

@@ -1,1 +1,3 @@
 // What is promised of logs. No code: the statements stand in specs/, their proofs in proofs/.
+#![tactic(auto)]
+

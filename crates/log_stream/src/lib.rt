@@ -1,4 +1,6 @@
 // The records of a log, read byte after byte: what stands behind a plan's fields may come in pieces of any length.
+#![tactic(auto)]
+
 ghost use Rattle.std.specs.Prelude.{◌≡◌, ◌&&◌, ◌<◌, eqb};
 ghost use Rattle.fields.specs.Fields.{tag_at, size_at};
 ghost use Rattle.log_stream.specs.Pieces.{nothing_read, is_whole, at_field, with_byte, faulty, told, stepped, number_of, entry_in};
@@ -12,7 +14,7 @@ pub const FIRST_SIZE: usize = 3_400;
 
 // What is kept of a log's records between two bytes.
 #[repr(C)]
-#[derive(Drop)]
+#[derive(Clone, Copy)]
 pub struct Gathered {
     // The bytes of the field that is being read, with zeros behind them: a visit's are 20, a mark's 5.
     pub bytes: [u8; 20],

@@ -1,4 +1,6 @@
 // Visit logs: a plan's fields without the end, then a field for each record, a visit or a mark, then the end. Read from lent bytes, and written into them record by record.
+#![tactic(auto)]
+
 pub mod reading;
 mod writing;
 
@@ -15,7 +17,7 @@ use sheets::Written;
 use units::numbers;
 
 // How far a walk over the records came: the number, 0 or 1, 2, 3; how many records passed; and the place where it stopped.
-#[derive(Drop)]
+#[derive(Clone, Copy)]
 pub struct Walked {
     pub number: u8,
     pub records: usize,
@@ -24,7 +26,7 @@ pub struct Walked {
 
 // What reading a log answers: the number, 0 with the plan, the place of the first field behind its allocations and how many records stand from there on; or a refusal with all blank.
 #[repr(C)]
-#[derive(Drop)]
+#[derive(Clone, Copy)]
 pub struct ReadLog {
     pub set: Set,
     pub alloc: Alloc,
@@ -35,7 +37,7 @@ pub struct ReadLog {
 
 // A log that is being written: how many of its bytes are; and the recorder's counter, as it was at this clock of the ring. The number is that of the last call, and is not looked at.
 #[repr(C)]
-#[derive(Drop)]
+#[derive(Clone, Copy)]
 pub struct Recorder {
     pub at: usize,
     pub clock: u64,

@@ -1,4 +1,6 @@
 // A word that writes a whole number, of any size: whether it is one, and which.
+#![tactic(auto)]
+
 ghost use Rattle.std.specs.Prelude.{◌≡◌, ◌-◌, ◌≤◌};
 ghost use Rattle.units.specs.Small.{UpTo};
 ghost use Rattle.number_words.specs.Words.{is_digit, is_whole, grown, value_in};

@@ -8,7 +8,7 @@ use text_faults::Watch;
 use units::numbers;
 
 // The text behind one reading, what is watched in it, whether the input goes on, and whether reading or writing failed.
-#[derive(Drop)]
+#[derive(Clone, Copy)]
 struct Read {
     composing: Composing,
     watch: Watch,

@@ -5,7 +5,7 @@ use libc::STDIN_FILENO;
 use streams::{ending, loading, reading, words};
 
 // The log behind one reading, whether the input goes on, and whether reading failed.
-#[derive(Drop)]
+#[derive(Clone, Copy)]
 struct Looked {
     inspecting: Inspecting,
     more: bool,

@@ -5,7 +5,7 @@ use libc::STDIN_FILENO;
 use streams::ending;
 
 // The recording behind one reading: whether the input goes on, and whether reading or writing failed.
-#[derive(Drop)]
+#[derive(Clone, Copy)]
 struct Heard {
     recording: Recording,
     more: bool,

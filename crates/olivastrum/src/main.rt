@@ -1,4 +1,6 @@
 // The program of the commands on texts, rings and logs: it reads, hands the bytes to the crates below, writes what comes back, and says how it ended.
+#![tactic(auto)]
+
 mod complaining;
 mod composing;
 mod diffing;

@@ -5,7 +5,7 @@ use libc::STDIN_FILENO;
 use streams::ending;
 
 // The run behind one reading: whether the input goes on, whether a line could not be read, and whether reading or writing failed.
-#[derive(Drop)]
+#[derive(Clone, Copy)]
 struct Heard {
     run: Run,
     more: bool,

@@ -5,7 +5,7 @@ use libc::STDIN_FILENO;
 use streams::{ending, reading};
 
 // The log behind one reading, whether the input goes on, and whether reading or writing failed.
-#[derive(Drop)]
+#[derive(Clone, Copy)]
 struct Seen {
     showing: Showing,
     more: bool,

@@ -1,1 +1,3 @@
 // What the page of an accepted log shows. No code: the statements stand in specs/, their proofs in proofs/.
+#![tactic(auto)]
+

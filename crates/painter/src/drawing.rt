@@ -6,14 +6,14 @@ use streams::ending;
 use tallies::Drawn;
 
 // What a log is drawn by: what every record is, and which ones are.
-#[derive(Drop)]
+#[derive(Clone, Copy)]
 pub(crate) struct Easel {
     pub scene: Scene,
     pub window: Window,
 }
 
 // A log that is being read and drawn: what is kept of it, the pen, and whether all could be written so far.
-#[derive(Drop)]
+#[derive(Clone, Copy)]
 pub(crate) struct Canvas {
     pub watching: Watching,
     pub pen: Pen,

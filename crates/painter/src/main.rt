@@ -1,4 +1,6 @@
 // The program of `page`: it reads a log twice, says what was found in the words of the page, draws the records that are drawn as they come, and says how it ended.
+#![tactic(auto)]
+
 mod drawing;
 mod forms;
 mod reading;

@@ -7,7 +7,7 @@ use streams::reading::Filled;
 use streams::{loading, reading};
 
 // A log that was read: what was found and drawn, how many bytes it has, and whether it could be read.
-#[derive(Drop)]
+#[derive(Clone, Copy)]
 pub(crate) struct Read {
     pub canvas: Canvas,
     pub bytes: u64,
@@ -15,7 +15,7 @@ pub(crate) struct Read {
 }
 
 // The log behind one reading more, and whether the file goes on.
-#[derive(Drop)]
+#[derive(Clone, Copy)]
 struct Turn {
     read: Read,
     more: bool,

@@ -146,7 +146,7 @@ fn say_first(given: bool, plan: &[u8], watching: Watching, account: Account) -> 
 }
 
 // What a reading found, in numbers: the log's refusal, the rule that is broken, how many records keep every rule, and what was compared.
-#[derive(Drop)]
+#[derive(Clone, Copy)]
 struct Found {
     number: u8,
     rule: u8,

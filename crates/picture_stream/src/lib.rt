@@ -1,4 +1,6 @@
 // A log of any length read for its picture, in pieces of any length: it is inspected, what each station did is kept, and each record that is drawn is handed out as it comes.
+#![tactic(auto)]
+
 ghost use Rattle.std.specs.Prelude.{◌≡◌, drop};
 ghost use Rattle.tallies.specs.Tallies.{seen_of};
 ghost use Rattle.picture_stream.specs.Watching.{no_window, is_drawn, handed_out, watch_start, not_drawn, watching_of, watched_from, lines_in, lines_of, last_line, window_of};
@@ -11,7 +13,7 @@ use tallies::{Course, Drawn, Lap, Seen};
 
 // Which records are drawn: the visits of the rotations from `first` on that are below `end`, counted from 0, and the named record, from 1; 0 where none is named.
 #[repr(C)]
-#[derive(Drop)]
+#[derive(Clone, Copy)]
 pub struct Window {
     pub first: u64,
     pub end: u64,
@@ -19,14 +21,14 @@ pub struct Window {
 }
 
 // A log that is being read: its inspection, and what was seen of its records.
-#[derive(Drop)]
+#[derive(Clone, Copy)]
 pub struct Watching {
     pub inspecting: Inspecting,
     pub seen: Seen,
 }
 
 // The log behind some bytes more, and the place behind the last of them. A record that is drawn ends them: then `stopped`, and it is handed out.
-#[derive(Drop)]
+#[derive(Clone, Copy)]
 pub struct Watched {
     pub watching: Watching,
     pub at: usize,

@@ -1,4 +1,6 @@
 // The picture of a record that is drawn, as a list of parts: each is a shape, by its name, and the numbers that stand in it. The words of the shapes are the program's. A line is a rotation; from left to right 100 units are a tick, and the line is as long as the token may be away, and 4/100 of that high.
+#![tactic(auto)]
+
 pub(crate) mod line;
 pub(crate) mod places;
 pub(crate) mod records;
@@ -10,7 +12,7 @@ ghost use Rattle.pictures.specs.Parts.{part_at, pen_after, line_end, no_pen};
 use tallies::Drawn;
 
 // The shapes. What each of them is in words stands in the program.
-#[derive(Drop)]
+#[derive(Clone, Copy)]
 pub enum Shape {
     // No words.
     Nothing,
@@ -45,14 +47,14 @@ pub enum Shape {
 }
 
 // A shape, and its numbers in their order; behind the last of them zeros.
-#[derive(Drop)]
+#[derive(Clone, Copy)]
 pub struct Part {
     pub shape: Shape,
     pub numbers: [u64; 6],
 }
 
 // What every picture of a log is drawn by.
-#[derive(Drop)]
+#[derive(Clone, Copy)]
 pub struct Scene {
     // Within so many ticks the token is back: the length of a line.
     pub bound: u32,
@@ -67,7 +69,7 @@ pub struct Scene {
 
 // Between two records: whether a line has begun, and from where on it has room for a number.
 #[repr(C)]
-#[derive(Drop)]
+#[derive(Clone, Copy)]
 pub struct Pen {
     pub begun: bool,
     pub room: u64,

@@ -1,4 +1,6 @@
 // A log on lent bytes held to a plan sheet, as `inspect PLAN` does, with numbers for an answer.
+#![tactic(auto)]
+
 ghost use Rattle.std.specs.Prelude.{◌≡◌};
 ghost use Rattle.logs.specs.Reading.{handed_from};
 ghost use Rattle.plan_inspections.specs.PlanFindings.{visit_count, visits_in, not_inspected, FoundLent, plan_finding};
@@ -10,7 +12,7 @@ use units::numbers;
 
 // What the inspection of a log against a plan sheet answers: how many records the log has, visits and marks, and how many of them are visits; the first record that breaks a rule, from 1, and the rule, both 0 where none does. Or all of these are 0, and one is refused or the log's plan is another one.
 #[repr(C)]
-#[derive(Drop)]
+#[derive(Clone, Copy)]
 pub struct PlanFinding {
     pub records: u64,
     pub visits: u64,

@@ -1,4 +1,6 @@
 // The program of the planning commands: it reads, hands the bytes to the crates below, writes what comes back, and says how it ended.
+#![tactic(auto)]
+
 use commands::{Command, status};
 use libc::STDIN_FILENO;
 use streams::{ending, reading, usage, version, words};

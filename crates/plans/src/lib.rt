@@ -1,4 +1,6 @@
 // Plans: the smallest synchronous time S for each station, the judgement of a given plan, and the spare time A*.
+#![tactic(auto)]
+
 mod shares;
 
 ghost use Rattle.std.specs.Prelude.{◌≡◌, ◌+◌, ◌^◌, ◌≤◌, min};
@@ -15,14 +17,14 @@ use units::numbers;
 
 // An allocation: S at each station. Only the first N places are ever looked at.
 #[repr(C)]
-#[derive(Drop)]
+#[derive(Clone, Copy)]
 pub struct Alloc {
     pub s: [u32; 128],
 }
 
 // Planning's answer: the number, 0 with the plan, or a refusal with the blank allocation.
 #[repr(C)]
-#[derive(Drop)]
+#[derive(Clone, Copy)]
 pub struct Planned {
     pub alloc: Alloc,
     pub number: u8,

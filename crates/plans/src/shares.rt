@@ -2,7 +2,7 @@
 ghost use Rattle.plans.specs.Bounds.{Rotated};
 
 // m and α of a deadline.
-#[derive(Drop)]
+#[derive(Clone, Copy)]
 pub(crate) struct Turns {
     pub(crate) whole: u64,
     pub(crate) alpha: u64,

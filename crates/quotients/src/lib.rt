@@ -1,4 +1,6 @@
 // Quotients by shifting and subtracting: the whole quotient with its remainder, the share rounded up, and multiples of a grid. No function here divides.
+#![tactic(auto)]
+
 ghost use Rattle.std.specs.Prelude.{◌≡◌, ◌<◌, ◌≤◌, min};
 ghost use Rattle.units.specs.Grid.{on_grid, all_on_grid};
 ghost use Rattle.units.specs.Places.{at};
@@ -7,14 +9,14 @@ ghost use Rattle.quotients.specs.Steps.{Stepped};
 ghost use Rattle.quotients.specs.Turns.{Raised};
 
 // A whole quotient, and what is left over.
-#[derive(Drop)]
+#[derive(Clone, Copy)]
 pub struct Division {
     pub quotient: u64,
     pub remainder: u64,
 }
 
 // The same in 32 bits.
-#[derive(Drop)]
+#[derive(Clone, Copy)]
 pub struct NarrowDivision {
     pub quotient: u32,
     pub remainder: u32,

@@ -1,4 +1,6 @@
 // Why planning answers as it does, in numbers: what is missing where it answers 6, what the smallest S of a station rests on, and how much room is left.
+#![tactic(auto)]
+
 ghost use Rattle.std.specs.Prelude.{◌≡◌, ◌≤◌, ◌^◌};
 ghost use Rattle.units.specs.Small.{UpTo};
 ghost use Rattle.sets.specs.Rules.{CountAllowed, NumbersAllowed};
@@ -12,7 +14,7 @@ use sets::{Head, Set};
 use units::numbers;
 
 // What the smallest S of a set need together, what there is for them, and the missing ticks.
-#[derive(Drop)]
+#[derive(Clone, Copy)]
 pub struct Shortage {
     // The sum of the smallest S.
     pub sum: u64,
@@ -25,7 +27,7 @@ pub struct Shortage {
 }
 
 // What the smallest S of a station rests on.
-#[derive(Drop)]
+#[derive(Clone, Copy)]
 pub struct Grounds {
     // m = D / TTRT rounded down.
     pub whole: u32,
@@ -40,7 +42,7 @@ pub struct Grounds {
 }
 
 // The largest C of each station with which the set still has a plan, all else as it is.
-#[derive(Drop)]
+#[derive(Clone, Copy)]
 pub struct Rooms {
     pub c: [u32; 128],
 }

@@ -1,4 +1,6 @@
 // The ring by value: opening, the test of soundness, visits, handing in, and stations switched through.
+#![tactic(auto)]
+
 mod frames;
 pub mod in_place;
 mod marking;
@@ -23,7 +25,7 @@ use units::{Station, Ticks, numbers};
 
 // A ring's whole state. Only the first N places of each array are ever looked at or raised.
 #[repr(C)]
-#[derive(Drop)]
+#[derive(Clone, Copy)]
 pub struct Ring {
     pub set: Set,
     pub alloc: Alloc,
@@ -52,7 +54,7 @@ pub struct Ring {
 }
 
 // A ring's timers: TRT or timer and late count of each station, and u.
-#[derive(Drop)]
+#[derive(Clone, Copy)]
 pub struct Timers {
     pub trt: [u32; 128],
     pub late: [u32; 128],
@@ -61,7 +63,7 @@ pub struct Timers {
 
 // What a visit asks for: so many frames of one length.
 #[repr(C)]
-#[derive(Drop)]
+#[derive(Clone, Copy)]
 pub struct Ask {
     pub frames: u32,
     pub length: u32,
@@ -69,7 +71,7 @@ pub struct Ask {
 
 // A message to hand in.
 #[repr(C)]
-#[derive(Drop)]
+#[derive(Clone, Copy)]
 pub struct Message {
     pub station: Station,
     pub length: Ticks,
@@ -78,7 +80,7 @@ pub struct Message {
 
 // What happened at a visit.
 #[repr(C)]
-#[derive(Drop)]
+#[derive(Clone, Copy)]
 pub struct VisitRecord {
     pub station: Station,
     pub start: Ticks,
@@ -95,7 +97,7 @@ pub struct VisitRecord {
 
 // A visit's answer: what happened, and the number, 0 or a refusal with the blank record.
 #[repr(C)]
-#[derive(Drop)]
+#[derive(Clone, Copy)]
 pub struct VisitAnswer {
     pub record: VisitRecord,
     pub number: u8,
@@ -103,7 +105,7 @@ pub struct VisitAnswer {
 
 // The ring after a visit, and the visit's answer.
 #[repr(C)]
-#[derive(Drop)]
+#[derive(Clone, Copy)]
 pub struct Visited {
     pub ring: Ring,
     pub answer: VisitAnswer,
@@ -111,7 +113,7 @@ pub struct Visited {
 
 // What a marking answers: what it took back, and the number, 0 or a refusal with nothing taken back.
 #[repr(C)]
-#[derive(Drop)]
+#[derive(Clone, Copy)]
 pub struct MarkAnswer {
     // What remained of the message that was withdrawn, and its arrival; both 0 where none was.
     pub rest: Ticks,
@@ -123,7 +125,7 @@ pub struct MarkAnswer {
 
 // The ring after a marking, and the marking's answer.
 #[repr(C)]
-#[derive(Drop)]
+#[derive(Clone, Copy)]
 pub struct MarkedRing {
     pub ring: Ring,
     pub answer: MarkAnswer,
@@ -131,14 +133,14 @@ pub struct MarkedRing {
 
 // The ring after a handing in, or after a mark was taken off, and the number.
 #[repr(C)]
-#[derive(Drop)]
+#[derive(Clone, Copy)]
 pub struct Taken {
     pub ring: Ring,
     pub number: u8,
 }
 
 // What a visit on lent arrays gives back: the ring's four numbers, the number, and the answer.
-#[derive(Drop)]
+#[derive(Clone, Copy)]
 pub struct VisitNext {
     pub token: u32,
     pub clock: u64,
@@ -149,7 +151,7 @@ pub struct VisitNext {
 }
 
 // What a marking on lent arrays gives back: the ring's four numbers, the number, and the answer.
-#[derive(Drop)]
+#[derive(Clone, Copy)]
 pub struct MarkNext {
     pub token: u32,
     pub clock: u64,
@@ -160,7 +162,7 @@ pub struct MarkNext {
 }
 
 // The same of a call that answers a number alone.
-#[derive(Drop)]
+#[derive(Clone, Copy)]
 pub struct NumberNext {
     pub token: u32,
     pub clock: u64,
@@ -172,7 +174,7 @@ pub struct NumberNext {
 
 // The opened ring and 0, or the blank ring and the refusal.
 #[repr(C)]
-#[derive(Drop)]
+#[derive(Clone, Copy)]
 pub struct Opened {
     pub ring: Ring,
     pub number: u8,

@@ -13,7 +13,7 @@ use super::{Ask, VisitAnswer, VisitRecord, frames, timing};
 use units::{Station, Ticks, numbers};
 
 // What a visit does to the ring's numbers: what is sent of the held message, what the clock and every timer rise by, and this station's from the start of its synchronous part on; that start, u, and the record.
-#[derive(Drop)]
+#[derive(Clone, Copy)]
 pub(crate) struct Moves {
     pub(crate) sync: u64,
     pub(crate) rise: u64,

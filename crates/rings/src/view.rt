@@ -4,7 +4,7 @@ ghost use Rattle.rings.specs.Views.{view_in};
 
 use sets::Head;
 
-#[derive(Drop)]
+#[derive(Clone, Copy)]
 pub(crate) struct View {
     pub(crate) head: Head,
     pub(crate) walk: u32,

@@ -1,4 +1,6 @@
 // Request and plan sheets: read from lent bytes, and written into them.
+#![tactic(auto)]
+
 mod bytes;
 mod reading;
 pub mod records;
@@ -22,7 +24,7 @@ pub const PLAN_READ: usize = 3_357;
 
 // What reading a request sheet answers: the number, 0 with the set, or a refusal with the blank set.
 #[repr(C)]
-#[derive(Drop)]
+#[derive(Clone, Copy)]
 pub struct ReadRequest {
     pub set: Set,
     pub number: u8,
@@ -30,7 +32,7 @@ pub struct ReadRequest {
 
 // What reading a plan sheet answers: the number, 0 with the set and its allocation, or a refusal with both blank.
 #[repr(C)]
-#[derive(Drop)]
+#[derive(Clone, Copy)]
 pub struct ReadPlan {
     pub set: Set,
     pub alloc: Alloc,
@@ -38,7 +40,7 @@ pub struct ReadPlan {
 }
 
 // A plan at the start of some bytes, whatever stands behind it: where all its fields have passed, the plan, its judgement and the place behind them; else all blank, with 1 or 2 and the place of the fault.
-#[derive(Drop)]
+#[derive(Clone, Copy)]
 pub struct PlanStart {
     pub set: Set,
     pub alloc: Alloc,
@@ -49,7 +51,7 @@ pub struct PlanStart {
 
 // What writing answers: the number, 0 with the length of the sheet, or a refusal with length 0.
 #[repr(C)]
-#[derive(Drop)]
+#[derive(Clone, Copy)]
 pub struct Written {
     pub length: usize,
     pub number: u8,

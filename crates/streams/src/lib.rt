@@ -1,4 +1,6 @@
 // What every program of Olivastrum does with its streams and its words: reading, answering, ending, and saying how it is used.
+#![tactic(auto)]
+
 pub mod ending;
 pub mod loading;
 pub mod reading;

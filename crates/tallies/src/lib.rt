@@ -1,4 +1,6 @@
 // What each station did in a log's records: its visits, the longest time between two of them, and what it sent; and how far the records have come, rotation by rotation.
+#![tactic(auto)]
+
 ghost use Rattle.std.specs.Prelude.{◌≡◌, ◌<◌, max, not, ◌==◌, nat_eq};
 ghost use Rattle.units.specs.Places.{at as place_at, all_below};
 ghost use Rattle.units.specs.Small.{Same};
@@ -28,7 +30,7 @@ pub const ASYNCHRONOUS: usize = 768;
 
 // How far the records so far have come. A rotation is each N visits from the first.
 #[repr(C)]
-#[derive(Drop)]
+#[derive(Clone, Copy)]
 pub struct Lap {
     // Records, visits and marks.
     pub records: u64,
@@ -42,7 +44,7 @@ pub struct Lap {
 
 // The ticks of all records that keep every rule; where these end, and where all records end.
 #[repr(C)]
-#[derive(Drop)]
+#[derive(Clone, Copy)]
 pub struct Course {
     pub clock: u64,
     pub kept: Lap,
@@ -51,7 +53,7 @@ pub struct Course {
 
 // What was seen of the records so far: the numbers of the stations, of the records that keep every rule; which stations are switched through, 0 for no, behind all records; and how far they have come.
 #[repr(C)]
-#[derive(Drop)]
+#[derive(Clone, Copy)]
 pub struct Seen {
     pub numbers: [u64; 896],
     pub mark: [u8; 128],
@@ -59,7 +61,7 @@ pub struct Seen {
 }
 
 // A record of a picture: how far the records before it have come, the record, and whether its station is switched through.
-#[derive(Drop)]
+#[derive(Clone, Copy)]
 pub struct Drawn {
     pub lap: Lap,
     pub entry: Entry,

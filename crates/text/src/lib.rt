@@ -1,4 +1,6 @@
 // Text put into a page. Each public function puts a text into the page from a place on, and answers the place behind it. If the page has no room for the most bytes that it may put, the page stays as it was and the answer is the place itself.
+#![tactic(auto)]
+
 ghost use Rattle.std.specs.Prelude.{◌≡◌, [], ◌∷◌, ◌+◌, ◌-◌, ◌*◌, ◌^◌, ◌<◌, ◌≤◌, leb, length};
 ghost use Rattle.units.specs.Places.{at as place_at};
 ghost use Rattle.text.specs.Text.{Put, PutShort, PutWithin, Room, digit, decimal_of, space, newline, fields_of, number_words, line, refused_line, unread_line};
@@ -9,7 +11,7 @@ pub const PAGE_SIZE: usize = 65_536;
 
 // What was put at the start of a page: how many bytes, and the number of the refusal that they say, 0 where they say none. A page that is too small holds no text, and its number is 14.
 #[repr(C)]
-#[derive(Drop)]
+#[derive(Clone, Copy)]
 pub struct Said {
     pub length: usize,
     pub number: u8,

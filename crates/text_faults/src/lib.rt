@@ -1,4 +1,6 @@
 // Why `compose` makes no sheet of a text. The first line that cannot be read: the word at which it can no longer be read, and what was expected there. The first line with a number out of its range, and which number that is.
+#![tactic(auto)]
+
 mod lines;
 mod ranges;
 
@@ -13,7 +15,7 @@ use line_reader::Scan;
 pub const WORD_SIZE: usize = 64;
 
 // What is expected at a place of a line.
-#[derive(Drop)]
+#[derive(Clone, Copy)]
 pub enum Form {
     // One of the words that a line begins with.
     Word,
@@ -26,14 +28,14 @@ pub enum Form {
 }
 
 // What is expected, and at which place: 0 is the line's first word, 1 its first number, and so on.
-#[derive(Drop)]
+#[derive(Clone, Copy)]
 pub struct Expected {
     pub form: Form,
     pub place: usize,
 }
 
 // The word of a line that is being read: its first bytes, as they are shown; how many; its place; and whether the line can no longer be read behind it.
-#[derive(Drop)]
+#[derive(Clone, Copy)]
 pub struct Found {
     pub bytes: [u8; WORD_SIZE],
     pub length: usize,
@@ -42,7 +44,7 @@ pub struct Found {
 }
 
 // A text that is watched as it is read.
-#[derive(Drop)]
+#[derive(Clone, Copy)]
 pub struct Watch {
     pub found: Found,
     pub scan: Scan,

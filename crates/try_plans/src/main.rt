@@ -1,4 +1,6 @@
 // Every case of the build definition's "Allocations", those without ★ too, run through the planner.
+#![tactic(auto)]
+
 use libc::STDOUT_FILENO;
 use sets::{Head, Set};
 use units::numbers;

@@ -1,4 +1,6 @@
 // The ★ worked run of the build definition: four stations, messages of 20 that arrive at 0 and at 100 and are handed in then, six visits with 1,000 asynchronous ticks asked for. It prints the table.
+#![tactic(auto)]
+
 use libc::STDOUT_FILENO;
 use plans::Alloc;
 use rings::{Ask, Message, Ring, VisitRecord};

@@ -1,4 +1,6 @@
 // Another TTRT: a set planned at every TTRT of a range, all else as it is. No host calls this, so it may divide.
+#![tactic(auto)]
+
 ghost use Rattle.std.specs.Prelude.{◌≡◌, cond, ◌+◌, ◌*◌, ◌^◌, ◌≤◌, ◌<◌};
 ghost use Rattle.units.specs.Grid.{stepped};
 ghost use Rattle.units.specs.Small.{UpTo};
@@ -10,7 +12,7 @@ use sets::{Head, Set};
 use units::numbers;
 
 // What a range of TTRT has: at how many there is a plan, the smallest and the largest of them, the nearest below and above the set's own, and the one with the largest part A* / TTRT, with its A*. 0 where there is none.
-#[derive(Drop)]
+#[derive(Clone, Copy)]
 pub struct Tuning {
     pub count: u32,
     pub smallest: u32,
@@ -22,7 +24,7 @@ pub struct Tuning {
 }
 
 // What of a set is the same at every TTRT: its own TTRT, the grid, N, τ, and what no station may plan with.
-#[derive(Drop)]
+#[derive(Clone, Copy)]
 pub(crate) struct Terms {
     pub(crate) own: u32,
     pub(crate) grid: u32,

@@ -1,4 +1,6 @@
 // Plan versions of a set: numbered plan sheets in a lent area of 65,536 bytes, oldest first; the 16 newest are kept.
+#![tactic(auto)]
+
 mod area;
 mod storing;
 
@@ -19,7 +21,7 @@ pub const LAST_VERSION: u32 = 4_294_967_295;
 pub const VERSION_TAG: u8 = 32;
 
 // What an area holds: 0 with how many numbers were given before the oldest version, how many versions are kept and the place behind them; or 2 with zeros.
-#[derive(Drop)]
+#[derive(Clone, Copy)]
 pub struct Holding {
     pub number: u8,
     pub before: u32,
@@ -28,7 +30,7 @@ pub struct Holding {
 }
 
 // How far a walk over the versions came: how many stand, and the place behind them.
-#[derive(Drop)]
+#[derive(Clone, Copy)]
 pub struct VersionsWalked {
     pub count: u32,
     pub at: usize,
@@ -36,7 +38,7 @@ pub struct VersionsWalked {
 
 // What storing answers: the number, 0 with the number of the version, or a refusal with version 0.
 #[repr(C)]
-#[derive(Drop)]
+#[derive(Clone, Copy)]
 pub struct StoredPlan {
     pub version: u32,
     pub number: u8,
@@ -44,7 +46,7 @@ pub struct StoredPlan {
 
 // What finding answers: the number, 0 with the place of the plan's first byte in the area and its length, or a refusal with zeros.
 #[repr(C)]
-#[derive(Drop)]
+#[derive(Clone, Copy)]
 pub struct FoundVersion {
     pub place: usize,
     pub length: usize,
@@ -53,7 +55,7 @@ pub struct FoundVersion {
 
 // Which versions an area keeps: the number, 0 with the oldest and the newest version, zeros where there is none; or 2 with zeros.
 #[repr(C)]
-#[derive(Drop)]
+#[derive(Clone, Copy)]
 pub struct VersionsIn {
     pub oldest: u32,
     pub newest: u32,

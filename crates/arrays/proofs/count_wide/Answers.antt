@@ -1,0 +1,25 @@
+-- `count_wide` is right because the counts passed have risen by the laps of their numbers and no other has.
+use Prim.Native.Nat.{ℕ, ◌+◌, ◌-◌}
+use mathlib.Core.Path.{refl, ◌∙◌}
+use mathlib.Core.List.{List}
+use native.Mathlib.Omega.{arith}
+use Rattle.units.specs.Places.{at}
+use Rattle.units.proofs.FillLaws.{Filling, filling_begins, filling_goes_on, filling_ends}
+use Rattle.arrays.specs.Held.{held}
+use Rattle.arrays.specs.Laps.{laps, laps_counted}
+use borrow.Author.Rules.{rules}
+use Rattle.arrays.proofs.count_wide.Goals as goal
+use Rattle.arrays.proofs.count_wide.Invariants.{risen}
+
+pub loop-i-preserved : goal.loop-i-preserved
+loop-i-preserved c =
+    filling_goes_on c.loop-i.invariant (omega arith) _ (λ was. c.one_counted.ensures ∙ rw was)
+
+pub returns : goal.returns
+unfolding laps_counted
+returns c =
+    filling_ends c.loop-i.invariant (omega arith) ∙ rw c.places-end.ensures refl
+
+pub loop-i-init : goal.loop-i-init
+loop-i-init c =
+    filling_begins

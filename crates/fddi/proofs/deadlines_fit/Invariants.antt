@@ -1,0 +1,25 @@
+-- `deadlines_fit` is right because its flag is the rule over the stations passed, and what is away from a station is the time lost and the others' S.
+use Prim.Native.Nat.{ℕ, ◌+◌, ◌-◌, ◌≤◌, min}
+use mathlib.Core.Path.{◌≡◌, refl, sym, ap, ◌∙◌}
+use mathlib.Core.Bool.{Bool}
+use mathlib.Core.List.{List}
+use native.Mathlib.Omega.{arith}
+use borrow.Author.Rules.{rules}
+use lib.Dec.{leb}
+use Rattle.units.specs.Places.{at, all_below}
+use Rattle.units.proofs.PlaceLaws.{all_step, all_none}
+use Rattle.fddi.specs.Rules.{others, least_time}
+use Rattle.fddi.proofs.Laws.{others_own}
+use Rattle.fddi.proofs.deadlines_fit.Given as goal
+
+-- the rule at station i
+abbrev pub kept : ℕ → ℕ → ℕ → List ℕ → List ℕ → List ℕ → ℕ → Bool
+kept n ttrt lost c d s i = leb (at c i) (least_time ttrt (at d i) (lost + others (min n 128) (at s) i) (at s i))
+
+abbrev pub invariant-loop-i : goal.invariant-loop-i
+invariant-loop-i l =
+    (l.i ≤ l.end) × (l.all ≡ all_below l.i (kept l.n l.ttrt l.lost l.c l.d l.s))
+
+abbrev pub decreases-loop-i : goal.decreases-loop-i
+decreases-loop-i l =
+    l.end - l.i

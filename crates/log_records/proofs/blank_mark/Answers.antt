@@ -1,0 +1,7 @@
+-- `blank_mark` is right because its body is the definition.
+use mathlib.Core.Path.{refl}
+use Rattle.log_records.proofs.blank_mark.Goals as goal
+
+pub returns : goal.returns
+returns c =
+    refl

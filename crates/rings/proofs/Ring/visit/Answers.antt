@@ -1,0 +1,7 @@
+-- `visit` is right because the call on its arrays, taken out, is.
+use borrow.Author.Rules.{rules}
+use Rattle.rings.proofs.Ring.visit.Goals as goal
+
+pub returns : goal.returns
+returns c =
+    λ i. record { ring = c.visit_on-next.ensures.ring i; answer = c.visit_on-next.ensures.answered i }

@@ -1,0 +1,47 @@
+-- `time_sent` is right because the number of frames is the smaller of those asked for and limit / length rounded up, which is the limit itself for frames of one tick; they run on past the limit by less than one of them, so nothing wraps.
+use Prim.Native.Nat.{ℕ, ◌+◌, ◌-◌, ◌*◌, ◌≤◌}
+use mathlib.Core.Path.{◌≡◌, refl, sym, ap, ◌∙◌}
+use native.Mathlib.Omega.{arith}
+use borrow.Author.Rules.{rules}
+use Rattle.units.specs.Small.{rounded_up}
+use Rattle.units.proofs.SmallLaws.{shares_enough, shares_least}
+use Rattle.rings.specs.Frames.{frames_sent, frames_time}
+use Rattle.rings.proofs.FrameLaws.{frames_sent_lem, frames_within}
+use Rattle.rings.proofs.frames.time_sent.Goals as goal
+
+-- shares of 1 are as many as there are ticks
+of_one_tick : (limit : ℕ) → rounded_up limit 1 ≡ limit
+of_one_tick limit = omega (arith, shares_enough limit 1 (omega arith), shares_least limit 1 limit (omega arith) (omega arith))
+
+pub returns-then-ask-eq1 : goal.returns-then-ask-eq1
+returns-then-ask-eq1 c =
+    let short_is : let args = c.args in c.least.result ≡ frames_time args.limit args.ask = let limit = c.args.limit in
+    let ask = c.args.ask in
+    let one : ask.length ≡ 1 = c.if-ask-eq1.true in
+    let most : rounded_up limit ask.length ≡ limit = ap (λ (x : ℕ). rounded_up limit x) one ∙ of_one_tick limit in
+    let sent : c.least.result ≡ frames_sent limit ask = omega (arith, c.least.ensures, c.wide.ensures.same, frames_sent_lem limit ask c.requires.length, most) in
+    let whole : frames_sent limit ask ≡ frames_sent limit ask * 1 = omega arith in
+    sent ∙ whole ∙ ap (λ (x : ℕ). frames_sent limit ask * x) (sym one) in
+    record { is = short_is; within = omega (arith, c.least.ensures) }
+
+pub overflow_mul-result : goal.overflow_mul-result
+overflow_mul-result c =
+    let is : let args = c.args in c.least-frames.result * c.wide-length.result ≡ frames_time args.limit args.ask = let args = c.args in
+    let length = c.wide-length.ensures.same in
+    let most : c.rounded_up-most.result ≡ rounded_up args.limit args.ask.length = c.rounded_up-most.ensures.is ∙ ap (λ (x : ℕ). rounded_up args.limit x) length in
+    let closed = frames_sent_lem args.limit args.ask c.requires.length in
+    let frames : c.least-frames.result ≡ frames_sent args.limit args.ask = c.least-frames.ensures ∙ rw (c.wide-2.ensures.same, most) (sym closed) in
+    rw (frames, length) refl in
+    let small : let args = c.args in frames_time args.limit args.ask ≤ args.limit + (args.ask.length - 1) = frames_within c.args.limit c.args.ask c.requires.length in
+    omega (arith, is, small, c.requires.small, c.wide-length.ensures)
+
+pub returns : goal.returns
+returns c =
+    let is : let args = c.args in c.least-frames.result * c.wide-length.result ≡ frames_time args.limit args.ask = let args = c.args in
+    let length = c.wide-length.ensures.same in
+    let most : c.rounded_up-most.result ≡ rounded_up args.limit args.ask.length = c.rounded_up-most.ensures.is ∙ ap (λ (x : ℕ). rounded_up args.limit x) length in
+    let closed = frames_sent_lem args.limit args.ask c.requires.length in
+    let frames : c.least-frames.result ≡ frames_sent args.limit args.ask = c.least-frames.ensures ∙ rw (c.wide-2.ensures.same, most) (sym closed) in
+    rw (frames, length) refl in
+    let small : let args = c.args in frames_time args.limit args.ask ≤ args.limit + (args.ask.length - 1) = frames_within c.args.limit c.args.ask c.requires.length in
+    record { is = is; within = rw is small }

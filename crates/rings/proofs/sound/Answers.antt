@@ -1,0 +1,7 @@
+-- `sound` is right because the ring's own arrays are lent.
+use borrow.Author.Rules.{rules}
+use Rattle.rings.proofs.sound.Goals as goal
+
+pub returns : goal.returns
+returns c =
+    c.sound_lent.ensures _ _ _

@@ -1,0 +1,19 @@
+-- `put_visit` is right because it tests for the room, and then lays the field.
+use native.Mathlib.Omega.{arith}
+use Rattle.log_records.specs.Visit.{visit_bytes}
+use Rattle.log_records.proofs.VisitLaws.{visit_length_lem}
+use Rattle.sheets.proofs.WritingLaws.{put_short, put_there}
+use borrow.Author.Rules.{rules}
+use Rattle.sheets.proofs.records.put_visit.Goals as goal
+
+pub returns-then-left : goal.returns-then-left
+returns-then-left c =
+    let args = c.args in
+    let left = c.left.ensures in
+    put_short args.out.now args.at (visit_bytes args.visit) 3 (omega (arith, visit_length_lem args.visit))
+
+pub returns : goal.returns
+returns c =
+    let args = c.args in
+    let left = c.left.ensures in
+    put_there args.out.now args.at (visit_bytes args.visit) 3 _ (omega (arith, visit_length_lem args.visit)) c.lay_visit.ensures

@@ -1,0 +1,7 @@
+-- `write_plan` is right because it hands on what was written.
+use borrow.Author.Rules.{rules}
+use Rattle.sheets.proofs.write_plan.Goals as goal
+
+pub returns : goal.returns
+returns c =
+    c.write_sheet.ensures

@@ -1,0 +1,16 @@
+-- `sum_lent` is right because the loop's sum is the sum of the places passed.
+use Prim.Native.Nat.{◌≤◌, ◌*◌, ◌-◌, ◌^◌, min}
+use mathlib.Core.Path.{◌≡◌, refl, sym, ◌∙◌}
+use native.Mathlib.Omega.{arith}
+use borrow.Author.Rules.{rules}
+use Rattle.units.specs.Places.{at, sum_below}
+use Rattle.units.proofs.PlaceLaws.{sum_step, sum_none}
+use Rattle.units.proofs.sum_lent.Given as goal
+
+abbrev pub invariant-loop-i : goal.invariant-loop-i
+invariant-loop-i l =
+    (l.i ≤ l.end) × (l.sum ≡ sum_below l.i (at l.xs)) × (l.sum ≤ l.i * 2 ^ 32)
+
+abbrev pub decreases-loop-i : goal.decreases-loop-i
+decreases-loop-i l =
+    l.end - l.i
