@@ -1,0 +1,26 @@
+-- `messages` is right because the places passed hold the longest messages of their wagons, and every other is still 0.
+use Prim.Native.Nat.{◌-◌}
+use mathlib.Core.Path.{◌≡◌, ◌∙◌}
+use native.Mathlib.Omega.{arith}
+use Rattle.units.specs.Places.{zeros}
+use Rattle.units.proofs.FillLaws.{Filling, filling_begins, filling_goes_on, filling_ends}
+use Rattle.hopper.specs.Requests.{longest_at}
+use borrow.Author.Rules.{rules}
+use Rattle.hopper.proofs.requests.messages.Goals as goal
+
+pub longest-requires : goal.longest-requires
+longest-requires c =
+    c.requires.wagons c.loop-i.i (omega arith)
+
+pub loop-i-preserved : goal.loop-i-preserved
+loop-i-preserved c =
+    filling_goes_on c.loop-i.invariant (omega arith) _ (λ was. c.longest.ensures)
+
+pub returns : goal.returns
+returns c =
+    let end : c.places-end.result ≡ c.args.list.n = omega arith in
+    filling_ends c.loop-i.invariant (omega arith) ∙ rw end
+
+pub loop-i-init : goal.loop-i-init
+loop-i-init c =
+    filling_begins

@@ -1,0 +1,19 @@
+-- `zeros_from` is right because each turn tests one more byte.
+use Prim.Native.Nat.{ℕ, ◌+◌, ◌-◌, ◌≤◌}
+use mathlib.Core.Path.{◌≡◌, refl, ap, ◌∙◌}
+use native.Mathlib.Omega.{arith}
+use lib.Dec.{eqb}
+use lib.ListN.{length}
+use Rattle.units.specs.Places.{at, all_below}
+use Rattle.units.proofs.PlaceLaws.{all_then}
+use Rattle.versions.specs.Area.{zeros_from}
+use borrow.Author.Rules.{rules}
+use Rattle.versions.proofs.area.zeros_from.Given as goal
+
+abbrev pub invariant-loop-i : goal.invariant-loop-i
+invariant-loop-i l =
+    (l.i ≤ l.n) × (l.all ≡ all_below l.i (λ k. eqb (at l.area (l.from + k)) 0))
+
+abbrev pub decreases-loop-i : goal.decreases-loop-i
+decreases-loop-i l =
+    l.n - l.i
