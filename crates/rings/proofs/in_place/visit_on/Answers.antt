@@ -128,3 +128,27 @@ overflow_add-result-2 c =
     let safe : let r = lent in Safe r × SafeTimers r = visit_safe (lent) c.args.ask (none) in
     let s = safe.0 in
     record { fits = omega (arith, s.visits) }
+
+pub returns : goal.returns
+returns c =
+    let lent : Ring = let a = c.args in ring_of a.w.now a.c.now a.d.now a.p.now a.s.now a.trt.now a.late.now a.sent.now a.rest.now a.arrival.now a.had.now a.mark.now a.last.now a.head a.n a.token a.clock a.visits a.unused in
+    let number_said : c.first_refusal-number.result ≡ visit_number (lent) c.args.ask = let a = c.args in
+    let steady = c.sound_lent-steady.ensures a.had.now a.mark.now a.last.now in
+    c.first_refusal-number.ensures ∙ (λ i. first_refusal (steady i) (c.length_fits-named.ensures i) a.clock) in
+    let none : visit_number (lent) c.args.ask ≡ 0 = sym (number_said) ∙ c.if-number-ne-ACCEPTED.false in
+    let safe : let r = lent in Safe r × SafeTimers r = visit_safe (lent) c.args.ask (none) in
+    let ring-at : Ring = lent in
+    let seen : c.view_of-view.result ≡ view_of (ring-at) = c.view_of-view.ensures in
+    let moves : Moving (ring-at) c.args.ask c.moves_of-moves.result = let a = c.args in
+    moving (ring-at) a.ask c.moves_of-moves.result (subst (λ (v : View). MovesOf v a.token a.ask c.moves_of-moves.result) (seen) c.moves_of-moves.ensures) in
+    let a = c.args in
+    let r = lent in
+    let s = safe in
+    let m = moves in
+    let y = c.moves_of-moves.result in
+    let async = async_sent r a.ask in
+    let h = c.store.ensures in
+    let timers = timers_moved r y.sync async y.rise y.since y.unused _ _ m.rise m.since c.move_timers.ensures s.0 s.1 m.sendable m.unused_fddi m.unused_timely in
+    let next = ring_moved r y.sync async _ _ _ _ _ _ _ _ y.unused timers h.0 h.1.0 (h.1.1 ∙ ap (λ (x : ℕ). set a.last.now a.token x) m.start) c.next_token-next.ensures (ap (λ (x : ℕ). a.clock + x) m.rise) refl in
+    let e = visit_done r a.ask y.sync _ _ _ none m.sync next m.told c.if-number-ne-ACCEPTED.false in
+    record { ring = ap (λ (x : Visited). x.ring) e; answered = ap (λ (x : Visited). x.answer) e; number = refl }

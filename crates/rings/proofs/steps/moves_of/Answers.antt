@@ -47,3 +47,24 @@ unused_next-unused-requires c =
 pub overflow_sub-result : goal.overflow_sub-result
 overflow_sub-result c =
     omega (arith, c.lead_of-lead.ensures.small, c.rise_of-rise.ensures)
+
+pub returns : goal.returns
+returns c =
+    let sendable : Sendable (point_of c.args.v) c.sync_sent-sync.result c.time_sent-asynchronous.result = let sync = c.sync_sent-sync.ensures in
+    record {
+      allotted = sync.allotted;
+      rest = sync.rest;
+      short = omega (arith, sync.allotted, c.time_sent-asynchronous.ensures.within, c.requires.2, c.limit_of-limit.ensures.small, c.requires.0.allotted);
+    } in
+    let v = c.args.v in
+    let async : c.time_sent-asynchronous.result ≡ async_sent (point_of v) c.args.ask = c.time_sent-asynchronous.ensures.is ∙ rw c.limit_of-limit.ensures.is refl in
+    record {
+      sync = c.sync_sent-sync.ensures.is ∙ rw async refl;
+      rise = c.rise_of-rise.ensures ∙ rw async refl;
+      since = rw (c.rise_of-rise.ensures, c.lead_of-lead.ensures.is, async) refl;
+      start = c.sync_start-start.ensures ∙ rw async refl;
+      unused_fddi = c.unused_next-unused.ensures.0;
+      unused_timely = c.unused_next-unused.ensures.1;
+      told = c.record_of-told.ensures ∙ rw async refl;
+      sendable = rw async at sendable;
+    }

@@ -1,0 +1,10 @@
+-- `arrival_allowed` is right because its body is the definition, test by test.
+use mathlib.Core.Path.{refl}
+use borrow.Author.Rules.{rules}
+use Rattle.rings.specs.HandingIn.{arrival_allowed}
+use Rattle.rings.proofs.messages.arrival_allowed.Goals as goal
+
+pub returns : goal.returns
+unfolding arrival_allowed
+returns c w longest d s trt late sent rest mark head n token clock unused =
+    rw (c.later_than_start-later.ensures, c.wide.ensures.same) refl
