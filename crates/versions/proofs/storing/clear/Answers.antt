@@ -31,10 +31,6 @@ loop-i-preserved c =
     let n = c.args.n in
     laid_turn (zero_bytes n) 0 c.loop-i.invariant (omega (arith, zeros_long n)) (omega (arith, zeros_long n)) (sym (zeros_are n _))
 
-pub shape_of-out : goal.shape_of-out
-shape_of-out c =
-    c.loop-i.invariant.long
-
 pub returns : goal.returns
 returns c =
     let n = c.args.n in

@@ -30,11 +30,3 @@ overflow_add-i c =
 pub loop-i-smaller : goal.loop-i-smaller
 loop-i-smaller c =
     omega arith
-
-pub shape_of-out : goal.shape_of-out
-shape_of-out c =
-    c.loop-i.invariant.long
-
-pub returns : goal.returns
-returns c =
-    laid_end _ c.loop-i.invariant (omega arith)

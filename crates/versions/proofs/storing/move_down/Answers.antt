@@ -39,7 +39,3 @@ overflow_add-i c =
 pub loop-i-smaller : goal.loop-i-smaller
 loop-i-smaller c =
     omega arith
-
-pub shape_of-out : goal.shape_of-out
-shape_of-out c =
-    c.loop-i.invariant.long

@@ -2,24 +2,20 @@
 use Rattle.std.proofs.Common.{◌+◌, ◌<◌, ◌≤◌, length, refl, ◌∙◌, arith, rules, le-leb}
 use borrow.Author.Tests.{lt-leb}
 use Rattle.log_records.specs.Visit.{visit_stands}
-use Rattle.logs.proofs.reading.visit_stands.Statement.{statement}
-use Rattle.logs.proofs.reading.visit_stands.Tie as tie
+use Rattle.logs.proofs.reading.visit_stands.Goals as goal
 
-returns : tie.Need-returns
+pub returns-then-left-lt-VISIT_LENGTH : goal.returns-then-left-lt-VISIT_LENGTH
 unfolding visit_stands
-returns c =
-    let args = c.before.before.before.args in
-    let left = c.before.left.ensures in
+returns-then-left-lt-VISIT_LENGTH c =
+    let args = c.args in
+    let left = c.left.ensures in
     let short : length args.bs.now < args.at + 20 = omega arith in
     rw (lt-leb _ _ short) refl
 
-returns-2 : tie.Need-returns-2
+pub returns : goal.returns
 unfolding visit_stands
-returns-2 c =
-    let args = c.before.before.before.before.args in
-    let left = c.before.before.left.ensures in
+returns c =
+    let args = c.args in
+    let left = c.left.ensures in
     let whole : args.at + 20 ≤ length args.bs.now = omega arith in
     c.begins.ensures ∙ rw (le-leb _ _ whole) refl
-
-pub visit-stands-spec : {M : Type 1} → statement M
-visit-stands-spec = tie.close (tie.spec (λ c κs. search rules) returns (λ c κs. search rules) returns-2)

@@ -1,0 +1,11 @@
+-- `begins` is right because it tests the tag, and the length in the two bytes behind it.
+use Rattle.std.proofs.Common.{◌≡◌, ◌+◌, refl, arith, rules}
+use Rattle.fields.specs.Bytes.{short_at}
+use Rattle.logs.proofs.reading.begins.Goals as goal
+
+pub returns : goal.returns
+unfolding short_at
+returns c =
+    let at = c.args.at in
+    let next : at + 1 + 1 ≡ at + 2 = omega arith in
+    rw (c.wide.ensures.same, c.wide-2.ensures.same, next) refl
