@@ -1,0 +1,15 @@
+-- `put_alone` is right because its words are put one behind another.
+use native.Mathlib.Omega.{arith}
+use Rattle.differences.specs.Views.{nth_of}
+use Rattle.text.proofs.TextLaws.{decimal_short, put_short_then, put_as}
+use Rattle.command_diff.proofs.LineLaws.{alone_line}
+use borrow.Author.Rules.{rules}
+use Rattle.command_diff.proofs.putting.put_alone.Goals as goal
+
+pub returns : goal.returns
+unfolding nth_of
+returns c =
+    let room = c.requires.1 in
+    let one = c.put_number-counted.ensures.put (omega (arith, room)) (decimal_short 20 _) in
+    let two = put_short_then one c.put_side-sided.ensures (omega (arith, room)) in
+    put_as (put_short_then two c.put_five.ensures (omega (arith, room))) (alone_line _ _ _ _ _ _ _) (omega arith)

@@ -1,0 +1,18 @@
+-- `put_header` is right because it puts nothing where the numbers are the same, and else the words of the line one behind another.
+use mathlib.Core.List.{[], ◌∷◌}
+use native.Mathlib.Omega.{arith}
+use Rattle.text.proofs.TextLaws.{put_none, decimal_short, line_then, put_as}
+use Rattle.command_diff.proofs.LineLaws.{lines_same, header_line}
+use borrow.Author.Rules.{rules}
+use Rattle.command_diff.proofs.putting.put_header.Goals as goal
+
+pub returns-then-old-new : goal.returns-then-old-new
+returns-then-old-new c =
+    rw (lines_same _ _ _ c.if-old-new.true) (record { put = put_none _ _; short = omega arith })
+
+pub returns : goal.returns
+returns c =
+    let one = c.put_number-tagged.ensures.put (omega (arith, c.requires)) (decimal_short 20 _) in
+    put_as (line_then [] (c.args.old ∷ c.args.new ∷ []) one c.put_line.ensures (omega (arith, c.requires)))
+    (header_line _ _ _ c.if-old-new.false)
+    (omega arith)

@@ -1,0 +1,16 @@
+-- `put_headers` is right because the lines of the four numbers stand one behind another.
+use mathlib.Core.Path.{sym}
+use native.Mathlib.Omega.{arith}
+use Rattle.sets.specs.Header.{head_number}
+use Rattle.differences.specs.Views.{header_of}
+use Rattle.text.proofs.TextLaws.{put_short_then, put_as}
+use Rattle.command_diff.proofs.LineLaws.{lines_headers}
+use borrow.Author.Rules.{rules}
+use Rattle.command_diff.proofs.putting.put_headers.Goals as goal
+
+pub returns : goal.returns
+unfolding header_of head_number
+returns c =
+    let two = put_short_then c.put_header-rotation.ensures c.put_header-mode.ensures (omega (arith, c.requires)) in
+    let three = put_short_then two c.put_header-frame.ensures (omega (arith, c.requires)) in
+    put_as (put_short_then three c.put_header.ensures (omega (arith, c.requires))) (sym (lines_headers (header_of c.args.h) (header_of c.args.k))) (omega arith)

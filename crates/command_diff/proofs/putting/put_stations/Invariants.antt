@@ -1,0 +1,21 @@
+-- `put_stations` is right because after i turns the lines of the first i stations are put.
+use Prim.Native.Nat.{◌*◌, ◌-◌, ◌≤◌}
+use mathlib.Core.Path.{◌≡◌, refl, ◌∙◌}
+use native.Mathlib.Omega.{arith}
+use lib.ListN.{length}
+use Rattle.text.specs.Text.{PutShort}
+use Rattle.text.proofs.TextLaws.{put_none, put_short_then, put_as}
+use Rattle.differences.specs.Views.{number_of}
+use Rattle.differences.specs.Differences.{gathered, station_changed}
+use Rattle.command_diff.specs.DiffText.{lines_of}
+use Rattle.command_diff.proofs.LineLaws.{lines_none, lines_step}
+use borrow.Author.Rules.{rules}
+use Rattle.command_diff.proofs.putting.put_stations.Given as goal
+
+abbrev pub invariant-loop-i : goal.invariant-loop-i
+invariant-loop-i l =
+    (l.i ≤ l.shared) × (length l.page ≡ length l.initial.page) × PutShort (415 * l.i) l.initial.page l.at (lines_of (gathered l.i (station_changed (number_of l.t l.a) (number_of l.u l.b)))) l.page l.next
+
+abbrev pub decreases-loop-i : goal.decreases-loop-i
+decreases-loop-i l =
+    l.shared - l.i

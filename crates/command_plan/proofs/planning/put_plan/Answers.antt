@@ -1,0 +1,14 @@
+-- `put_plan` is right because the stations' lines stand behind the first line.
+use mathlib.Core.Path.{refl}
+use native.Mathlib.Omega.{arith}
+use Rattle.command_plan.specs.PlanText.{plan_lines}
+use Rattle.text.proofs.TextLaws.{put_short_then, put_as}
+use borrow.Author.Rules.{rules}
+use Rattle.command_plan.proofs.planning.put_plan.Goals as goal
+
+pub returns : goal.returns
+unfolding plan_lines
+returns c =
+    put_as (put_short_then c.put_plan_line-first.ensures c.put_shares.ensures (omega (arith, c.requires)))
+    (rw (c.wide-n.ensures.same, c.wide-ttrt.ensures.same, c.walk_time-tau.ensures.sum, c.spare-spare.ensures) refl)
+    (omega arith)

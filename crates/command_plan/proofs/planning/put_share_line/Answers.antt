@@ -1,0 +1,14 @@
+-- `put_share_line` is right because S stands behind the station's number.
+use mathlib.Core.Path.{refl}
+use mathlib.Core.List.{[], ◌∷◌}
+use native.Mathlib.Omega.{arith}
+use Rattle.text.specs.Text.{line, number_words}
+use Rattle.text.proofs.TextLaws.{decimal_short, line_then, put_as}
+use borrow.Author.Rules.{rules}
+use Rattle.command_plan.proofs.planning.put_share_line.Goals as goal
+
+pub returns : goal.returns
+unfolding line number_words
+returns c =
+    let one = c.put_number-numbered.ensures.put (omega (arith, c.requires)) (decimal_short 20 _) in
+    put_as (line_then [] (c.args.s ∷ []) one c.put_line.ensures (omega (arith, c.requires))) refl (omega arith)
