@@ -175,7 +175,7 @@ module _ (t : Set) (a : Alloc) (plan : Plan t a) (mode : ¬ Fddi t) where
   limits_kept : ExactLimits t a (look_back t)
   limits_kept =
       record {
-        limits = λ calls. each_visit_of (λ on v before k. k.limit) (events_of t a calls) (every calls).each;
+        limits = λ calls. each_visit_of {A = TimelyVisit t a (look_back t)} (λ on v before k. k.limit) (events_of t a calls) (every calls).each;
         spare = omega (arith, plan.token, plans-promised.spare_timely t (at a.s) mode);
         ticks = λ one calls. each_visit_of (λ on v before k. tick_limit t a (look_back t) one on v before k) (events_of t a calls) (every calls).each;
       }
