@@ -9,6 +9,11 @@ use Rattle.inspection.proofs.found.Goals as goal
 with_record_lem : (s : Inspection) (records number : ℕ) → number ≡ broken_record s → record { records = records; «record» = number; rule = s.rule; number = 0 } ≡ finding_of s records
 with_record_lem s records number is = ap (λ (x : ℕ). record { records = records; «record» = x; rule = s.rule; number = 0 }) is
 
+pub returns-then-state-ne0 : goal.returns-then-state-ne0
+returns-then-state-ne0 c =
+    let state = c.args.state in
+    with_record_lem state _ _ (named state _ c.if-state-ne0.true c.wrapping_add_u64-record.ensures.value)
+
 pub returns-else-state-ne0 : goal.returns-else-state-ne0
 returns-else-state-ne0 c =
     let state = c.args.state in

@@ -19,3 +19,16 @@ returns-then-rule-ne0 c =
           let due = expected s (set_of head a.n w zeros zeros zeros) (alloc_of shares) in
           step_stops s head a.n w shares (Mark a.switched) refl due (λ x d p. refl) _ (c.mark_rule-rule.ensures due refl) c.if-rule-ne0.true _ refl;
     }
+
+pub returns : goal.returns
+returns c =
+    let a = c.args in
+    let none = c.if-rule-ne0.false in
+    record {
+      stepped = λ base sent w shares head.
+          let s = standing base sent a.mark.now a.course a.records 0 in
+          let due = expected s (set_of head a.n w zeros zeros zeros) (alloc_of shares) in
+          rw c.none_compared-compared.ensures
+          (step_moves s head a.n w shares (Mark a.switched) refl due (λ x d p. refl) _ (c.mark_rule-rule.ensures due refl) none _
+          (λ x d p. mark_moved s _ _ _ _ _ c.place-place.ensures c.mark_of.ensures c.wrapping_add_u64-counted.ensures.value none));
+    }
