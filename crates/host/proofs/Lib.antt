@@ -1,8 +1,3 @@
-pub mod Fields
+-- The promises of this layer, proved.
+pub mod Refused
 pub mod Promised
-pub mod Plain
-pub mod Loans
-pub mod Apart
-pub mod LentWalk
-pub mod KeptApart
-pub mod KeptWalk
