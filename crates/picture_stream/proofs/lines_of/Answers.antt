@@ -1,0 +1,19 @@
+-- `lines_of` is right because its branches are the definition's own: where a record is named, its line is there.
+use Rattle.std.proofs.Common.{arith, rules, eq-eqb, ne_eqb}
+use Rattle.picture_stream.specs.Watching.{lines_of}
+use Rattle.picture_stream.proofs.lines_of.Goals as goal
+
+pub returns-then-watching-eq0 : goal.returns-then-watching-eq0
+unfolding lines_of
+returns-then-watching-eq0 c =
+    rw (eq-eqb _ 0 c.if-watching-eq0.true) c.lines_in-lines.ensures
+
+pub returns-then-lines-named : goal.returns-then-lines-named
+unfolding lines_of
+returns-then-lines-named c =
+    rw (ne_eqb _ 0 c.if-watching-eq0.false) (omega (arith, c.if-lines-named.true, c.wrapping_add_u64-named.ensures.value, c.lines_in-lines.ensures))
+
+pub returns-else-lines-named : goal.returns-else-lines-named
+unfolding lines_of
+returns-else-lines-named c =
+    rw (ne_eqb _ 0 c.if-watching-eq0.false) (omega (arith, c.if-lines-named.false, c.wrapping_add_u64-named.ensures.value, c.lines_in-lines.ensures))

@@ -1,0 +1,7 @@
+-- `window_of` is right because it ends at the last line, begins 60 before it, and names what the inspection names.
+use Rattle.std.proofs.Common.{refl, rules}
+use Rattle.picture_stream.proofs.window_of.Goals as goal
+
+pub returns : goal.returns
+returns c =
+    rw (c.room.ensures, c.found-found.ensures, c.last_line-last.ensures) refl

@@ -1,0 +1,7 @@
+-- `mark_begin` is right because its body is the definition.
+use Rattle.std.proofs.Common.{refl, rules}
+use Rattle.pictures.proofs.records.mark_begin.Goals as goal
+
+pub returns : goal.returns
+returns c =
+    rw c.number_of-number.ensures refl
