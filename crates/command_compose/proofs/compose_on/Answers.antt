@@ -1,0 +1,12 @@
+-- `compose_on` is right because it reads the first 2,048 bytes, or all if they are fewer.
+use Rattle.command_compose.proofs.SentLaws.{composed_none, composed_piece}
+use borrow.Author.Rules.{rules}
+use Rattle.command_compose.proofs.compose_on.Goals as goal
+
+pub returns-then-page-lt-PAGE_SIZE : goal.returns-then-page-lt-PAGE_SIZE
+returns-then-page-lt-PAGE_SIZE c =
+    composed_none _ _ _ c.if-page-lt-PAGE_SIZE.true
+
+pub returns : goal.returns
+returns c =
+    composed_piece _ _ _ _ _ _ c.piece_length-end.ensures c.if-page-lt-PAGE_SIZE.false c.compose_piece.ensures

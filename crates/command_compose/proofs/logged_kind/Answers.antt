@@ -1,0 +1,16 @@
+-- `logged_kind` is right because it asks the plan's judgement.
+use mathlib.Core.Path.{refl, sym, ◌∙◌}
+use borrow.Author.Tests.{eq-eqb, ne_eqb}
+use Rattle.command_compose.specs.Compose.{logged_kind}
+use borrow.Author.Rules.{rules}
+use Rattle.command_compose.proofs.logged_kind.Goals as goal
+
+pub returns-then-judge_plan-eq-ACCEPTED : goal.returns-then-judge_plan-eq-ACCEPTED
+unfolding logged_kind
+returns-then-judge_plan-eq-ACCEPTED c =
+    rw (eq-eqb _ 0 (sym c.judge_plan.ensures ∙ c.if-judge_plan-eq-ACCEPTED.true)) refl
+
+pub returns : goal.returns
+unfolding logged_kind
+returns c =
+    rw (ne_eqb _ 0 (λ e. c.if-judge_plan-eq-ACCEPTED.false (c.judge_plan.ensures ∙ e))) refl
