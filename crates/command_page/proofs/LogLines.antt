@@ -188,7 +188,8 @@ module _ (c : Scene) (x : Window) (n : ℕ) (w : List ℕ) (same : c.n ≡ n) wh
 
       visit_drawn : (b : Bool) → is_drawn x l (Visit v) ≡ true → marks_of c b (drawn_in x n w l mark (Visit v ∷ es)) ≡ begun_by b (handed_out mark l (Visit v)) ++ (ended_by last ++ marks_of c (not last) rest)
       unfolding drawn_in marks_of
-      visit_drawn b h = rw (h, same) refl
+      visit_drawn b h =
+          rw h (ap (λ (k : ℕ). begun_by b (handed_out mark l (Visit v)) ++ (ended_by (leb k (l.turn + 1)) ++ marks_of c (not (leb k (l.turn + 1))) rest)) same)
 
       visit_skipped : (b : Bool) → is_drawn x l (Visit v) ≡ false → marks_of c b (drawn_in x n w l mark (Visit v ∷ es)) ≡ marks_of c b rest
       unfolding drawn_in

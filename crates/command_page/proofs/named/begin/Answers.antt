@@ -1,0 +1,11 @@
+-- `begin` is right because it goes by the kind of the record, as the definition does.
+use Rattle.std.proofs.Common.{rules}
+use Rattle.command_page.proofs.named.begin.Goals as goal
+
+pub returns-in-Visit : goal.returns-in-Visit
+returns-in-Visit c =
+    rw c.in-Visit.is c.one.ensures
+
+pub returns-in-Mark : goal.returns-in-Mark
+returns-in-Mark c =
+    rw c.in-Mark.is c.one-in-Mark.ensures
