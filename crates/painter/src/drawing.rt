@@ -2,6 +2,8 @@
 use crate::shapes;
 use picture_stream::{Watching, Window};
 use pictures::{Pen, Scene};
+use std::io::Print;
+use streams::complaints::Complain;
 use streams::ending;
 use tallies::Drawn;
 
@@ -35,21 +37,27 @@ fn put_parts(page: &mut [u8], scene: Scene, pen: Pen, drawn: Drawn) -> usize {
 }
 
 // Draws a record.
-fn draw(scene: Scene, pen: Pen, drawn: Drawn) -> bool {
+fn draw(rt: &(impl Print + Complain), scene: Scene, pen: Pen, drawn: Drawn) -> bool {
     let mut page = io::large_buffer();
     let put = put_parts(&mut page, scene, pen, drawn);
-    ending::say_put(&page, put)
+    ending::say_put(rt, &page, put)
 }
 
 // Ends a line that has begun.
-pub(crate) fn end(pen: Pen) -> bool {
+pub(crate) fn end(rt: &(impl Print + Complain), pen: Pen) -> bool {
     let mut page = io::buffer();
     let put = shapes::put_part(&mut page, 0, pictures::line_end(pen));
-    ending::say_put(&page, put)
+    ending::say_put(rt, &page, put)
 }
 
 // The bytes from this place on: each turn goes to the next record that is drawn, a byte further at least.
-pub(crate) fn go_over(canvas: Canvas, easel: Easel, bytes: &[u8], from: usize) -> Canvas {
+pub(crate) fn go_over(
+    rt: &(impl Print + Complain),
+    canvas: Canvas,
+    easel: Easel,
+    bytes: &[u8],
+    from: usize,
+) -> Canvas {
     let scene = easel.scene;
     let window = easel.window;
     let mut watching = canvas.watching;
@@ -64,7 +72,7 @@ pub(crate) fn go_over(canvas: Canvas, easel: Easel, bytes: &[u8], from: usize) -
         at = watched.at;
         if watched.stopped & wrote {
             let drawn = watched.drawn;
-            wrote = draw(scene, pen, drawn);
+            wrote = draw(rt, scene, pen, drawn);
             pen = pictures::pen_after(scene, pen, drawn);
         } else {
             return Canvas {
