@@ -26,12 +26,7 @@ struct Heard {
 // ---- the changes
 
 // Takes a byte, and writes the answer where a line ends there.
-fn hear_byte(
-    rt: &(impl Print + Complain),
-    refit: Refit,
-    byte: u8,
-    page: &mut [u8],
-) -> Heard {
+fn hear_byte(rt: &(impl Print + Complain), refit: Refit, byte: u8, page: &mut [u8]) -> Heard {
     let read = command_hopper::refit_byte(refit, byte, page);
     let length = read.length;
     let wrote = ending::say(rt, &page[..length]);

@@ -41,11 +41,7 @@ fn find_in(rt: &(impl Env + Files + Print + Complain), word: usize, number: &[u8
 }
 
 // `kept`: the path and the number are the words at these places.
-pub(crate) fn kept(
-    rt: &(impl Env + Files + Print + Complain),
-    first: usize,
-    second: usize,
-) -> u8 {
+pub(crate) fn kept(rt: &(impl Env + Files + Print + Complain), first: usize, second: usize) -> u8 {
     let mut number = io::buffer();
     match words::whole_word(rt, second, &mut number) {
         Ok(digits) => find_in(rt, first, &number[..digits]),
