@@ -44,16 +44,13 @@ fn hear(rt: &(impl Print + Complain), refit: Refit, text: &[u8]) -> Heard {
     let mut page = io::large_buffer();
     let mut stands = refit;
     let mut unread = false;
-    let mut i: usize = 0;
-    while i < text.len() {
-        let heard = hear_byte(rt, stands, text[i], &mut page);
+    for byte in text {
+        let heard = hear_byte(rt, stands, *byte, &mut page);
         if heard.failed {
             return heard;
         }
-        let behind = heard.refit;
-        stands = behind;
+        stands = heard.refit;
         unread = unread | heard.unread;
-        i += 1;
     }
     Heard {
         refit: stands,

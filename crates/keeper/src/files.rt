@@ -89,15 +89,10 @@ pub(crate) fn write_through(file: &mut (impl Write + OpenFile), bytes: &[u8]) ->
 fn folder_length(path: &[u8]) -> usize
     ensures { IsPrefixLen result path.now }
 {
-    let mut end: usize = 0;
-    let mut i: usize = 0;
-    while i < path.len() {
-        i += 1;
-        if path[i - 1] == b'/' {
-            end = i;
-        }
+    match path.iter().rposition(|byte| *byte == b'/') {
+        Some(slash) => slash + 1,
+        None => 0,
     }
-    end
 }
 
 // The folder of this path; where it names none, the one that the program runs in.

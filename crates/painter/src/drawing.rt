@@ -27,11 +27,9 @@ fn put_parts(page: &mut [u8], scene: Scene, pen: Pen, drawn: Drawn) -> usize {
     let label = pictures::part_at(scene, pen, drawn, 0);
     let record = pictures::part_at(scene, pen, drawn, 3);
     let mut at = shapes::put_label(page, 0, label, record);
-    let mut k: usize = 1;
-    while k < pictures::PART_COUNT {
+    for k in 1..pictures::PART_COUNT {
         let part = pictures::part_at(scene, pen, drawn, k);
         at = shapes::put_part(page, at, part);
-        k += 1;
     }
     at
 }
@@ -64,8 +62,7 @@ pub(crate) fn go_over(
     let mut pen = canvas.pen;
     let mut wrote = canvas.wrote;
     let mut at = from;
-    let mut turns = bytes.len();
-    while turns > 0 {
+    for _ in 0..bytes.len() {
         let watched = picture_stream::watch_on(watching, window, bytes, at);
         let stands = watched.watching;
         watching = stands;
@@ -81,7 +78,6 @@ pub(crate) fn go_over(
                 wrote,
             };
         }
-        turns -= 1;
     }
     Canvas {
         watching,

@@ -55,12 +55,10 @@ fn say_meaning(rt: &(impl Print + Complain), account: Account) -> bool {
 
 // The parts from the third on, up to the last, which begins the picture.
 fn say_parts(rt: &(impl Print + Complain), account: Account, last: usize) -> bool {
-    let mut k: usize = 2;
-    while k < last {
+    for k in 2..last {
         if !forms::say_part(rt, command_page::part_at(account, k)) {
             return false;
         }
-        k += 1;
     }
     true
 }
@@ -77,15 +75,13 @@ fn say_station(rt: &(impl Print + Complain), any: bool, station: u64) -> bool {
 fn say_marked(rt: &(impl Print + Complain), mark: [u8; 128], n: u32) -> bool {
     let end = units::places(n);
     let mut any = false;
-    let mut i: usize = 0;
-    while i < end {
+    for i in 0..end {
         if mark[i] != 0 {
             if !say_station(rt, any, i as u64) {
                 return false;
             }
             any = true;
         }
-        i += 1;
     }
     any || ending::say(rt, b"no station")
 }
