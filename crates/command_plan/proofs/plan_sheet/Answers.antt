@@ -9,3 +9,7 @@ use Rattle.command_plan.proofs.plan_sheet.Goals as goal
 pub returns-then-plan-ne-ACCEPTED : goal.returns-then-plan-ne-ACCEPTED
 returns-then-plan-ne-ACCEPTED c =
     wrote_none _ _ _ (sym (ap (λ (p : ReadPlan). p.number) (c.plan_of-plan.ensures ∙ ap plan_of c.read_request-request.ensures))) c.if-plan-ne-ACCEPTED.true
+
+pub returns : goal.returns
+returns c =
+    wrote_plan _ _ _ _ _ (c.plan_of-plan.ensures ∙ ap plan_of c.read_request-request.ensures) c.if-plan-ne-ACCEPTED.false c.write_plan.ensures c.write_plan.auto.out
