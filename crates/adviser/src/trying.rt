@@ -4,7 +4,10 @@ ghost use Rattle.command_tune.specs.Tune.{TriedAll};
 use crate::lines;
 use command_tune::Tune;
 use commands::{Command, status};
-use libc::{STDERR_FILENO, STDIN_FILENO};
+use std::env::Env;
+use std::io::{Input, Print};
+use std::time::Clock;
+use streams::complaints::Complain;
 use streams::{ending, reading, usage, words};
 
 // What a word writes, and whether it is a whole number.
@@ -17,20 +20,21 @@ struct Number {
 // The second by the clock that was seen last, and how often it was another one, up to two: then more than a second has passed.
 #[derive(Clone, Copy)]
 struct Watch {
-    second: i64,
+    second: u64,
     changes: u8,
 }
 
-// The second by the clock.
-fn clock() -> i64 {
-    let mut now: i64 = 0;
-    libc::time(&mut now);
-    now
+// The second by the clock; 0 where it cannot be read.
+fn second_of(rt: &impl Clock) -> u64 {
+    match rt.since_1970() {
+        Ok(now) => now.as_secs(),
+        Err(_) => 0,
+    }
 }
 
 // Looks at the clock again.
-fn watched(watch: Watch) -> Watch {
-    let now = clock();
+fn watched(rt: &impl Clock, watch: Watch) -> Watch {
+    let now = second_of(rt);
     if now == watch.second {
         return watch;
     }
@@ -47,13 +51,13 @@ fn watched(watch: Watch) -> Watch {
 }
 
 // Writes what was put at the start of a page on standard error.
-fn warn(page: &[u8], put: usize) {
+fn warn(rt: &impl Complain, page: &[u8], put: usize) {
     let end = reading::further(0, put, page.len());
-    io::write_all(STDERR_FILENO, &page[..end]);
+    rt.complain(&page[..end]);
 }
 
 // Says how far it is.
-fn say_progress(k: Tune) {
+fn say_progress(rt: &impl Complain, k: Tune) {
     let mut page = io::buffer();
     let from = units::wide(k.from);
     let tried = units::room(k.next, from);
@@ -64,90 +68,97 @@ fn say_progress(k: Tune) {
         b"\rolivastrum: tried # of #",
         [tried, all, 0, 0, 0, 0],
     );
-    warn(&page, put);
+    warn(rt, &page, put);
 }
 
 // Tries every TTRT. Where standard error is a terminal, it says from the second second on how far it is.
-fn try_all(first: Tune) -> Tune
+fn try_all(rt: &(impl Clock + Complain), first: Tune) -> Tune
     ensures { TriedAll first result }
 {
-    let shown = libc::isatty(STDERR_FILENO) == 1;
+    let shown = rt.is_watched();
     let mut watch = Watch {
-        second: clock(),
+        second: second_of(rt),
         changes: 0,
     };
     let mut k = first;
     while !command_tune::is_done(k) {
         k = command_tune::go_on(k);
-        let later = watched(watch);
+        let later = watched(rt, watch);
         let due = shown & (later.changes == 2) & (later.second != watch.second);
         if due {
-            say_progress(k);
+            say_progress(rt, k);
         }
         watch = later;
     }
     if shown & (watch.changes == 2) {
-        io::write_all(STDERR_FILENO, b"\r\x1b[K");
+        rt.complain(b"\r\x1b[K");
     }
     k
 }
 
 // Writes line i in its words.
-fn say_line(k: Tune, i: usize) -> bool {
+fn say_line(rt: &(impl Print + Complain), k: Tune, i: usize) -> bool {
     let mut page = io::buffer();
     let line = command_tune::line_at(k, i);
     let put = lines::put_line(&mut page, line);
-    ending::say_put(&page, put)
+    ending::say_put(rt, &page, put)
 }
 
 // Writes all lines.
-fn say_all(k: Tune) -> bool {
+fn say_all(rt: &(impl Print + Complain), k: Tune) -> bool {
     let count = command_tune::line_count(k);
-    let mut i: usize = 0;
-    while i < count {
-        if !say_line(k, i) {
+    for i in 0..count {
+        if !say_line(rt, k, i) {
             return false;
         }
-        i += 1;
     }
     true
 }
 
 // The word at this place as a whole number.
-fn number_at(place: usize) -> Number {
+fn number_at(rt: &impl Env, place: usize) -> Number {
     let mut word = io::buffer();
-    let length = os::arg(place, &mut word);
-    Number {
-        value: number_words::value_of(&word[..length]),
-        whole: number_words::is_whole(&word[..length]),
+    match words::whole_word(rt, place, &mut word) {
+        Ok(length) => Number {
+            value: number_words::value_of(&word[..length]),
+            whole: number_words::is_whole(&word[..length]),
+        },
+        Err(_) => Number {
+            value: 0,
+            whole: false,
+        },
     }
 }
 
 // The same of the request sheet on standard input, from FROM to TO.
-fn tune_from(from: u64, to: u64) -> u8 {
+fn tune_from(rt: &(impl Clock + Input + Print + Complain), from: u64, to: u64) -> u8 {
     let mut sheet: [u8; sheets::REQUEST_READ] = [0; sheets::REQUEST_READ];
-    let filled = reading::fill(STDIN_FILENO, &mut sheet);
-    if filled.failed {
-        return ending::unread_input();
+    let filled = reading::fill(&mut rt.reader(), &mut sheet);
+    if let Some(error) = filled.failed {
+        return ending::unread_input(rt, error);
     }
     let read = filled.length;
-    let k = try_all(command_tune::begin(&sheet[..read], from, to));
-    if !say_all(k) {
+    let k = try_all(rt, command_tune::begin(&sheet[..read], from, to));
+    if !say_all(rt, k) {
         return status::FAILED;
     }
     status::status_of(command_tune::number_of(k))
 }
 
 // `tune`: FROM and TO are the words at these places; without words all TTRT are tried.
-pub(crate) fn tune(second: usize, third: usize) -> u8 {
-    if !words::is_given(second) {
-        return tune_from(1, 1_000_000);
+pub(crate) fn tune(
+    rt: &(impl Env + Clock + Input + Print + Complain),
+    second: usize,
+    third: usize,
+) -> u8 {
+    if !words::is_given(rt, second) {
+        return tune_from(rt, 1, 1_000_000);
     }
-    let from = number_at(second);
-    let to = number_at(third);
+    let from = number_at(rt, second);
+    let to = number_at(rt, third);
     let whole = from.whole & to.whole;
     if !whole {
-        return usage::misused(Command::Tune);
+        return usage::misused(rt, Command::Tune);
     }
-    tune_from(from.value, to.value)
+    tune_from(rt, from.value, to.value)
 }

@@ -4,34 +4,23 @@
 ghost use Rattle.streams.specs.Ends.{Ends};
 
 use commands::status;
-use libc::STDOUT_FILENO;
+use std::io::{Error, Print};
+use streams::complaints::Complain;
 use streams::{ending, usage};
 
-// Writes more of it, if all before could be written.
-fn more(before: bool, text: &[u8]) -> bool {
-    if !before {
-        return false;
-    }
-    io::write_all(STDOUT_FILENO, text)
-}
-
 // A line for each command.
-fn put_commands(before: bool) -> bool {
-    let mut wrote = before;
-    let mut place: usize = 0;
-    while place < commands::COUNT {
+fn put_commands(rt: &impl Print) -> Result<(), Error> {
+    for place in 0..commands::COUNT {
         let command = commands::command_at(place);
-        let begun = more(wrote, b"  ");
-        wrote = begun & usage::put_line(STDOUT_FILENO, command);
-        place += 1;
+        rt.write_all(b"  ")?;
+        rt.write_all(usage::line_of(command))?;
     }
-    wrote
+    Ok(())
 }
 
 // What stands before the commands.
-fn put_head() -> bool {
-    more(
-        true,
+fn put_head(rt: &impl Print) -> Result<(), Error> {
+    rt.write_all(
         b"olivastrum: plans timely-token rings of both editions, runs them one visit at a time, and inspects their logs and those of FDDI rings
 
 ",
@@ -39,9 +28,8 @@ fn put_head() -> bool {
 }
 
 // An example of each command on a sheet.
-fn put_examples(before: bool) -> bool {
-    more(
-        before,
+fn put_examples(rt: &impl Print) -> Result<(), Error> {
+    rt.write_all(
         b"
 With no command it is `plan`. For example:
 
@@ -70,9 +58,8 @@ With no command it is `plan`. For example:
 }
 
 // The calls and the lines of texts.
-fn put_lines(before: bool) -> bool {
-    more(
-        before,
+fn put_lines(rt: &impl Print) -> Result<(), Error> {
+    rt.write_all(
         b"The calls are lines `visit FRAMES`, `visit FRAMES LENGTH`, `message STATION LENGTH ARRIVAL`, `mark STATION` and `unmark STATION`.
 A text has, in this order, lines `ttrt TTRT`, `mode M`, `frame F`, `grid G`, `station W C D P` or `station W C D P S`, and behind them `visit STATION START LIMIT SYNC ASYNC` and `mark STATION MARK`, one for each record of a log.
 A mode is 3, the 2002 edition of timely-token, or 2, FDDI, which is retired: it is still read, compared, kept and inspected, but `plan`, `plan-sheet`, `run` and `log` refuse it with 16. Without that line it is the 2003 edition.
@@ -82,15 +69,20 @@ README.md and docs/ say what the letters, the numbers of the refusals and the ex
     )
 }
 
+// All of it, up to what cannot be written.
+fn put(rt: &impl Print) -> Result<(), Error> {
+    put_head(rt)?;
+    put_commands(rt)?;
+    put_examples(rt)?;
+    put_lines(rt)
+}
+
 // All of it.
-pub fn print() -> u8
+pub fn print(rt: &(impl Print + Complain)) -> u8
     ensures { Ends 0 result }
 {
-    let head = put_head();
-    let commands = put_commands(head);
-    let examples = put_examples(commands);
-    if !put_lines(examples) {
-        return ending::unwritten_output();
+    if let Err(error) = put(rt) {
+        return ending::unwritten_output(rt, error);
     }
     status::DONE
 }

@@ -2,53 +2,54 @@
 use crate::listing;
 use commands::status;
 use hopper::WagonList;
-use libc::STDIN_FILENO;
+use std::io::{Input, Print};
+use streams::complaints::Complain;
 use streams::{ending, reading};
 
 // Prints the plan of a list, or the refusal.
-fn print_plan(list: WagonList) -> u8 {
+fn print_plan(rt: &(impl Print + Complain), list: WagonList) -> u8 {
     let mut page = io::large_buffer();
     let said = command_hopper::hopper_text(list, &mut page);
     let length = said.length;
-    ending::answer(&page[..length], status::status_of(said.number))
+    ending::answer(rt, &page[..length], status::status_of(said.number))
 }
 
 // Writes the request sheet of a list; refused, no byte is written.
-fn write_sheet(list: WagonList) -> u8 {
+fn write_sheet(rt: &(impl Print + Complain), list: WagonList) -> u8 {
     let mut out = io::buffer();
     let written = hopper::write_sheet(list, &mut out);
     let number = written.number;
     if number != 0 {
-        return ending::refuse_sheet(number);
+        return ending::refuse_sheet(rt, number);
     }
     let length = reading::further(0, written.length, out.len());
-    ending::answer(&out[..length], status::DONE)
+    ending::answer(rt, &out[..length], status::DONE)
 }
 
 // Reads the list; of one with a line that cannot be read the first such line is named, and nothing else is said.
-fn obey(sheet: bool) -> u8 {
-    let listed = listing::read(STDIN_FILENO);
-    if listed.failed {
-        return ending::unread_input();
+fn obey(rt: &(impl Input + Print + Complain), sheet: bool) -> u8 {
+    let listed = listing::read(&mut rt.reader());
+    if let Some(error) = listed.failed {
+        return ending::unread_input(rt, error);
     }
     let listing = listed.listing;
     let line = listing.unread;
     if line != 0 {
-        return ending::name_line(line);
+        return ending::name_line(rt, line);
     }
     let list = listing.list;
     if sheet {
-        return write_sheet(list);
+        return write_sheet(rt, list);
     }
-    print_plan(list)
+    print_plan(rt, list)
 }
 
 // `hopper`: what `plan` prints of the list's request sheet.
-pub(crate) fn hopper() -> u8 {
-    obey(false)
+pub(crate) fn hopper(rt: &(impl Input + Print + Complain)) -> u8 {
+    obey(rt, false)
 }
 
 // `hopper-sheet`: that sheet.
-pub(crate) fn hopper_sheet() -> u8 {
-    obey(true)
+pub(crate) fn hopper_sheet(rt: &(impl Input + Print + Complain)) -> u8 {
+    obey(rt, true)
 }

@@ -3,8 +3,16 @@ use crate::listing;
 use crate::listing::Listed;
 use command_hopper::{Listing, Refit};
 use commands::status;
-use libc::{STDERR_FILENO, STDIN_FILENO};
-use streams::ending;
+use std::env::Env;
+use std::fs;
+use std::fs::Files;
+use std::io::{Error, Input, Print, Read};
+use std::os::fd::AsRawFd;
+use streams::complaints::Complain;
+use streams::{ending, loading, words};
+
+// The number of standard error, the highest of the three.
+const STDERR_FILENO: i32 = 2;
 
 // The changes behind one reading: whether the input goes on, whether a line could not be read, and whether reading or writing failed.
 #[derive(Clone, Copy)]
@@ -18,10 +26,10 @@ struct Heard {
 // ---- the changes
 
 // Takes a byte, and writes the answer where a line ends there.
-fn hear_byte(refit: Refit, byte: u8, page: &mut [u8]) -> Heard {
+fn hear_byte(rt: &(impl Print + Complain), refit: Refit, byte: u8, page: &mut [u8]) -> Heard {
     let read = command_hopper::refit_byte(refit, byte, page);
     let length = read.length;
-    let wrote = ending::say(&page[..length]);
+    let wrote = ending::say(rt, &page[..length]);
     let behind = read.refit;
     Heard {
         refit: behind,
@@ -32,20 +40,17 @@ fn hear_byte(refit: Refit, byte: u8, page: &mut [u8]) -> Heard {
 }
 
 // Answers the lines that end in these bytes, one after the other.
-fn hear(refit: Refit, text: &[u8]) -> Heard {
+fn hear(rt: &(impl Print + Complain), refit: Refit, text: &[u8]) -> Heard {
     let mut page = io::large_buffer();
     let mut stands = refit;
     let mut unread = false;
-    let mut i: usize = 0;
-    while i < text.len() {
-        let heard = hear_byte(stands, text[i], &mut page);
+    for byte in text {
+        let heard = hear_byte(rt, stands, *byte, &mut page);
         if heard.failed {
             return heard;
         }
-        let behind = heard.refit;
-        stands = behind;
+        stands = heard.refit;
         unread = unread | heard.unread;
-        i += 1;
     }
     Heard {
         refit: stands,
@@ -66,27 +71,28 @@ fn stopped(refit: Refit, failed: bool) -> Heard {
 }
 
 // Reads once, and answers what came.
-fn turn(refit: Refit) -> Heard {
+fn turn(rt: &(impl Print + Complain), from: &mut impl Read, refit: Refit) -> Heard {
     let mut text: [u8; 256] = [0; 256];
-    let got = libc::read(STDIN_FILENO, &mut text);
-    if got < 0 {
-        ending::unread_input();
-        return stopped(refit, true);
+    match from.read(&mut text) {
+        Ok(length) => {
+            if length == 0 {
+                return stopped(refit, false);
+            }
+            hear(rt, refit, &text[..length])
+        }
+        Err(error) => {
+            ending::unread_input(rt, error);
+            stopped(refit, true)
+        }
     }
-    let length = io::count(got, &text);
-    if length == 0 {
-        return stopped(refit, false);
-    }
-    hear(refit, &text[..length])
 }
 
-// All the input; the turns are counted down, from a number that no text of changes uses up.
-fn hear_all(refit: Refit) -> Heard {
+// All the input; the turns are counted, up to a number that no text of changes uses up.
+fn hear_all(rt: &(impl Print + Complain), from: &mut impl Read, refit: Refit) -> Heard {
     let mut stands = refit;
     let mut unread = false;
-    let mut turns = u64::MAX;
-    while turns > 0 {
-        let heard = turn(stands);
+    for _ in 0..u64::MAX {
+        let heard = turn(rt, from, stands);
         let behind = heard.refit;
         stands = behind;
         unread = unread | heard.unread;
@@ -98,20 +104,19 @@ fn hear_all(refit: Refit) -> Heard {
                 failed: heard.failed,
             };
         }
-        turns -= 1;
     }
     stopped(stands, true)
 }
 
 // Answers all the changes of a train that begin here.
-fn answer(refit: Refit) -> u8 {
-    let heard = hear_all(refit);
+fn answer(rt: &(impl Input + Print + Complain), refit: Refit) -> u8 {
+    let heard = hear_all(rt, &mut rt.reader(), refit);
     if heard.failed {
         return status::FAILED;
     }
     // A last line may lack its newline.
     let behind = heard.refit;
-    let last = hear(behind, b"\n");
+    let last = hear(rt, behind, b"\n");
     let failed = heard.unread | (last.unread | last.failed);
     if failed {
         return status::FAILED;
@@ -122,65 +127,72 @@ fn answer(refit: Refit) -> u8 {
 // ---- the list
 
 // Couples the train of a list that was read, and answers its changes; of one that is refused no change is looked at.
-fn couple(listing: Listing) -> u8 {
+fn couple(rt: &(impl Input + Print + Complain), listing: Listing) -> u8 {
     let line = listing.unread;
     if line != 0 {
-        return ending::name_line(line);
+        return ending::name_line(rt, line);
     }
     let list = listing.list;
     let coupled = hopper::couple_train(list);
     let number = coupled.number;
     if number != 0 {
-        return ending::refuse(number);
+        return ending::refuse(rt, number);
     }
     let train = coupled.train;
-    answer(command_hopper::begin_refit(train))
+    answer(rt, command_hopper::begin_refit(train))
 }
 
 // Names the path, and what the system says of it.
-fn fail(path: &[u8]) -> u8 {
-    io::write_all(STDERR_FILENO, b"refit: ");
-    os::fail(path);
+fn fail(rt: &impl Complain, path: &[u8], error: Error) -> u8 {
+    loading::name(rt, b"refit: ", path, error);
     status::FAILED
 }
 
 // A list that is opened as one of the three would be read as the changes, or written over.
-fn fail_closed() -> u8 {
-    io::write_all(
-        STDERR_FILENO,
-        b"refit: standard input, output or error is closed\n",
-    );
+fn fail_closed(rt: &impl Complain) -> u8 {
+    rt.complain(b"refit: standard input, output or error is closed\n");
     status::FAILED
 }
 
-// Reads the list in an open file, and closes it; one that cannot be read is named.
-fn load(file: i32, path: &[u8]) -> Listed {
+// Reads the list in an open file; one that cannot be read is named.
+fn load(rt: &impl Complain, file: &mut impl Read, path: &[u8]) -> Listed {
     let listed = listing::read(file);
-    if listed.failed {
-        fail(path);
+    if let Some(error) = listed.failed {
+        fail(rt, path, error);
     }
-    libc::close(file);
     listed
 }
 
-// Takes the list whose path is the word at this place.
-pub(crate) fn refit(word: usize) -> u8 {
-    let mut path = io::buffer();
-    let length = os::arg(word, &mut path);
-    if os::errno() != 0 {
-        return fail(b"the path of the wagon list");
+// Takes the list in an open file, which is closed before a change is read.
+fn take(
+    rt: &(impl Input + Print + Complain),
+    mut file: impl Read + AsRawFd + Drop,
+    path: &[u8],
+) -> u8 {
+    if file.as_raw_fd() <= STDERR_FILENO {
+        return fail_closed(rt);
     }
-    let file = os::open_read(&path[..length]);
-    if file < 0 {
-        return fail(&path[..length]);
-    }
-    if file <= STDERR_FILENO {
-        return fail_closed();
-    }
-    let listed = load(file, &path[..length]);
-    if listed.failed {
+    let listed = load(rt, &mut file, path);
+    drop(file);
+    if listed.failed.is_some() {
         return status::FAILED;
     }
     let listing = listed.listing;
-    couple(listing)
+    couple(rt, listing)
+}
+
+// Takes the list whose path is the word at this place.
+pub(crate) fn refit<R: Env + Files + Input + Print + Complain>(rt: &R, word: usize) -> u8
+where
+    R::File: AsRawFd,
+{
+    let path = match words::path(rt, word) {
+        Ok(path) => path,
+        Err(error) => return fail(rt, b"the path of the wagon list", error),
+    };
+    let path = path.as_str();
+    match fs::open(rt, path) {
+        Ok(file) => take(rt, file, path.as_bytes()),
+        Err(error) => fail(rt, path.as_bytes(), error),
+    }
 }

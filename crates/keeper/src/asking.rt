@@ -1,65 +1,72 @@
 // `kept STORE N` and `versions STORE`: what a store keeps. The file is read, and left alone.
 use crate::files;
 use commands::{Command, status};
-use streams::{ending, usage};
+use std::env::Env;
+use std::fs::Files;
+use std::io::Print;
+use streams::complaints::Complain;
+use streams::{ending, usage, words};
 
 // Writes the plan of the version that a whole number asks for; refused, no byte is written.
-fn write_kept(store: &[u8], number: &[u8]) -> u8 {
+fn write_kept(rt: &(impl Print + Complain), store: &[u8], number: &[u8]) -> u8 {
     let kept = command_versions::find_kept(store, number);
     if kept.number != 0 {
-        return ending::refuse_sheet(kept.number);
+        return ending::refuse_sheet(rt, kept.number);
     }
     let from = kept.from;
     let end = kept.end;
-    ending::answer(&store[from..end], status::DONE)
+    ending::answer(rt, &store[from..end], status::DONE)
 }
 
 // The same of the store in a file.
-fn find(path: &[u8], number: &[u8]) -> u8 {
+fn find(rt: &(impl Files + Print + Complain), path: &str, number: &[u8]) -> u8 {
     let mut area: [u8; files::STORE_READ] = [0; files::STORE_READ];
-    let filled = files::load(path, &mut area);
-    if filled.failed {
+    let filled = files::load(rt, path, &mut area);
+    if filled.failed.is_some() {
         return status::FAILED;
     }
     let length = filled.length;
-    write_kept(&area[..length], number)
+    write_kept(rt, &area[..length], number)
+}
+
+// The same of the store whose path is the word at this place.
+fn find_in(rt: &(impl Env + Files + Print + Complain), word: usize, number: &[u8]) -> u8 {
+    if !number_words::is_whole(number) {
+        return usage::misused(rt, Command::Kept);
+    }
+    match words::path(rt, word) {
+        Ok(path) => find(rt, path.as_str(), number),
+        Err(error) => files::fail(rt, "the path of the store", error),
+    }
 }
 
 // `kept`: the path and the number are the words at these places.
-pub(crate) fn kept(first: usize, second: usize) -> u8 {
+pub(crate) fn kept(rt: &(impl Env + Files + Print + Complain), first: usize, second: usize) -> u8 {
     let mut number = io::buffer();
-    let digits = os::arg(second, &mut number);
-    if !number_words::is_whole(&number[..digits]) {
-        return usage::misused(Command::Kept);
+    match words::whole_word(rt, second, &mut number) {
+        Ok(digits) => find_in(rt, first, &number[..digits]),
+        Err(_) => usage::misused(rt, Command::Kept),
     }
-    let mut path = io::buffer();
-    let length = os::arg(first, &mut path);
-    if os::errno() != 0 {
-        return files::fail(b"the path of the store");
-    }
-    find(&path[..length], &number[..digits])
 }
 
 // Prints the versions of the store in a file.
-fn list(path: &[u8]) -> u8 {
+fn list(rt: &(impl Files + Print + Complain), path: &str) -> u8 {
     let mut area: [u8; files::STORE_READ] = [0; files::STORE_READ];
-    let filled = files::load(path, &mut area);
-    if filled.failed {
+    let filled = files::load(rt, path, &mut area);
+    if filled.failed.is_some() {
         return status::FAILED;
     }
     let length = filled.length;
     let mut page = io::large_buffer();
     let said = command_versions::versions_text(&area[..length], &mut page);
     let text = said.length;
-    ending::answer(&page[..text], status::status_of(said.number))
+    ending::answer(rt, &page[..text], status::status_of(said.number))
 }
 
 // `versions`: the path is the word at this place.
-pub(crate) fn versions(word: usize) -> u8 {
-    let mut path = io::buffer();
-    let length = os::arg(word, &mut path);
-    if os::errno() != 0 {
-        return files::fail(b"the path of the store");
+pub(crate) fn versions(rt: &(impl Env + Files + Print + Complain), word: usize) -> u8 {
+    match words::path(rt, word) {
+        Ok(path) => list(rt, path.as_str()),
+        Err(error) => files::fail(rt, "the path of the store", error),
     }
-    list(&path[..length])
 }

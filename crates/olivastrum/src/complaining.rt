@@ -1,5 +1,5 @@
 // What `compose` says on standard error behind its first line there: the word at which a line can no longer be read and what was expected, or the line with a number out of its range. Which of these it is `text_faults` decides; the words stand here.
-use libc::STDERR_FILENO;
+use streams::complaints::Complain;
 use streams::reading;
 use text_faults::{Expected, Form, Watch};
 
@@ -83,23 +83,23 @@ fn put_range(page: &mut [u8], number: u8, line: u64) -> usize {
 }
 
 // Says what was put on a page.
-fn say(page: &[u8], put: usize) {
+fn say(rt: &impl Complain, page: &[u8], put: usize) {
     let length = reading::further(0, put, page.len());
-    io::write_all(STDERR_FILENO, &page[..length]);
+    rt.complain(&page[..length]);
 }
 
 // Behind a line that cannot be read: the word there, and what was expected.
-pub(crate) fn name_word(w: Watch) {
+pub(crate) fn name_word(rt: &impl Complain, w: Watch) {
     let mut page = io::buffer();
     let expected = text_faults::expectation(w);
     let begun = put_expected(&mut page, expected);
     let put = put_found(&mut page, begun, w);
-    say(&page, put);
+    say(rt, &page, put);
 }
 
 // Behind a refusal with 4: the first line with a number out of its range.
-pub(crate) fn name_number(w: Watch) {
+pub(crate) fn name_number(rt: &impl Complain, w: Watch) {
     let mut page = io::buffer();
     let put = put_range(&mut page, w.number, w.out);
-    say(&page, put);
+    say(rt, &page, put);
 }

@@ -2,14 +2,15 @@
 use crate::complaining;
 use command_compose::{Composing, Draft};
 use commands::status;
-use libc::STDIN_FILENO;
+use std::io::{Input, Print, Read};
+use streams::complaints::Complain;
 use streams::ending;
 use text_faults::Watch;
 use units::numbers;
 
 // The text behind one reading, what is watched in it, whether the input goes on, and whether reading or writing failed.
 #[derive(Clone, Copy)]
-struct Read {
+struct Reading {
     composing: Composing,
     watch: Watch,
     more: bool,
@@ -17,14 +18,14 @@ struct Read {
 }
 
 // Takes these bytes of the text, and writes what they let out.
-fn take(c: Composing, w: Watch, text: &[u8]) -> Read {
+fn take(rt: &(impl Print + Complain), c: Composing, w: Watch, text: &[u8]) -> Reading {
     let mut page = io::large_buffer();
     let composed = command_compose::compose_on(c, text, &mut page);
     let length = composed.length;
-    let wrote = ending::say(&page[..length]);
+    let wrote = ending::say(rt, &page[..length]);
     let behind = composed.composing;
     let watch = text_faults::watch_on(w, text);
-    Read {
+    Reading {
         composing: behind,
         watch,
         more: wrote,
@@ -33,8 +34,8 @@ fn take(c: Composing, w: Watch, text: &[u8]) -> Read {
 }
 
 // The input has ended, or cannot be read.
-fn stopped(c: Composing, w: Watch, failed: bool) -> Read {
-    Read {
+fn stopped(c: Composing, w: Watch, failed: bool) -> Reading {
+    Reading {
         composing: c,
         watch: w,
         more: false,
@@ -43,66 +44,64 @@ fn stopped(c: Composing, w: Watch, failed: bool) -> Read {
 }
 
 // Reads once: as many bytes as are taken at once.
-fn piece(c: Composing, w: Watch) -> Read {
+fn piece(rt: &(impl Print + Complain), from: &mut impl Read, c: Composing, w: Watch) -> Reading {
     let mut text: [u8; 2_048] = [0; 2_048];
-    let got = libc::read(STDIN_FILENO, &mut text);
-    if got < 0 {
-        ending::unread_input();
-        return stopped(c, w, true);
+    match from.read(&mut text) {
+        Ok(length) => {
+            if length == 0 {
+                return stopped(c, w, false);
+            }
+            take(rt, c, w, &text[..length])
+        }
+        Err(error) => {
+            ending::unread_input(rt, error);
+            stopped(c, w, true)
+        }
     }
-    let length = io::count(got, &text);
-    if length == 0 {
-        return stopped(c, w, false);
-    }
-    take(c, w, &text[..length])
 }
 
-// All the input; the pieces are counted down, from a number that no text uses up.
-fn all(c: Composing, w: Watch) -> Read {
+// All the input; the pieces are counted, up to a number that no text uses up.
+fn all(rt: &(impl Print + Complain), from: &mut impl Read, c: Composing, w: Watch) -> Reading {
     let mut stands = c;
     let mut watched = w;
-    let mut turns = u64::MAX;
-    while turns > 0 {
-        let read = piece(stands, watched);
+    for _ in 0..u64::MAX {
+        let read = piece(rt, from, stands, watched);
         if !read.more {
             return read;
         }
-        let behind = read.composing;
-        stands = behind;
-        let seen = read.watch;
-        watched = seen;
-        turns -= 1;
+        stands = read.composing;
+        watched = read.watch;
     }
     stopped(stands, watched, true)
 }
 
 // Writes the sheet or the end of the log, or says why there is none.
-fn write(draft: Draft, w: Watch) -> u8 {
+fn write(rt: &(impl Print + Complain), draft: Draft, w: Watch) -> u8 {
     let mut out = io::large_buffer();
     let written = command_compose::compose_end(draft, &mut out);
     let length = written.length;
     let number = written.number;
     if number != 0 {
-        let status = ending::refuse_sheet(number);
+        let status = ending::refuse_sheet(rt, number);
         if number == numbers::OUT_OF_RANGE {
-            complaining::name_number(w);
+            complaining::name_number(rt, w);
         }
         return status;
     }
-    ending::answer(&out[..length], status::DONE)
+    ending::answer(rt, &out[..length], status::DONE)
 }
 
-pub(crate) fn compose() -> u8 {
+pub(crate) fn compose(rt: &(impl Input + Print + Complain)) -> u8 {
     let begun = command_compose::begin();
     let watch = text_faults::begin();
-    let read = all(begun, watch);
+    let read = all(rt, &mut rt.reader(), begun, watch);
     if read.failed {
         return status::FAILED;
     }
     // A last line may lack its newline.
     let text = read.composing;
     let watched = read.watch;
-    let last = take(text, watched, b"\n");
+    let last = take(rt, text, watched, b"\n");
     if last.failed {
         return status::FAILED;
     }
@@ -111,9 +110,9 @@ pub(crate) fn compose() -> u8 {
     let seen = last.watch;
     let line = draft.unread;
     if line != 0 {
-        let status = ending::name_line(line);
-        complaining::name_word(seen);
+        let status = ending::name_line(rt, line);
+        complaining::name_word(rt, seen);
         return status;
     }
-    write(draft, seen)
+    write(rt, draft, seen)
 }

@@ -1,31 +1,35 @@
 // `diff OLD NEW`: the plan sheets in two files are read, and then what differs is printed.
 use commands::status;
+use std::env::Env;
+use std::fs::Files;
+use std::io::Print;
+use streams::complaints::Complain;
 use streams::{ending, loading};
 
 // Prints what differs; the status is 0 exactly where that is `same`.
-fn compare(old: &[u8], new: &[u8]) -> u8 {
+fn compare(rt: &(impl Print + Complain), old: &[u8], new: &[u8]) -> u8 {
     let mut page = io::large_buffer();
     let diffed = command_diff::diff_text(old, new, &mut page);
     let length = diffed.length;
     if diffed.same {
-        return ending::answer(&page[..length], status::DONE);
+        return ending::answer(rt, &page[..length], status::DONE);
     }
-    ending::answer(&page[..length], status::REFUSED)
+    ending::answer(rt, &page[..length], status::REFUSED)
 }
 
 // Of each file one byte more than the longest plan is read: it tells that a byte follows it. Both are closed before anything is printed.
-pub(crate) fn diff(first: usize, second: usize) -> u8 {
+pub(crate) fn diff(rt: &(impl Env + Files + Print + Complain), first: usize, second: usize) -> u8 {
     let mut old: [u8; sheets::PLAN_READ] = [0; sheets::PLAN_READ];
-    let before = loading::load(b"diff: ", first, &mut old);
-    if before.failed {
+    let before = loading::load(rt, b"diff: ", first, &mut old);
+    if before.failed.is_some() {
         return status::FAILED;
     }
     let mut new: [u8; sheets::PLAN_READ] = [0; sheets::PLAN_READ];
-    let after = loading::load(b"diff: ", second, &mut new);
-    if after.failed {
+    let after = loading::load(rt, b"diff: ", second, &mut new);
+    if after.failed.is_some() {
         return status::FAILED;
     }
     let had = before.length;
     let has = after.length;
-    compare(&old[..had], &new[..has])
+    compare(rt, &old[..had], &new[..has])
 }

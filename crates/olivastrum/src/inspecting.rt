@@ -1,7 +1,10 @@
 // `inspect`: whether a run could have given the records of the log on standard input, or its first fault; `inspect PLAN`: whether its plan is the one in PLAN, too.
 use commands::status;
 use inspection_stream::Inspecting;
-use libc::STDIN_FILENO;
+use std::env::Env;
+use std::fs::Files;
+use std::io::{Input, Print, Read};
+use streams::complaints::Complain;
 use streams::{ending, loading, reading, words};
 
 // The log behind one reading, whether the input goes on, and whether reading failed.
@@ -13,11 +16,11 @@ struct Looked {
 }
 
 // Reads once. Behind a fault of the log nothing is read: no byte there changes the answer.
-fn turn(inspecting: Inspecting) -> Looked {
+fn turn(rt: &impl Complain, from: &mut impl Read, inspecting: Inspecting) -> Looked {
     let mut bytes: [u8; 4_096] = [0; 4_096];
-    let filled = reading::fill(STDIN_FILENO, &mut bytes);
-    if filled.failed {
-        ending::unread_input();
+    let filled = reading::fill(from, &mut bytes);
+    if let Some(error) = filled.failed {
+        ending::unread_input(rt, error);
         return Looked {
             inspecting,
             more: false,
@@ -34,18 +37,15 @@ fn turn(inspecting: Inspecting) -> Looked {
     }
 }
 
-// All the input; the turns are counted down, from a number that no log uses up.
-fn look_on(inspecting: Inspecting) -> Looked {
+// All the input; the turns are counted, up to a number that no log uses up.
+fn look_on(rt: &impl Complain, from: &mut impl Read, inspecting: Inspecting) -> Looked {
     let mut stands = inspecting;
-    let mut turns = u64::MAX;
-    while turns > 0 {
-        let looked = turn(stands);
+    for _ in 0..u64::MAX {
+        let looked = turn(rt, from, stands);
         if !looked.more {
             return looked;
         }
-        let behind = looked.inspecting;
-        stands = behind;
-        turns -= 1;
+        stands = looked.inspecting;
     }
     Looked {
         inspecting: stands,
@@ -55,73 +55,73 @@ fn look_on(inspecting: Inspecting) -> Looked {
 }
 
 // The whole log. The first 3,400 bytes are enough for every plan: what they say of it is what the whole log says.
-fn look() -> Looked {
+fn look(rt: &impl Complain, from: &mut impl Read) -> Looked {
     let mut head: [u8; log_stream::FIRST_SIZE] = [0; log_stream::FIRST_SIZE];
-    let filled = reading::fill(STDIN_FILENO, &mut head);
+    let filled = reading::fill(from, &mut head);
     let read = filled.length;
     let begun = inspection_stream::inspect_start(&head[..read]);
-    if filled.failed {
-        ending::unread_input();
+    if let Some(error) = filled.failed {
+        ending::unread_input(rt, error);
     }
     if read < log_stream::FIRST_SIZE {
         return Looked {
             inspecting: begun,
             more: false,
-            failed: filled.failed,
+            failed: filled.failed.is_some(),
         };
     }
-    look_on(begun)
+    look_on(rt, from, begun)
 }
 
 // Says what is on the page; the status is 0 exactly where the log is accepted.
-fn say(page: &[u8], accepted: bool) -> u8 {
+fn say(rt: &(impl Print + Complain), page: &[u8], accepted: bool) -> u8 {
     if accepted {
-        return ending::answer(page, status::DONE);
+        return ending::answer(rt, page, status::DONE);
     }
-    ending::answer(page, status::REFUSED)
+    ending::answer(rt, page, status::REFUSED)
 }
 
 // Says what was found.
-fn finish(inspecting: Inspecting) -> u8 {
+fn finish(rt: &(impl Print + Complain), inspecting: Inspecting) -> u8 {
     let mut page = io::large_buffer();
     let found = command_inspect::put_finding(inspecting, &mut page);
     let length = found.length;
-    say(&page[..length], found.accepted)
+    say(rt, &page[..length], found.accepted)
 }
 
 // Says what the log is against the plan sheet in a file.
-fn finish_against(plan: &[u8], inspecting: Inspecting) -> u8 {
+fn finish_against(rt: &(impl Print + Complain), plan: &[u8], inspecting: Inspecting) -> u8 {
     let mut page = io::large_buffer();
     let found = command_inspect_plan::inspect_text(plan, inspecting, &mut page);
     let length = found.length;
-    say(&page[..length], found.accepted)
+    say(rt, &page[..length], found.accepted)
 }
 
 // The plan sheet is read first: of its file one byte more than the longest plan, which tells that a byte follows it.
-fn inspect_against(word: usize) -> u8 {
+fn inspect_against(rt: &(impl Env + Files + Input + Print + Complain), word: usize) -> u8 {
     let mut sheet: [u8; sheets::PLAN_READ] = [0; sheets::PLAN_READ];
-    let plan = loading::load(b"inspect: ", word, &mut sheet);
-    if plan.failed {
+    let plan = loading::load(rt, b"inspect: ", word, &mut sheet);
+    if plan.failed.is_some() {
         return status::FAILED;
     }
     let length = plan.length;
-    let looked = look();
+    let looked = look(rt, &mut rt.reader());
     if looked.failed {
         return status::FAILED;
     }
     let all = looked.inspecting;
-    finish_against(&sheet[..length], all)
+    finish_against(rt, &sheet[..length], all)
 }
 
 // With a path at this place the log is held to the plan there, else to its own.
-pub(crate) fn inspect(word: usize) -> u8 {
-    if words::is_given(word) {
-        return inspect_against(word);
+pub(crate) fn inspect(rt: &(impl Env + Files + Input + Print + Complain), word: usize) -> u8 {
+    if words::is_given(rt, word) {
+        return inspect_against(rt, word);
     }
-    let looked = look();
+    let looked = look(rt, &mut rt.reader());
     if looked.failed {
         return status::FAILED;
     }
     let all = looked.inspecting;
-    finish(all)
+    finish(rt, all)
 }

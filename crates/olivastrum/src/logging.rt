@@ -1,7 +1,8 @@
 // `log PLAN`: the log of the run that the calls on standard input make.
 use command_log::Recording;
 use commands::status;
-use libc::STDIN_FILENO;
+use std::io::{Input, Print, Read};
+use streams::complaints::Complain;
 use streams::ending;
 
 // The recording behind one reading: whether the input goes on, and whether reading or writing failed.
@@ -13,11 +14,11 @@ struct Heard {
 }
 
 // Writes the fields of the visits and marks in the lines that end in these bytes.
-fn hear(recording: Recording, text: &[u8]) -> Heard {
+fn hear(rt: &(impl Print + Complain), recording: Recording, text: &[u8]) -> Heard {
     let mut page = io::large_buffer();
     let recorded = command_log::record_on(recording, text, &mut page);
     let length = recorded.length;
-    let wrote = ending::say(&page[..length]);
+    let wrote = ending::say(rt, &page[..length]);
     let behind = recorded.recording;
     Heard {
         recording: behind,
@@ -36,71 +37,71 @@ fn stopped(recording: Recording, failed: bool) -> Heard {
 }
 
 // Reads once, and records what came.
-fn turn(recording: Recording) -> Heard {
+fn turn(rt: &(impl Print + Complain), from: &mut impl Read, recording: Recording) -> Heard {
     let mut text: [u8; 256] = [0; 256];
-    let got = libc::read(STDIN_FILENO, &mut text);
-    if got < 0 {
-        ending::unread_input();
-        return stopped(recording, true);
+    match from.read(&mut text) {
+        Ok(length) => {
+            if length == 0 {
+                return stopped(recording, false);
+            }
+            hear(rt, recording, &text[..length])
+        }
+        Err(error) => {
+            ending::unread_input(rt, error);
+            stopped(recording, true)
+        }
     }
-    let length = io::count(got, &text);
-    if length == 0 {
-        return stopped(recording, false);
-    }
-    hear(recording, &text[..length])
 }
 
-// All the input; the turns are counted down, from a number that no run uses up.
-fn hear_all(recording: Recording) -> Heard {
+// All the input; the turns are counted, up to a number that no run uses up.
+fn hear_all(rt: &(impl Print + Complain), from: &mut impl Read, recording: Recording) -> Heard {
     let mut stands = recording;
-    let mut turns = u64::MAX;
-    while turns > 0 {
-        let heard = turn(stands);
+    for _ in 0..u64::MAX {
+        let heard = turn(rt, from, stands);
         if !heard.more {
             return heard;
         }
         let behind = heard.recording;
         stands = behind;
-        turns -= 1;
     }
     stopped(stands, true)
 }
 
 // The end of the log; then the first line that cannot be read is named.
-fn finish(unread: u64) -> u8 {
+fn finish(rt: &(impl Print + Complain), unread: u64) -> u8 {
     let mut end: [u8; 3] = [0; 3];
     sheets::records::put_end(&mut end, 0);
-    if !ending::say(&end) {
+    if !ending::say(rt, &end) {
         return status::FAILED;
     }
     if unread != 0 {
-        return ending::name_line(unread);
+        return ending::name_line(rt, unread);
     }
     status::DONE
 }
 
 // Opens the ring of a plan sheet, and records the calls.
-pub(crate) fn start(sheet: &[u8]) -> u8 {
+pub(crate) fn start(rt: &(impl Input + Print + Complain), sheet: &[u8]) -> u8 {
     let mut out = io::large_buffer();
     let opened = command_log::open_log(sheet, &mut out);
     let number = opened.number;
     if number != 0 {
-        return ending::refuse_sheet(number);
+        return ending::refuse_sheet(rt, number);
     }
     let length = opened.length;
-    if !ending::say(&out[..length]) {
+    if !ending::say(rt, &out[..length]) {
         return status::FAILED;
     }
     let recording = opened.recording;
-    let heard = hear_all(recording);
+    let heard = hear_all(rt, &mut rt.reader(), recording);
     if heard.failed {
         return status::FAILED;
     }
     // A last line may lack its newline.
     let behind = heard.recording;
-    let last = hear(behind, b"\n");
+    let last = hear(rt, behind, b"\n");
     if last.failed {
         return status::FAILED;
     }
-    finish(last.recording.unread)
+    finish(rt, last.recording.unread)
 }

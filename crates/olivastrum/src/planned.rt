@@ -1,60 +1,80 @@
 // `run PLAN` and `log PLAN`: the plan sheet in the file PLAN is read, and the calls go to the ring that it opens.
 use crate::{logging, running};
 use commands::status;
-use libc::STDERR_FILENO;
-use streams::reading;
+use std::env::Env;
+use std::fs;
+use std::fs::Files;
+use std::io::{Error, Input, Print, Read};
+use std::os::fd::AsRawFd;
+use streams::complaints::Complain;
+use streams::{reading, reasons, words};
+
+// The number of standard error, the highest of the three.
+const STDERR_FILENO: i32 = 2;
 
 // Names the command on standard error.
-fn name(log: bool) {
+fn name(rt: &impl Complain, log: bool) {
     if log {
-        io::write_all(STDERR_FILENO, b"log: ");
+        rt.complain(b"log: ");
     } else {
-        io::write_all(STDERR_FILENO, b"run: ");
+        rt.complain(b"run: ");
     }
 }
 
 // Names the path, and what the system says of it.
-fn fail(log: bool, path: &[u8]) -> u8 {
-    name(log);
-    os::fail(path);
+fn fail(rt: &impl Complain, log: bool, path: &[u8], error: Error) -> u8 {
+    name(rt, log);
+    reasons::say(rt, path, error);
     status::FAILED
 }
 
 // Reads the plan sheet in an open file: the longest, of 128 stations with a mode, F and g, has 3,356 bytes; one more tells that a byte follows it.
-fn read_plan(log: bool, file: i32, path: &[u8]) -> u8 {
+fn read_plan(
+    rt: &(impl Input + Print + Complain),
+    log: bool,
+    file: &mut impl Read,
+    path: &[u8],
+) -> u8 {
     let mut sheet: [u8; sheets::PLAN_READ] = [0; sheets::PLAN_READ];
     let filled = reading::fill(file, &mut sheet);
-    if filled.failed {
-        return fail(log, path);
+    if let Some(error) = filled.failed {
+        return fail(rt, log, path, error);
     }
     let length = filled.length;
     if log {
-        return logging::start(&sheet[..length]);
+        return logging::start(rt, &sheet[..length]);
     }
-    running::start(&sheet[..length])
+    running::start(rt, &sheet[..length])
+}
+
+// Takes the plan in an open file.
+fn take(
+    rt: &(impl Input + Print + Complain),
+    log: bool,
+    mut file: impl Read + AsRawFd + Drop,
+    path: &[u8],
+) -> u8 {
+    // A plan that is opened as one of the three would be read as the calls, or written over.
+    if file.as_raw_fd() <= STDERR_FILENO {
+        name(rt, log);
+        rt.complain(b"standard input, output or error is closed\n");
+        return status::FAILED;
+    }
+    read_plan(rt, log, &mut file, path)
 }
 
 // Takes the plan whose path is the word at this place.
-pub(crate) fn obey(log: bool, word: usize) -> u8 {
-    let mut path = io::buffer();
-    let length = os::arg(word, &mut path);
-    if os::errno() != 0 {
-        return fail(log, b"the path of the plan");
+pub(crate) fn obey<R: Env + Files + Input + Print + Complain>(rt: &R, log: bool, word: usize) -> u8
+where
+    R::File: AsRawFd,
+{
+    let path = match words::path(rt, word) {
+        Ok(path) => path,
+        Err(error) => return fail(rt, log, b"the path of the plan", error),
+    };
+    let path = path.as_str();
+    match fs::open(rt, path) {
+        Ok(file) => take(rt, log, file, path.as_bytes()),
+        Err(error) => fail(rt, log, path.as_bytes(), error),
     }
-    let file = os::open_read(&path[..length]);
-    if file < 0 {
-        return fail(log, &path[..length]);
-    }
-    // A plan that is opened as one of the three would be read as the calls, or written over.
-    if file <= STDERR_FILENO {
-        name(log);
-        io::write_all(
-            STDERR_FILENO,
-            b"standard input, output or error is closed\n",
-        );
-        return status::FAILED;
-    }
-    let ended = read_plan(log, file, &path[..length]);
-    libc::close(file);
-    ended
 }

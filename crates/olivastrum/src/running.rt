@@ -1,7 +1,8 @@
 // `run PLAN`: the calls on standard input, answered line by line.
 use command_run::Run;
 use commands::status;
-use libc::STDIN_FILENO;
+use std::io::{Input, Print, Read};
+use streams::complaints::Complain;
 use streams::ending;
 
 // The run behind one reading: whether the input goes on, whether a line could not be read, and whether reading or writing failed.
@@ -14,11 +15,11 @@ struct Heard {
 }
 
 // Answers the lines that end in these bytes.
-fn hear(run: Run, text: &[u8]) -> Heard {
+fn hear(rt: &(impl Print + Complain), run: Run, text: &[u8]) -> Heard {
     let mut page = io::large_buffer();
     let ran = command_run::run_on(run, text, &mut page);
     let length = ran.length;
-    let wrote = ending::say(&page[..length]);
+    let wrote = ending::say(rt, &page[..length]);
     let behind = ran.run;
     Heard {
         run: behind,
@@ -39,27 +40,28 @@ fn stopped(run: Run, failed: bool) -> Heard {
 }
 
 // Reads once, and answers what came.
-fn turn(run: Run) -> Heard {
+fn turn(rt: &(impl Print + Complain), from: &mut impl Read, run: Run) -> Heard {
     let mut text: [u8; 256] = [0; 256];
-    let got = libc::read(STDIN_FILENO, &mut text);
-    if got < 0 {
-        ending::unread_input();
-        return stopped(run, true);
+    match from.read(&mut text) {
+        Ok(length) => {
+            if length == 0 {
+                return stopped(run, false);
+            }
+            hear(rt, run, &text[..length])
+        }
+        Err(error) => {
+            ending::unread_input(rt, error);
+            stopped(run, true)
+        }
     }
-    let length = io::count(got, &text);
-    if length == 0 {
-        return stopped(run, false);
-    }
-    hear(run, &text[..length])
 }
 
-// All the input. A proved loop has to end, and nothing says that the input does: so the turns are counted down, from a number that no run uses up.
-fn hear_all(run: Run) -> Heard {
+// All the input. A proved loop has to end, and nothing says that the input does: so the turns are counted, up to a number that no run uses up.
+fn hear_all(rt: &(impl Print + Complain), from: &mut impl Read, run: Run) -> Heard {
     let mut stands = run;
     let mut unread = false;
-    let mut turns = u64::MAX;
-    while turns > 0 {
-        let heard = turn(stands);
+    for _ in 0..u64::MAX {
+        let heard = turn(rt, from, stands);
         let behind = heard.run;
         stands = behind;
         unread = unread | heard.unread;
@@ -71,26 +73,25 @@ fn hear_all(run: Run) -> Heard {
                 failed: heard.failed,
             };
         }
-        turns -= 1;
     }
     stopped(stands, true)
 }
 
 // Opens the ring of a plan sheet, and answers the calls.
-pub(crate) fn start(sheet: &[u8]) -> u8 {
+pub(crate) fn start(rt: &(impl Input + Print + Complain), sheet: &[u8]) -> u8 {
     let opened = command_run::open_run(sheet);
     let number = opened.number;
     if number != 0 {
-        return ending::refuse(number);
+        return ending::refuse(rt, number);
     }
     let run = opened.run;
-    let heard = hear_all(run);
+    let heard = hear_all(rt, &mut rt.reader(), run);
     if heard.failed {
         return status::FAILED;
     }
     // A last line may lack its newline.
     let behind = heard.run;
-    let last = hear(behind, b"\n");
+    let last = hear(rt, behind, b"\n");
     let failed = heard.unread | (last.unread | last.failed);
     if failed {
         return status::FAILED;

@@ -2,6 +2,8 @@
 use crate::shapes;
 use picture_stream::{Watching, Window};
 use pictures::{Pen, Scene};
+use std::io::Print;
+use streams::complaints::Complain;
 use streams::ending;
 use tallies::Drawn;
 
@@ -25,46 +27,49 @@ fn put_parts(page: &mut [u8], scene: Scene, pen: Pen, drawn: Drawn) -> usize {
     let label = pictures::part_at(scene, pen, drawn, 0);
     let record = pictures::part_at(scene, pen, drawn, 3);
     let mut at = shapes::put_label(page, 0, label, record);
-    let mut k: usize = 1;
-    while k < pictures::PART_COUNT {
+    for k in 1..pictures::PART_COUNT {
         let part = pictures::part_at(scene, pen, drawn, k);
         at = shapes::put_part(page, at, part);
-        k += 1;
     }
     at
 }
 
 // Draws a record.
-fn draw(scene: Scene, pen: Pen, drawn: Drawn) -> bool {
+fn draw(rt: &(impl Print + Complain), scene: Scene, pen: Pen, drawn: Drawn) -> bool {
     let mut page = io::large_buffer();
     let put = put_parts(&mut page, scene, pen, drawn);
-    ending::say_put(&page, put)
+    ending::say_put(rt, &page, put)
 }
 
 // Ends a line that has begun.
-pub(crate) fn end(pen: Pen) -> bool {
+pub(crate) fn end(rt: &(impl Print + Complain), pen: Pen) -> bool {
     let mut page = io::buffer();
     let put = shapes::put_part(&mut page, 0, pictures::line_end(pen));
-    ending::say_put(&page, put)
+    ending::say_put(rt, &page, put)
 }
 
 // The bytes from this place on: each turn goes to the next record that is drawn, a byte further at least.
-pub(crate) fn go_over(canvas: Canvas, easel: Easel, bytes: &[u8], from: usize) -> Canvas {
+pub(crate) fn go_over(
+    rt: &(impl Print + Complain),
+    canvas: Canvas,
+    easel: Easel,
+    bytes: &[u8],
+    from: usize,
+) -> Canvas {
     let scene = easel.scene;
     let window = easel.window;
     let mut watching = canvas.watching;
     let mut pen = canvas.pen;
     let mut wrote = canvas.wrote;
     let mut at = from;
-    let mut turns = bytes.len();
-    while turns > 0 {
+    for _ in 0..bytes.len() {
         let watched = picture_stream::watch_on(watching, window, bytes, at);
         let stands = watched.watching;
         watching = stands;
         at = watched.at;
         if watched.stopped & wrote {
             let drawn = watched.drawn;
-            wrote = draw(scene, pen, drawn);
+            wrote = draw(rt, scene, pen, drawn);
             pen = pictures::pen_after(scene, pen, drawn);
         } else {
             return Canvas {
@@ -73,7 +78,6 @@ pub(crate) fn go_over(canvas: Canvas, easel: Easel, bytes: &[u8], from: usize) -
                 wrote,
             };
         }
-        turns -= 1;
     }
     Canvas {
         watching,

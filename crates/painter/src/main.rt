@@ -9,41 +9,50 @@ mod shapes;
 mod texts;
 
 use commands::{Command, status};
+use std::env::Env;
+use std::fs::Files;
+use std::io::Print;
+use streams::complaints::Complain;
 use streams::{ending, loading, usage, words};
 
 // `page LOG PLAN`: the plan sheet is read first, of its file one byte more than the longest plan, which tells that a byte follows it.
-fn page_against(log: usize, word: usize) -> u8 {
+fn page_against(rt: &(impl Env + Files + Print + Complain), log: usize, word: usize) -> u8 {
     let mut sheet: [u8; sheets::PLAN_READ] = [0; sheets::PLAN_READ];
-    let plan = loading::load(b"page: ", word, &mut sheet);
-    if plan.failed {
+    let plan = loading::load(rt, b"page: ", word, &mut sheet);
+    if plan.failed.is_some() {
         return status::FAILED;
     }
     let length = plan.length;
-    saying::say(log, true, &sheet[..length])
+    saying::say(rt, log, true, &sheet[..length])
 }
 
 // `page LOG`: with a path at the second place the log is held to the plan there, else to its own.
-fn page(log: usize, word: usize) -> u8 {
-    if words::is_given(word) {
-        return page_against(log, word);
+fn page(rt: &(impl Env + Files + Print + Complain), log: usize, word: usize) -> u8 {
+    if words::is_given(rt, word) {
+        return page_against(rt, log, word);
     }
-    saying::say(log, false, b"")
+    saying::say(rt, log, false, b"")
 }
 
 // Does what the words from this one on ask for; the second and the third are behind it.
-fn obey(first: usize, second: usize, third: usize) -> u8 {
-    match words::command(first) {
-        Command::Page => page(second, third),
+fn obey(
+    rt: &(impl Env + Files + Print + Complain),
+    first: usize,
+    second: usize,
+    third: usize,
+) -> u8 {
+    match words::command(rt, first) {
+        Command::Page => page(rt, second, third),
         Command::Unknown => status::FAILED,
-        _ => usage::elsewhere(),
+        _ => usage::elsewhere(rt),
     }
 }
 
-fn main() {
-    if !words::status_asked() {
-        obey(1, 2, 3);
+fn main(rt: HostRuntime) {
+    if !words::status_asked(&rt) {
+        obey(&rt, 1, 2, 3);
         return;
     }
-    let status = obey(2, 3, 4);
+    let status = obey(&rt, 2, 3, 4);
     ending::tell(status);
 }

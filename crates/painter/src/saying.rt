@@ -1,13 +1,16 @@
 // A page, from its head to its foot: the log is read once for what is said of it, and once more for its picture.
 use crate::drawing::Easel;
-use crate::reading::Read;
+use crate::reading::Reading;
 use crate::{drawing, forms, reading, texts};
 use command_page::{Account, Outcome};
 use commands::status;
-use libc::STDERR_FILENO;
 use picture_stream::Watching;
 use pictures::Scene;
-use streams::{ending, loading, version};
+use std::env::Env;
+use std::fs::Files;
+use std::io::Print;
+use streams::complaints::Complain;
+use streams::{ending, loading, version, words};
 
 // Nothing is drawn: for the first reading.
 fn bare_easel() -> Easel {
@@ -35,71 +38,68 @@ fn put_either(given: bool, plan: &[u8], watching: Watching, page: &mut [u8]) -> 
 }
 
 // Says it.
-fn say_either(given: bool, plan: &[u8], watching: Watching) -> bool {
+fn say_either(rt: &(impl Print + Complain), given: bool, plan: &[u8], watching: Watching) -> bool {
     let mut page = io::large_buffer();
     let put = put_either(given, plan, watching, &mut page);
-    ending::say_put(&page, put)
+    ending::say_put(rt, &page, put)
 }
 
 // The second part, what the finding means: of an accepted log without a visit that nothing was held to the rules.
-fn say_meaning(account: Account) -> bool {
+fn say_meaning(rt: &(impl Print + Complain), account: Account) -> bool {
     let outcome = account.outcome;
     if is_accepted(outcome) & (account.lines == 0) {
-        return texts::means() && texts::no_visit();
+        return texts::means(rt) && texts::no_visit(rt);
     }
-    forms::say_part(command_page::part_at(account, 1))
+    forms::say_part(rt, command_page::part_at(account, 1))
 }
 
 // The parts from the third on, up to the last, which begins the picture.
-fn say_parts(account: Account, last: usize) -> bool {
-    let mut k: usize = 2;
-    while k < last {
-        if !forms::say_part(command_page::part_at(account, k)) {
+fn say_parts(rt: &(impl Print + Complain), account: Account, last: usize) -> bool {
+    for k in 2..last {
+        if !forms::say_part(rt, command_page::part_at(account, k)) {
             return false;
         }
-        k += 1;
     }
     true
 }
 
 // A station's number, behind those before it.
-fn say_station(any: bool, station: u64) -> bool {
+fn say_station(rt: &(impl Print + Complain), any: bool, station: u64) -> bool {
     if any {
-        return forms::fill(b", station #", [station, 0, 0, 0, 0, 0]);
+        return forms::fill(rt, b", station #", [station, 0, 0, 0, 0, 0]);
     }
-    forms::fill(b"station #", [station, 0, 0, 0, 0, 0])
+    forms::fill(rt, b"station #", [station, 0, 0, 0, 0, 0])
 }
 
 // The stations that are marked.
-fn say_marked(mark: [u8; 128], n: u32) -> bool {
+fn say_marked(rt: &(impl Print + Complain), mark: [u8; 128], n: u32) -> bool {
     let end = units::places(n);
     let mut any = false;
-    let mut i: usize = 0;
-    while i < end {
+    for i in 0..end {
         if mark[i] != 0 {
-            if !say_station(any, i as u64) {
+            if !say_station(rt, any, i as u64) {
                 return false;
             }
             any = true;
         }
-        i += 1;
     }
-    any || ending::say(b"no station")
+    any || ending::say(rt, b"no station")
 }
 
 // Behind which records that is said.
-fn say_when(named: u64) -> bool {
+fn say_when(rt: &(impl Print + Complain), named: u64) -> bool {
     if named == 0 {
-        return ending::say(b"<p>Switched through when the log ends: ");
+        return ending::say(rt, b"<p>Switched through when the log ends: ");
     }
     forms::fill(
+        rt,
         b"<p>Switched through before record #: ",
         [named, 0, 0, 0, 0, 0],
     )
 }
 
 // Who is switched through behind the records that keep every rule, by the inspection's own marks.
-fn say_through(watching: Watching, account: Account) -> bool {
+fn say_through(rt: &(impl Print + Complain), watching: Watching, account: Account) -> bool {
     let outcome = account.outcome;
     if !is_judged(outcome) {
         return true;
@@ -108,20 +108,20 @@ fn say_through(watching: Watching, account: Account) -> bool {
     let state = looked.inspection;
     let mark = state.mark;
     let set = account.set;
-    say_when(account.named) && say_marked(mark, set.n) && ending::say(b".</p>\n")
+    say_when(rt, account.named) && say_marked(rt, mark, set.n) && ending::say(rt, b".</p>\n")
 }
 
 // All parts behind the first one; below what each station did it is said who is switched through.
-fn say_account(watching: Watching, account: Account) -> bool {
+fn say_account(rt: &(impl Print + Complain), watching: Watching, account: Account) -> bool {
     let last = command_page::part_count(account) - 1;
-    say_meaning(account)
-        && say_parts(account, last)
-        && say_through(watching, account)
-        && forms::say_part(command_page::part_at(account, last))
+    say_meaning(rt, account)
+        && say_parts(rt, account, last)
+        && say_through(rt, watching, account)
+        && forms::say_part(rt, command_page::part_at(account, last))
 }
 
 // The foot: the version, and how many bytes the log has.
-fn say_foot(bytes: u64) -> bool {
+fn say_foot(rt: &(impl Print + Complain), bytes: u64) -> bool {
     let mut page = io::buffer();
     let begun = text::put_filled(&mut page, 0, b"<footer>\n<p>Olivastrum ", [0; 6]);
     let named = version::put(&mut page, begun);
@@ -131,18 +131,24 @@ fn say_foot(bytes: u64) -> bool {
         b". The log has # bytes.</p>\n</footer>\n</body>\n</html>\n",
         [bytes, 0, 0, 0, 0, 0],
     );
-    ending::say_put(&page, put)
+    ending::say_put(rt, &page, put)
 }
 
 // What stands before the picture: the head, the finding with its word, and all that is said of it.
-fn say_first(given: bool, plan: &[u8], watching: Watching, account: Account) -> bool {
+fn say_first(
+    rt: &(impl Print + Complain),
+    given: bool,
+    plan: &[u8],
+    watching: Watching,
+    account: Account,
+) -> bool {
     let outcome = account.outcome;
-    texts::begin()
-        && forms::say_part(command_page::part_at(account, 0))
-        && say_either(given, plan, watching)
-        && texts::end_finding()
-        && say_held(given, outcome)
-        && say_account(watching, account)
+    texts::begin(rt)
+        && forms::say_part(rt, command_page::part_at(account, 0))
+        && say_either(rt, given, plan, watching)
+        && texts::end_finding(rt)
+        && say_held(rt, given, outcome)
+        && say_account(rt, watching, account)
 }
 
 // What a reading found, in numbers: the log's refusal, the rule that is broken, how many records keep every rule, and what was compared.
@@ -211,22 +217,24 @@ fn is_same(first: Watching, second: Watching) -> bool {
 }
 
 // The log was changed between the two readings: the page says so, and so does standard error.
-fn say_changed() -> bool {
-    io::write_all(
-        STDERR_FILENO,
-        b"page: the log was changed while it was read, or cannot be read twice\n",
-    );
-    texts::changed()
+fn say_changed(rt: &(impl Print + Complain)) -> bool {
+    rt.complain(b"page: the log was changed while it was read, or cannot be read twice\n");
+    texts::changed(rt)
 }
 
 // The picture, by the second reading. Where that is another one, in its length, its plan, its finding or its sums, or cannot be made, the page says that it is not valid.
-fn say_picture(path: &[u8], account: Account, first: Read) -> bool {
+fn say_picture(
+    rt: &(impl Files + Print + Complain),
+    path: &str,
+    account: Account,
+    first: Reading,
+) -> bool {
     let scene = command_page::scene_of(account);
     let window = account.window;
-    let second = reading::read_all(path, Easel { scene, window });
+    let second = reading::read_all(rt, path, Easel { scene, window });
     let canvas = second.canvas;
     let pen = canvas.pen;
-    let ended = canvas.wrote && drawing::end(pen);
+    let ended = canvas.wrote && drawing::end(rt, pen);
     if !ended {
         return false;
     }
@@ -237,19 +245,19 @@ fn say_picture(path: &[u8], account: Account, first: Read) -> bool {
     if long && is_same(one, other) {
         return true;
     }
-    say_changed();
+    say_changed(rt);
     false
 }
 
 // Whether a plan sheet was named, of records that were judged.
-fn say_held(given: bool, outcome: Outcome) -> bool {
+fn say_held(rt: &(impl Print + Complain), given: bool, outcome: Outcome) -> bool {
     if !is_judged(outcome) {
         return true;
     }
     if given {
-        return texts::plan_named();
+        return texts::plan_named(rt);
     }
-    texts::no_plan_named()
+    texts::no_plan_named(rt)
 }
 
 // The records were judged, so there is a picture.
@@ -278,19 +286,25 @@ fn status_of(outcome: Outcome) -> u8 {
 }
 
 // All of a page about a log that was read once.
-fn say_all(path: &[u8], given: bool, plan: &[u8], first: Read) -> u8 {
+fn say_all(
+    rt: &(impl Files + Print + Complain),
+    path: &str,
+    given: bool,
+    plan: &[u8],
+    first: Reading,
+) -> u8 {
     let canvas = first.canvas;
     let watching = canvas.watching;
     let account = command_page::account_of(given, plan, watching);
-    if !say_first(given, plan, watching, account) {
+    if !say_first(rt, given, plan, watching, account) {
         return status::FAILED;
     }
     let outcome = account.outcome;
     let mut drawn = true;
     if is_judged(outcome) {
-        drawn = say_picture(path, account, first);
+        drawn = say_picture(rt, path, account, first);
     }
-    let ended = say_foot(first.bytes);
+    let ended = say_foot(rt, first.bytes);
     if drawn & ended {
         return status_of(outcome);
     }
@@ -298,16 +312,23 @@ fn say_all(path: &[u8], given: bool, plan: &[u8], first: Read) -> u8 {
 }
 
 // A page about the log in the file whose path is the word at this place.
-pub(crate) fn say(word: usize, given: bool, plan: &[u8]) -> u8 {
-    let mut path = io::buffer();
-    let length = os::arg(word, &mut path);
-    if os::errno() != 0 {
-        loading::name(b"page: ", b"the path of a log");
-        return status::FAILED;
-    }
-    let first = reading::read_all(&path[..length], bare_easel());
+pub(crate) fn say(
+    rt: &(impl Env + Files + Print + Complain),
+    word: usize,
+    given: bool,
+    plan: &[u8],
+) -> u8 {
+    let path = match words::path(rt, word) {
+        Ok(path) => path,
+        Err(error) => {
+            loading::name(rt, b"page: ", b"the path of a log", error);
+            return status::FAILED;
+        }
+    };
+    let path = path.as_str();
+    let first = reading::read_all(rt, path, bare_easel());
     if first.failed {
         return status::FAILED;
     }
-    say_all(&path[..length], given, plan, first)
+    say_all(rt, path, given, plan, first)
 }

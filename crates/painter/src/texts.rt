@@ -1,9 +1,12 @@
 // The fixed texts of a page.
+use std::io::Print;
+use streams::complaints::Complain;
 use streams::ending;
 
 // The beginning of a page: its head, with the styles.
-pub(crate) fn begin() -> bool {
+pub(crate) fn begin(rt: &(impl Print + Complain)) -> bool {
     ending::say(
+        rt,
         b"<!DOCTYPE html>
 <html xmlns=\"http://www.w3.org/1999/xhtml\" lang=\"en\">
 <head>
@@ -58,8 +61,9 @@ footer{margin-top:2em;border-top:1px solid #999;font-size:.85em;color:#333}
 }
 
 // Behind the finding's own words.
-pub(crate) fn end_finding() -> bool {
+pub(crate) fn end_finding(rt: &(impl Print + Complain)) -> bool {
     ending::say(
+        rt,
         b"</pre>
 </div>
 ",
@@ -67,16 +71,18 @@ pub(crate) fn end_finding() -> bool {
 }
 
 // What follows says what the finding means.
-pub(crate) fn means() -> bool {
+pub(crate) fn means(rt: &(impl Print + Complain)) -> bool {
     ending::say(
+        rt,
         b"<h2>What that means</h2>
 ",
     )
 }
 
 // Another plan.
-pub(crate) fn another() -> bool {
+pub(crate) fn another(rt: &(impl Print + Complain)) -> bool {
     ending::say(
+        rt,
         b"<p>The log was made with another plan than the one that it is held to, so its records were not judged.</p>
 <p>A line with three numbers is one of the whole plan: 1 is TTRT, 4 the mode, 5 F, 6 g; then what the plan sheet has, and what the log has. A line with a letter is one of a station: its number, w, C, D, P or S, and both again. A line with old is a station that the plan sheet alone has, one with new a station that the log alone has: w, C, D, P, S.</p>
 ",
@@ -84,16 +90,18 @@ pub(crate) fn another() -> bool {
 }
 
 // Behind the record that breaks a rule.
-pub(crate) fn broken() -> bool {
+pub(crate) fn broken(rt: &(impl Print + Complain)) -> bool {
     ending::say(
+        rt,
         b" All records before it keep every rule. What comes behind it was not judged.</p>
 ",
     )
 }
 
 // Every rule is kept.
-pub(crate) fn accepted() -> bool {
+pub(crate) fn accepted(rt: &(impl Print + Complain)) -> bool {
     ending::say(
+        rt,
         b"<p>A ring that was opened with this plan and keeps the published steps could have written just these records: every station had the token in time, none sent more than its S synchronously, and no frame was begun behind a limit.</p>
 <p>It does not say that messages met their deadlines, that every station is switched in again when the log ends (see below what each station did), or that the recorder is honest.</p>
 ",
@@ -101,16 +109,18 @@ pub(crate) fn accepted() -> bool {
 }
 
 // Every rule is kept, and there is no visit.
-pub(crate) fn no_visit() -> bool {
+pub(crate) fn no_visit(rt: &(impl Print + Complain)) -> bool {
     ending::say(
+        rt,
         b"<p>There is no visit in this log, so nothing that a station did was held to the rules. Accepted says only that the log and its plan can be read, and that its marks, if it has any, are 0 or 1 and of stations of the plan. It shows nothing of a trip, and the set must not leave on it.</p>
 ",
     )
 }
 
 // The five rules.
-pub(crate) fn rules() -> bool {
+pub(crate) fn rules(rt: &(impl Print + Complain)) -> bool {
     ending::say(
+        rt,
         b"<table>
 <tr><th>rule</th><th>what a record must have</th><th>what may be wrong where it has not</th></tr>
 <tr><td>station</td><td>the station whose turn it is; of a mark a station of the plan, and 0 or 1</td><td>records are missing, doubled or out of order, or the log does not begin where the ring was opened</td></tr>
@@ -124,8 +134,9 @@ pub(crate) fn rules() -> bool {
 }
 
 // The head of the named record's rows.
-pub(crate) fn named() -> bool {
+pub(crate) fn named(rt: &(impl Print + Complain)) -> bool {
     ending::say(
+        rt,
         b"<table>
 <tr><th></th><th>rule</th><th>expected</th><th>found</th><th>where that comes from</th></tr>
 ",
@@ -133,8 +144,9 @@ pub(crate) fn named() -> bool {
 }
 
 // Behind the named record's rows.
-pub(crate) fn end_named() -> bool {
+pub(crate) fn end_named(rt: &(impl Print + Complain)) -> bool {
     ending::say(
+        rt,
         b"</table>
 <p>u is the sum over all stations of S less what the station last sent of it. TRT is the time since the token was last there, in the 2002 edition since the station's last synchronous part began. An FDDI timer counts with TTRT for each time that it is late. All rows are those of the station whose turn it was.</p>
 ",
@@ -142,8 +154,9 @@ pub(crate) fn end_named() -> bool {
 }
 
 // The head of the plan's stations.
-pub(crate) fn stations() -> bool {
+pub(crate) fn stations(rt: &(impl Print + Complain)) -> bool {
     ending::say(
+        rt,
         b"</table>
 <table class=\"n\">
 <thead>
@@ -154,16 +167,18 @@ pub(crate) fn stations() -> bool {
 }
 
 // What each station did.
-pub(crate) fn did() -> bool {
+pub(crate) fn did(rt: &(impl Print + Complain)) -> bool {
     ending::say(
+        rt,
         b"<h2>What each station did</h2>
 ",
     )
 }
 
 // The head of what each station did.
-pub(crate) fn did_rows() -> bool {
+pub(crate) fn did_rows(rt: &(impl Print + Complain)) -> bool {
     ending::say(
+        rt,
         b"<table class=\"n\">
 <thead>
 <tr><th>station</th><th>visits</th><th>of them switched through</th><th>longest time between two visits</th><th>at most</th><th>most synchronous in a visit</th><th>S</th><th>synchronous in all</th><th>asynchronous in all</th></tr>
@@ -173,24 +188,27 @@ pub(crate) fn did_rows() -> bool {
 }
 
 // The picture begins.
-pub(crate) fn picture() -> bool {
+pub(crate) fn picture(rt: &(impl Print + Complain)) -> bool {
     ending::say(
+        rt,
         b"<h2>The rotations</h2>
 ",
     )
 }
 
 // What the picture shows.
-pub(crate) fn key() -> bool {
+pub(crate) fn key(rt: &(impl Print + Complain)) -> bool {
     ending::say(
+        rt,
         b"<p class=\"key\">A line is a rotation, as many visits as there are stations, one behind the other, and as long as the token may be away. A visit that sent nothing has no number. An arrow at the end of a line says that a visit, or its limit, goes on behind it. <span class=\"ks\">synchronous</span> <span class=\"ka\">asynchronous</span> <span class=\"kw\">walk</span> <span class=\"kl\">limit</span> <span class=\"km\">(number) switched through</span> <span class=\"kb\">bound</span> <span class=\"kf\">the named record</span></p>
 ",
     )
 }
 
 // The second reading was another one.
-pub(crate) fn changed() -> bool {
+pub(crate) fn changed(rt: &(impl Print + Complain)) -> bool {
     ending::say(
+        rt,
         b"<div class=\"bad\">
 <p class=\"word\">THIS PAGE IS NOT VALID: THE LOG WAS CHANGED WHILE IT WAS READ, OR CANNOT BE READ TWICE</p>
 </div>
@@ -199,50 +217,68 @@ pub(crate) fn changed() -> bool {
 }
 
 // A refusal's sentence.
-pub(crate) fn sentence(number: u64) -> bool {
+pub(crate) fn sentence(rt: &(impl Print + Complain), number: u64) -> bool {
     match number {
-        1 => ending::say(b"<p>1: the bytes end inside a field, or before the end field.</p>\n"),
+        1 => ending::say(
+            rt,
+            b"<p>1: the bytes end inside a field, or before the end field.</p>\n",
+        ),
         2 => ending::say(
+            rt,
             b"<p>2: a field may not stand where it does, has a wrong length, or there are too few or too many stations or allocations.</p>\n",
         ),
-        3 => ending::say(b"<p>3: a byte follows the end field.</p>\n"),
-        4 => ending::say(b"<p>4: a number of the plan is outside its range.</p>\n"),
-        5 => ending::say(b"<p>5: the walk times together are 0 or above TTRT.</p>\n"),
+        3 => ending::say(rt, b"<p>3: a byte follows the end field.</p>\n"),
+        4 => ending::say(
+            rt,
+            b"<p>4: a number of the plan is outside its range.</p>\n",
+        ),
+        5 => ending::say(
+            rt,
+            b"<p>5: the walk times together are 0 or above TTRT.</p>\n",
+        ),
         7 => ending::say(
+            rt,
             b"<p>7: the allocation of the plan breaks the token rule or the deadline rule of a station, or an S is off the grid.</p>\n",
         ),
-        _ => ending::say(b"<p>It is refused.</p>\n"),
+        _ => ending::say(rt, b"<p>It is refused.</p>\n"),
     }
 }
 
 // Behind the sentence of a refusal.
-pub(crate) fn not_judged() -> bool {
+pub(crate) fn not_judged(rt: &(impl Print + Complain)) -> bool {
     ending::say(
+        rt,
         b"<p>Nothing of this log was held to the rules, and the set must not leave on it.</p>\n",
     )
 }
 
 // A plan that names no F, and one that names no g.
-pub(crate) fn no_frame() -> bool {
+pub(crate) fn no_frame(rt: &(impl Print + Complain)) -> bool {
     ending::say(
+        rt,
         b"<tr><td>F, the longest asynchronous frame</td><td>1 (no frames: asynchronous traffic may stop at any tick)</td></tr>\n",
     )
 }
 
-pub(crate) fn no_grid() -> bool {
+pub(crate) fn no_grid(rt: &(impl Print + Complain)) -> bool {
     ending::say(
+        rt,
         b"<tr><td>g, the step in which S is held</td><td>1 (no grid: S may be any whole number)</td></tr>\n",
     )
 }
 
 // The plan was named, and it is the log's.
-pub(crate) fn plan_named() -> bool {
-    ending::say(b"<p>The log has the plan of the plan sheet that was named.</p>\n")
+pub(crate) fn plan_named(rt: &(impl Print + Complain)) -> bool {
+    ending::say(
+        rt,
+        b"<p>The log has the plan of the plan sheet that was named.</p>\n",
+    )
 }
 
 // No plan was named.
-pub(crate) fn no_plan_named() -> bool {
+pub(crate) fn no_plan_named(rt: &(impl Print + Complain)) -> bool {
     ending::say(
+        rt,
         b"<p>No plan sheet was named: whether the log's plan is the one that the set left with was not asked.</p>\n",
     )
 }

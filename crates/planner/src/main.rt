@@ -2,29 +2,31 @@
 #![tactic(auto)]
 
 use commands::{Command, status};
-use libc::STDIN_FILENO;
+use std::env::Env;
+use std::io::{Input, Print};
+use streams::complaints::Complain;
 use streams::{ending, reading, usage, version, words};
 
 // `plan`: the plan of the request sheet on standard input, or the refusal. The longest, of 128 stations with a mode, F and g, has 2,460 bytes; one more tells that a byte follows it.
-fn plan() -> u8 {
+fn plan(rt: &(impl Input + Print + Complain)) -> u8 {
     let mut sheet: [u8; sheets::REQUEST_READ] = [0; sheets::REQUEST_READ];
-    let filled = reading::fill(STDIN_FILENO, &mut sheet);
-    if filled.failed {
-        return ending::unread_input();
+    let filled = reading::fill(&mut rt.reader(), &mut sheet);
+    if let Some(error) = filled.failed {
+        return ending::unread_input(rt, error);
     }
     let read = filled.length;
     let mut page = io::large_buffer();
     let said = command_plan::plan_text(&sheet[..read], &mut page);
     let length = said.length;
-    ending::answer(&page[..length], status::status_of(said.number))
+    ending::answer(rt, &page[..length], status::status_of(said.number))
 }
 
 // `plan-sheet`: the plan sheet of the request sheet on standard input; refused, no byte is written.
-fn plan_sheet() -> u8 {
+fn plan_sheet(rt: &(impl Input + Print + Complain)) -> u8 {
     let mut sheet: [u8; sheets::REQUEST_READ] = [0; sheets::REQUEST_READ];
-    let filled = reading::fill(STDIN_FILENO, &mut sheet);
-    if filled.failed {
-        return ending::unread_input();
+    let filled = reading::fill(&mut rt.reader(), &mut sheet);
+    if let Some(error) = filled.failed {
+        return ending::unread_input(rt, error);
     }
     let read = filled.length;
     let mut out = io::large_buffer();
@@ -32,38 +34,38 @@ fn plan_sheet() -> u8 {
     let length = written.length;
     let number = written.number;
     if number != 0 {
-        return ending::refuse_sheet(number);
+        return ending::refuse_sheet(rt, number);
     }
-    ending::answer(&out[..length], status::DONE)
+    ending::answer(rt, &out[..length], status::DONE)
 }
 
 // `version`: a line.
-fn version() -> u8 {
+fn version(rt: &(impl Print + Complain)) -> u8 {
     let mut page = io::buffer();
     let named = version::put(&mut page, 0);
     let put = text::put_end(&mut page, named);
-    if !ending::say_put(&page, put) {
+    if !ending::say_put(rt, &page, put) {
         return status::FAILED;
     }
     status::DONE
 }
 
 // Does what the words from this one on ask for.
-fn obey(first: usize) -> u8 {
-    match words::command(first) {
-        Command::Plan => plan(),
-        Command::PlanSheet => plan_sheet(),
-        Command::Version => version(),
+fn obey(rt: &(impl Env + Input + Print + Complain), first: usize) -> u8 {
+    match words::command(rt, first) {
+        Command::Plan => plan(rt),
+        Command::PlanSheet => plan_sheet(rt),
+        Command::Version => version(rt),
         Command::Unknown => status::FAILED,
-        _ => usage::elsewhere(),
+        _ => usage::elsewhere(rt),
     }
 }
 
-fn main() {
-    if !words::status_asked() {
-        obey(1);
+fn main(rt: HostRuntime) {
+    if !words::status_asked(&rt) {
+        obey(&rt, 1);
         return;
     }
-    let status = obey(2);
+    let status = obey(&rt, 2);
     ending::tell(status);
 }

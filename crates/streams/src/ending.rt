@@ -3,9 +3,10 @@ ghost use Rattle.std.specs.Prelude.{◌≡◌};
 ghost use Rattle.commands.specs.Status.{status_of};
 ghost use Rattle.streams.specs.Ends.{Ends, failed};
 
-use crate::reading;
+use crate::complaints::Complain;
+use crate::{reading, reasons};
 use commands::status;
-use libc::{STDERR_FILENO, STDOUT_FILENO};
+use std::io::{Error, Print};
 
 // Where the status goes, if the first word asks for it.
 const STATUS_FILENO: i32 = 3;
@@ -14,48 +15,50 @@ const STATUS_FILENO: i32 = 3;
 const LINE_SIZE: usize = 42;
 
 // Says on standard error why, and fails.
-pub(crate) fn complain(text: &[u8]) -> u8
+pub(crate) fn complain(rt: &impl Complain, text: &[u8]) -> u8
     ensures { result ≡ failed }
 {
-    io::write_all(STDERR_FILENO, text);
+    rt.complain(text);
     status::FAILED
 }
 
 // Says what the system says of this, and fails.
-fn fail_at(what: &[u8]) -> u8
+fn fail_at(rt: &impl Complain, what: &[u8], error: Error) -> u8
     ensures { result ≡ failed }
 {
-    os::fail(what);
+    reasons::say(rt, what, error);
     status::FAILED
 }
 
 // Standard input could not be read: says why.
-pub fn unread_input() -> u8
+pub fn unread_input(rt: &impl Complain, error: Error) -> u8
     ensures { result ≡ failed }
 {
-    fail_at(b"olivastrum: standard input")
+    fail_at(rt, b"olivastrum: standard input", error)
 }
 
 // Standard output could not be written: says why.
-pub fn unwritten_output() -> u8
+pub fn unwritten_output(rt: &impl Complain, error: Error) -> u8
     ensures { result ≡ failed }
 {
-    fail_at(b"olivastrum: standard output")
+    fail_at(rt, b"olivastrum: standard output", error)
 }
 
 // Writes on standard output; where that fails, says why, and answers false.
-pub fn say(text: &[u8]) -> bool {
-    let wrote = io::write_all(STDOUT_FILENO, text);
-    if !wrote {
-        unwritten_output();
+pub fn say(rt: &(impl Print + Complain), text: &[u8]) -> bool {
+    match rt.write_all(text) {
+        Ok(()) => true,
+        Err(error) => {
+            unwritten_output(rt, error);
+            false
+        }
     }
-    wrote
 }
 
 // Writes what was put at the start of a page, up to this place.
-pub fn say_put(page: &[u8], put: usize) -> bool {
+pub fn say_put(rt: &(impl Print + Complain), page: &[u8], put: usize) -> bool {
     let length = reading::further(0, put, page.len());
-    say(&page[..length])
+    say(rt, &page[..length])
 }
 
 // With this status, where what was to be said could be written.
@@ -69,38 +72,38 @@ fn ended(wrote: bool, status: u8) -> u8
 }
 
 // Writes an answer that ends with this status.
-pub fn answer(text: &[u8], status: u8) -> u8
+pub fn answer(rt: &(impl Print + Complain), text: &[u8], status: u8) -> u8
     ensures { Ends status result }
 {
-    ended(say(text), status)
+    ended(say(rt, text), status)
 }
 
 // Says the refusal on standard output.
-pub fn refuse(number: u8) -> u8
+pub fn refuse(rt: &(impl Print + Complain), number: u8) -> u8
     ensures { Ends (status_of number) result }
 {
     let mut line: [u8; LINE_SIZE] = [0; LINE_SIZE];
     let length = text::put_refused(&mut line, 0, number);
-    answer(&line[..length], status::status_of(number))
+    answer(rt, &line[..length], status::status_of(number))
 }
 
 // Says the refusal on standard error, where a sheet was to be written on standard output.
-pub fn refuse_sheet(number: u8) -> u8
+pub fn refuse_sheet(rt: &impl Complain, number: u8) -> u8
     ensures { Ends (status_of number) result }
 {
     let mut line: [u8; LINE_SIZE] = [0; LINE_SIZE];
     let length = text::put_refused(&mut line, 0, number);
-    let wrote = io::write_all(STDERR_FILENO, &line[..length]);
+    let wrote = rt.complain(&line[..length]);
     ended(wrote, status::status_of(number))
 }
 
 // The line that cannot be read, said on standard error.
-pub fn name_line(number: u64) -> u8
+pub fn name_line(rt: &impl Complain, number: u64) -> u8
     ensures { result ≡ failed }
 {
     let mut line: [u8; LINE_SIZE] = [0; LINE_SIZE];
     let length = text::put_unread(&mut line, 0, number);
-    complain(&line[..length])
+    complain(rt, &line[..length])
 }
 
 // Tells the status: a digit, since there are three.

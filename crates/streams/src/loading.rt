@@ -2,51 +2,64 @@
 ghost use Rattle.std.specs.Prelude.{◌≡◌};
 ghost use Rattle.io.specs.Counts.{IsPrefixLen};
 
-use crate::reading;
+use crate::complaints::Complain;
 use crate::reading::Filled;
-use libc::STDERR_FILENO;
+use crate::{reading, reasons, words};
+use std::env::Env;
+use std::fs;
+use std::fs::Files;
+use std::io::{Error, Read};
 
 // Names the command and the path, and what the system says of it.
-pub fn name(command: &[u8], path: &[u8]) {
-    io::write_all(STDERR_FILENO, command);
-    os::fail(path);
+pub fn name(rt: &impl Complain, command: &[u8], path: &[u8], error: Error) {
+    rt.complain(command);
+    reasons::say(rt, path, error);
 }
 
 // A file that cannot be opened: it is named, and no byte came.
-fn unopened(command: &[u8], path: &[u8]) -> Filled
+fn unopened(rt: &impl Complain, command: &[u8], path: &[u8], error: Error) -> Filled
     ensures { result.length ≡ 0 }
 {
-    name(command, path);
+    name(rt, command, path, error);
     Filled {
         length: 0,
-        failed: true,
+        failed: Some(error),
     }
 }
 
-// Fills the buffer from an open file, and closes it; a file that cannot be read is named.
-fn fill(command: &[u8], file: i32, path: &[u8], sheet: &mut [u8]) -> Filled
+// Fills the buffer from an open file; one that cannot be read is named.
+fn fill(
+    rt: &impl Complain,
+    command: &[u8],
+    file: &mut impl Read,
+    path: &[u8],
+    sheet: &mut [u8],
+) -> Filled
     ensures { IsPrefixLen result.length sheet.new }
 {
     let filled = reading::fill(file, sheet);
-    if filled.failed {
-        name(command, path);
+    if let Some(error) = filled.failed {
+        name(rt, command, path, error);
     }
-    libc::close(file);
     filled
 }
 
 // Fills the buffer from the file whose path is the word at this place.
-pub fn load(command: &[u8], word: usize, sheet: &mut [u8]) -> Filled
+pub fn load(
+    rt: &(impl Env + Files + Complain),
+    command: &[u8],
+    word: usize,
+    sheet: &mut [u8],
+) -> Filled
     ensures { IsPrefixLen result.length sheet.new }
 {
-    let mut path = io::buffer();
-    let length = os::arg(word, &mut path);
-    if os::errno() != 0 {
-        return unopened(command, b"the path of a file");
+    let path = match words::path(rt, word) {
+        Ok(path) => path,
+        Err(error) => return unopened(rt, command, b"the path of a file", error),
+    };
+    let path = path.as_str();
+    match fs::open(rt, path) {
+        Ok(mut file) => fill(rt, command, &mut file, path.as_bytes(), sheet),
+        Err(error) => unopened(rt, command, path.as_bytes(), error),
     }
-    let file = os::open_read(&path[..length]);
-    if file < 0 {
-        return unopened(command, &path[..length]);
-    }
-    fill(command, file, &path[..length], sheet)
 }

@@ -2,32 +2,42 @@
 ghost use Rattle.std.specs.Prelude.{◌+◌, min, ◌≡◌};
 ghost use Rattle.io.specs.Counts.{IsPrefixLen};
 
-// How many bytes came, and whether a read failed.
+use std::io::{Error, Read};
+
+// How many bytes came, and why a read failed, if one did.
 #[derive(Clone, Copy)]
 pub struct Filled {
     pub length: usize,
-    pub failed: bool,
+    pub failed: Option<Error>,
 }
 
 // Reads until the buffer is full, the input ends or a read fails.
-pub fn fill(from: i32, buffer: &mut [u8]) -> Filled
+pub fn fill(from: &mut impl Read, buffer: &mut [u8]) -> Filled
     ensures { IsPrefixLen result.length buffer.new }
 {
     let mut length: usize = 0;
     while length < buffer.len() {
-        let got = libc::read(from, &mut buffer[length..]);
-        let came = io::count(got, &buffer[length..]);
-        if came == 0 {
-            return Filled {
-                length,
-                failed: got < 0,
-            };
+        match from.read(&mut buffer[length..]) {
+            Ok(came) => {
+                if came == 0 {
+                    return Filled {
+                        length,
+                        failed: None,
+                    };
+                }
+                length += came;
+            }
+            Err(error) => {
+                return Filled {
+                    length,
+                    failed: Some(error),
+                };
+            }
         }
-        length += came;
     }
     Filled {
         length,
-        failed: false,
+        failed: None,
     }
 }
 

@@ -2,124 +2,84 @@
 ghost use Rattle.std.specs.Prelude.{◌≡◌};
 ghost use Rattle.streams.specs.Ends.{failed};
 
+use crate::complaints::Complain;
 use crate::ending;
 use commands::{Command, status, words};
-use libc::STDERR_FILENO;
 
 // A command's line: how it is called, and what it does. `commands.txt` has the same, and `tests/table` holds the two together.
-pub fn put_line(to: i32, command: Command) -> bool {
+pub fn line_of(command: Command) -> &'static [u8] {
     match command {
-        Command::Plan => io::write_all(
-            to,
+        Command::Plan =>
             b"olivastrum plan < REQUEST         print the plan of a request sheet, or `refused` and a number\n",
-        ),
-        Command::PlanSheet => io::write_all(
-            to,
+        Command::PlanSheet =>
             b"olivastrum plan-sheet < REQUEST   write the plan sheet of a request sheet\n",
-        ),
-        Command::Explain => io::write_all(
-            to,
+        Command::Explain =>
             b"olivastrum explain < SHEET        say why a request sheet or plan sheet is accepted or refused, in numbers that can be checked by hand\n",
-        ),
-        Command::Tune => io::write_all(
-            to,
+        Command::Tune =>
             b"olivastrum tune [FROM TO] < REQUEST plan the set of a request sheet at every TTRT from FROM to TO, or at all: how many have a plan, and which leaves the largest part of the rotation for asynchronous traffic\n",
-        ),
-        Command::Compose => io::write_all(
-            to,
+        Command::Compose =>
             b"olivastrum compose < TEXT         write the request sheet, plan sheet or log of a text\n",
-        ),
-        Command::Show => io::write_all(
-            to,
+        Command::Show =>
             b"olivastrum show < SHEET           print a request sheet, plan sheet or log as text\n",
-        ),
-        Command::Run => io::write_all(
-            to,
+        Command::Run =>
             b"olivastrum run PLAN < CALLS       open the ring of the plan sheet in the file PLAN, and answer each call\n",
-        ),
-        Command::Log => io::write_all(
-            to,
+        Command::Log =>
             b"olivastrum log PLAN < CALLS       write the log of that run: what a recorder would write\n",
-        ),
-        Command::Inspect => io::write_all(
-            to,
+        Command::Inspect =>
             b"olivastrum inspect [PLAN] < LOG   say whether a run could have given the log's records, or the first that breaks a rule; with the plan sheet in the file PLAN, first what differs from that plan\n",
-        ),
-        Command::Page => io::write_all(
-            to,
+        Command::Page =>
             b"olivastrum page LOG [PLAN]        write a page about the log in the file LOG, for a browser or for paper: the finding, the plan, what each station did, and a picture of the rotations; with PLAN as `inspect`\n",
-        ),
-        Command::Diff => io::write_all(
-            to,
+        Command::Diff =>
             b"olivastrum diff OLD NEW           print the differences of two plan sheets, or `same`\n",
-        ),
-        Command::Hopper => io::write_all(
-            to,
+        Command::Hopper =>
             b"olivastrum hopper < LIST          print the plan of a wagon list, or `refused` and a number\n",
-        ),
-        Command::HopperSheet => io::write_all(
-            to,
+        Command::HopperSheet =>
             b"olivastrum hopper-sheet < LIST    write the request sheet of a wagon list\n",
-        ),
-        Command::Refit => io::write_all(
-            to,
+        Command::Refit =>
             b"olivastrum refit LIST < CHANGES   couple the train of the wagon list in the file LIST, and answer each change with the plan in force\n",
-        ),
-        Command::EmptyStore => io::write_all(
-            to,
+        Command::EmptyStore =>
             b"olivastrum empty-store STORE      make the file STORE, a store of plan versions without one\n",
-        ),
-        Command::Keep => io::write_all(
-            to,
+        Command::Keep =>
             b"olivastrum keep STORE < PLAN      keep a plan sheet in STORE as its next version, and print its number\n",
-        ),
-        Command::Kept => io::write_all(
-            to,
-            b"olivastrum kept STORE N           write the plan sheet of version N\n",
-        ),
-        Command::Versions => io::write_all(
-            to,
+        Command::Kept => b"olivastrum kept STORE N           write the plan sheet of version N\n",
+        Command::Versions =>
             b"olivastrum versions STORE         print the kept versions: number, and the first line of the plan\n",
-        ),
-        Command::Version => io::write_all(
-            to,
-            b"olivastrum version                print the version\n",
-        ),
-        Command::Help => io::write_all(to, b"olivastrum help                   print this\n"),
-        Command::Unknown => true,
+        Command::Version => b"olivastrum version                print the version\n",
+        Command::Help => b"olivastrum help                   print this\n",
+        Command::Unknown => b"",
     }
 }
 
 // A word that is no command: it is named, and `help` is pointed to.
-pub(crate) fn no_command(word: &[u8]) {
+pub(crate) fn no_command(rt: &impl Complain, word: &[u8]) {
     let name = words::name_of(word);
     let bytes = name.bytes;
     let length = name.length;
-    io::write_all(STDERR_FILENO, b"olivastrum: no command ");
-    io::write_all(STDERR_FILENO, &bytes[..length]);
-    io::write_all(
-        STDERR_FILENO,
-        b"\nolivastrum: `olivastrum help` lists the commands\n",
-    );
+    rt.complain(b"olivastrum: no command ");
+    rt.complain(&bytes[..length]);
+    rt.complain(b"\nolivastrum: `olivastrum help` lists the commands\n");
 }
 
 // A word too many or too few: the command's own line.
-pub(crate) fn miscounted(command: Command) {
-    io::write_all(STDERR_FILENO, b"usage: ");
-    put_line(STDERR_FILENO, command);
+pub(crate) fn miscounted(rt: &impl Complain, command: Command) {
+    rt.complain(b"usage: ");
+    rt.complain(line_of(command));
 }
 
 // A word that is none of those that the command takes: the command's own line.
-pub fn misused(command: Command) -> u8
+pub fn misused(rt: &impl Complain, command: Command) -> u8
     ensures { result ≡ failed }
 {
-    miscounted(command);
+    miscounted(rt, command);
     status::FAILED
 }
 
 // A command that this program does not have; the script `olivastrum` knows which one does.
-pub fn elsewhere() -> u8
+pub fn elsewhere(rt: &impl Complain) -> u8
     ensures { result ≡ failed }
 {
-    ending::complain(b"olivastrum: another program of Olivastrum has this command\n")
+    ending::complain(
+        rt,
+        b"olivastrum: another program of Olivastrum has this command\n",
+    )
 }

@@ -1,34 +1,39 @@
 // The ★ worked run of the build definition: four stations, messages of 20 that arrive at 0 and at 100 and are handed in then, six visits with 1,000 asynchronous ticks asked for. It prints the table.
 #![tactic(auto)]
 
-use libc::STDOUT_FILENO;
 use plans::Alloc;
 use rings::{Ask, Message, Ring, VisitRecord};
 use sets::{Head, Set};
+use std::io::Print;
 use units::{Station, Ticks, numbers};
 
-fn text(bytes: &[u8]) {
-    io::write_all(STDOUT_FILENO, bytes);
+// What cannot be written is left out.
+fn text(rt: &impl Print, words: &str) {
+    let _ = rt.print(words);
+}
+
+fn digits(rt: &impl Print, x: u64) {
+    let _ = rt.print(x);
 }
 
 // A number, and the column's end.
-fn column(x: u64) {
-    text(b" | ");
-    io::print_decimal(STDOUT_FILENO, x);
+fn column(rt: &impl Print, x: u64) {
+    text(rt, " | ");
+    digits(rt, x);
 }
 
 // The margin; one below 0 is late.
-fn margin_column(margin: i64) {
+fn margin_column(rt: &impl Print, margin: i64) {
     if margin < 0 {
-        text(b" | late");
+        text(rt, " | late");
     } else {
         let size = margin as u64;
-        column(size);
+        column(rt, size);
     }
 }
 
 // A row of the table.
-fn row(visit: u64, v: VisitRecord) {
+fn row(rt: &impl Print, visit: u64, v: VisitRecord) {
     let station = v.station;
     let start = v.start;
     let trt = v.trt;
@@ -36,16 +41,16 @@ fn row(visit: u64, v: VisitRecord) {
     let synchronous = v.synchronous;
     let asynchronous = v.asynchronous;
     let finish = v.finish;
-    io::print_decimal(STDOUT_FILENO, visit);
-    column(station.0);
-    column(start.0);
-    column(trt.0);
-    column(limit.0);
-    column(synchronous.0);
-    column(asynchronous.0);
-    column(finish.0);
-    margin_column(v.margin);
-    text(b"\n");
+    digits(rt, visit);
+    column(rt, station.0);
+    column(rt, start.0);
+    column(rt, trt.0);
+    column(rt, limit.0);
+    column(rt, synchronous.0);
+    column(rt, asynchronous.0);
+    column(rt, finish.0);
+    margin_column(rt, v.margin);
+    text(rt, "\n");
 }
 
 // Four stations, TTRT 100, w 2, 0, 0, 0, all C 20, D 100, P 100.
@@ -68,7 +73,7 @@ fn four_stations() -> Set {
 }
 
 // A message of 20 is handed in; a refusal is printed.
-fn message(ring: Ring, station: u64, arrival: u64) -> Ring {
+fn message(rt: &impl Print, ring: Ring, station: u64, arrival: u64) -> Ring {
     let taken = ring.hand_in(Message {
         station: Station(station),
         length: Ticks(20),
@@ -76,15 +81,15 @@ fn message(ring: Ring, station: u64, arrival: u64) -> Ring {
     });
     let number = taken.number;
     if number != 0 {
-        text(b"refused ");
-        io::print_decimal(STDOUT_FILENO, number as u64);
-        text(b"\n");
+        text(rt, "refused ");
+        digits(rt, number as u64);
+        text(rt, "\n");
     }
     taken.ring
 }
 
 // A visit with 1,000 asynchronous ticks asked for: the row, or the refusal.
-fn visit(ring: Ring, visit: u64) -> Ring {
+fn visit(rt: &impl Print, ring: Ring, visit: u64) -> Ring {
     let visited = ring.visit(Ask {
         frames: 1000,
         length: 1,
@@ -92,33 +97,36 @@ fn visit(ring: Ring, visit: u64) -> Ring {
     let answer = visited.answer;
     let number = answer.number;
     if number == 0 {
-        row(visit, answer.record);
+        row(rt, visit, answer.record);
     } else {
-        text(b"refused ");
-        io::print_decimal(STDOUT_FILENO, number as u64);
-        text(b"\n");
+        text(rt, "refused ");
+        digits(rt, number as u64);
+        text(rt, "\n");
     }
     visited.ring
 }
 
-fn main() {
+fn main(rt: HostRuntime) {
     let set = four_stations();
     let plan = plans::plan(set);
     let alloc = plan.alloc;
     let opened = rings::open(set, alloc);
-    text(b"Visit | Station | Start | TRT | Limit | Sync | Async | Finish | Margin\n");
-    let mut ring = message(opened.ring, 0, 0);
-    ring = message(ring, 1, 0);
-    ring = message(ring, 2, 0);
-    ring = message(ring, 3, 0);
-    ring = visit(ring, 1);
-    ring = visit(ring, 2);
-    ring = visit(ring, 3);
-    ring = visit(ring, 4);
-    ring = message(ring, 0, 100);
-    ring = message(ring, 1, 100);
-    ring = message(ring, 2, 100);
-    ring = message(ring, 3, 100);
-    ring = visit(ring, 5);
-    visit(ring, 6);
+    text(
+        &rt,
+        "Visit | Station | Start | TRT | Limit | Sync | Async | Finish | Margin\n",
+    );
+    let mut ring = message(&rt, opened.ring, 0, 0);
+    ring = message(&rt, ring, 1, 0);
+    ring = message(&rt, ring, 2, 0);
+    ring = message(&rt, ring, 3, 0);
+    ring = visit(&rt, ring, 1);
+    ring = visit(&rt, ring, 2);
+    ring = visit(&rt, ring, 3);
+    ring = visit(&rt, ring, 4);
+    ring = message(&rt, ring, 0, 100);
+    ring = message(&rt, ring, 1, 100);
+    ring = message(&rt, ring, 2, 100);
+    ring = message(&rt, ring, 3, 100);
+    ring = visit(&rt, ring, 5);
+    visit(&rt, ring, 6);
 }
