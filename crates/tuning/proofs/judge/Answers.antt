@@ -13,6 +13,8 @@ use Rattle.sets.specs.declared.Set.{Set}
 use Rattle.sets.proofs.SetLaws.{judged_0, judged_2, judged_4, judged_5}
 use Rattle.plans.specs.Rules.{in_use}
 use Rattle.tuning.specs.Tunings.{with_ttrt, judged_at_all}
+use borrow.Author.Tests.{ne_eqb}
+use Rattle.std.proofs.Common.{eq-eqb}
 use Rattle.tuning.proofs.judge.Goals as goal
 
 -- 2 or 4 is given at TTRT 1,000,000
@@ -53,3 +55,13 @@ pub returns-then-refused : goal.returns-then-refused
 returns-then-refused c =
     let is = c.judge_lent-number.ensures in
     is ∙ given_first _ (rw is at c.if-refused.true)
+
+pub returns-then-retired : goal.returns-then-retired
+returns-then-retired c =
+    let past : let t = c.args.t in judged_at_all t ≡ or_else (in_use t) retired 0 = given_mode _ (rw c.judge_lent-number.ensures at c.if-refused.false) in
+    sym (past ∙ failed _ _ _ (ap not (eq-eqb _ _ c.if-retired.true)))
+
+pub returns : goal.returns
+returns c =
+    let past : let t = c.args.t in judged_at_all t ≡ or_else (in_use t) retired 0 = given_mode _ (rw c.judge_lent-number.ensures at c.if-refused.false) in
+    sym (past ∙ held _ _ _ (ap not (ne_eqb _ _ c.if-retired.false)))

@@ -1,0 +1,16 @@
+-- `may_stand` is right because its body is the definition.
+use mathlib.Core.Path.{refl, sym, ◌∙◌}
+use borrow.Author.Rules.{rules}
+use borrow.Author.Tests.{not-true, not-false}
+use Rattle.command_explain.specs.First.{may_stand}
+use Rattle.command_explain.proofs.first.may_stand.Goals as goal
+
+pub returns-then-not-is_allowed : goal.returns-then-not-is_allowed
+unfolding may_stand
+returns-then-not-is_allowed c =
+    rw (← c.kind_at-kind.ensures, sym c.is_allowed.ensures ∙ c.if-not-is_allowed.true) c.nothing.ensures
+
+pub returns : goal.returns
+unfolding may_stand
+returns c =
+    rw (← c.kind_at-kind.ensures, sym c.is_allowed.ensures ∙ c.if-not-is_allowed.false) refl

@@ -1,0 +1,20 @@
+-- `walk` is right because its body is the definition.
+use mathlib.Core.Path.{refl}
+use borrow.Author.Rules.{rules}
+use borrow.Author.Tests.{not-true, not-false}
+use mathlib.Core.Bool.{not, ◌&&◌}
+use lib.Dec.{eqb}
+use Rattle.command_explain.specs.Stations.{walk_phrase}
+use Rattle.command_explain.proofs.stations.walk.Goals as goal
+
+pub returns-then-not-said : goal.returns-then-not-said
+unfolding walk_phrase
+returns-then-not-said c =
+    let args = c.args in
+    rw c.if-not-said.true c.nothing.ensures
+
+pub returns : goal.returns
+unfolding walk_phrase
+returns c =
+    let args = c.args in
+    rw (c.if-not-said.false, c.wide-time.ensures.same) refl

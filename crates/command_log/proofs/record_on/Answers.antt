@@ -1,0 +1,12 @@
+-- `record_on` is right because it reads the first 256 bytes, or all if they are fewer.
+use Rattle.command_log.proofs.RecordLaws.{recorded_none, recorded_piece}
+use borrow.Author.Rules.{rules}
+use Rattle.command_log.proofs.record_on.Goals as goal
+
+pub returns-then-page-lt-PAGE_SIZE : goal.returns-then-page-lt-PAGE_SIZE
+returns-then-page-lt-PAGE_SIZE c =
+    recorded_none _ _ _ c.if-page-lt-PAGE_SIZE.true
+
+pub returns : goal.returns
+returns c =
+    recorded_piece _ _ _ _ _ _ c.piece_length-end.ensures c.if-page-lt-PAGE_SIZE.false c.record_piece.ensures
