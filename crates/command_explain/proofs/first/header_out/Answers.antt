@@ -14,9 +14,9 @@ is_out e f = rw (← e) f
 pub returns-then-not-range : goal.returns-then-not-range
 unfolding header_out
 returns-then-not-range c =
-    rw (← c.row_at-row.ensures, is_out c.header_range-range.ensures c.if-not-range.true) c.nothing.ensures
+    rw (← c.row_at-row.ensures, is_out c.header_range-range.ensures (not-true _ c.if-not-range.true)) c.nothing.ensures
 
 pub returns : goal.returns
 unfolding header_out
 returns c =
-    rw (c.out_form-form.ensures, c.wide-high.ensures.same, c.wide-value.ensures.same, c.header_range-stands.ensures, ← c.row_at-row.ensures, is_out c.header_range-range.ensures c.if-not-range.false, c.header_range-range.ensures) refl
+    rw (c.out_form-form.ensures, c.wide-high.ensures.same, c.wide-value.ensures.same, c.header_range-stands.ensures, ← c.row_at-row.ensures, is_out c.header_range-range.ensures (not-false _ c.if-not-range.false), c.header_range-range.ensures) refl

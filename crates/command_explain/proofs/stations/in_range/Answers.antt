@@ -4,6 +4,8 @@ use borrow.Author.Rules.{rules}
 use mathlib.Core.Bool.{Bool, true, false, cond}
 use Rattle.command_explain.specs.declared.Phrase.{Phrase}
 use Rattle.command_explain.specs.Stations.{in_range_phrase}
+use borrow.Author.Tests.{ne_eqb}
+use Rattle.std.proofs.Common.{eq-eqb}
 use Rattle.command_explain.proofs.stations.in_range.Goals as goal
 
 when_true : (x y : Phrase) (b : Bool) → b ≡ true → cond b x y ≡ x
@@ -15,14 +17,14 @@ when_false x y b e = rw e refl
 pub returns-then-retired : goal.returns-then-retired
 unfolding in_range_phrase
 returns-then-retired c =
-    rw c.if-retired.true c.nothing.ensures
+    rw (eq-eqb _ _ c.if-retired.true) c.nothing.ensures
 
 pub returns-then-e : goal.returns-then-e
 unfolding in_range_phrase
 returns-then-e c =
-    rw c.if-retired.false (c.given.ensures ∙ sym (when_true _ _ _ c.if-e.true))
+    rw (ne_eqb _ _ c.if-retired.false) (c.given.ensures ∙ sym (when_true _ _ _ c.if-e.true))
 
 pub returns : goal.returns
 unfolding in_range_phrase
 returns c =
-    rw c.if-retired.false (c.smallest.ensures ∙ sym (when_false _ _ _ c.if-e.false))
+    rw (ne_eqb _ _ c.if-retired.false) (c.smallest.ensures ∙ sym (when_false _ _ _ c.if-e.false))

@@ -8,9 +8,9 @@ use Rattle.command_explain.proofs.stations.ranged_out.Goals as goal
 pub returns-then-not-range : goal.returns-then-not-range
 unfolding ranged_out
 returns-then-not-range c =
-    rw c.if-not-range.true c.nothing.ensures
+    rw (not-true c.args.range.out c.if-not-range.true) c.nothing.ensures
 
 pub returns : goal.returns
 unfolding ranged_out
 returns c =
-    rw (c.if-not-range.false, c.out_form-form.ensures, c.wide-high.ensures.same, c.wide-low.ensures.same, c.wide-value.ensures.same) refl
+    rw (not-false c.args.range.out c.if-not-range.false, c.out_form-form.ensures, c.wide-high.ensures.same, c.wide-low.ensures.same, c.wide-value.ensures.same) refl

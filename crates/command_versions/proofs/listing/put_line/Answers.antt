@@ -1,0 +1,12 @@
+-- `put_line` is right because it puts the words with the numbers of the plan.
+use mathlib.Core.Path.{refl}
+use native.Mathlib.Omega.{arith}
+use Rattle.text.proofs.TextLaws.{put_as}
+use borrow.Author.Rules.{rules}
+use Rattle.command_versions.proofs.listing.put_line.Goals as goal
+
+pub returns : goal.returns
+returns c =
+    put_as c.put_words.ensures
+    (rw (c.wide-number.ensures.same, c.wide-n.ensures.same, c.wide-ttrt.ensures.same, c.walk_time-tau.ensures.sum, c.spare-spare.ensures) refl)
+    (omega arith)

@@ -1,0 +1,14 @@
+-- `put_stored` is right because the number stands behind the word.
+use mathlib.Core.Path.{refl}
+use mathlib.Core.List.{[], ◌∷◌}
+use native.Mathlib.Omega.{arith}
+use Rattle.text.specs.Text.{number_words}
+use Rattle.text.proofs.TextLaws.{line_put, put_as}
+use Rattle.command_versions.specs.KeepText.{version_word}
+use borrow.Author.Rules.{rules}
+use Rattle.command_versions.proofs.saying.put_stored.Goals as goal
+
+pub returns : goal.returns
+unfolding number_words
+returns c =
+    put_as (line_put version_word (_ ∷ []) c.put_line.ensures (omega arith)) refl (omega arith)
