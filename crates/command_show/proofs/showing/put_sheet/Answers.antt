@@ -1,0 +1,12 @@
+-- `put_sheet` is right because the stations' lines stand behind the header's.
+use mathlib.Core.Path.{refl}
+use native.Mathlib.Omega.{arith}
+use Rattle.sheet_text_rules.specs.ShowText.{sheet_text}
+use Rattle.text.proofs.TextLaws.{put_short_then, put_as}
+use borrow.Author.Rules.{rules}
+use Rattle.command_show.proofs.showing.put_sheet.Goals as goal
+
+pub returns : goal.returns
+unfolding sheet_text
+returns c =
+    put_as (put_short_then c.put_header-first.ensures c.put_stations.ensures (omega (arith, c.requires.1))) refl (omega arith)
