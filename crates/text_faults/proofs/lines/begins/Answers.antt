@@ -7,4 +7,4 @@ use Rattle.text_faults.proofs.lines.begins.Goals as goal
 pub returns : goal.returns
 unfolding begins
 returns c =
-    rw (c.fits2.ensures, c.most_of-most.ensures) refl
+    rw (c.fits.ensures, c.most_of-most.ensures) refl
