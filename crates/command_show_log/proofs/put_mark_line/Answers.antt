@@ -1,0 +1,15 @@
+-- `put_mark_line` is right because its line has the word and the two numbers.
+use mathlib.Core.Path.{refl}
+use mathlib.Core.List.{[], ◌∷◌}
+use native.Mathlib.Omega.{arith}
+use Rattle.sheet_text_rules.specs.LogText.{mark_line}
+use Rattle.command_compose.specs.Compose.{mark_word}
+use Rattle.text.specs.Text.{number_words}
+use Rattle.text.proofs.TextLaws.{line_put, put_as}
+use borrow.Author.Rules.{rules}
+use Rattle.command_show_log.proofs.put_mark_line.Goals as goal
+
+pub returns : goal.returns
+unfolding number_words mark_line
+returns c =
+    put_as (line_put mark_word (_ ∷ _ ∷ []) c.put_line.ensures (omega arith)) refl (omega arith)

@@ -1,0 +1,27 @@
+-- `show_plain` is right because it goes by whether a plan's fields have passed, as the definition does.
+use mathlib.Core.Path.{sym, ◌∙◌}
+use native.Mathlib.Omega.{arith}
+use borrow.Author.Tests.{not-true, not-false}
+use Rattle.text.proofs.TextLaws.{refused_short, says, says_as, text_accepted, text_refused}
+use Rattle.command_show_log.proofs.ShowLaws.{printed_as, number_large, plain_ever, plain_read, number_ever, number_read}
+use borrow.Author.Rules.{rules}
+use Rattle.command_show_log.proofs.show_plain.Goals as goal
+
+pub returns-then-not-passed : goal.returns-then-not-passed
+returns-then-not-passed c =
+    let none = sym c.requires.1 ∙ c.if-not-passed.true in
+    says_as c.show_text.ensures (plain_ever _ none) (number_ever _ none)
+
+pub returns-then-told-ne-ACCEPTED : goal.returns-then-told-ne-ACCEPTED
+returns-then-told-ne-ACCEPTED c =
+    let all = sym c.requires.1 ∙ c.if-not-passed.false in
+    says (c.put_refused-length.ensures.put (omega (arith, c.requires.0)) (refused_short _))
+    (sym (text_refused _ _ c.if-told-ne-ACCEPTED.true) ∙ plain_read _ _ all c.read_log-log.ensures) (number_read _ _ all c.read_log-log.ensures) c.requires.0 (omega arith)
+
+pub returns : goal.returns
+returns c =
+    let all = sym c.requires.1 ∙ c.if-not-passed.false in
+    record {
+      printed = printed_as c.plan_text-length.ensures (sym (text_accepted _ _ c.if-told-ne-ACCEPTED.false) ∙ plain_read _ _ all c.read_log-log.ensures);
+      number = number_large _ c.requires.0 (number_read _ _ all c.read_log-log.ensures);
+    }
