@@ -1,3 +1,2 @@
 // What is promised of the hopper set. No code.
 #![tactic(auto)]
-

@@ -1,3 +1,2 @@
 // What is promised of logs. No code: the statements stand in specs/, their proofs in proofs/.
 #![tactic(auto)]
-

@@ -1,3 +1,2 @@
 // What the page of an accepted log shows. No code: the statements stand in specs/, their proofs in proofs/.
 #![tactic(auto)]
-

@@ -1,5 +1,4 @@
 -- `count` is right because each of its two loops does the same.
-use borrow.Author.Rules.{rules}
 use Rattle.arrays.proofs.count.Goals as goal
 
 pub returns-then-x-top : goal.returns-then-x-top

@@ -1,15 +1,10 @@
 -- `count_narrow` is right because the counts passed have risen by the laps of their numbers and no other has.
-use Prim.Native.Nat.{ℕ, ◌+◌, ◌-◌}
+use Prim.Native.Nat.{◌-◌}
 use mathlib.Core.Path.{refl, ◌∙◌}
-use mathlib.Core.List.{List}
 use native.Mathlib.Omega.{arith}
-use Rattle.units.specs.Places.{at}
-use Rattle.units.proofs.FillLaws.{Filling, filling_begins, filling_goes_on, filling_ends}
-use Rattle.arrays.specs.Held.{held}
-use Rattle.arrays.specs.Laps.{laps, laps_counted}
-use borrow.Author.Rules.{rules}
+use Rattle.units.proofs.FillLaws.{filling_begins, filling_goes_on, filling_ends}
+use Rattle.arrays.specs.Laps.{laps_counted}
 use Rattle.arrays.proofs.count_narrow.Goals as goal
-use Rattle.arrays.proofs.count_narrow.Invariants.{risen}
 
 pub loop-i-preserved : goal.loop-i-preserved
 loop-i-preserved c =

@@ -1,13 +1,10 @@
 -- `count_wide` is right because the counts passed have risen by the laps of their numbers and no other has.
 use Prim.Native.Nat.{ℕ, ◌+◌, ◌-◌}
-use mathlib.Core.Path.{refl, ◌∙◌}
 use mathlib.Core.List.{List}
-use native.Mathlib.Omega.{arith}
 use Rattle.units.specs.Places.{at}
-use Rattle.units.proofs.FillLaws.{Filling, filling_begins, filling_goes_on, filling_ends}
+use Rattle.units.proofs.FillLaws.{Filling}
 use Rattle.arrays.specs.Held.{held}
-use Rattle.arrays.specs.Laps.{laps, laps_counted}
-use borrow.Author.Rules.{rules}
+use Rattle.arrays.specs.Laps.{laps}
 use Rattle.arrays.proofs.count_wide.Given as goal
 
 -- count j, risen by the laps of its number

@@ -2,7 +2,6 @@
 use Prim.Native.Nat.{ℕ, ◌+◌, ◌-◌, ◌≤◌, ◌<◌}
 use mathlib.Core.Path.{◌≡◌, sym, ◌∙◌}
 use native.Mathlib.Omega.{arith}
-use borrow.Author.Rules.{rules}
 use Rattle.arrays.specs.Laps.{lapped}
 use Rattle.arrays.proofs.LapLaws.{lapped_up, lapped_same}
 use Rattle.arrays.proofs.narrow_once.Goals as goal

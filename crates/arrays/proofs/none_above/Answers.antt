@@ -1,12 +1,11 @@
 -- `none_above` is right because its flag is the test over the places passed, and it passes the first n.
-use Prim.Native.Nat.{ℕ, ◌-◌, ◌≤◌, min}
+use Prim.Native.Nat.{ℕ, ◌-◌, min}
 use mathlib.Core.Path.{◌≡◌, sym, ap, ◌∙◌}
 use native.Mathlib.Omega.{arith}
 use Rattle.units.specs.Places.{at, all_below}
 use Rattle.units.proofs.PlaceLaws.{all_none}
 use lib.Dec.{leb}
 use Rattle.arrays.proofs.LoopLaws.{tested_next}
-use borrow.Author.Rules.{rules}
 use Rattle.arrays.proofs.none_above.Goals as goal
 
 pub loop-i-preserved : goal.loop-i-preserved

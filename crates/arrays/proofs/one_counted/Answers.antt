@@ -5,7 +5,6 @@ use native.Mathlib.Omega.{arith}
 use Rattle.arrays.specs.Held.{held}
 use Rattle.arrays.specs.Laps.{lapped, lap, laps}
 use Rattle.arrays.proofs.LapLaws.{lap_small}
-use borrow.Author.Rules.{rules}
 use Rattle.arrays.proofs.one_counted.Goals as goal
 
 -- the numbers one after another

@@ -3,7 +3,6 @@ use Prim.Native.Nat.{ℕ, ◌+◌, min}
 use mathlib.Core.Path.{◌≡◌, refl}
 use Rattle.arrays.specs.Held.{held}
 use Rattle.arrays.specs.Laps.{lapped, lapped_twice}
-use borrow.Author.Rules.{rules}
 use Rattle.arrays.proofs.one_on.Goals as goal
 
 -- the numbers one after another

@@ -1,14 +1,10 @@
 -- `raise` is right because the places passed have risen and no other has: the smaller of a place and what is left above x, and x, are the place's rise held at the largest.
-use Prim.Native.Nat.{ℕ, ◌+◌, ◌-◌}
+use Prim.Native.Nat.{◌-◌}
 use mathlib.Core.Path.{refl, ◌∙◌}
-use mathlib.Core.List.{List}
 use native.Mathlib.Omega.{arith}
-use Rattle.units.specs.Places.{at}
-use Rattle.units.proofs.FillLaws.{Filling, filling_begins, filling_goes_on, filling_ends}
-use Rattle.arrays.specs.Held.{held, raised_held}
-use borrow.Author.Rules.{rules}
+use Rattle.units.proofs.FillLaws.{filling_begins, filling_goes_on, filling_ends}
+use Rattle.arrays.specs.Held.{raised_held}
 use Rattle.arrays.proofs.raise.Goals as goal
-use Rattle.arrays.proofs.raise.Invariants.{risen}
 
 pub loop-i-preserved : goal.loop-i-preserved
 loop-i-preserved c =

@@ -1,12 +1,9 @@
 -- `raise` is right because the places passed have risen and no other has: the smaller of a place and what is left above x, and x, are the place's rise held at the largest.
 use Prim.Native.Nat.{ℕ, ◌+◌, ◌-◌}
-use mathlib.Core.Path.{refl, ◌∙◌}
 use mathlib.Core.List.{List}
-use native.Mathlib.Omega.{arith}
 use Rattle.units.specs.Places.{at}
-use Rattle.units.proofs.FillLaws.{Filling, filling_begins, filling_goes_on, filling_ends}
-use Rattle.arrays.specs.Held.{held, raised_held}
-use borrow.Author.Rules.{rules}
+use Rattle.units.proofs.FillLaws.{Filling}
+use Rattle.arrays.specs.Held.{held}
 use Rattle.arrays.proofs.raise.Given as goal
 
 -- place j, risen by x

@@ -1,10 +1,9 @@
 -- `room_first` is right because its sum is that of the places passed, and it passes the first n.
-use Prim.Native.Nat.{ℕ, ◌-◌, ◌*◌, ◌^◌, ◌≤◌, min}
+use Prim.Native.Nat.{ℕ, ◌-◌, min}
 use mathlib.Core.Path.{◌≡◌, refl, sym, ap, ◌∙◌}
 use native.Mathlib.Omega.{arith}
 use Rattle.units.specs.Places.{at, sum_below}
 use Rattle.units.proofs.PlaceLaws.{sum_step, sum_none}
-use borrow.Author.Rules.{rules}
 use Rattle.arrays.proofs.room_first.Goals as goal
 
 pub loop-i-init : goal.loop-i-init

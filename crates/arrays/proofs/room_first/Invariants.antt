@@ -1,10 +1,7 @@
 -- `room_first` is right because its sum is that of the places passed, and it passes the first n.
-use Prim.Native.Nat.{ℕ, ◌-◌, ◌*◌, ◌^◌, ◌≤◌, min}
-use mathlib.Core.Path.{◌≡◌, refl, sym, ap, ◌∙◌}
-use native.Mathlib.Omega.{arith}
+use Prim.Native.Nat.{◌-◌, ◌*◌, ◌^◌, ◌≤◌}
+use mathlib.Core.Path.{◌≡◌}
 use Rattle.units.specs.Places.{at, sum_below}
-use Rattle.units.proofs.PlaceLaws.{sum_step, sum_none}
-use borrow.Author.Rules.{rules}
 use Rattle.arrays.proofs.room_first.Given as goal
 
 abbrev pub invariant-loop-i : goal.invariant-loop-i

@@ -1,15 +1,10 @@
 -- `run_narrow` is right because the places passed have run on and no other has.
-use Prim.Native.Nat.{ℕ, ◌+◌, ◌-◌}
+use Prim.Native.Nat.{◌-◌}
 use mathlib.Core.Path.{refl, ◌∙◌}
-use mathlib.Core.List.{List}
 use native.Mathlib.Omega.{arith}
-use Rattle.units.specs.Places.{at}
-use Rattle.units.proofs.FillLaws.{Filling, filling_begins, filling_goes_on, filling_ends}
-use Rattle.arrays.specs.Held.{held}
-use Rattle.arrays.specs.Laps.{lapped_twice, ran_on}
-use borrow.Author.Rules.{rules}
+use Rattle.units.proofs.FillLaws.{filling_begins, filling_goes_on, filling_ends}
+use Rattle.arrays.specs.Laps.{ran_on}
 use Rattle.arrays.proofs.run_narrow.Goals as goal
-use Rattle.arrays.proofs.run_narrow.Invariants.{on}
 
 pub loop-i-preserved : goal.loop-i-preserved
 loop-i-preserved c =

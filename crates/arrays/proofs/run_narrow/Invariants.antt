@@ -1,13 +1,10 @@
 -- `run_narrow` is right because the places passed have run on and no other has.
 use Prim.Native.Nat.{ℕ, ◌+◌, ◌-◌}
-use mathlib.Core.Path.{refl, ◌∙◌}
 use mathlib.Core.List.{List}
-use native.Mathlib.Omega.{arith}
 use Rattle.units.specs.Places.{at}
-use Rattle.units.proofs.FillLaws.{Filling, filling_begins, filling_goes_on, filling_ends}
+use Rattle.units.proofs.FillLaws.{Filling}
 use Rattle.arrays.specs.Held.{held}
-use Rattle.arrays.specs.Laps.{lapped_twice, ran_on}
-use borrow.Author.Rules.{rules}
+use Rattle.arrays.specs.Laps.{lapped_twice}
 use Rattle.arrays.proofs.run_narrow.Given as goal
 
 -- place j, run on by x

@@ -1,5 +1,4 @@
 -- `alloc_and` is right because it stores S at the next place.
-use borrow.Author.Rules.{rules}
 use Rattle.command_compose.proofs.alloc_and.Goals as goal
 
 pub returns : goal.returns

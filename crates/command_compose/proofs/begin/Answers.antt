@@ -1,6 +1,5 @@
 -- `begin` is right because nothing was read yet.
 use mathlib.Core.Path.{refl}
-use borrow.Author.Rules.{rules}
 use Rattle.command_compose.proofs.begin.Goals as goal
 
 pub returns : goal.returns

@@ -1,10 +1,8 @@
 -- `compose_end` is right because it asks whether a log is at its end; if so it puts the end, and else what the lines make.
 use mathlib.Core.Path.{◌≡◌, sym, ◌∙◌}
 use mathlib.Core.Bool.{true}
-use borrow.Author.Tests.{not-true, not-false}
 use Rattle.command_compose.specs.Sent.{goes_out}
 use Rattle.command_compose.proofs.SentLaws.{ended_sheet, end_refused, ended_log}
-use borrow.Author.Rules.{rules}
 use Rattle.command_compose.proofs.compose_end.Goals as goal
 
 pub returns-then-not-goes_out : goal.returns-then-not-goes_out

@@ -1,6 +1,5 @@
 -- `compose_on` is right because it reads the first 2,048 bytes, or all if they are fewer.
 use Rattle.command_compose.proofs.SentLaws.{composed_none, composed_piece}
-use borrow.Author.Rules.{rules}
 use Rattle.command_compose.proofs.compose_on.Goals as goal
 
 pub returns-then-page-lt-PAGE_SIZE : goal.returns-then-page-lt-PAGE_SIZE

@@ -1,6 +1,6 @@
 -- `compose_piece` is right because after i turns the text stands behind its first i bytes, and what they let out is put.
 use Prim.Native.Nat.{ℕ, ◌+◌, ◌-◌, ◌≤◌, ◌<◌}
-use mathlib.Core.Path.{◌≡◌, refl, sym, ap, subst, ◌∙◌}
+use mathlib.Core.Path.{◌≡◌, sym, ap, subst, ◌∙◌}
 use mathlib.Core.List.{List, [], ◌∷◌, ◌++◌}
 use mathlib.Core.Logic.{⊎_elim}
 use native.Mathlib.Numerals.{add-one}
@@ -9,16 +9,15 @@ use lib.ListN.{length, take}
 use lib.Seq.{take-suc}
 use Rattle.units.specs.Places.{at}
 use Rattle.text.specs.Text.{Put}
-use Rattle.text.proofs.TextLaws.{put_none, put_then}
+use Rattle.text.proofs.TextLaws.{put_then}
 use Rattle.line_reader.specs.declared.Scan.{Scan}
 use Rattle.command_compose.specs.Compose.{line_drafted, compose_on, compose_after}
-use Rattle.command_compose.proofs.ComposeLaws.{compose_snoc, text_goes_on, text_line_ends}
+use Rattle.command_compose.proofs.ComposeLaws.{compose_snoc}
 use Rattle.command_compose.specs.Sent.{sent_by, sent_at, sent_over, most_sent}
 use Rattle.command_compose.specs.declared.Draft.{Draft}
 use Rattle.command_compose.specs.declared.Composing.{Composing}
 use Rattle.units.proofs.SmallLaws.{below_or_not}
-use Rattle.command_compose.proofs.SentLaws.{line_sent, sent_snoc, sent_goes_on, sent_line_ends}
-use borrow.Author.Rules.{rules}
+use Rattle.command_compose.proofs.SentLaws.{line_sent, sent_snoc}
 use Rattle.command_compose.proofs.compose_piece.Given as goal
 
 -- after i bytes the text stands behind them, and what they let out is put

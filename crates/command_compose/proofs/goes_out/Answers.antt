@@ -1,6 +1,5 @@
 -- `goes_out` is right because it asks for a whole text and for an accepted plan behind a record.
 use mathlib.Core.Path.{refl}
-use borrow.Author.Rules.{rules}
 use Rattle.command_compose.proofs.goes_out.Goals as goal
 
 pub returns : goal.returns

@@ -1,6 +1,5 @@
 -- `is_line` is right because it asks for the word, the count and the numbers.
 use mathlib.Core.Path.{refl}
-use borrow.Author.Rules.{rules}
 use Rattle.command_compose.proofs.is_line.Goals as goal
 
 pub returns : goal.returns

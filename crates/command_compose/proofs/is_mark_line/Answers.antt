@@ -1,6 +1,5 @@
 -- `is_mark_line` is right because it asks for the word and two numbers, and for both to be of one byte.
 use mathlib.Core.Path.{refl}
-use borrow.Author.Rules.{rules}
 use Rattle.command_compose.proofs.is_mark_line.Goals as goal
 
 pub returns : goal.returns

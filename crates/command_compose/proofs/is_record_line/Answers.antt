@@ -1,6 +1,5 @@
 -- `is_record_line` is right because it asks for a visit's line and for a mark's.
 use mathlib.Core.Path.{refl}
-use borrow.Author.Rules.{rules}
 use Rattle.command_compose.proofs.is_record_line.Goals as goal
 
 pub returns : goal.returns

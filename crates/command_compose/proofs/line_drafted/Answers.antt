@@ -7,7 +7,6 @@ use Rattle.fields.specs.Fields.{mode_tag}
 use Rattle.line_reader.specs.Scan.{code_of, is_empty_line}
 use Rattle.command_compose.specs.Compose.{ttrt_word, is_ttrt, line_tag, is_station, is_plan_station, line_drafted}
 use Rattle.command_compose.proofs.ComposeLaws.{line_fits, tag_fits}
-use borrow.Author.Rules.{rules}
 use Rattle.command_compose.proofs.line_drafted.Goals as goal
 
 -- ---- the needs

@@ -3,7 +3,6 @@ use mathlib.Core.Path.{◌≡◌, refl, sym, ◌∙◌}
 use mathlib.Core.Bool.{true, false}
 use Rattle.line_reader.specs.Scan.{code_of}
 use Rattle.command_compose.specs.Compose.{mode_word, frame_word, grid_word, is_line, line_tag}
-use borrow.Author.Rules.{rules}
 use Rattle.command_compose.proofs.line_tag.Goals as goal
 
 pub returns-then-is_line : goal.returns-then-is_line

@@ -2,7 +2,6 @@
 use mathlib.Core.Path.{refl, sym, ◌∙◌}
 use borrow.Author.Tests.{eq-eqb, ne_eqb}
 use Rattle.command_compose.specs.Compose.{logged_kind}
-use borrow.Author.Rules.{rules}
 use Rattle.command_compose.proofs.logged_kind.Goals as goal
 
 pub returns-then-judge_plan-eq-ACCEPTED : goal.returns-then-judge_plan-eq-ACCEPTED

@@ -1,6 +1,5 @@
 -- `on_next_line` is right because it counts the line.
 use mathlib.Core.Path.{refl}
-use borrow.Author.Rules.{rules}
 use Rattle.command_compose.proofs.on_next_line.Goals as goal
 
 pub returns : goal.returns

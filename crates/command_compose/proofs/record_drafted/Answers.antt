@@ -1,7 +1,6 @@
 -- `record_drafted` is right because it asks for a record, as the definition does.
 use mathlib.Core.Path.{sym, ◌∙◌}
 use Rattle.command_compose.specs.Compose.{record_drafted}
-use borrow.Author.Rules.{rules}
 use Rattle.command_compose.proofs.record_drafted.Goals as goal
 
 pub returns-then-is_record_line : goal.returns-then-is_record_line

@@ -1,5 +1,4 @@
 -- `set_and` is right because it stores the four numbers at the next place.
-use borrow.Author.Rules.{rules}
 use Rattle.command_compose.proofs.set_and.Goals as goal
 
 pub returns : goal.returns

@@ -1,10 +1,8 @@
 -- `with_further` is right because it asks for the line's place, and then puts what the line gives into the header.
 use mathlib.Core.Path.{◌≡◌}
 use mathlib.Core.Bool.{true, false, ◌&&◌}
-use borrow.Author.Tests.{not-true, not-false}
 use lib.Dec.{leb, ltb, eqb}
 use Rattle.command_compose.specs.Compose.{with_further}
-use borrow.Author.Rules.{rules}
 use Rattle.command_compose.proofs.with_further.Goals as goal
 
 pub returns-then-not-placed : goal.returns-then-not-placed

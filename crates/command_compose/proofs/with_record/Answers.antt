@@ -2,7 +2,6 @@
 use mathlib.Core.Path.{refl}
 use borrow.Author.Tests.{eq-eqb, ne_eqb, lt-ltb, le-ltb}
 use Rattle.command_compose.specs.Compose.{with_record}
-use borrow.Author.Rules.{rules}
 use Rattle.command_compose.proofs.with_record.Goals as goal
 
 pub returns-then-d-eq2 : goal.returns-then-d-eq2

@@ -1,12 +1,11 @@
 -- `with_station` is right because it asks for its place, and then adds it.
 use mathlib.Core.Path.{◌≡◌}
 use mathlib.Core.Bool.{true, false, ◌&&◌, ◌||◌}
-use borrow.Author.Tests.{not-true, not-false, ltb-true}
+use borrow.Author.Tests.{ltb-true}
 use lib.Dec.{leb, ltb, eqb}
 use Prim.Native.Nat.{◌<◌}
 use Rattle.units.proofs.JudgingLaws.{and-true}
 use Rattle.command_compose.specs.Compose.{with_station}
-use borrow.Author.Rules.{rules}
 use Rattle.command_compose.proofs.with_station.Goals as goal
 
 pub returns-then-not-placed : goal.returns-then-not-placed

@@ -2,7 +2,6 @@
 use mathlib.Core.Path.{refl}
 use borrow.Author.Tests.{eq-eqb, ne_eqb}
 use Rattle.command_compose.specs.Compose.{with_ttrt}
-use borrow.Author.Rules.{rules}
 use Rattle.command_compose.proofs.with_ttrt.Goals as goal
 
 pub returns-then-d-ne0 : goal.returns-then-d-ne0

@@ -1,9 +1,7 @@
 -- `write_draft` is right because it writes what the lines make, if they make a sheet.
 use mathlib.Core.Path.{refl, sym, ◌∙◌}
 use mathlib.Core.List.{[]}
-use borrow.Author.Tests.{not-true, not-false}
 use Rattle.command_compose.proofs.ComposeLaws.{wrote_no_draft, wrote_plan_draft, wrote_request_draft}
-use borrow.Author.Rules.{rules}
 use Rattle.command_compose.proofs.write_draft.Goals as goal
 
 pub returns-then-not-is_whole : goal.returns-then-not-is_whole

@@ -2,7 +2,6 @@
 use mathlib.Core.Path.{refl}
 use native.Mathlib.Omega.{arith}
 use Rattle.command_diff.proofs.AnswerLaws.{few_read, diffed_nothing, diffed_old, diffed_new, diffed_same, diffed_lines}
-use borrow.Author.Rules.{rules}
 use Rattle.command_diff.proofs.diff_text.Goals as goal
 
 pub returns-then-page-lt-PAGE_SIZE : goal.returns-then-page-lt-PAGE_SIZE

@@ -1,8 +1,6 @@
 -- `put_lines` is right because the lines are put if both plans are small enough and the page has room for the longest.
 use Rattle.command_diff.proofs.AnswerLaws.{lines_many, lines_full, lines_fit, lines_put}
 use native.Mathlib.Omega.{arith}
-use borrow.Author.Tests.{not-true, not-false}
-use borrow.Author.Rules.{rules}
 use Rattle.command_diff.proofs.put_lines.Goals as goal
 
 pub returns-then-not-few : goal.returns-then-not-few

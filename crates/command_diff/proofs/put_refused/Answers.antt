@@ -4,7 +4,6 @@ use native.Mathlib.Omega.{arith}
 use Rattle.text.proofs.TextLaws.{line_put, put_as}
 use Rattle.command_diff.specs.DiffText.{new_word, old_word}
 use Rattle.command_diff.proofs.LineLaws.{new_refused, old_refused, side_refused_lem}
-use borrow.Author.Rules.{rules}
 use Rattle.command_diff.proofs.put_refused.Goals as goal
 
 pub returns-then-new : goal.returns-then-new

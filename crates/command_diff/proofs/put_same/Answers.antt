@@ -5,7 +5,6 @@ use native.Mathlib.Omega.{arith}
 use Rattle.text.specs.Text.{number_words}
 use Rattle.text.proofs.TextLaws.{line_put, put_as}
 use Rattle.command_diff.specs.DiffText.{same_word}
-use borrow.Author.Rules.{rules}
 use Rattle.command_diff.proofs.put_same.Goals as goal
 
 pub returns : goal.returns

@@ -1,6 +1,5 @@
 -- `explain` is right because its body is the definition.
 use mathlib.Core.Path.{refl}
-use borrow.Author.Rules.{rules}
 use Rattle.command_explain.proofs.explain.Goals as goal
 
 pub returns : goal.returns

@@ -1,6 +1,5 @@
 -- `phrase_at` is right because its body is the definition; a station that is asked for has a place.
 use mathlib.Core.Path.{refl, ◌∙◌}
-use borrow.Author.Rules.{rules}
 use borrow.Author.Tests.{lt-ltb, le-ltb}
 use Rattle.command_explain.specs.Phrases.{phrase_at, phrase_behind}
 use Rattle.command_explain.proofs.phrase_at.Goals as goal

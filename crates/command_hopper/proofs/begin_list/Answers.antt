@@ -1,6 +1,5 @@
 -- `begin_list` is right because its body is the definition.
 use mathlib.Core.Path.{refl}
-use borrow.Author.Rules.{rules}
 use Rattle.command_hopper.proofs.begin_list.Goals as goal
 
 pub returns : goal.returns

@@ -1,6 +1,5 @@
 -- `begin_refit` is right because its body is the definition.
 use mathlib.Core.Path.{refl}
-use borrow.Author.Rules.{rules}
 use Rattle.command_hopper.proofs.begin_refit.Goals as goal
 
 pub returns : goal.returns

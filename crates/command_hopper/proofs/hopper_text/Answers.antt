@@ -1,6 +1,5 @@
 -- `hopper_text` is right because it is the text of the list's request.
 use Rattle.command_plan.proofs.PlanTextLaws.{read_says}
-use borrow.Author.Rules.{rules}
 use Rattle.command_hopper.proofs.hopper_text.Goals as goal
 
 pub returns : goal.returns

@@ -1,7 +1,6 @@
 -- `list_byte` is right because a newline ends the line and every other byte is read as one more of it.
 use mathlib.Core.Path.{◌∙◌}
 use Rattle.command_hopper.proofs.TextLaws.{list_ends, list_goes_on}
-use borrow.Author.Rules.{rules}
 use Rattle.command_hopper.proofs.list_byte.Goals as goal
 
 pub returns-then-byte-eq10 : goal.returns-then-byte-eq10

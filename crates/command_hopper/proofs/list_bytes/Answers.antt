@@ -1,14 +1,13 @@
 -- `list_bytes` is right because after i turns the first i bytes were read.
-use Prim.Native.Nat.{◌≤◌, ◌<◌, ◌-◌}
-use mathlib.Core.Path.{◌≡◌, refl, sym, ap, ◌∙◌}
+use Prim.Native.Nat.{◌<◌, ◌-◌}
+use mathlib.Core.Path.{refl, sym, ap, ◌∙◌}
 use native.Mathlib.Omega.{arith}
-use lib.ListN.{length, take}
+use lib.ListN.{length}
 use lib.Seq.{take_all}
 use Rattle.units.specs.Places.{at}
 use Rattle.command_hopper.specs.Lists.{list_on, list_over}
 use Rattle.command_hopper.specs.declared.Listing.{Listing}
 use Rattle.command_hopper.proofs.TextLaws.{list_more}
-use borrow.Author.Rules.{rules}
 use Rattle.command_hopper.proofs.list_bytes.Goals as goal
 
 pub loop-i-init : goal.loop-i-init

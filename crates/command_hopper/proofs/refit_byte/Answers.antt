@@ -1,6 +1,5 @@
 -- `refit_byte` is right because a newline ends the line and every other byte is read as one more of it.
 use Rattle.command_hopper.proofs.TextLaws.{refit_small, refit_ends, refit_goes_on}
-use borrow.Author.Rules.{rules}
 use Rattle.command_hopper.proofs.refit_byte.Goals as goal
 
 pub returns-then-page-lt-PAGE_SIZE : goal.returns-then-page-lt-PAGE_SIZE

@@ -2,7 +2,6 @@
 use mathlib.Core.Path.{sym}
 use native.Mathlib.Omega.{arith}
 use Rattle.text.proofs.TextLaws.{field_then, end_then, put_as, line_two}
-use borrow.Author.Rules.{rules}
 use Rattle.command_inspect.proofs.put_accepted.Goals as goal
 
 pub returns : goal.returns

@@ -2,7 +2,6 @@
 use native.Mathlib.Omega.{arith}
 use Rattle.text.proofs.TextLaws.{put_none, put_as}
 use Rattle.command_inspect.proofs.LineLaws.{station_aim, start_aim, limit_aim, most_aim, frames_aim_lem}
-use borrow.Author.Rules.{rules}
 use Rattle.command_inspect.proofs.put_aim.Goals as goal
 
 pub returns-then-rule-eq1 : goal.returns-then-rule-eq1

@@ -2,7 +2,6 @@
 use mathlib.Core.Path.{refl}
 use native.Mathlib.Omega.{arith}
 use Rattle.text.proofs.TextLaws.{put_as}
-use borrow.Author.Rules.{rules}
 use Rattle.command_inspect.proofs.put_before.Goals as goal
 
 pub returns-in-Visit : goal.returns-in-Visit

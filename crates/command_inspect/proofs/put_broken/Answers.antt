@@ -4,7 +4,6 @@ use native.Mathlib.Omega.{arith}
 use Rattle.inspection.specs.declared.Finding.{Finding}
 use Rattle.text.proofs.TextLaws.{put_short_then, put_as}
 use Rattle.command_inspect.specs.FindingText.{broken_text}
-use borrow.Author.Rules.{rules}
 use Rattle.command_inspect.proofs.put_broken.Goals as goal
 
 pub returns : goal.returns

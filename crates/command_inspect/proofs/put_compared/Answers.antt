@@ -2,7 +2,6 @@
 use mathlib.Core.Path.{refl}
 use native.Mathlib.Omega.{arith}
 use Rattle.text.proofs.TextLaws.{put_short_then, within_then, field_then, end_then, put_as}
-use borrow.Author.Rules.{rules}
 use Rattle.command_inspect.proofs.put_compared.Goals as goal
 
 pub returns : goal.returns

@@ -1,5 +1,4 @@
 -- `put_people` is right because it goes by the kind of the record, as the definition does.
-use borrow.Author.Rules.{rules}
 use Rattle.command_inspect.proofs.put_people.Goals as goal
 
 pub returns-in-Visit : goal.returns-in-Visit

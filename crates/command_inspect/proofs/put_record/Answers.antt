@@ -3,7 +3,6 @@ use mathlib.Core.Path.{sym}
 use native.Mathlib.Omega.{arith}
 use Rattle.text.proofs.TextLaws.{put_short_then, field_then, end_then, put_as}
 use Rattle.command_inspect.proofs.LineLaws.{line_three}
-use borrow.Author.Rules.{rules}
 use Rattle.command_inspect.proofs.put_record.Goals as goal
 
 pub returns : goal.returns

@@ -6,7 +6,6 @@ use native.Mathlib.Omega.{arith}
 use Rattle.text.specs.Text.{space}
 use Rattle.text.proofs.TextLaws.{put_as}
 use Rattle.command_inspect.proofs.LineLaws.{station_word_lem, start_word_lem, limit_word_lem, synchronous_word_lem, asynchronous_word_lem}
-use borrow.Author.Rules.{rules}
 use Rattle.command_inspect.proofs.put_rule.Goals as goal
 
 pub returns-then-rule-eq1 : goal.returns-then-rule-eq1

@@ -5,7 +5,6 @@ use native.Mathlib.Omega.{arith}
 use Rattle.text.specs.Text.{refused_line}
 use Rattle.text.proofs.TextLaws.{refused_short, printed, not_printed}
 use Rattle.command_inspect.proofs.LineLaws.{refused_text, accepted_text, broken_text_lem}
-use borrow.Author.Rules.{rules}
 use Rattle.command_inspect.proofs.put_text.Goals as goal
 
 pub returns-then-page-lt-PAGE_SIZE : goal.returns-then-page-lt-PAGE_SIZE

@@ -2,7 +2,6 @@
 use native.Mathlib.Omega.{arith}
 use Rattle.text.proofs.TextLaws.{put_none, put_as, put_short_then}
 use Rattle.command_inspect.proofs.LineLaws.{no_unit, start_unit}
-use borrow.Author.Rules.{rules}
 use Rattle.command_inspect.proofs.put_unit.Goals as goal
 
 pub returns-then-rule-ne2 : goal.returns-then-rule-ne2

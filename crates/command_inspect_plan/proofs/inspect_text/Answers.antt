@@ -1,7 +1,6 @@
 -- `inspect_text` is right because it puts the refusal of the plan sheet, and else the answer on the log.
 use Rattle.command_diff.proofs.AnswerLaws.{few_read}
 use Rattle.command_inspect_plan.proofs.AnswerLaws.{answered_nothing, answered_refused, answered_log}
-use borrow.Author.Rules.{rules}
 use Rattle.command_inspect_plan.proofs.inspect_text.Goals as goal
 
 pub returns-then-page-lt-PAGE_SIZE : goal.returns-then-page-lt-PAGE_SIZE

@@ -1,6 +1,5 @@
 -- `is_another` is right because it asks for the log's number and compares the two plans.
 use mathlib.Core.Path.{refl}
-use borrow.Author.Rules.{rules}
 use Rattle.command_inspect_plan.proofs.is_another.Goals as goal
 
 pub returns : goal.returns

@@ -2,7 +2,6 @@
 use native.Mathlib.Omega.{arith}
 use Rattle.text.proofs.TextLaws.{end_then, put_as}
 use Rattle.command_inspect_plan.proofs.AnswerLaws.{another_line_lem, another_put}
-use borrow.Author.Rules.{rules}
 use Rattle.command_inspect_plan.proofs.put_another.Goals as goal
 
 pub returns : goal.returns

@@ -1,7 +1,6 @@
 -- `put_answer` is right because it puts what differs where the log's plan is another one, and else what was found.
 use mathlib.Core.Path.{sym, ◌∙◌}
 use Rattle.command_inspect_plan.proofs.AnswerLaws.{answered_another, answered_found}
-use borrow.Author.Rules.{rules}
 use Rattle.command_inspect_plan.proofs.put_answer.Goals as goal
 
 pub returns-then-is_another : goal.returns-then-is_another

@@ -2,7 +2,6 @@
 use native.Mathlib.Omega.{arith}
 use Rattle.text.proofs.TextLaws.{within_then, refused_short, put_as}
 use Rattle.command_inspect_plan.proofs.AnswerLaws.{plan_refused_lem}
-use borrow.Author.Rules.{rules}
 use Rattle.command_inspect_plan.proofs.put_refused.Goals as goal
 
 pub returns : goal.returns

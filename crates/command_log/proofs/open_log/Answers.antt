@@ -1,5 +1,4 @@
 -- `open_log` is right because it opens the plan that it read.
-use borrow.Author.Rules.{rules}
 use Rattle.command_log.proofs.open_log.Goals as goal
 
 pub returns : goal.returns

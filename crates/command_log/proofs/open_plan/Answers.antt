@@ -1,6 +1,5 @@
 -- `open_plan` is right because it keeps the number of reading and opening, and else writes the plan's fields.
 use Rattle.command_log.proofs.RecordLaws.{opened_refused, opened_accepted}
-use borrow.Author.Rules.{rules}
 use Rattle.command_log.proofs.open_plan.Goals as goal
 
 pub returns-then-opened-ne-ACCEPTED : goal.returns-then-opened-ne-ACCEPTED

@@ -1,7 +1,6 @@
 -- `record_answer` is right because a visit, a marking and an unmarking are recorded, and no other answer is.
 use Rattle.command_log.specs.LogBytes.{visits_in, entries_by}
 use Rattle.command_log.proofs.RecordLaws.{records_none}
-use borrow.Author.Rules.{rules}
 use Rattle.command_log.proofs.record_answer.Goals as goal
 
 pub returns-in-Nothing : goal.returns-in-Nothing

@@ -1,6 +1,5 @@
 -- `record_mark` is right because the mark of an accepted call is added, and that of a refused one is not.
 use Rattle.command_log.proofs.RecordLaws.{mark_skipped, mark_added}
-use borrow.Author.Rules.{rules}
 use Rattle.command_log.proofs.record_mark.Goals as goal
 
 pub returns-then-number-eq-ACCEPTED : goal.returns-then-number-eq-ACCEPTED

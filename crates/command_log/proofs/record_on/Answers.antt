@@ -1,6 +1,5 @@
 -- `record_on` is right because it reads the first 256 bytes, or all if they are fewer.
 use Rattle.command_log.proofs.RecordLaws.{recorded_none, recorded_piece}
-use borrow.Author.Rules.{rules}
 use Rattle.command_log.proofs.record_on.Goals as goal
 
 pub returns-then-page-lt-PAGE_SIZE : goal.returns-then-page-lt-PAGE_SIZE

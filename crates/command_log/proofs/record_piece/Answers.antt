@@ -1,20 +1,15 @@
 -- `record_piece` is right because after i turns the recording stands behind the first i bytes, and the fields of their records are put.
-use Prim.Native.Nat.{ℕ, ◌+◌, ◌*◌, ◌-◌, ◌≤◌, ◌<◌}
+use Prim.Native.Nat.{◌+◌, ◌*◌, ◌-◌, ◌≤◌, ◌<◌}
 use mathlib.Core.Path.{◌≡◌, ◌∙◌}
-use mathlib.Core.Logic.{⊎_elim}
 use native.Mathlib.Omega.{arith}
 use lib.ListN.{length}
 use Rattle.units.specs.Places.{at}
 use Rattle.text.proofs.TextLaws.{put_as}
 use Rattle.logs.specs.Layout.{entries_bytes}
-use Rattle.logs.specs.declared.Recorder.{Recorder}
-use Rattle.command_run.specs.declared.Run.{Run}
-use Rattle.command_run.proofs.ByteLaws.{Behind, behind_none, behind_more, behind_quiet}
+use Rattle.command_run.proofs.ByteLaws.{behind_none, behind_more, behind_quiet}
 use Rattle.command_run.proofs.RunLaws.{goes_on, line_ends_lem}
-use Rattle.command_log.specs.LogBytes.{visits_in, clock_after, counter_after, entries_by, first_unread, record_on, logged_at}
-use Rattle.command_log.specs.declared.Recording.{Recording}
+use Rattle.command_log.specs.LogBytes.{visits_in, clock_after, counter_after, entries_by, first_unread, record_on}
 use Rattle.command_log.proofs.RecordLaws.{record_byte}
-use borrow.Author.Rules.{rules}
 use Rattle.command_log.proofs.record_piece.Goals as goal
 use Rattle.command_log.proofs.record_piece.Goals.{else-byte-eq10, then-byte-eq10}
 use Rattle.command_log.proofs.record_piece.Invariants.{held_by}

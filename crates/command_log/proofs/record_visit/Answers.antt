@@ -1,6 +1,5 @@
 -- `record_visit` is right because a visit that was accepted is added, and a refused one is not.
 use Rattle.command_log.proofs.RecordLaws.{visit_skipped, visit_added}
-use borrow.Author.Rules.{rules}
 use Rattle.command_log.proofs.record_visit.Goals as goal
 
 pub returns-then-visit-ne-ACCEPTED : goal.returns-then-visit-ne-ACCEPTED

@@ -1,5 +1,5 @@
 -- `account_of` is right because its body is the definition.
-use Rattle.std.proofs.Common.{refl, rules}
+use Rattle.std.proofs.Common.{refl}
 use Rattle.command_page.proofs.account_of.Goals as goal
 
 pub returns : goal.returns

@@ -1,5 +1,5 @@
 -- `part_at` is right because it asks for the parts in their order.
-use Rattle.std.proofs.Common.{sym, ◌∙◌, rules, le-ltb, lt-ltb}
+use Rattle.std.proofs.Common.{sym, ◌∙◌, le-ltb, lt-ltb}
 use Rattle.command_page.specs.Parts.{part_at}
 use Rattle.command_page.proofs.part_at.Goals as goal
 

@@ -1,5 +1,5 @@
 -- `part_count` is right because its body is the definition.
-use Rattle.std.proofs.Common.{refl, rules}
+use Rattle.std.proofs.Common.{refl}
 use Rattle.command_page.proofs.part_count.Goals as goal
 
 pub returns : goal.returns

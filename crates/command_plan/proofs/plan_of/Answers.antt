@@ -2,7 +2,6 @@
 use mathlib.Core.Path.{refl}
 use Rattle.sheets.proofs.ReadLaws.{then_rest, then_keeps}
 use Rattle.command_plan.proofs.PlanSheetLaws.{plan_made}
-use borrow.Author.Rules.{rules}
 use Rattle.command_plan.proofs.plan_of.Goals as goal
 
 pub returns-then-request-ne-ACCEPTED : goal.returns-then-request-ne-ACCEPTED

@@ -3,7 +3,6 @@ use mathlib.Core.Path.{sym, ap, ◌∙◌}
 use Rattle.sheets.specs.declared.ReadPlan.{ReadPlan}
 use Rattle.command_plan.specs.PlanSheet.{plan_of}
 use Rattle.command_plan.proofs.PlanSheetLaws.{wrote_none, wrote_plan}
-use borrow.Author.Rules.{rules}
 use Rattle.command_plan.proofs.plan_sheet.Goals as goal
 
 pub returns-then-plan-ne-ACCEPTED : goal.returns-then-plan-ne-ACCEPTED

@@ -1,6 +1,5 @@
 -- `plan_text` is right because it is the text of the request that was read.
 use Rattle.command_plan.proofs.PlanTextLaws.{read_says}
-use borrow.Author.Rules.{rules}
 use Rattle.command_plan.proofs.plan_text.Goals as goal
 
 pub returns : goal.returns

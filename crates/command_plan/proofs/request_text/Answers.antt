@@ -4,7 +4,6 @@ use native.Mathlib.Omega.{arith}
 use Rattle.sheets.specs.declared.ReadPlan.{ReadPlan}
 use Rattle.text.proofs.TextLaws.{refused_short, says, says_nothing}
 use Rattle.command_plan.proofs.PlanTextLaws.{plan_refused_lem, plan_accepted, plan_few}
-use borrow.Author.Rules.{rules}
 use Rattle.command_plan.proofs.request_text.Goals as goal
 
 pub returns-then-page-lt-PAGE_SIZE : goal.returns-then-page-lt-PAGE_SIZE

@@ -1,7 +1,6 @@
 -- `ask_in` is right because a visit's numbers are 32-bit numbers, and a line of one number names no length.
 use native.Mathlib.Omega.{arith}
 use Rattle.command_run.proofs.RunLaws.{ask_small, length_small, ask_alone, ask_named}
-use borrow.Author.Rules.{rules}
 use Rattle.command_run.proofs.ask_in.Goals as goal
 
 pub overflow_cast-frames : goal.overflow_cast-frames

@@ -6,7 +6,6 @@ use Rattle.rings.specs.HandingIn.{handed_in}
 use Rattle.line_reader.specs.Scan.{is_empty_line}
 use Rattle.command_run.specs.Calls.{is_visit}
 use Rattle.command_run.proofs.RunLaws.{called_empty, called_visit, called_message, called_switched}
-use borrow.Author.Rules.{rules}
 use Rattle.command_run.proofs.call_line.Goals as goal
 
 pub returns-then-is_empty_line : goal.returns-then-is_empty_line

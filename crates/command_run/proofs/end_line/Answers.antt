@@ -1,6 +1,5 @@
 -- `end_line` is right because the line's call gives the ring and the answer, and the next line begins with nothing read.
 use mathlib.Core.Path.{refl}
-use borrow.Author.Rules.{rules}
 use Rattle.command_run.proofs.end_line.Goals as goal
 
 pub returns : goal.returns

@@ -1,6 +1,5 @@
 -- `message_in` is right because the line's three numbers are station, length and arrival, in this order.
 use mathlib.Core.Path.{refl}
-use borrow.Author.Rules.{rules}
 use Rattle.command_run.proofs.message_in.Goals as goal
 
 pub returns : goal.returns

@@ -1,6 +1,5 @@
 -- `open_plan` is right because it keeps the number of reading, and else gives that of opening.
 use Rattle.command_run.proofs.RunLaws.{opened_refused, opened_accepted}
-use borrow.Author.Rules.{rules}
 use Rattle.command_run.proofs.open_plan.Goals as goal
 
 pub returns-then-plan-ne-ACCEPTED : goal.returns-then-plan-ne-ACCEPTED

@@ -1,7 +1,6 @@
 -- `open_run` is right because it opens the plan that it read.
 use mathlib.Core.Path.{ap, ◌∙◌}
 use Rattle.command_run.specs.Runs.{opened_run}
-use borrow.Author.Rules.{rules}
 use Rattle.command_run.proofs.open_run.Goals as goal
 
 pub returns : goal.returns

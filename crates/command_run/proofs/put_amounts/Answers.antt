@@ -1,7 +1,6 @@
 -- `put_amounts` is right because its words are put one behind another.
 use native.Mathlib.Omega.{arith}
 use Rattle.text.proofs.TextLaws.{field_short, field_then}
-use borrow.Author.Rules.{rules}
 use Rattle.command_run.proofs.put_amounts.Goals as goal
 
 pub returns : goal.returns

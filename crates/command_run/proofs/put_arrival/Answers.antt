@@ -1,7 +1,6 @@
 -- `put_arrival` is right because its words are put one behind another.
 use native.Mathlib.Omega.{arith}
 use Rattle.text.proofs.TextLaws.{field_then}
-use borrow.Author.Rules.{rules}
 use Rattle.command_run.proofs.put_arrival.Goals as goal
 
 pub returns : goal.returns

@@ -9,7 +9,6 @@ use Rattle.text.specs.Text.{line_on, space}
 use Rattle.command_run.specs.RunText.{completion, signed_of}
 use Rattle.command_run.proofs.RunLaws.{completion_some}
 use Rattle.text.proofs.TextLaws.{put_short_then, field_short, end_then, put_as, line_on_two}
-use borrow.Author.Rules.{rules}
 use Rattle.command_run.proofs.put_completion.Goals as goal
 
 pub returns-then-completed-eq0 : goal.returns-then-completed-eq0

@@ -7,7 +7,6 @@ use Rattle.command_run.specs.RunText.{sign_of, without_sign}
 use native.Mathlib.Omega.{arith}
 use Rattle.text.proofs.TextLaws.{decimal_short, field_short, within_then, put_as}
 use Rattle.command_run.proofs.RunLaws.{sign_late, sign_none}
-use borrow.Author.Rules.{rules}
 use Rattle.command_run.proofs.put_margin.Goals as goal
 
 pub returns-then-margin-lt0 : goal.returns-then-margin-lt0

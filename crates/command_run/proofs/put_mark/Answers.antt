@@ -2,7 +2,6 @@
 use mathlib.Core.Path.{sym, ◌∙◌}
 use native.Mathlib.Omega.{arith}
 use Rattle.text.proofs.TextLaws.{text_accepted, text_refused, refused_short, put_short_then, put_as, line_first}
-use borrow.Author.Rules.{rules}
 use Rattle.command_run.proofs.put_mark.Goals as goal
 
 pub returns-then-answer-ne-ACCEPTED : goal.returns-then-answer-ne-ACCEPTED

@@ -2,7 +2,6 @@
 use mathlib.Core.Path.{sym, ◌∙◌}
 use native.Mathlib.Omega.{arith}
 use Rattle.text.proofs.TextLaws.{text_accepted, text_refused, refused_short, end_then, put_as, line_one}
-use borrow.Author.Rules.{rules}
 use Rattle.command_run.proofs.put_taken.Goals as goal
 
 pub returns-then-number-ne-ACCEPTED : goal.returns-then-number-ne-ACCEPTED

@@ -8,7 +8,6 @@ use native.Mathlib.Omega.{arith}
 use Rattle.command_run.specs.RunText.{completion, visit_line}
 use Rattle.command_run.proofs.RunLaws.{visit_words}
 use Rattle.text.proofs.TextLaws.{put_short_then, put_as}
-use borrow.Author.Rules.{rules}
 use Rattle.command_run.proofs.put_visit_line.Goals as goal
 
 pub returns : goal.returns

@@ -4,7 +4,6 @@ use Rattle.text.specs.Text.{line_on}
 use Rattle.text.proofs.TextLaws.{field_then, end_then, put_as}
 use Rattle.command_run.specs.RunText.{withdrawn_words}
 use Rattle.command_run.proofs.RunLaws.{line_on_three, withdrawn_some}
-use borrow.Author.Rules.{rules}
 use Rattle.command_run.proofs.put_withdrawn.Goals as goal
 
 pub returns-then-answer-eq0 : goal.returns-then-answer-eq0

@@ -1,6 +1,5 @@
 -- `run_on` is right because it reads the first 256 bytes, or all if they are fewer.
 use Rattle.command_run.proofs.RunLaws.{ran_none, ran_piece}
-use borrow.Author.Rules.{rules}
 use Rattle.command_run.proofs.run_on.Goals as goal
 
 pub returns-then-page-lt-PAGE_SIZE : goal.returns-then-page-lt-PAGE_SIZE

@@ -1,6 +1,5 @@
 -- `start` is right because it begins with the ring and nothing read.
 use mathlib.Core.Path.{refl}
-use borrow.Author.Rules.{rules}
 use Rattle.command_run.proofs.start.Goals as goal
 
 pub returns : goal.returns

@@ -4,7 +4,6 @@ use mathlib.Core.Bool.{false}
 use Rattle.rings.specs.Marking.{marked, unmarked}
 use Rattle.command_run.specs.Calls.{is_mark}
 use Rattle.command_run.proofs.RunLaws.{switched_mark, switched_unmark, switched_unread}
-use borrow.Author.Rules.{rules}
 use Rattle.command_run.proofs.switch_line.Goals as goal
 
 pub returns-then-names_station : goal.returns-then-names_station

@@ -9,7 +9,6 @@ use Rattle.sheet_text_rules.specs.ShowText.{sheet_text, plan_lines_of}
 use Rattle.text.proofs.TextLaws.{put_none, printed, not_printed}
 use Prim.Native.Nat.{◌≤◌, ◌<◌}
 use mathlib.Core.Bool.{true}
-use borrow.Author.Rules.{rules}
 use Rattle.command_show.proofs.plan_text.Goals as goal
 
 few_lines : (t : Set) (a : Alloc) → t.n ≤ 128 → sheet_text true t a ≡ plan_lines_of t a

@@ -4,7 +4,6 @@ use native.Mathlib.Omega.{arith}
 use Rattle.sheets.specs.declared.ReadPlan.{ReadPlan}
 use Rattle.sheet_text_rules.proofs.ShowLaws.{plan_few, shown_plan_refused, shown_plan}
 use Rattle.text.proofs.TextLaws.{refused_short, says}
-use borrow.Author.Rules.{rules}
 use Rattle.command_show.proofs.show_plan.Goals as goal
 
 pub returns-then-number-ne-ACCEPTED : goal.returns-then-number-ne-ACCEPTED

@@ -6,7 +6,6 @@ use Rattle.plans.specs.declared.Alloc.{Alloc}
 use Rattle.sheet_text_rules.specs.ShowText.{sheet_text}
 use Rattle.sheet_text_rules.proofs.ShowLaws.{request_few, shown_as_plan, shown_request_refused, shown_request, number_as_plan, number_as_request}
 use Rattle.text.proofs.TextLaws.{refused_short, says, says_nothing, says_as}
-use borrow.Author.Rules.{rules}
 use Rattle.command_show.proofs.show_text.Goals as goal
 
 pub returns-then-page-lt-PAGE_SIZE : goal.returns-then-page-lt-PAGE_SIZE

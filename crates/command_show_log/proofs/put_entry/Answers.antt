@@ -3,7 +3,6 @@ use mathlib.Core.Path.{sym}
 use native.Mathlib.Omega.{arith}
 use Rattle.text.proofs.TextLaws.{put_none, put_as}
 use Rattle.command_show_log.proofs.ShowLaws.{lines_refused, lines_none, lines_one}
-use borrow.Author.Rules.{rules}
 use Rattle.command_show_log.proofs.put_entry.Goals as goal
 
 pub returns-then-number-ne-ACCEPTED : goal.returns-then-number-ne-ACCEPTED

@@ -1,5 +1,4 @@
 -- `put_entry_line` is right because it puts the line of the entry's kind.
-use borrow.Author.Rules.{rules}
 use Rattle.command_show_log.proofs.put_entry_line.Goals as goal
 
 pub returns-in-Visit : goal.returns-in-Visit

@@ -6,7 +6,6 @@ use Rattle.sheet_text_rules.specs.LogText.{visit_line}
 use Rattle.command_compose.specs.Compose.{visit_word}
 use Rattle.text.specs.Text.{number_words}
 use Rattle.text.proofs.TextLaws.{line_put, put_as}
-use borrow.Author.Rules.{rules}
 use Rattle.command_show_log.proofs.put_visit_line.Goals as goal
 
 pub returns : goal.returns

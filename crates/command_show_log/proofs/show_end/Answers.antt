@@ -6,7 +6,6 @@ use native.Mathlib.Omega.{arith}
 use Rattle.text.specs.Text.{text_or}
 use Rattle.text.proofs.TextLaws.{refused_short, says, says_nothing, text_accepted, text_refused}
 use Rattle.command_show_log.proofs.ShowLaws.{put_nothing}
-use borrow.Author.Rules.{rules}
 use Rattle.command_show_log.proofs.show_end.Goals as goal
 
 pub returns-then-page-lt-PAGE_SIZE : goal.returns-then-page-lt-PAGE_SIZE

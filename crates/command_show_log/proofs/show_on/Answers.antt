@@ -1,6 +1,5 @@
 -- `show_on` is right because it reads the first 512 bytes, or all if they are fewer.
 use Rattle.command_show_log.proofs.ShowLaws.{shown_none, shown_piece}
-use borrow.Author.Rules.{rules}
 use Rattle.command_show_log.proofs.show_on.Goals as goal
 
 pub returns-then-page-lt-PAGE_SIZE : goal.returns-then-page-lt-PAGE_SIZE

@@ -1,19 +1,10 @@
 -- `show_piece` is right because after i turns the records stand behind the first i bytes, and their lines are put.
-use Prim.Native.Nat.{ℕ, zero, suc, ◌+◌, ◌*◌, ◌-◌, ◌≤◌, ◌<◌}
-use mathlib.Core.Path.{◌≡◌, refl, sym, ap, ◌∙◌}
-use mathlib.Core.List.{[]}
-use native.Mathlib.Omega.{arith}
-use Rattle.units.specs.Places.{at}
+use Prim.Native.Nat.{◌*◌, ◌-◌, ◌≤◌}
+use mathlib.Core.Path.{◌≡◌}
 use lib.ListN.{length, take}
-use Rattle.log_records.specs.declared.NextEntry.{NextEntry}
-use Rattle.log_stream.specs.Pieces.{entries_of, read_over, handed_over}
-use Rattle.log_stream.specs.declared.Gathered.{Gathered}
+use Rattle.log_stream.specs.Pieces.{read_over, handed_over}
 use Rattle.text.specs.Text.{PutShort}
-use Rattle.text.proofs.TextLaws.{put_none, put_as}
-use Rattle.sheet_text_rules.specs.LogText.{entry_lines}
 use Rattle.command_show_log.specs.LogShown.{lines_for}
-use Rattle.command_show_log.proofs.ShowLaws.{turn}
-use borrow.Author.Rules.{rules}
 use Rattle.command_show_log.proofs.show_piece.Given as goal
 
 abbrev pub invariant-loop-i : goal.invariant-loop-i

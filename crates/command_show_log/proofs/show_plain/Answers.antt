@@ -1,10 +1,8 @@
 -- `show_plain` is right because it goes by whether a plan's fields have passed, as the definition does.
 use mathlib.Core.Path.{sym, ◌∙◌}
 use native.Mathlib.Omega.{arith}
-use borrow.Author.Tests.{not-true, not-false}
 use Rattle.text.proofs.TextLaws.{refused_short, says, says_as, text_accepted, text_refused}
 use Rattle.command_show_log.proofs.ShowLaws.{printed_as, number_large, plain_ever, plain_read, number_ever, number_read}
-use borrow.Author.Rules.{rules}
 use Rattle.command_show_log.proofs.show_plain.Goals as goal
 
 pub returns-then-not-passed : goal.returns-then-not-passed

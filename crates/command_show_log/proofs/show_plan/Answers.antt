@@ -1,7 +1,6 @@
 -- `show_plan` is right because a refused plan has no text.
 use borrow.Author.Tests.{eq-eqb, ne_eqb}
 use Rattle.command_show_log.proofs.ShowLaws.{printed_none}
-use borrow.Author.Rules.{rules}
 use Rattle.command_show_log.proofs.show_plan.Goals as goal
 
 pub returns-then-number-ne-ACCEPTED : goal.returns-then-number-ne-ACCEPTED

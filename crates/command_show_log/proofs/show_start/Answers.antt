@@ -1,13 +1,11 @@
 -- `show_start` is right because it reads the plan at the start, and looks for a whole record behind it.
 use mathlib.Core.Path.{◌≡◌, sym, ap, ◌∙◌}
-use borrow.Author.Tests.{not-true, not-false}
 use Rattle.log_stream.specs.declared.Gathered.{Gathered}
 use Rattle.sheets.specs.declared.PlanStart.{PlanStart}
 use Rattle.text.proofs.TextLaws.{not_printed, says_as}
 use Rattle.command_show_log.specs.LogShown.{show_from}
 use Rattle.command_show_log.specs.declared.Showing.{Showing}
 use Rattle.command_show_log.proofs.ShowLaws.{printed_as, number_large, number_small, log_same, number_plain, number_log, head_plain, head_log}
-use borrow.Author.Rules.{rules}
 use Rattle.command_show_log.proofs.show_start.Goals as goal
 
 pub returns-then-page-lt-PAGE_SIZE : goal.returns-then-page-lt-PAGE_SIZE

@@ -1,8 +1,6 @@
 -- `begin` is right because its tests are the definition's, in its order.
-use borrow.Author.Rules.{rules}
 use mathlib.Core.Path.{◌≡◌, sym, ap, ◌∙◌}
 use mathlib.Core.Bool.{true, false}
-use borrow.Author.Tests.{not-true, not-false}
 use Rattle.field_reader.specs.Scanned.{scanned}
 use Rattle.field_reader.specs.declared.Scanned.{Scanned}
 use Rattle.sheets.specs.declared.ReadPlan.{ReadPlan}

@@ -1,5 +1,4 @@
 -- `go_on` is right because as many TTRT as the definition says are tried from the next one on; that one is at most TO, so it has 32 bits.
-use borrow.Author.Rules.{rules}
 use mathlib.Core.Path.{◌≡◌, sym, ◌∙◌}
 use mathlib.Core.Bool.{false}
 use borrow.Author.Tests.{ltb-false}

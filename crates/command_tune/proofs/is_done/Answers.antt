@@ -1,5 +1,4 @@
 -- `is_done` is right because its test is the definition's.
-use borrow.Author.Rules.{rules}
 use mathlib.Core.Path.{refl}
 use Rattle.command_tune.proofs.is_done.Goals as goal
 

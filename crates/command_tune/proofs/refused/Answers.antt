@@ -1,5 +1,4 @@
 -- `refused` is right because every part is the definition's.
-use borrow.Author.Rules.{rules}
 use mathlib.Core.Path.{refl}
 use Rattle.command_tune.proofs.refused.Goals as goal
 

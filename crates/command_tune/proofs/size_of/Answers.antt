@@ -1,6 +1,5 @@
 -- `size_of` is right because its body is the definition; it is at most 4,096, so it has 32 bits.
 use mathlib.Core.Path.{refl}
-use borrow.Author.Rules.{rules}
 use Rattle.command_tune.proofs.size_of.Goals as goal
 
 pub returns : goal.returns

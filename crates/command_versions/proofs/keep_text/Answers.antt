@@ -2,7 +2,6 @@
 use mathlib.Core.Path.{refl, sym}
 use native.Mathlib.Omega.{arith}
 use Rattle.text.proofs.TextLaws.{refused_short, says, says_nothing, text_accepted, text_refused}
-use borrow.Author.Rules.{rules}
 use Rattle.command_versions.proofs.keep_text.Goals as goal
 
 pub returns-then-page-lt-PAGE_SIZE : goal.returns-then-page-lt-PAGE_SIZE

@@ -2,7 +2,6 @@
 use native.Mathlib.Omega.{arith}
 use Rattle.text.proofs.TextLaws.{refused_short, says, says_nothing}
 use Rattle.command_versions.proofs.KeptLaws.{number_said, refused_said_lem, lines_said}
-use borrow.Author.Rules.{rules}
 use Rattle.command_versions.proofs.versions_text.Goals as goal
 
 pub returns-then-page-lt-PAGE_SIZE : goal.returns-then-page-lt-PAGE_SIZE

@@ -2,7 +2,6 @@
 use mathlib.Core.Path.{refl}
 use borrow.Author.Tests.{eq-eqb, ne_eqb}
 use Rattle.commands.specs.Asked.{asked_for}
-use borrow.Author.Rules.{rules}
 use Rattle.commands.proofs.asked_for.Goals as goal
 
 pub returns-then-given-eq0 : goal.returns-then-given-eq0

@@ -1,5 +1,5 @@
 -- `command_of` is right because, from the last command down to the one at the place, the first whose word it is has been found.
-use Prim.Native.Nat.{ℕ, ◌+◌, ◌-◌, ◌≤◌, ◌<◌}
+use Prim.Native.Nat.{ℕ, ◌+◌, ◌-◌, ◌<◌}
 use mathlib.Core.Path.{◌≡◌, refl, sym, ◌∙◌}
 use mathlib.Core.Bool.{true, false}
 use mathlib.Core.List.{List}
@@ -11,7 +11,6 @@ use Rattle.commands.specs.Table.{commands, command_at, word_of}
 use Rattle.commands.specs.Words.{same_bytes}
 use Rattle.commands.specs.Asked.{whose}
 use Rattle.commands.specs.declared.Command.TheVariants.{Unknown}
-use borrow.Author.Rules.{rules}
 use Rattle.commands.proofs.command_of.Goals as goal
 
 -- no command is left behind the last

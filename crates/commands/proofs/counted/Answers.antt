@@ -2,7 +2,6 @@
 use mathlib.Core.Path.{refl}
 use borrow.Author.Tests.{lt-ltb, le-ltb}
 use Rattle.commands.specs.Asked.{counted_for}
-use borrow.Author.Rules.{rules}
 use Rattle.commands.proofs.counted.Goals as goal
 
 pub returns-then-most-least : goal.returns-then-most-least

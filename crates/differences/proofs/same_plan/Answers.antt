@@ -4,7 +4,6 @@ use native.Mathlib.Omega.{arith}
 use borrow.Author.Tests.{le-leb, lt-leb}
 use Rattle.units.specs.Numbers.{most_stations}
 use Rattle.differences.proofs.NoneLaws.{none_plan}
-use borrow.Author.Rules.{rules}
 use Rattle.differences.proofs.same_plan.Goals as goal
 
 pub returns-then-t-gt-MOST_STATIONS : goal.returns-then-t-gt-MOST_STATIONS

@@ -1,7 +1,6 @@
 -- `same_station` is right because it compares the station's five numbers.
 use mathlib.Core.Path.{sym}
 use Rattle.differences.proofs.NoneLaws.{none_station}
-use borrow.Author.Rules.{rules}
 use Rattle.differences.proofs.same_station.Goals as goal
 
 pub returns : goal.returns

@@ -1,11 +1,8 @@
 -- `same_stations` is right because its flag says of the stations passed that nothing differs.
 use Prim.Native.Nat.{◌-◌, ◌≤◌}
-use mathlib.Core.Path.{◌≡◌, sym, ◌∙◌}
-use native.Mathlib.Omega.{arith}
+use mathlib.Core.Path.{◌≡◌}
 use Rattle.differences.specs.Views.{number_of}
 use Rattle.differences.specs.Differences.{gathered, station_changed, is_none}
-use Rattle.differences.proofs.NoneLaws.{none_begun, none_step}
-use borrow.Author.Rules.{rules}
 use Rattle.differences.proofs.same_stations.Given as goal
 
 abbrev pub invariant-loop-i : goal.invariant-loop-i

@@ -1,6 +1,5 @@
 -- `excess_of` is right because its body is the definition.
 use mathlib.Core.Path.{refl, ◌∙◌}
-use borrow.Author.Rules.{rules}
 use borrow.Author.Tests.{eq-eqb, ne_eqb}
 use Rattle.faults.specs.Holdings.{excess_of}
 use Rattle.faults.proofs.excess_of.Goals as goal

@@ -1,6 +1,5 @@
 -- `header_number` is right because its body is the definition.
 use mathlib.Core.Path.{refl}
-use borrow.Author.Rules.{rules}
 use borrow.Author.Tests.{eq-eqb, ne_eqb}
 use Rattle.differences.specs.Views.{header_of}
 use Rattle.faults.proofs.header_number.Goals as goal

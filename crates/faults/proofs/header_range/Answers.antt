@@ -1,6 +1,5 @@
 -- `header_range` is right because its body is the definition.
 use mathlib.Core.Path.{refl, ◌∙◌}
-use borrow.Author.Rules.{rules}
 use Rattle.faults.proofs.header_range.Goals as goal
 
 pub returns : goal.returns

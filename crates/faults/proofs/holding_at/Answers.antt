@@ -2,8 +2,6 @@
 use mathlib.Core.Path.{◌≡◌, refl, sym, ◌∙◌}
 use Prim.Native.Nat.{◌-◌, ◌≤◌, ◌<◌}
 use native.Mathlib.Omega.{arith}
-use borrow.Author.Rules.{rules}
-use borrow.Author.Tests.{not-true, not-false}
 use Rattle.units.specs.Places.{at, sum_below}
 use Rattle.plans.specs.Rules.{time_at}
 use Rattle.faults.proofs.HoldingLaws.{decides_station, time_is, holding_says, holding_none}

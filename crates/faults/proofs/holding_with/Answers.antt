@@ -1,6 +1,5 @@
 -- `holding_with` is right because its body is the definition.
 use mathlib.Core.Path.{refl}
-use borrow.Author.Rules.{rules}
 use Rattle.faults.proofs.holding_with.Goals as goal
 
 pub returns : goal.returns

@@ -1,6 +1,5 @@
 -- `off_grid` is right because a number is on the grid exactly if the division leaves nothing over.
 use mathlib.Core.Path.{refl}
-use borrow.Author.Rules.{rules}
 use Rattle.faults.proofs.off_grid.Goals as goal
 
 pub returns : goal.returns

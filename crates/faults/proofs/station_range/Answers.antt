@@ -1,6 +1,5 @@
 -- `station_range` is right because it takes the number and both ends of its range from the same place.
 use mathlib.Core.Path.{refl, ◌∙◌}
-use borrow.Author.Rules.{rules}
 use Rattle.faults.proofs.station_range.Goals as goal
 
 pub returns : goal.returns

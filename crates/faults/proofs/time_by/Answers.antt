@@ -1,5 +1,4 @@
 -- `time_by` is right because each mode has its own X.
-use borrow.Author.Rules.{rules}
 use borrow.Author.Tests.{eq-eqb, ne_eqb}
 use Rattle.faults.specs.Holdings.{time_by}
 use Rattle.faults.proofs.time_by.Goals as goal

@@ -1,6 +1,5 @@
 -- `token_of` is right because its body is the definition; the sums are far below 2^64.
 use mathlib.Core.Path.{refl}
-use borrow.Author.Rules.{rules}
 use Rattle.faults.proofs.token_of.Goals as goal
 
 pub returns : goal.returns

@@ -1,11 +1,7 @@
 -- `deadlines_fit` is right because its flag is the rule over the stations passed, and what is away from a station is the time lost and the others' S.
-use Prim.Native.Nat.{ℕ, ◌+◌, ◌-◌, ◌≤◌, min}
+use Prim.Native.Nat.{ℕ, ◌+◌, ◌-◌, min}
 use mathlib.Core.Path.{◌≡◌, refl, sym, ap, ◌∙◌}
-use mathlib.Core.Bool.{Bool}
-use mathlib.Core.List.{List}
 use native.Mathlib.Omega.{arith}
-use borrow.Author.Rules.{rules}
-use lib.Dec.{leb}
 use Rattle.units.specs.Places.{at, all_below}
 use Rattle.units.proofs.PlaceLaws.{all_step, all_none}
 use Rattle.fddi.specs.Rules.{others, least_time}

@@ -6,7 +6,6 @@ use Rattle.units.proofs.SmallLaws.{product_small}
 use Rattle.units.specs.Vectors.{whole_rotations}
 use Rattle.fddi.specs.Rules.{rest}
 use Rattle.fddi.proofs.Laws.{time_none, time_some}
-use borrow.Author.Rules.{rules}
 use Rattle.fddi.proofs.least_time.Goals as goal
 
 pub returns-then-q-eq0 : goal.returns-then-q-eq0

@@ -3,13 +3,12 @@ use Prim.Native.Nat.{◌+◌, ◌≤◌}
 use mathlib.Core.Path.{◌≡◌, sym, ◌∙◌}
 use mathlib.Core.Bool.{true, false}
 use native.Mathlib.Omega.{arith}
-use borrow.Author.Tests.{not-true, not-false, leb-true}
+use borrow.Author.Tests.{leb-true}
 use Rattle.units.specs.Places.{at, sum_below}
 use Rattle.units.proofs.VectorLaws.{token_broken, token_held}
 use Rattle.fddi.specs.Rules.{stations, terms_of, token_fits}
 use Rattle.fddi.specs.Lent.{lent_load}
 use Rattle.fddi.specs.declared.Load.{Load}
-use borrow.Author.Rules.{rules}
 use Rattle.fddi.proofs.meets_rules.Goals as goal
 
 pub returns-then-not-token_kept : goal.returns-then-not-token_kept

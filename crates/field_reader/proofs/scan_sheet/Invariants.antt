@@ -1,20 +1,10 @@
 -- `scan_sheet` is right because at each turn the walk from the cursor on is the rest of the definition's walk, and it stops where the definition stops.
-use Prim.Native.Nat.{ℕ, suc, ◌+◌, ◌≤◌, ◌<◌}
-use mathlib.Core.Path.{◌≡◌, refl, sym, ap, ◌∙◌}
-use mathlib.Core.Bool.{true}
-use mathlib.Core.List.{List}
-use mathlib.Core.Logic.{◌≢◌}
-use native.Mathlib.Omega.{arith}
-use borrow.Author.Tests.{not-true, not-false}
+use Prim.Native.Nat.{ℕ, ◌+◌, ◌≤◌, ◌<◌}
+use mathlib.Core.Path.{◌≡◌}
 use lib.ListN.{length}
-use Rattle.fields.specs.Fields.{end_tag, left, tag_at, behind, field_at, FieldWhole}
-use Rattle.fields.specs.declared.Field.{Field}
-use Rattle.fields.specs.declared.Passed.{Passed}
+use Rattle.fields.specs.Fields.{left}
 use Rattle.field_reader.specs.Cursor.{step_of}
-use Rattle.field_reader.specs.declared.Step.{Step}
-use Rattle.field_reader.specs.Scanned.{stops_at, stop_number, with_field, scan_from, scanned}
-use Rattle.field_reader.proofs.ScannedLaws.{passes, cursor_behind, has_tag, counts_one, scan_stops, scan_more}
-use borrow.Author.Rules.{rules}
+use Rattle.field_reader.specs.Scanned.{scan_from, scanned}
 use Rattle.field_reader.proofs.scan_sheet.Given as goal
 
 abbrev pub invariant-loop-at : goal.invariant-loop-at

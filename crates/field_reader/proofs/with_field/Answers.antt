@@ -1,6 +1,5 @@
 -- `with_field` is right because it asks for the station's tag and then the allocation's, as the definition does.
 use mathlib.Core.Path.{refl}
-use borrow.Author.Rules.{rules}
 use borrow.Author.Tests.{eq-eqb, ne_eqb}
 use Rattle.field_reader.specs.Scanned.{with_field}
 use Rattle.field_reader.proofs.with_field.Goals as goal

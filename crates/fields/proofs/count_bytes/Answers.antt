@@ -1,6 +1,5 @@
 -- `count_bytes` is right because from the first place on all bytes are left, and because an element of a lent slice of bytes is a byte.
 use native.Mathlib.Omega.{arith}
-use borrow.Author.Rules.{rules}
 use Rattle.fields.proofs.count_bytes.Goals as goal
 
 pub returns : goal.returns

@@ -1,12 +1,10 @@
 -- `field_at` is right because it asks the definition's tests in the definition's order, and stops at the first that fails.
 use mathlib.Core.Path.{◌≡◌, sym, ap, ◌∙◌}
-use borrow.Author.Tests.{not-true, not-false}
 use native.Mathlib.Omega.{arith}
 use Prim.Native.Nat.{◌+◌, ◌≤◌, ◌<◌}
 use mathlib.Core.Bool.{true, false}
 use Rattle.fields.specs.Fields.{left, tag_at, size_at, is_allowed, allowed_at}
 use Rattle.fields.proofs.FieldLaws.{field_refused, field_short, field_wrong, field_cut, field_whole, handed_whole}
-use borrow.Author.Rules.{rules}
 use Rattle.fields.proofs.field_at.Goals as goal
 
 pub returns-then-left_from-lt3 : goal.returns-then-left_from-lt3

@@ -1,6 +1,5 @@
 -- `is_allowed` is right because it goes by the rows of the table, in the definition's order.
 use mathlib.Core.Path.{refl}
-use borrow.Author.Rules.{rules}
 use borrow.Author.Tests.{ne_eqb}
 use Rattle.fields.specs.Fields.{is_allowed}
 use Rattle.fields.proofs.is_allowed.Goals as goal

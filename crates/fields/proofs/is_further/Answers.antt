@@ -1,6 +1,5 @@
 -- `is_further` is right because it asks the definition's tests.
 use mathlib.Core.Path.{refl}
-use borrow.Author.Rules.{rules}
 use Rattle.fields.proofs.is_further.Goals as goal
 
 pub returns : goal.returns

@@ -3,7 +3,6 @@ use Prim.Native.Nat.{ℕ}
 use mathlib.Core.Path.{sym, ap, ◌∙◌}
 use Rattle.plans.specs.declared.Planned.{Planned}
 use Rattle.hopper.proofs.TrainLaws.{change_refused, change_given}
-use borrow.Author.Rules.{rules}
 use Rattle.hopper.proofs.change_train.Goals as goal
 
 pub returns-then-refusal-ne-ACCEPTED : goal.returns-then-refusal-ne-ACCEPTED

@@ -1,7 +1,6 @@
 -- `change_wagon` is right because what is refused before the planner is asked is refused first, and then it is the change to the new list.
 use mathlib.Core.Path.{◌∙◌}
 use Rattle.hopper.proofs.TrainLaws.{refused_before, then_planned}
-use borrow.Author.Rules.{rules}
 use Rattle.hopper.proofs.change_wagon.Goals as goal
 
 pub returns-then-number-ne-ACCEPTED : goal.returns-then-number-ne-ACCEPTED

@@ -1,6 +1,5 @@
 -- `couple_train` is right because it is the change of the train that has no wagon.
 use mathlib.Core.Path.{refl, ◌∙◌}
-use borrow.Author.Rules.{rules}
 use Rattle.hopper.proofs.couple_train.Goals as goal
 
 pub returns : goal.returns

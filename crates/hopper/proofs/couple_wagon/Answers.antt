@@ -1,6 +1,5 @@
 -- `couple_wagon` is right because it is the change to the list with one wagon more.
 use mathlib.Core.Path.{refl, ◌∙◌}
-use borrow.Author.Rules.{rules}
 use Rattle.hopper.proofs.couple_wagon.Goals as goal
 
 pub returns : goal.returns

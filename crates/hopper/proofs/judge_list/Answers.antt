@@ -1,7 +1,6 @@
 -- `judge_list` is right because its two tests are the definition's, in the definition's order.
 use mathlib.Core.Path.{◌≡◌, sym, ◌∙◌}
 use mathlib.Core.Bool.{true}
-use borrow.Author.Tests.{not-true, not-false}
 use Rattle.hopper.specs.Wagons.{count_fits}
 use Rattle.hopper.proofs.WagonLaws.{decides_count, list_2, list_4, list_0}
 use Rattle.hopper.proofs.judge_list.Goals as goal

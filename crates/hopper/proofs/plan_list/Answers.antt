@@ -4,7 +4,6 @@ use mathlib.Core.Path.{sym, ap, ◌∙◌}
 use Rattle.plans.specs.Planned.{blank_alloc}
 use Rattle.sheets.specs.declared.ReadRequest.{ReadRequest}
 use Rattle.hopper.proofs.RequestLaws.{request_number, request_set, plan_refused_lem, plan_given}
-use borrow.Author.Rules.{rules}
 use Rattle.hopper.proofs.plan_list.Goals as goal
 
 pub returns-then-request-ne-ACCEPTED : goal.returns-then-request-ne-ACCEPTED

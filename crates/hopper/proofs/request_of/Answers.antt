@@ -5,7 +5,6 @@ use Rattle.sets.specs.Judged.{blank_set}
 use Rattle.hopper.specs.Wagons.{judged_list}
 use Rattle.hopper.proofs.WagonLaws.{list_fits}
 use Rattle.hopper.proofs.RequestLaws.{request_refused, request_given}
-use borrow.Author.Rules.{rules}
 use Rattle.hopper.proofs.request_of.Goals as goal
 
 pub returns-then-judged-ne-ACCEPTED : goal.returns-then-judged-ne-ACCEPTED

@@ -1,6 +1,5 @@
 -- `uncouple_wagon` is right because it is the change to the list without its last wagon.
 use mathlib.Core.Path.{refl, ◌∙◌}
-use borrow.Author.Rules.{rules}
 use Rattle.hopper.proofs.uncouple_wagon.Goals as goal
 
 pub returns : goal.returns

@@ -1,7 +1,6 @@
 -- `with_more` is right because its branch is the definition's: a full list is counted on, another has the wagon in its next place.
 use mathlib.Core.Path.{sym}
 use Rattle.hopper.proofs.WagonLaws.{more_full, more_room}
-use borrow.Author.Rules.{rules}
 use Rattle.hopper.proofs.with_more.Goals as goal
 
 pub returns-then-list-ge-MOST_WAGONS : goal.returns-then-list-ge-MOST_WAGONS

@@ -3,7 +3,6 @@ use Prim.Native.Nat.{◌-◌}
 use mathlib.Core.Path.{◌≡◌, refl, ap}
 use native.Mathlib.Omega.{arith}
 use Rattle.hopper.specs.Wagons.{with_count}
-use borrow.Author.Rules.{rules}
 use Rattle.hopper.proofs.without_last.Goals as goal
 
 pub returns-then-list-gt0 : goal.returns-then-list-gt0

@@ -2,7 +2,6 @@
 use mathlib.Core.Path.{sym, ap, ◌∙◌}
 use Rattle.sheets.specs.declared.ReadRequest.{ReadRequest}
 use Rattle.hopper.proofs.RequestLaws.{request_number, request_set, sheet_refused, sheet_given}
-use borrow.Author.Rules.{rules}
 use Rattle.hopper.proofs.write_sheet.Goals as goal
 
 pub returns-then-asked-ne-ACCEPTED : goal.returns-then-asked-ne-ACCEPTED

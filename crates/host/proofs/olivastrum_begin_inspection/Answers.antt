@@ -1,5 +1,4 @@
 -- `olivastrum_begin_inspection` is right because it is that of the layer below.
-use borrow.Author.Rules.{rules}
 use Rattle.host.proofs.olivastrum_begin_inspection.Goals as goal
 
 pub returns : goal.returns

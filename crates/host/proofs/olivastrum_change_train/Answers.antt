@@ -1,5 +1,4 @@
 -- `olivastrum_change_train` is right because it is the change of the layer below.
-use borrow.Author.Rules.{rules}
 use Rattle.host.proofs.olivastrum_change_train.Goals as goal
 
 pub returns : goal.returns

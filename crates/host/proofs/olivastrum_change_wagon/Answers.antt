@@ -1,5 +1,4 @@
 -- `olivastrum_change_wagon` is right because it is the change of a wagon by the layer below.
-use borrow.Author.Rules.{rules}
 use Rattle.host.proofs.olivastrum_change_wagon.Goals as goal
 
 pub returns : goal.returns

@@ -1,5 +1,4 @@
 -- `olivastrum_couple_train` is right because it is the coupling of the layer below.
-use borrow.Author.Rules.{rules}
 use Rattle.host.proofs.olivastrum_couple_train.Goals as goal
 
 pub returns : goal.returns

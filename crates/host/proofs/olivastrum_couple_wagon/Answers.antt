@@ -1,5 +1,4 @@
 -- `olivastrum_couple_wagon` is right because it is the coupling of a wagon by the layer below.
-use borrow.Author.Rules.{rules}
 use Rattle.host.proofs.olivastrum_couple_wagon.Goals as goal
 
 pub returns : goal.returns

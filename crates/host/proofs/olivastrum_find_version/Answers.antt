@@ -1,5 +1,4 @@
 -- `olivastrum_find_version` is right because it is the finding of a version by the layer below.
-use borrow.Author.Rules.{rules}
 use Rattle.host.proofs.olivastrum_find_version.Goals as goal
 
 pub returns : goal.returns

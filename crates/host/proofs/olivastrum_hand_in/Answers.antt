@@ -1,7 +1,6 @@
 -- `olivastrum_hand_in` is right because the ring in the host's memory is changed by the handing in on its arrays; a refused one leaves them.
-use Rattle.std.proofs.Common.{◌≡◌, ◌≢◌, ap, sym, ◌∙◌}
+use Rattle.std.proofs.Common.{◌≡◌, ◌≢◌, sym, ◌∙◌}
 use Rattle.rings.specs.HandingIn.{handed_in}
-use Rattle.rings.specs.declared.Ring.{Ring}
 use Rattle.host_rules.proofs.Promised.{promised}
 use Rattle.host.proofs.Refused.{ring_stays}
 use Rattle.host.proofs.olivastrum_hand_in.Goals as goal

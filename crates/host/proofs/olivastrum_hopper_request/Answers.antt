@@ -1,5 +1,4 @@
 -- `olivastrum_hopper_request` is right because it is the request of a list by the layer below.
-use borrow.Author.Rules.{rules}
 use Rattle.host.proofs.olivastrum_hopper_request.Goals as goal
 
 pub returns : goal.returns

@@ -1,5 +1,4 @@
 -- `olivastrum_inspect_log_of` is right because it is the inspection of a log against a plan sheet by the layer below.
-use borrow.Author.Rules.{rules}
 use Rattle.host.proofs.olivastrum_inspect_log_of.Goals as goal
 
 pub returns : goal.returns

@@ -7,7 +7,6 @@ use mathlib.Core.Logic.{◌≢◌}
 use native.Mathlib.Omega.{arith}
 use lib.Dec.{eqb}
 use lib.ListN.{length}
-use borrow.Author.Rules.{rules}
 use borrow.Author.Tests.{le-leb, ne_eqb}
 use Rattle.log_records.specs.Visit.{visit_length, visit_or_blank, visit_stands}
 use Rattle.log_records.specs.Mark.{mark_length, mark_or_blank, mark_stands}

@@ -1,7 +1,6 @@
 -- `olivastrum_mark` is right because the ring in the host's memory is changed by the marking on its arrays; a refused one leaves them.
 use Rattle.std.proofs.Common.{◌≡◌, ◌≢◌, ap, sym, ◌∙◌}
 use Rattle.rings.specs.Marking.{marked}
-use Rattle.rings.specs.declared.Ring.{Ring}
 use Rattle.rings.specs.declared.MarkAnswer.{MarkAnswer}
 use Rattle.host_rules.proofs.Promised.{promised}
 use Rattle.host.proofs.Refused.{ring_stays}

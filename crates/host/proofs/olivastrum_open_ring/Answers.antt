@@ -1,5 +1,4 @@
 -- `olivastrum_open_ring` is right because it is the opening of the layer below.
-use borrow.Author.Rules.{rules}
 use Rattle.host.proofs.olivastrum_open_ring.Goals as goal
 
 pub returns : goal.returns

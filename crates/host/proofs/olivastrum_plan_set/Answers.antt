@@ -1,5 +1,4 @@
 -- `olivastrum_plan_set` is right because it is the planning of the layer below.
-use borrow.Author.Rules.{rules}
 use Rattle.host.proofs.olivastrum_plan_set.Goals as goal
 
 pub returns : goal.returns

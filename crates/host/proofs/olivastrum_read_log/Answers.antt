@@ -1,5 +1,4 @@
 -- `olivastrum_read_log` is right because it is the reading of a log by the layer below.
-use borrow.Author.Rules.{rules}
 use Rattle.host.proofs.olivastrum_read_log.Goals as goal
 
 pub returns : goal.returns

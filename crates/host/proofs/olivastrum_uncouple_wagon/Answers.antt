@@ -1,5 +1,4 @@
 -- `olivastrum_uncouple_wagon` is right because it is the uncoupling of the layer below.
-use borrow.Author.Rules.{rules}
 use Rattle.host.proofs.olivastrum_uncouple_wagon.Goals as goal
 
 pub returns : goal.returns

@@ -1,7 +1,6 @@
 -- `olivastrum_unmark` is right because the ring in the host's memory is changed by taking the mark off on its arrays; a refused call leaves them.
-use Rattle.std.proofs.Common.{◌≡◌, ◌≢◌, ap, sym, ◌∙◌}
+use Rattle.std.proofs.Common.{◌≡◌, ◌≢◌, sym, ◌∙◌}
 use Rattle.rings.specs.Marking.{unmarked}
-use Rattle.rings.specs.declared.Ring.{Ring}
 use Rattle.host_rules.proofs.Promised.{promised}
 use Rattle.host.proofs.Refused.{ring_stays}
 use Rattle.host.proofs.olivastrum_unmark.Goals as goal

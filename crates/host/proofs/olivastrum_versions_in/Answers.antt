@@ -1,5 +1,4 @@
 -- `olivastrum_versions_in` is right because it is what the layer below says of the versions.
-use borrow.Author.Rules.{rules}
 use Rattle.host.proofs.olivastrum_versions_in.Goals as goal
 
 pub returns : goal.returns

@@ -1,7 +1,6 @@
 -- `olivastrum_visit` is right because the ring in the host's memory is changed by the visit on its arrays; a refused one leaves them.
 use Rattle.std.proofs.Common.{◌≡◌, ◌≢◌, ap, sym, ◌∙◌}
 use Rattle.rings.specs.Steps.{visited}
-use Rattle.rings.specs.declared.Ring.{Ring}
 use Rattle.rings.specs.declared.VisitAnswer.{VisitAnswer}
 use Rattle.host_rules.proofs.Promised.{promised}
 use Rattle.host.proofs.Refused.{ring_stays}

@@ -1,5 +1,5 @@
 -- `compare` is right because it asks what the record must say, and compares by the broken rule.
-use Rattle.std.proofs.Common.{sym, rules}
+use Rattle.std.proofs.Common.{sym}
 use Rattle.inspection.proofs.compare.Goals as goal
 
 pub returns : goal.returns

@@ -1,5 +1,5 @@
 -- `compare_visit` is right because each arm is the definition's own.
-use Rattle.std.proofs.Common.{sym, rules}
+use Rattle.std.proofs.Common.{sym}
 use Rattle.inspection.proofs.FindingLaws.{station_compared, start_compared, limit_compared, synchronous_compared, asynchronous_compared}
 use Rattle.inspection.proofs.compare_visit.Goals as goal
 

@@ -1,5 +1,4 @@
 -- `expect` is right because it asks with what the arrays have at the place of the token's station.
-use Rattle.std.proofs.Common.{rules}
 use Rattle.inspection.proofs.RecordLaws.{asked_there}
 use Rattle.inspection.proofs.expect.Goals as goal
 

@@ -1,5 +1,5 @@
 -- `found` is right because its branch is the definition's own.
-use Rattle.std.proofs.Common.{◌≡◌, ℕ, sym, ap, rules}
+use Rattle.std.proofs.Common.{◌≡◌, ℕ, sym, ap}
 use Rattle.inspection.specs.Findings.{broken_record, finding_of}
 use Rattle.inspection.specs.declared.Inspection.{Inspection}
 use Rattle.inspection.proofs.FindingLaws.{named, none_named}

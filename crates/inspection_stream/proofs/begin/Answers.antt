@@ -1,6 +1,5 @@
 -- `begin` is right because it puts the three together.
 use Rattle.inspection_stream.proofs.WholeLaws.{kept_as}
-use borrow.Author.Rules.{rules}
 use Rattle.inspection_stream.proofs.begin.Goals as goal
 
 pub returns : goal.returns

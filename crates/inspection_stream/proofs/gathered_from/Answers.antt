@@ -1,7 +1,6 @@
 -- `gathered_from` is right because it goes by whether all fields of the plan have passed.
 use mathlib.Core.Path.{sym, ◌∙◌}
 use Rattle.inspection_stream.proofs.WholeLaws.{from_passed, from_fault}
-use borrow.Author.Rules.{rules}
 use Rattle.inspection_stream.proofs.gathered_from.Goals as goal
 
 pub returns-then-passed : goal.returns-then-passed

@@ -1,5 +1,4 @@
 -- `inspect_on` is right because it begins at the first byte of the piece.
-use borrow.Author.Rules.{rules}
 use Rattle.inspection_stream.proofs.inspect_on.Goals as goal
 
 pub returns : goal.returns

@@ -4,7 +4,6 @@ use lib.ListN.{drop}
 use Rattle.sheets.specs.declared.PlanStart.{PlanStart}
 use Rattle.inspection_stream.specs.Inspecting.{inspect_from, inspect_over}
 use Rattle.inspection_stream.specs.declared.Inspecting.{Inspecting}
-use borrow.Author.Rules.{rules}
 use Rattle.inspection_stream.proofs.inspect_start.Goals as goal
 
 pub returns : goal.returns

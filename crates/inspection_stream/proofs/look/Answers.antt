@@ -4,7 +4,6 @@ use Rattle.log_records.specs.declared.NextEntry.{NextEntry}
 use Rattle.logs.specs.Reading.{handed_from}
 use Rattle.inspection.specs.Records.{inspected_all}
 use Rattle.inspection_stream.proofs.LookLaws.{looked_as, look_stopped, look_on}
-use borrow.Author.Rules.{rules}
 use Rattle.inspection_stream.proofs.look.Goals as goal
 
 pub returns-then-state-ne0 : goal.returns-then-state-ne0

@@ -2,7 +2,6 @@
 use mathlib.Core.Path.{ap}
 use Rattle.log_records.specs.declared.Entry.TheVariants.{Visit}
 use Rattle.inspection_stream.proofs.LookLaws.{looked_as}
-use borrow.Author.Rules.{rules}
 use Rattle.inspection_stream.proofs.look_first.Goals as goal
 
 pub returns : goal.returns

@@ -1,7 +1,6 @@
 -- `number_of` is right because a fault of the records comes before the plan's refusal.
 use mathlib.Core.Path.{sym, ◌∙◌}
 use Rattle.sheets.proofs.ReadLaws.{then_rest, then_keeps}
-use borrow.Author.Rules.{rules}
 use Rattle.inspection_stream.proofs.number_of.Goals as goal
 
 pub returns-then-number-ne-ACCEPTED : goal.returns-then-number-ne-ACCEPTED

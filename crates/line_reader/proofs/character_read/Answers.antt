@@ -1,7 +1,6 @@
 -- `character_read` is right because it goes by the phase as the definition does.
 use borrow.Author.Tests.{eq-eqb, ne_eqb}
 use Rattle.line_reader.specs.Scan.{character_read}
-use borrow.Author.Rules.{rules}
 use Rattle.line_reader.proofs.character_read.Goals as goal
 
 pub returns-then-s-eq-NUMBER : goal.returns-then-s-eq-NUMBER

@@ -3,11 +3,10 @@ use Prim.Native.Nat.{◌≤◌, ◌<◌, ◌^◌}
 use mathlib.Core.Path.{◌≡◌, sym, ◌∙◌}
 use mathlib.Core.Bool.{true, false, ◌&&◌}
 use native.Mathlib.Omega.{arith}
-use borrow.Author.Tests.{not-true, not-false, ltb-true, leb-true}
+use borrow.Author.Tests.{ltb-true, leb-true}
 use lib.Dec.{ltb, leb}
 use Rattle.units.proofs.JudgingLaws.{and-true}
 use Rattle.line_reader.specs.Scan.{is_digit, longer, digit_read}
-use borrow.Author.Rules.{rules}
 use Rattle.line_reader.proofs.digit_read.Goals as goal
 
 pub returns-then-not-readable : goal.returns-then-not-readable

@@ -4,7 +4,6 @@ use mathlib.Core.Logic.{⊎_elim}
 use native.Mathlib.Omega.{arith}
 use borrow.Author.Tests.{lt-ltb, le-ltb, le-leb, lt-leb}
 use Rattle.units.proofs.SmallLaws.{below_or_not}
-use borrow.Author.Rules.{rules}
 use Rattle.line_reader.proofs.has_room.Goals as goal
 
 pub returns : goal.returns

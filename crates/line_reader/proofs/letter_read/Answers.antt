@@ -3,11 +3,10 @@ use Prim.Native.Nat.{◌<◌, ◌^◌}
 use mathlib.Core.Path.{◌≡◌}
 use mathlib.Core.Bool.{true, false, ◌&&◌}
 use native.Mathlib.Omega.{arith}
-use borrow.Author.Tests.{not-true, not-false, ltb-true}
+use borrow.Author.Tests.{ltb-true}
 use lib.Dec.{ltb}
 use Rattle.units.proofs.JudgingLaws.{and-true}
 use Rattle.line_reader.specs.Scan.{is_letter, letter_read}
-use borrow.Author.Rules.{rules}
 use Rattle.line_reader.proofs.letter_read.Goals as goal
 
 pub returns-then-not-readable : goal.returns-then-not-readable

@@ -1,6 +1,5 @@
 -- `next_line` is right because a line below the last has a next one.
 use native.Mathlib.Omega.{arith}
-use borrow.Author.Rules.{rules}
 use Rattle.line_reader.proofs.next_line.Goals as goal
 
 pub returns-then-line-lt-LAST_LINE : goal.returns-then-line-lt-LAST_LINE

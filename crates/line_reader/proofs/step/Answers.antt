@@ -6,7 +6,6 @@ use lib.Dec.{eqb}
 use borrow.Author.Tests.{eq-eqb, ne_eqb}
 use Rattle.line_reader.specs.Scan.{in_comment, unreadable, stepped}
 use Rattle.line_reader.specs.declared.Scan.{Scan}
-use borrow.Author.Rules.{rules}
 use Rattle.line_reader.proofs.step.Goals as goal
 
 -- behind a comment's start or a fault nothing changes

@@ -1,7 +1,6 @@
 -- `at_field` is right because it asks whether the record is whole, and for 20 bytes, as the definition does.
 use mathlib.Core.Path.{sym, ◌∙◌}
 use Rattle.log_stream.proofs.StepLaws.{begins_anew, goes_on}
-use borrow.Author.Rules.{rules}
 use Rattle.log_stream.proofs.at_field.Goals as goal
 
 pub returns-then-begins : goal.returns-then-begins

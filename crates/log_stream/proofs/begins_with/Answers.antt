@@ -1,7 +1,6 @@
 -- `begins_with` is right because a length in two bytes is the first times 256 and the second.
 use mathlib.Core.Path.{refl}
 use Rattle.fields.specs.Bytes.{short_at}
-use borrow.Author.Rules.{rules}
 use Rattle.log_stream.proofs.begins_with.Goals as goal
 
 pub returns : goal.returns

@@ -1,7 +1,6 @@
 -- `entry_in` is right because it asks whether the record is whole, as the definition does.
 use mathlib.Core.Path.{◌∙◌}
 use Rattle.log_stream.proofs.StepLaws.{none_in, one_in}
-use borrow.Author.Rules.{rules}
 use Rattle.log_stream.proofs.entry_in.Goals as goal
 
 pub returns-then-is_whole : goal.returns-then-is_whole

@@ -3,7 +3,6 @@ use mathlib.Core.Path.{ap, ◌∙◌}
 use Rattle.log_stream.specs.Pieces.{with_byte, told}
 use Rattle.log_stream.specs.declared.Gathered.{Gathered}
 use Rattle.log_stream.proofs.StepLaws.{step_stopped, step_ended, step_on, room}
-use borrow.Author.Rules.{rules}
 use Rattle.log_stream.proofs.step.Goals as goal
 
 pub returns-then-v-ne-ACCEPTED : goal.returns-then-v-ne-ACCEPTED

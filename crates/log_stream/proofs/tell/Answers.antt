@@ -5,7 +5,6 @@ use borrow.Author.Tests.{eq-eqb, ne_eqb}
 use lib.Dec.{eqb}
 use Rattle.logs.specs.Records.{is_record}
 use Rattle.log_stream.specs.Pieces.{told}
-use borrow.Author.Rules.{rules}
 use Rattle.log_stream.proofs.tell.Goals as goal
 
 -- what the two tests say together

@@ -1,5 +1,5 @@
 -- `add_mark` is right because it answers by the number of what was put.
-use Rattle.std.proofs.Common.{◌+◌, ◌≤◌, length, sym, ◌∙◌, arith, rules}
+use Rattle.std.proofs.Common.{◌+◌, ◌≤◌, length, sym, ◌∙◌, arith}
 use Rattle.logs.proofs.WritingLaws.{room_fits, mark_number_lem, marked_refused, marked_all}
 use Rattle.logs.proofs.add_mark.Goals as goal
 

@@ -1,5 +1,5 @@
 -- `add_visit` is right because it answers by the number of what was put.
-use Rattle.std.proofs.Common.{◌+◌, ◌≤◌, length, sym, ap, ◌∙◌, subst, arith, rules}
+use Rattle.std.proofs.Common.{◌+◌, ◌≤◌, length, sym, ap, ◌∙◌, subst, arith}
 use Rattle.log_records.specs.Visit.{visit_bytes}
 use Rattle.log_records.specs.declared.VisitEntry.{VisitEntry}
 use Rattle.sheets.specs.Writing.{PutAt}

@@ -1,6 +1,5 @@
 -- `begin_log` is right because it answers by the number of what was written.
 use Rattle.logs.proofs.WritingLaws.{began_refused, began_all}
-use Rattle.std.proofs.Common.{rules}
 use Rattle.logs.proofs.begin_log.Goals as goal
 
 pub returns-then-written-ne-ACCEPTED : goal.returns-then-written-ne-ACCEPTED

@@ -1,5 +1,5 @@
 -- `end_log` is right because it answers by the number of what was put.
-use Rattle.std.proofs.Common.{◌+◌, ◌≤◌, length, sym, ◌∙◌, arith, rules}
+use Rattle.std.proofs.Common.{◌+◌, ◌≤◌, length, sym, ◌∙◌, arith}
 use Rattle.logs.proofs.WritingLaws.{room_fits, end_number_lem, ended_refused, ended_all}
 use Rattle.logs.proofs.end_log.Goals as goal
 

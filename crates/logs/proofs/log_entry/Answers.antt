@@ -1,5 +1,5 @@
 -- `log_entry` is right because it hands out the visit or the mark where a whole one stands, and else the blank entry.
-use Rattle.std.proofs.Common.{◌≡◌, ◌+◌, ◌≤◌, true, false, length, sym, refl, ◌∙◌, arith, rules, le-leb}
+use Rattle.std.proofs.Common.{◌≡◌, ◌+◌, ◌≤◌, true, false, length, sym, refl, ◌∙◌, arith, le-leb}
 use Rattle.log_records.specs.Visit.{visit_or_blank, visit_stands}
 use Rattle.log_records.specs.Mark.{mark_or_blank, mark_stands}
 use Rattle.log_records.specs.Entry.{next_entry}

@@ -1,5 +1,5 @@
 -- `read_log` is right because it keeps the fault of the plan's fields, then that of the records, then the number of the judgement.
-use Rattle.std.proofs.Common.{sym, ◌∙◌, rules}
+use Rattle.std.proofs.Common.{sym, ◌∙◌}
 use borrow.Author.Tests.{not-true, not-false}
 use Rattle.logs.proofs.ReadingLaws.{log_not_all, log_fault, log_judged, log_whole}
 use Rattle.logs.proofs.read_log.Goals as goal

@@ -1,13 +1,12 @@
 -- `is_whole` is right because after i turns the first i bytes have been looked at.
-use Prim.Native.Nat.{◌≤◌, ◌-◌}
+use Prim.Native.Nat.{◌-◌}
 use mathlib.Core.Path.{◌≡◌, refl, sym}
 use native.Mathlib.Omega.{arith}
 use borrow.Author.Tests.{eq-eqb, ne_eqb}
 use lib.ListN.{length}
-use Rattle.units.specs.Places.{at, all_below}
+use Rattle.units.specs.Places.{at}
 use Rattle.units.proofs.PlaceLaws.{all_then, all_none}
-use Rattle.number_words.specs.Words.{is_digit, is_whole}
-use borrow.Author.Rules.{rules}
+use Rattle.number_words.specs.Words.{is_whole}
 use Rattle.number_words.proofs.is_whole.Goals as goal
 
 pub returns-then-word-eq0 : goal.returns-then-word-eq0

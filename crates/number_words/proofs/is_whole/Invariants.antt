@@ -1,13 +1,9 @@
 -- `is_whole` is right because after i turns the first i bytes have been looked at.
 use Prim.Native.Nat.{◌≤◌, ◌-◌}
-use mathlib.Core.Path.{◌≡◌, refl, sym}
-use native.Mathlib.Omega.{arith}
-use borrow.Author.Tests.{eq-eqb, ne_eqb}
+use mathlib.Core.Path.{◌≡◌}
 use lib.ListN.{length}
 use Rattle.units.specs.Places.{at, all_below}
-use Rattle.units.proofs.PlaceLaws.{all_then, all_none}
 use Rattle.number_words.specs.Words.{is_digit, is_whole}
-use borrow.Author.Rules.{rules}
 use Rattle.number_words.proofs.is_whole.Given as goal
 
 abbrev pub invariant-loop-i : goal.invariant-loop-i

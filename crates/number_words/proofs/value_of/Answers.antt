@@ -1,11 +1,9 @@
 -- `value_of` is right because after i turns the first i digits have been read.
-use Prim.Native.Nat.{◌≤◌, ◌-◌}
+use Prim.Native.Nat.{◌-◌}
 use mathlib.Core.Path.{◌≡◌, sym}
 use native.Mathlib.Omega.{arith}
 use lib.ListN.{length}
-use Rattle.number_words.specs.Words.{first_digits}
 use Rattle.number_words.proofs.WordLaws.{digits_none, digits_step}
-use borrow.Author.Rules.{rules}
 use Rattle.number_words.proofs.value_of.Goals as goal
 
 pub loop-i-init : goal.loop-i-init

@@ -1,5 +1,5 @@
 -- `is_drawn` is right because it goes by the kind of the record, as the definition does.
-use Rattle.std.proofs.Common.{sym, ap, rules}
+use Rattle.std.proofs.Common.{sym, ap}
 use Rattle.picture_stream.specs.Watching.{is_drawn}
 use Rattle.picture_stream.proofs.is_drawn.Goals as goal
 

@@ -1,5 +1,5 @@
 -- `last_line_lem` is right because its branch is the definition's own.
-use Rattle.std.proofs.Common.{refl, rules, eq-eqb, ne_eqb}
+use Rattle.std.proofs.Common.{refl, eq-eqb, ne_eqb}
 use Rattle.picture_stream.specs.Watching.{last_line}
 use Rattle.picture_stream.proofs.last_line.Goals as goal
 

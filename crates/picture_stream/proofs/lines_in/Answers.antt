@@ -1,5 +1,5 @@
 -- `lines_in` is right because its branch is the definition's own, and whole rotations alone are as many lines.
-use Rattle.std.proofs.Common.{arith, rules, eq-eqb, ne_eqb}
+use Rattle.std.proofs.Common.{arith, eq-eqb, ne_eqb}
 use Rattle.picture_stream.specs.Watching.{lines_in}
 use Rattle.picture_stream.proofs.lines_in.Goals as goal
 

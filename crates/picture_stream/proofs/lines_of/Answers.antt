@@ -1,5 +1,5 @@
 -- `lines_of` is right because its branches are the definition's own: where a record is named, its line is there.
-use Rattle.std.proofs.Common.{arith, rules, eq-eqb, ne_eqb}
+use Rattle.std.proofs.Common.{arith, eq-eqb, ne_eqb}
 use Rattle.picture_stream.specs.Watching.{lines_of}
 use Rattle.picture_stream.proofs.lines_of.Goals as goal
 

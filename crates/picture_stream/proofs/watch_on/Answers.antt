@@ -1,8 +1,6 @@
 -- `watch_on` is right because behind each byte what is left to do is the same, and a byte that ends a record that is drawn is the last.
-use Rattle.std.proofs.Common.{◌-◌, length, arith, rules}
-use Rattle.tallies.specs.Tallies.{seen_of}
-use Rattle.picture_stream.specs.Watching.{watching_of}
-use Rattle.picture_stream.proofs.TurnLaws.{Going, going_first, going_ends, going_on, going_past, going_stops}
+use Rattle.std.proofs.Common.{◌-◌, arith}
+use Rattle.picture_stream.proofs.TurnLaws.{going_first, going_ends, going_on, going_past, going_stops}
 use Rattle.picture_stream.proofs.watch_on.Goals as goal
 
 pub loop-i-init : goal.loop-i-init

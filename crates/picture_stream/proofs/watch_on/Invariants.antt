@@ -1,8 +1,8 @@
 -- `watch_on` is right because behind each byte what is left to do is the same, and a byte that ends a record that is drawn is the last.
-use Rattle.std.proofs.Common.{◌-◌, length, arith, rules}
+use Rattle.std.proofs.Common.{◌-◌, length}
 use Rattle.tallies.specs.Tallies.{seen_of}
 use Rattle.picture_stream.specs.Watching.{watching_of}
-use Rattle.picture_stream.proofs.TurnLaws.{Going, going_first, going_ends, going_on, going_past, going_stops}
+use Rattle.picture_stream.proofs.TurnLaws.{Going}
 use Rattle.picture_stream.proofs.watch_on.Given as goal
 
 abbrev pub invariant-loop-i : goal.invariant-loop-i

@@ -1,5 +1,5 @@
 -- `watch_start` is right because it reads the plan, and of the records nothing.
-use Rattle.std.proofs.Common.{refl, rules}
+use Rattle.std.proofs.Common.{refl}
 use Rattle.picture_stream.proofs.watch_start.Goals as goal
 
 pub returns : goal.returns

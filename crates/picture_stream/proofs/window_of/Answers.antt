@@ -1,5 +1,5 @@
 -- `window_of` is right because it ends at the last line, begins 60 before it, and names what the inspection names.
-use Rattle.std.proofs.Common.{refl, rules}
+use Rattle.std.proofs.Common.{refl}
 use Rattle.picture_stream.proofs.window_of.Goals as goal
 
 pub returns : goal.returns

@@ -1,5 +1,4 @@
 -- `line_end` is right because its body is the definition.
-use Rattle.std.proofs.Common.{rules}
 use Rattle.pictures.specs.Parts.{line_end}
 use Rattle.pictures.proofs.line_end.Goals as goal
 

@@ -1,5 +1,5 @@
 -- `part_at` is right because it asks for the parts in their order.
-use Rattle.std.proofs.Common.{refl, rules, eq-eqb, ne_eqb}
+use Rattle.std.proofs.Common.{refl, eq-eqb, ne_eqb}
 use Rattle.pictures.specs.Parts.{part_at}
 use Rattle.pictures.proofs.part_at.Goals as goal
 

@@ -1,5 +1,5 @@
 -- `pen_after` is right because its body is the definition.
-use Rattle.std.proofs.Common.{refl, rules}
+use Rattle.std.proofs.Common.{refl}
 use Rattle.pictures.specs.Parts.{pen_after}
 use Rattle.pictures.proofs.pen_after.Goals as goal
 

@@ -1,11 +1,8 @@
 -- `count_visits` is right because the visits that were counted and those of the records that are left are always all of them.
 use Prim.Native.Nat.{◌+◌, ◌-◌, ◌≤◌}
 use mathlib.Core.Path.{◌≡◌}
-use native.Mathlib.Omega.{arith}
 use Rattle.logs.specs.Reading.{handed_from}
 use Rattle.plan_inspections.specs.PlanFindings.{visits_in}
-use Rattle.plan_inspections.proofs.FindingLaws.{one_at_most, counted_first, counted_on, counted_all}
-use borrow.Author.Rules.{rules}
 use Rattle.plan_inspections.proofs.count_visits.Given as goal
 
 abbrev pub invariant-loop-i : goal.invariant-loop-i

@@ -1,6 +1,5 @@
 -- `found_with` is right because the records that were read are inspected, and their visits counted.
 use mathlib.Core.Path.{refl}
-use borrow.Author.Rules.{rules}
 use Rattle.plan_inspections.proofs.found_with.Goals as goal
 
 pub returns : goal.returns

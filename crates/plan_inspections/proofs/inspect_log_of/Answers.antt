@@ -1,13 +1,11 @@
 -- `inspect_log_of` is right because it asks in the order of the definition: the plan sheet, the log, whether their plans differ, and the finding.
 use mathlib.Core.Path.{sym, ap, ◌∙◌}
-use borrow.Author.Tests.{not-true, not-false}
 use Rattle.logs.specs.Reading.{handed_from}
 use Rattle.inspection.specs.Records.{inspected_all}
 use Rattle.inspection.specs.Findings.{finding_of}
 use Rattle.inspection.specs.declared.Inspection.{Inspection}
 use Rattle.plan_inspections.specs.PlanFindings.{visits_in, with_visits}
 use Rattle.plan_inspections.proofs.FindingLaws.{plan_refused_lem, log_refused, another_plan, same_plan}
-use borrow.Author.Rules.{rules}
 use Rattle.plan_inspections.proofs.inspect_log_of.Goals as goal
 
 pub returns-then-sheet-ne-ACCEPTED : goal.returns-then-sheet-ne-ACCEPTED

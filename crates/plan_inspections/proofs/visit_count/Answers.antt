@@ -1,6 +1,5 @@
 -- `visit_count` is right because it goes by the kind of the record, as the definition does.
 use mathlib.Core.Path.{refl}
-use borrow.Author.Rules.{rules}
 use Rattle.plan_inspections.proofs.visit_count.Goals as goal
 
 pub returns-in-Visit : goal.returns-in-Visit

@@ -1,11 +1,10 @@
 -- `alloc_in_range` is right because its flag is the test over the stations passed, and it passes the first n.
-use Prim.Native.Nat.{◌-◌, ◌≤◌}
+use Prim.Native.Nat.{◌-◌}
 use mathlib.Core.Path.{◌≡◌, refl, sym, ◌∙◌}
 use native.Mathlib.Omega.{arith}
-use Rattle.units.specs.Places.{at, all_below}
+use Rattle.units.specs.Places.{at}
 use Rattle.units.proofs.PlaceLaws.{all_then, all_none}
 use Rattle.plans.specs.Rules.{in_range_s}
-use borrow.Author.Rules.{rules}
 use Rattle.plans.proofs.alloc_in_range.Goals as goal
 
 pub loop-i-preserved : goal.loop-i-preserved

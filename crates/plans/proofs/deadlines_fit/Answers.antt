@@ -1,12 +1,11 @@
 -- `deadlines_fit` is right because its flag is the rule over the stations passed, and it passes the first n.
-use Prim.Native.Nat.{◌-◌, ◌≤◌}
+use Prim.Native.Nat.{◌-◌}
 use mathlib.Core.Path.{◌≡◌, refl, sym, ◌∙◌}
 use native.Mathlib.Omega.{arith}
 use lib.Dec.{leb}
-use Rattle.units.specs.Places.{at, all_below}
+use Rattle.units.specs.Places.{at}
 use Rattle.units.proofs.PlaceLaws.{all_then, all_none}
 use Rattle.plans.specs.Lent.{timely_fits_in}
-use borrow.Author.Rules.{rules}
 use Rattle.plans.proofs.deadlines_fit.Goals as goal
 
 pub loop-i-preserved : goal.loop-i-preserved

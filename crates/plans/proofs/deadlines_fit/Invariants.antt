@@ -1,12 +1,8 @@
 -- `deadlines_fit` is right because its flag is the rule over the stations passed, and it passes the first n.
 use Prim.Native.Nat.{◌-◌, ◌≤◌}
-use mathlib.Core.Path.{◌≡◌, refl, sym, ◌∙◌}
-use native.Mathlib.Omega.{arith}
-use lib.Dec.{leb}
+use mathlib.Core.Path.{◌≡◌}
 use Rattle.units.specs.Places.{at, all_below}
-use Rattle.units.proofs.PlaceLaws.{all_then, all_none}
 use Rattle.plans.specs.Lent.{timely_fits_in}
-use borrow.Author.Rules.{rules}
 use Rattle.plans.proofs.deadlines_fit.Given as goal
 
 abbrev pub invariant-loop-i : goal.invariant-loop-i

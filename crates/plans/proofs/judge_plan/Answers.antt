@@ -1,5 +1,4 @@
 -- `judge_plan` is right because the set's and the allocation's own arrays are lent.
-use borrow.Author.Rules.{rules}
 use Rattle.plans.proofs.judge_plan.Goals as goal
 
 pub returns : goal.returns

@@ -3,7 +3,6 @@ use Prim.Native.Nat.{ℕ, ◌≤◌}
 use mathlib.Core.Path.{◌≡◌, sym, ◌∙◌}
 use mathlib.Core.Bool.{true, false, ◌&&◌}
 use mathlib.Core.Logic.{◌≢◌}
-use borrow.Author.Tests.{not-true, not-false}
 use Rattle.units.specs.Places.{at}
 use Rattle.units.proofs.JudgingLaws.{decides_not, true_and}
 use Rattle.sets.specs.Rules.{count_allowed, numbers_allowed, walk_time_allowed}
@@ -15,7 +14,6 @@ use Rattle.plans.specs.Lent.{alloc_of}
 use Rattle.plans.specs.declared.Alloc.{Alloc}
 use Rattle.plans.specs.Rules.{alloc_in_range}
 use Rattle.plans.proofs.PlanLaws.{given_2, given_4, given_5, given_7, given_0}
-use borrow.Author.Rules.{rules}
 use Rattle.plans.proofs.judge_plan_lent.Goals as goal
 
 count_false : (t : Set) → judged t ≡ 2 → count_allowed t ≡ false

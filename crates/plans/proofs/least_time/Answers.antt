@@ -1,7 +1,6 @@
 -- `least_time` is right because its body is the definition; products of two 32-bit numbers leave room for a third.
 use native.Mathlib.Omega.{arith}
 use Rattle.units.proofs.SmallLaws.{product_room}
-use borrow.Author.Rules.{rules}
 use Rattle.plans.proofs.least_time.Goals as goal
 
 pub overflow_mul-result : goal.overflow_mul-result

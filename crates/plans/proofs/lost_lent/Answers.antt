@@ -1,6 +1,5 @@
 -- `lost_lent` is right because its body is the definition; τ is a sum of 32-bit numbers, so nothing wraps.
 use native.Mathlib.Omega.{arith}
-use borrow.Author.Rules.{rules}
 use Rattle.plans.proofs.lost_lent.Goals as goal
 
 pub returns : goal.returns

@@ -1,6 +1,5 @@
 -- `refused` is right because its body is the definition.
 use mathlib.Core.Path.{refl}
-use borrow.Author.Rules.{rules}
 use Rattle.plans.proofs.refused.Goals as goal
 
 pub returns : goal.returns

@@ -6,7 +6,6 @@ use native.Mathlib.Nat.{mul-le-mul_left}
 use Rattle.units.specs.Small.{UpTo}
 use Rattle.plans.specs.Planned.{smallest_with, smallest_for}
 use Rattle.plans.proofs.PlanLaws.{smallest_small, smallest_whole, smallest_part}
-use borrow.Author.Rules.{rules}
 use Rattle.plans.proofs.smallest.Goals as goal
 
 bounded : (g ttrt c d r : ℕ) → r ≡ smallest_for g ttrt c d → UpTo (c + ttrt + g) (smallest_for g ttrt c d) r

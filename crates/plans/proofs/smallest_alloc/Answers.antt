@@ -3,11 +3,7 @@ use Prim.Native.Nat.{ℕ, ◌-◌}
 use mathlib.Core.Path.{◌≡◌, ap, ◌∙◌}
 use mathlib.Core.List.{List}
 use native.Mathlib.Omega.{arith}
-use Rattle.units.specs.Places.{at}
-use Rattle.units.proofs.FillLaws.{Filling, filling_begins, filling_goes_on, filling_ends}
-use Rattle.sets.specs.Judged.{zeros}
-use Rattle.plans.specs.Planned.{smallest_for}
-use borrow.Author.Rules.{rules}
+use Rattle.units.proofs.FillLaws.{filling_begins, filling_goes_on, filling_ends}
 use Rattle.plans.proofs.smallest_alloc.Goals as goal
 
 pub overflow_cast-stored : goal.overflow_cast-stored

@@ -1,13 +1,9 @@
 -- `smallest_alloc` is right because the places passed hold the smallest S; in an allowed set it is far below 2^32.
-use Prim.Native.Nat.{ℕ, ◌-◌}
-use mathlib.Core.Path.{◌≡◌, ap, ◌∙◌}
-use mathlib.Core.List.{List}
-use native.Mathlib.Omega.{arith}
+use Prim.Native.Nat.{◌-◌}
 use Rattle.units.specs.Places.{at}
-use Rattle.units.proofs.FillLaws.{Filling, filling_begins, filling_goes_on, filling_ends}
+use Rattle.units.proofs.FillLaws.{Filling}
 use Rattle.sets.specs.Judged.{zeros}
 use Rattle.plans.specs.Planned.{smallest_for}
-use borrow.Author.Rules.{rules}
 use Rattle.plans.proofs.smallest_alloc.Given as goal
 
 abbrev pub invariant-loop-i : goal.invariant-loop-i

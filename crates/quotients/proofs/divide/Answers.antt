@@ -3,7 +3,6 @@ use Prim.Native.Nat.{ℕ, ◌<◌}
 use mathlib.Core.Path.{◌≡◌, sym}
 use native.Mathlib.Omega.{arith}
 use native.Mathlib.Nat.{div-zero, mod-zero, div-eq_of_lt, mod-eq_of_lt}
-use borrow.Author.Rules.{rules}
 use Rattle.quotients.specs.Division.{Divided}
 use Rattle.quotients.proofs.divide.Goals as goal
 

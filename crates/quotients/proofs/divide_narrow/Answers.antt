@@ -1,6 +1,5 @@
 -- `divide_narrow` is right because a wide number is the same number, and neither half of the answer is above the dividend.
 use native.Mathlib.Omega.{arith}
-use borrow.Author.Rules.{rules}
 use Rattle.quotients.proofs.divide_narrow.Goals as goal
 
 pub overflow_cast-quotient : goal.overflow_cast-quotient

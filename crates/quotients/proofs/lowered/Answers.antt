@@ -2,7 +2,6 @@
 use Prim.Native.Nat.{◌+◌, ◌-◌, ◌/◌}
 use mathlib.Core.Path.{◌≡◌}
 use native.Mathlib.Omega.{arith}
-use Rattle.quotients.specs.Turns.{Doubled}
 use Rattle.quotients.proofs.Laws.{part_least, Halved, halved, Kept, kept_first, kept_out, kept_in_lem, kept_small, kept_last}
 use Rattle.quotients.proofs.lowered.Goals as goal
 

@@ -1,9 +1,7 @@
 -- `lowered` is right because the dividend is always the quotient times the part and the rest, with the rest below the part; at the end the part is the divisor.
-use Prim.Native.Nat.{◌+◌, ◌-◌, ◌/◌}
-use mathlib.Core.Path.{◌≡◌}
-use native.Mathlib.Omega.{arith}
+use Prim.Native.Nat.{◌-◌}
 use Rattle.quotients.specs.Turns.{Doubled}
-use Rattle.quotients.proofs.Laws.{part_least, Halved, halved, Kept, kept_first, kept_out, kept_in_lem, kept_small, kept_last}
+use Rattle.quotients.proofs.Laws.{Kept}
 use Rattle.quotients.proofs.lowered.Given as goal
 
 abbrev pub invariant-loop-part : goal.invariant-loop-part

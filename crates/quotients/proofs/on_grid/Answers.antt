@@ -3,7 +3,6 @@ use Prim.Native.Nat.{◌%◌}
 use mathlib.Core.Path.{refl, sym}
 use native.Mathlib.Nat.{mod-one}
 use borrow.Author.Tests.{eq-eqb}
-use borrow.Author.Rules.{rules}
 use Rattle.quotients.proofs.on_grid.Goals as goal
 
 pub returns-then-grid-eq1 : goal.returns-then-grid-eq1

@@ -1,7 +1,6 @@
 -- `raised` is right because the part is always the divisor doubled some times, and it is doubled once more exactly while twice the part is at most the dividend.
-use Prim.Native.Nat.{◌≤◌, ◌-◌}
+use Prim.Native.Nat.{◌-◌}
 use native.Mathlib.Omega.{arith}
-use Rattle.quotients.specs.Turns.{Doubled}
 use Rattle.quotients.proofs.Laws.{no_turn, one_turn, part_least}
 use Rattle.quotients.proofs.raised.Goals as goal
 

@@ -3,7 +3,6 @@ use Prim.Native.Nat.{◌+◌}
 use mathlib.Core.Path.{◌≡◌, sym}
 use native.Mathlib.Omega.{arith}
 use native.Mathlib.Nat.{div-zero}
-use borrow.Author.Rules.{rules}
 use Rattle.quotients.specs.Division.{Share}
 use Rattle.quotients.proofs.Laws.{share_whole, share_part}
 use Rattle.quotients.proofs.rounded_up.Goals as goal

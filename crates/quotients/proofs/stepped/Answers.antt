@@ -4,8 +4,6 @@ use mathlib.Core.Path.{◌≡◌, refl}
 use mathlib.Core.Logic.{⊎_elim}
 use native.Mathlib.Omega.{arith}
 use native.Mathlib.Nat.{mul-le-mul_right}
-use borrow.Author.Rules.{rules}
-use borrow.Author.Tests.{not-true, not-false}
 use Rattle.units.specs.Grid.{stepped}
 use Rattle.units.proofs.GridLaws.{step_small}
 use Rattle.units.proofs.JudgingLaws.{decides_le, decides_both, decides_not}

@@ -1,6 +1,5 @@
 -- `grid_is_cause` is right because it asks planning itself, for the set and for the set with g 1.
 use mathlib.Core.Path.{refl}
-use borrow.Author.Rules.{rules}
 use Rattle.reasons.proofs.grid_is_cause.Goals as goal
 
 pub returns : goal.returns

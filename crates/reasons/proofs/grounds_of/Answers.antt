@@ -1,7 +1,6 @@
 -- `grounds_of` is right because S is planning's own, X that of the rule, and α TTRT less what D / TTRT leaves over.
 use mathlib.Core.Path.{◌≡◌, sym, ◌∙◌}
 use native.Mathlib.Omega.{arith}
-use borrow.Author.Rules.{rules}
 use Rattle.plans.specs.Rules.{alpha}
 use Rattle.reasons.proofs.GroundLaws.{grounds_say, grounds_none, alpha_is}
 use Rattle.reasons.proofs.grounds_of.Goals as goal

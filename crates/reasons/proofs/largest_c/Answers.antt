@@ -3,7 +3,6 @@ use Prim.Native.Nat.{◌≤◌, ◌*◌}
 use mathlib.Core.Path.{refl, ◌∙◌}
 use native.Mathlib.Omega.{arith}
 use native.Mathlib.Nat.{div-mul-le_self}
-use borrow.Author.Rules.{rules}
 use Rattle.reasons.proofs.GroundLaws.{time_within}
 use Rattle.reasons.proofs.largest_c.Goals as goal
 

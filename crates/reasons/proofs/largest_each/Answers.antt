@@ -3,13 +3,12 @@ use Prim.Native.Nat.{ℕ, ◌+◌, ◌-◌, ◌≤◌, ◌<◌}
 use mathlib.Core.Path.{◌≡◌, sym, ap, ◌∙◌}
 use mathlib.Core.List.{List}
 use native.Mathlib.Omega.{arith}
-use Rattle.units.specs.Places.{at, zeros}
-use Rattle.units.proofs.FillLaws.{Filling, filling_begins, filling_goes_on, filling_ends}
+use Rattle.units.specs.Places.{at}
+use Rattle.units.proofs.FillLaws.{filling_begins, filling_goes_on, filling_ends}
 use Rattle.sets.proofs.SetLaws.{allowed}
-use Rattle.reasons.specs.Rooms.{largest_with, largest_c}
+use Rattle.reasons.specs.Rooms.{largest_with}
 use Rattle.reasons.proofs.RoomLaws.{roomy_left, roomy_within, roomy_fits, rooms_say}
 use Rattle.reasons.proofs.PlanningLaws.{few}
-use borrow.Author.Rules.{rules}
 use Rattle.reasons.proofs.largest_each.Goals as goal
 
 pub overflow_add-own : goal.overflow_add-own

@@ -1,6 +1,5 @@
 -- `lost_time` is right because its body is the definition; τ is a sum of 32-bit numbers, so nothing wraps.
 use native.Mathlib.Omega.{arith}
-use borrow.Author.Rules.{rules}
 use Rattle.reasons.proofs.lost_time.Goals as goal
 
 pub returns : goal.returns

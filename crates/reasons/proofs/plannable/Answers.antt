@@ -1,6 +1,5 @@
 -- `plannable` is right because its two tests are the definition's.
 use mathlib.Core.Path.{refl}
-use borrow.Author.Rules.{rules}
 use Rattle.reasons.proofs.plannable.Goals as goal
 
 pub returns : goal.returns

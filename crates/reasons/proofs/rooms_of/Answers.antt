@@ -2,8 +2,6 @@
 use mathlib.Core.Path.{◌≡◌, refl, sym, ◌∙◌}
 use mathlib.Core.Bool.{true, ◌&&◌}
 use lib.Dec.{eqb}
-use borrow.Author.Rules.{rules}
-use borrow.Author.Tests.{not-true, not-false}
 use Rattle.reasons.specs.Rooms.{fits}
 use Rattle.reasons.proofs.RoomLaws.{rooms_none, spare_left}
 use Rattle.reasons.proofs.rooms_of.Goals as goal

@@ -1,8 +1,6 @@
 -- `shortage_of` is right because its four numbers are the definition's; the sums are far below 2^64.
 use mathlib.Core.Path.{◌≡◌, sym, ◌∙◌}
 use mathlib.Core.Bool.{true}
-use borrow.Author.Rules.{rules}
-use borrow.Author.Tests.{not-true, not-false}
 use Rattle.sets.proofs.SetLaws.{allowed}
 use Rattle.reasons.specs.Shortages.{plannable}
 use Rattle.reasons.proofs.PlanningLaws.{decides_plannable}

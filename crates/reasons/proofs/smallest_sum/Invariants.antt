@@ -1,10 +1,7 @@
 -- `smallest_sum` is right because the loop's sum is that of the stations passed; each smallest S is below 2^27, so nothing wraps.
 use Prim.Native.Nat.{◌≤◌, ◌-◌, ◌*◌, ◌^◌}
-use mathlib.Core.Path.{◌≡◌, sym, ◌∙◌}
-use native.Mathlib.Omega.{arith}
-use borrow.Author.Rules.{rules}
+use mathlib.Core.Path.{◌≡◌}
 use Rattle.units.specs.Places.{sum_below}
-use Rattle.units.proofs.PlaceLaws.{sum_step, sum_none}
 use Rattle.plans.specs.Planned.{smallest_at}
 use Rattle.reasons.proofs.smallest_sum.Given as goal
 

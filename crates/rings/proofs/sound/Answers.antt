@@ -1,5 +1,4 @@
 -- `sound` is right because the ring's own arrays are lent.
-use borrow.Author.Rules.{rules}
 use Rattle.rings.proofs.sound.Goals as goal
 
 pub returns : goal.returns

@@ -1,5 +1,4 @@
 -- `head_in_range` is right because its four tests are the definition's, in its order.
-use borrow.Author.Rules.{rules}
 use Rattle.sets.specs.Rules.{head_in_range}
 use Rattle.sets.proofs.head_in_range.Goals as goal
 

@@ -1,5 +1,4 @@
 -- `judge` is right because a set's own arrays are lent.
-use borrow.Author.Rules.{rules}
 use Rattle.sets.proofs.judge.Goals as goal
 
 pub returns : goal.returns

@@ -1,11 +1,9 @@
 -- `stations_in_range` is right because its flag is the test over the stations passed, and it passes the first n.
-use Prim.Native.Nat.{◌≤◌, ◌-◌}
+use Prim.Native.Nat.{◌-◌}
 use mathlib.Core.Path.{◌≡◌, sym, ◌∙◌}
 use native.Mathlib.Omega.{arith}
-use Rattle.units.specs.Places.{all_below}
 use Rattle.units.proofs.PlaceLaws.{all_then, all_none}
 use Rattle.sets.specs.Lent.{in_range_in}
-use borrow.Author.Rules.{rules}
 use Rattle.sets.proofs.stations_in_range.Goals as goal
 
 pub loop-i-init : goal.loop-i-init

@@ -5,7 +5,6 @@ use mathlib.Core.Bool.{Bool, true, false}
 use Rattle.sets.specs.Lent.{set_of}
 use Rattle.plans.specs.Lent.{alloc_of}
 use Rattle.sheets.specs.Reading.{judged_sheet}
-use borrow.Author.Rules.{rules}
 use Rattle.sheets.proofs.judge_sheet.Goals as goal
 
 pub returns-then-plan : goal.returns-then-plan

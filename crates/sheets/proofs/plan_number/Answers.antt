@@ -7,7 +7,6 @@ use Rattle.sheets.specs.Bounds.{PassedFits}
 use Rattle.sheets.specs.Reading.{set_of, alloc_of, judged_sheet}
 use Rattle.sheets.proofs.ReadingLaws.{scanned_fits, number_misshapen, number_judged}
 use mathlib.Core.Bool.{true}
-use borrow.Author.Rules.{rules}
 use Rattle.sheets.proofs.plan_number.Goals as goal
 
 pub returns-then-scanned-ne-ACCEPTED : goal.returns-then-scanned-ne-ACCEPTED

@@ -1,5 +1,4 @@
 -- `read_given` is right because it hands on what the sheet holds.
-use borrow.Author.Rules.{rules}
 use Rattle.sheets.proofs.read_given.Goals as goal
 
 pub returns : goal.returns

@@ -1,5 +1,4 @@
 -- `read_plan` is right because it hands on the sheet read.
-use borrow.Author.Rules.{rules}
 use Rattle.sheets.proofs.read_plan.Goals as goal
 
 pub returns : goal.returns

@@ -1,6 +1,5 @@
 -- `read_request` is right because it hands on the set and the number of the sheet read.
 use mathlib.Core.Path.{refl}
-use borrow.Author.Rules.{rules}
 use Rattle.sheets.proofs.read_request.Goals as goal
 
 pub returns : goal.returns

@@ -1,7 +1,6 @@
 -- `read_start` is right because it reads and judges the plan where the walk came by all its fields, and else hands out what the walk says.
 use mathlib.Core.Path.{◌≡◌, refl, sym, ap, subst, ◌∙◌}
 use mathlib.Core.Bool.{true, false}
-use borrow.Author.Tests.{not-true, not-false}
 use Rattle.sets.specs.Judged.{blank_set}
 use Rattle.plans.specs.Planned.{blank_alloc}
 use Rattle.field_reader.specs.Scanned.{scanned}
@@ -9,7 +8,6 @@ use Rattle.field_reader.specs.declared.Scanned.{Scanned}
 use Rattle.sheets.specs.Bounds.{PassedFits}
 use Rattle.sheets.specs.Reading.{set_of, alloc_of, set_in, alloc_in, judged_sheet, fields_answer, plan_passed, plan_start}
 use Rattle.sheets.proofs.ReadingLaws.{start_fits}
-use borrow.Author.Rules.{rules}
 use Rattle.sheets.proofs.read_start.Goals as goal
 
 pub returns-then-not-plan_passed : goal.returns-then-not-plan_passed

@@ -1,5 +1,4 @@
 -- `write_plan` is right because it hands on what was written.
-use borrow.Author.Rules.{rules}
 use Rattle.sheets.proofs.write_plan.Goals as goal
 
 pub returns : goal.returns

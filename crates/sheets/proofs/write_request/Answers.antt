@@ -1,5 +1,4 @@
 -- `write_request` is right because a request is written with the blank allocation.
-use borrow.Author.Rules.{rules}
 use Rattle.sheets.proofs.write_request.Goals as goal
 
 pub returns : goal.returns

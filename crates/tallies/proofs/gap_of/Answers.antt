@@ -1,5 +1,5 @@
 -- `gap_of` is right because its branch is the definition's own, and a difference that wraps is the ticks between the two moments.
-use Rattle.std.proofs.Common.{refl, arith, rules, eq-eqb, ne_eqb}
+use Rattle.std.proofs.Common.{refl, arith, eq-eqb, ne_eqb}
 use Rattle.tallies.specs.Tallies.{gap_of}
 use Rattle.tallies.proofs.gap_of.Goals as goal
 

@@ -1,5 +1,5 @@
 -- `is_marked` is right because a list has 0 behind its end.
-use Rattle.std.proofs.Common.{◌≤◌, length, refl, arith, rules}
+use Rattle.std.proofs.Common.{◌≤◌, length, refl, arith}
 use lib.ListN.{get_or-eq_default}
 use Rattle.tallies.proofs.is_marked.Goals as goal
 

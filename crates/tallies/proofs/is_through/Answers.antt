@@ -1,6 +1,5 @@
 -- `is_through` is right because it looks at the mark of the record's station, whichever kind the record is.
 use Rattle.tallies.proofs.SeenLaws.{through_at}
-use Rattle.std.proofs.Common.{rules}
 use Rattle.tallies.proofs.is_through.Goals as goal
 
 pub returns : goal.returns

@@ -1,5 +1,5 @@
 -- `lap_on` is right because it goes by the kind of the record, and a mark only counts.
-use Rattle.std.proofs.Common.{sym, ap, ◌∙◌, rules}
+use Rattle.std.proofs.Common.{sym, ap, ◌∙◌}
 use Rattle.tallies.specs.Laps.{lapped}
 use Rattle.tallies.proofs.lap_on.Goals as goal
 

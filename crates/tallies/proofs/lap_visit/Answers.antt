@@ -1,5 +1,5 @@
 -- `lap_visit` is right because its branch is the definition's own: whether this visit is the last of its rotation.
-use Rattle.std.proofs.Common.{◌≡◌, ◌+◌, true, false, leb, refl, arith, rules, le-leb}
+use Rattle.std.proofs.Common.{◌≡◌, ◌+◌, true, false, leb, refl, arith, le-leb}
 use borrow.Author.Tests.{lt-leb}
 use Rattle.tallies.specs.Laps.{visit_lapped}
 use Rattle.tallies.proofs.lap_visit.Goals as goal

@@ -1,5 +1,5 @@
 -- `marked_by` is right because its branch is the definition's own.
-use Rattle.std.proofs.Common.{refl, rules, le-ltb, lt-ltb}
+use Rattle.std.proofs.Common.{refl, le-ltb, lt-ltb}
 use Rattle.tallies.specs.Tallies.{marked_by}
 use Rattle.tallies.proofs.marked_by.Goals as goal
 

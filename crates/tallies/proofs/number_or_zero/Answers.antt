@@ -1,5 +1,5 @@
 -- `number_or_zero` is right because a list has 0 behind its end.
-use Rattle.std.proofs.Common.{◌≤◌, length, sym, arith, rules}
+use Rattle.std.proofs.Common.{◌≤◌, length, sym, arith}
 use lib.ListN.{get_or-eq_default}
 use Rattle.tallies.proofs.number_or_zero.Goals as goal
 

@@ -1,5 +1,5 @@
 -- `raise_at` is right because it stores the larger of the two at that place.
-use Rattle.std.proofs.Common.{refl, rules}
+use Rattle.std.proofs.Common.{refl}
 use Rattle.tallies.proofs.raise_at.Goals as goal
 
 pub returns : goal.returns

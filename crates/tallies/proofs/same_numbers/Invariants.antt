@@ -1,7 +1,6 @@
 -- `same_numbers` is right because its flag is the test over the places passed, and it passes all of them.
-use Rattle.std.proofs.Common.{◌≡◌, ℕ, ◌-◌, ◌≤◌, eqb, sym, refl, ap, ◌∙◌, arith, rules}
+use Rattle.std.proofs.Common.{◌≡◌, ◌-◌, ◌≤◌, eqb}
 use Rattle.units.specs.Places.{at, all_below}
-use Rattle.units.proofs.PlaceLaws.{all_none, all_then}
 use Rattle.tallies.proofs.same_numbers.Given as goal
 
 abbrev pub invariant-loop-i : goal.invariant-loop-i

@@ -1,5 +1,5 @@
 -- `see_on` is right because it goes by the kind of the record, and by whether a rule is broken: then the numbers stay.
-use Rattle.std.proofs.Common.{sym, ap, ◌∙◌, rules}
+use Rattle.std.proofs.Common.{sym, ap, ◌∙◌}
 use Rattle.tallies.specs.Tallies.{tallied, clock_after, switched_by}
 use Rattle.tallies.proofs.SeenLaws.{visit_tallied_lem, seen_broken, seen_kept}
 use Rattle.tallies.proofs.see_on.Goals as goal

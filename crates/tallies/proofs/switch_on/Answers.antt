@@ -1,5 +1,5 @@
 -- `switch_on` is right because a store behind the last place changes nothing.
-use Rattle.std.proofs.Common.{◌≤◌, length, sym, refl, arith, rules}
+use Rattle.std.proofs.Common.{◌≤◌, length, sym, refl, arith}
 use lib.Seq.{set_out}
 use Rattle.tallies.proofs.switch_on.Goals as goal
 

@@ -1,6 +1,5 @@
 -- `tally_visit` is right because it changes the numbers in the definition's order.
 use Rattle.tallies.proofs.SeenLaws.{visit_counted}
-use Rattle.std.proofs.Common.{rules}
 use Rattle.tallies.proofs.tally_visit.Goals as goal
 
 pub returns : goal.returns

@@ -1,5 +1,4 @@
 -- `walk_of` is right because the place of a station in the array is its number.
-use Rattle.std.proofs.Common.{rules}
 use Rattle.tallies.proofs.walk_of.Goals as goal
 
 pub returns : goal.returns

@@ -5,7 +5,6 @@ use mathlib.Core.List.{List}
 use native.Mathlib.Omega.{arith}
 use lib.ListN.{length, get_or-eq_default}
 use Rattle.units.specs.Places.{at}
-use borrow.Author.Rules.{rules}
 use Rattle.text.proofs.number_of.Goals as goal
 
 none_behind : (xs : List ℕ) (k : ℕ) → length xs ≤ k → at xs k ≡ 0

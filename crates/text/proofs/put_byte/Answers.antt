@@ -1,6 +1,5 @@
 -- `put_byte` is right because one store lays a segment of one byte.
 use Rattle.text.proofs.TextLaws.{put_one}
-use borrow.Author.Rules.{rules}
 use Rattle.text.proofs.put_byte.Goals as goal
 
 pub returns : goal.returns

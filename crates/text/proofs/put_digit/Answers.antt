@@ -1,5 +1,4 @@
 -- `put_digit` is right because a digit's byte is 48 and the digit.
-use borrow.Author.Rules.{rules}
 use Rattle.text.proofs.put_digit.Goals as goal
 
 pub returns : goal.returns

@@ -3,7 +3,6 @@ use native.Mathlib.Omega.{arith}
 use mathlib.Core.List.{[], ◌∷◌}
 use Rattle.text.specs.Text.{Put, newline}
 use Rattle.text.proofs.TextLaws.{within_put, within_none}
-use borrow.Author.Rules.{rules}
 use Rattle.text.proofs.put_end.Goals as goal
 
 pub returns-then-left-lt1 : goal.returns-then-left-lt1

@@ -1,7 +1,6 @@
 -- `put_field` is right because a space and a number have at most 21 bytes.
 use native.Mathlib.Omega.{arith}
 use Rattle.text.proofs.TextLaws.{within_put, within_none}
-use borrow.Author.Rules.{rules}
 use Rattle.text.proofs.put_field.Goals as goal
 
 pub returns-then-left-lt21 : goal.returns-then-left-lt21

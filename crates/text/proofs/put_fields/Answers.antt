@@ -1,13 +1,12 @@
 -- `put_fields` is right because after i turns the first i numbers are put.
-use Prim.Native.Nat.{◌≤◌, ◌<◌, ◌-◌, ◌*◌}
+use Prim.Native.Nat.{◌<◌, ◌-◌}
 use mathlib.Core.Path.{◌≡◌, refl, ◌∙◌}
 use native.Mathlib.Numerals.{add-one}
 use native.Mathlib.Omega.{arith}
 use lib.ListN.{length, take}
 use lib.Seq.{take-suc, take-length}
-use Rattle.text.specs.Text.{PutShort, fields_of}
+use Rattle.text.specs.Text.{fields_of}
 use Rattle.text.proofs.TextLaws.{put_none, put_short_then, put_as, fields_next}
-use borrow.Author.Rules.{rules}
 use Rattle.text.proofs.put_fields.Goals as goal
 
 pub loop-i-init : goal.loop-i-init

@@ -1,13 +1,8 @@
 -- `put_fields` is right because after i turns the first i numbers are put.
-use Prim.Native.Nat.{◌≤◌, ◌<◌, ◌-◌, ◌*◌}
-use mathlib.Core.Path.{◌≡◌, refl, ◌∙◌}
-use native.Mathlib.Numerals.{add-one}
-use native.Mathlib.Omega.{arith}
+use Prim.Native.Nat.{◌≤◌, ◌-◌, ◌*◌}
+use mathlib.Core.Path.{◌≡◌}
 use lib.ListN.{length, take}
-use lib.Seq.{take-suc, take-length}
 use Rattle.text.specs.Text.{PutShort, fields_of}
-use Rattle.text.proofs.TextLaws.{put_none, put_short_then, put_as, fields_next}
-use borrow.Author.Rules.{rules}
 use Rattle.text.proofs.put_fields.Given as goal
 
 abbrev pub invariant-loop-i : goal.invariant-loop-i

@@ -2,7 +2,6 @@
 use native.Mathlib.Omega.{arith}
 use mathlib.Core.Path.{refl}
 use Rattle.text.proofs.TextLaws.{within_put, within_none, put_as}
-use borrow.Author.Rules.{rules}
 use Rattle.text.proofs.put_filled.Goals as goal
 
 pub returns-then-words-gt100 : goal.returns-then-words-gt100

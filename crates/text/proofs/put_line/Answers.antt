@@ -3,11 +3,10 @@ use Prim.Native.Nat.{◌+◌, ◌*◌, ◌≤◌, ◌<◌}
 use mathlib.Core.Path.{sym, ◌∙◌}
 use mathlib.Core.List.{[], ◌∷◌}
 use native.Mathlib.Omega.{arith}
-use borrow.Author.Tests.{leb-true, leb-false, not-true, not-false}
+use borrow.Author.Tests.{leb-true, leb-false}
 use lib.ListN.{length}
 use Rattle.text.specs.Text.{PutShort, newline}
 use Rattle.text.proofs.TextLaws.{within_put, within_none, put_short_then, put_as, line_fields}
-use borrow.Author.Rules.{rules}
 use Rattle.text.proofs.put_line.Goals as goal
 
 pub returns-then-not-has_room : goal.returns-then-not-has_room

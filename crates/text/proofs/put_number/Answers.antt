@@ -5,7 +5,6 @@ use native.Mathlib.Omega.{arith}
 use lib.ListN.{length}
 use Rattle.text.specs.Text.{Room, decimal_of}
 use Rattle.text.proofs.TextLaws.{within_put, within_none, decimal_short}
-use borrow.Author.Rules.{rules}
 use Rattle.text.proofs.put_number.Goals as goal
 
 -- 20 bytes are room for any number

@@ -1,6 +1,5 @@
 -- `put_piece` is right because its body is the definition, and a number has at most 20 digits.
 use native.Mathlib.Omega.{arith}
-use borrow.Author.Rules.{rules}
 use borrow.Author.Tests.{eq-eqb, ne_eqb}
 use Rattle.text.specs.Filled.{piece_of}
 use Rattle.text.proofs.TextLaws.{decimal_short}

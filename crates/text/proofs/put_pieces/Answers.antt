@@ -1,5 +1,5 @@
 -- `put_pieces` is right because after i turns stands what the first i bytes stand for, and each of them for at most 20.
-use Prim.Native.Nat.{ℕ, ◌+◌, ◌*◌, ◌-◌, ◌≤◌}
+use Prim.Native.Nat.{ℕ, ◌+◌, ◌-◌, ◌≤◌}
 use mathlib.Core.Path.{◌≡◌, refl, ◌∙◌}
 use native.Mathlib.Numerals.{add-one}
 use native.Mathlib.Omega.{arith}
@@ -7,10 +7,8 @@ use lib.Dec.{eqb}
 use lib.ListN.{length}
 use mathlib.Core.Bool.{Bool, cond, true, false}
 use Rattle.units.specs.Places.{at}
-use Rattle.text.specs.Text.{PutShort}
 use Rattle.text.specs.Filled.{hole, used_by, used_in, filled_up_to}
 use Rattle.text.proofs.TextLaws.{put_none, put_short_then, put_as}
-use borrow.Author.Rules.{rules}
 use Rattle.text.proofs.put_pieces.Goals as goal
 
 -- a byte uses at most one number

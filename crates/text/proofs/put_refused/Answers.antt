@@ -4,7 +4,6 @@ use mathlib.Core.List.{[], ◌∷◌}
 use native.Mathlib.Omega.{arith}
 use Rattle.text.specs.Text.{refused_word, number_words}
 use Rattle.text.proofs.TextLaws.{within_put, within_none, line_put, put_as}
-use borrow.Author.Rules.{rules}
 use Rattle.text.proofs.put_refused.Goals as goal
 
 pub returns-then-left-lt42 : goal.returns-then-left-lt42

@@ -1,7 +1,6 @@
 -- `put_short` is right because the word is put if it is short and the page has room for the longest.
 use native.Mathlib.Omega.{arith}
 use Rattle.text.proofs.TextLaws.{within_put, within_none}
-use borrow.Author.Rules.{rules}
 use Rattle.text.proofs.put_short.Goals as goal
 
 pub returns-then-word-gt20 : goal.returns-then-word-gt20

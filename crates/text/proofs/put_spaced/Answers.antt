@@ -2,7 +2,6 @@
 use native.Mathlib.Omega.{arith}
 use Rattle.text.proofs.TextLaws.{put_short_then, decimal_short}
 use Rattle.text.specs.Text.{PutShort}
-use borrow.Author.Rules.{rules}
 use Rattle.text.proofs.put_spaced.Goals as goal
 
 pub put_decimal-requires : goal.put_decimal-requires

@@ -4,7 +4,6 @@ use mathlib.Core.List.{[], ◌∷◌}
 use native.Mathlib.Omega.{arith}
 use Rattle.text.specs.Text.{PutShort, space, newline, decimal_of, line_word, cannot_be_read}
 use Rattle.text.proofs.TextLaws.{within_put, within_none, put_short_then, put_as, line_parts}
-use borrow.Author.Rules.{rules}
 use Rattle.text.proofs.put_unread.Goals as goal
 
 pub returns-then-left-lt42 : goal.returns-then-left-lt42

@@ -1,13 +1,11 @@
 -- `put_word` is right because after i turns the first i bytes of the word are put.
-use Prim.Native.Nat.{◌≤◌, ◌<◌, ◌-◌}
+use Prim.Native.Nat.{◌<◌, ◌-◌}
 use mathlib.Core.Path.{◌≡◌, refl, ◌∙◌}
 use native.Mathlib.Numerals.{add-one}
 use native.Mathlib.Omega.{arith}
-use lib.ListN.{length, take, length-take}
+use lib.ListN.{length, length-take}
 use lib.Seq.{take-suc, take-length}
-use Rattle.text.specs.Text.{Put}
 use Rattle.text.proofs.TextLaws.{put_none, put_then}
-use borrow.Author.Rules.{rules}
 use Rattle.text.proofs.put_word.Goals as goal
 
 pub loop-i-init : goal.loop-i-init

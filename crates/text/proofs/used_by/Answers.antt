@@ -1,6 +1,5 @@
 -- `used_by` is right because its body is the definition.
 use mathlib.Core.Path.{refl}
-use borrow.Author.Rules.{rules}
 use borrow.Author.Tests.{eq-eqb, ne_eqb}
 use Rattle.text.specs.Filled.{used_by}
 use Rattle.text.proofs.used_by.Goals as goal

@@ -1,6 +1,5 @@
 -- `begin` is right because its body is the definition.
 use mathlib.Core.Path.{refl}
-use borrow.Author.Rules.{rules}
 use Rattle.text_faults.proofs.begin.Goals as goal
 
 pub returns : goal.returns

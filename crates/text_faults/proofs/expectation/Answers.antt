@@ -1,6 +1,5 @@
 -- `expectation` is right because its body is the definition.
 use mathlib.Core.Path.{refl}
-use borrow.Author.Rules.{rules}
 use Rattle.text_faults.specs.Expected.{expected_of}
 use Rattle.text_faults.proofs.expectation.Goals as goal
 

@@ -1,6 +1,5 @@
 -- `form_at` is right because its body is the definition.
 use mathlib.Core.Path.{refl, sym, ◌∙◌}
-use borrow.Author.Rules.{rules}
 use borrow.Author.Tests.{eq-eqb, ne_eqb, lt-leb, le-leb}
 use Rattle.text_faults.specs.Expected.{form_at}
 use Rattle.text_faults.proofs.form_at.Goals as goal

@@ -1,6 +1,5 @@
 -- `found_on` is right because its body is the definition.
 use mathlib.Core.Path.{refl, sym, ◌∙◌}
-use borrow.Author.Rules.{rules}
 use borrow.Author.Tests.{eq-eqb, ne_eqb}
 use Rattle.text_faults.specs.Words.{found_on}
 use Rattle.text_faults.proofs.found_on.Goals as goal

@@ -1,7 +1,5 @@
 -- `line_ended` is right because its body is the definition.
 use mathlib.Core.Path.{refl, sym, ◌∙◌}
-use borrow.Author.Rules.{rules}
-use borrow.Author.Tests.{not-true, not-false}
 use Rattle.text_faults.specs.Watching.{line_ended}
 use Rattle.text_faults.proofs.line_ended.Goals as goal
 

@@ -1,6 +1,5 @@
 -- `next_line` is right because its body is the definition.
 use mathlib.Core.Path.{refl}
-use borrow.Author.Rules.{rules}
 use Rattle.text_faults.proofs.next_line.Goals as goal
 
 pub returns : goal.returns

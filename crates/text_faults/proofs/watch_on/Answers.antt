@@ -1,12 +1,11 @@
 -- `watch_on` is right because after i turns the text stands behind its first i bytes.
-use Prim.Native.Nat.{ℕ, ◌+◌, ◌-◌, ◌≤◌, ◌<◌}
+use Prim.Native.Nat.{ℕ, ◌+◌, ◌-◌, ◌<◌}
 use mathlib.Core.Path.{◌≡◌, refl, ap, ◌∙◌}
 use mathlib.Core.List.{List, [], ◌∷◌, ◌++◌}
 use native.Mathlib.Numerals.{add-one}
 use native.Mathlib.Omega.{arith}
 use lib.ListN.{length, take}
 use lib.Seq.{take-suc, take_all}
-use borrow.Author.Rules.{rules}
 use Rattle.units.specs.Places.{at}
 use Rattle.text_faults.specs.declared.Watch.{Watch}
 use Rattle.text_faults.specs.Watching.{watched, watch_after}

@@ -1,6 +1,5 @@
 -- `watched` is right because its body is the definition.
 use mathlib.Core.Path.{refl}
-use borrow.Author.Rules.{rules}
 use borrow.Author.Tests.{eq-eqb, ne_eqb}
 use Rattle.text_faults.specs.Watching.{watched}
 use Rattle.text_faults.proofs.watched.Goals as goal

@@ -1,6 +1,5 @@
 -- `with_byte` is right because a byte more has its place below 64.
 use mathlib.Core.Path.{refl}
-use borrow.Author.Rules.{rules}
 use borrow.Author.Tests.{lt-leb, le-leb}
 use Rattle.text_faults.specs.Words.{with_byte}
 use Rattle.text_faults.proofs.with_byte.Goals as goal

@@ -1,6 +1,5 @@
 -- `word_ended` is right because its body is the definition.
 use mathlib.Core.Path.{refl}
-use borrow.Author.Rules.{rules}
 use Rattle.text_faults.specs.Words.{word_ended}
 use Rattle.text_faults.proofs.word_ended.Goals as goal
 

@@ -5,7 +5,6 @@ use mir.Val.{Fits}
 use mathlib.Core.Path.{refl}
 use native.Mathlib.Omega.{arith}
 use native.Mathlib.Nat.{mul-le-mul}
-use borrow.Author.Rules.{rules}
 use Rattle.tuning.specs.Tunings.{counted}
 use Rattle.tuning.proofs.counted.Goals as goal
 

@@ -2,7 +2,6 @@
 use mathlib.Core.Path.{◌≡◌, refl, sym, ap, ◌∙◌}
 use mathlib.Core.Bool.{Bool, true, false, not, ◌||◌, true≢false}
 use mathlib.Core.Logic.{⊎_elim}
-use borrow.Author.Rules.{rules}
 use lib.Dec.{eqb}
 use Rattle.units.specs.Numbers.{most_ttrt, retired}
 use Rattle.units.specs.Judging.{or_else}

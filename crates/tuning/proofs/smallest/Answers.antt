@@ -3,7 +3,6 @@ use Prim.Native.Nat.{ℕ, ◌-◌, ◌*◌, ◌/◌, ◌%◌, ◌≤◌, ◌<◌
 use mathlib.Core.Path.{◌≡◌, sym, ◌∙◌}
 use native.Mathlib.Omega.{arith}
 use native.Mathlib.Nat.{mul-le-mul_left, mod-lt, div-le_self, div-add-mod'}
-use borrow.Author.Rules.{rules}
 use Rattle.units.proofs.SmallLaws.{one_more_lem}
 use Rattle.units.specs.Vectors.{whole_rotations}
 use Rattle.plans.specs.Rules.{alpha}

@@ -1,12 +1,8 @@
 -- `sum_at` is right because the loop's sum is that of the stations passed; each smallest S is below 2^34, so nothing wraps.
-use Prim.Native.Nat.{ℕ, ◌≤◌, ◌-◌, ◌*◌, ◌^◌}
+use Prim.Native.Nat.{◌≤◌, ◌-◌, ◌^◌}
 use mathlib.Core.Path.{◌≡◌, sym, ◌∙◌}
-use mathlib.Core.List.{List}
 use native.Mathlib.Omega.{arith}
-use borrow.Author.Rules.{rules}
-use Rattle.units.specs.Places.{at, sum_below}
 use Rattle.units.proofs.PlaceLaws.{sum_step, sum_none}
-use Rattle.plans.specs.Planned.{smallest_for}
 use Rattle.tuning.proofs.sum_at.Goals as goal
 use Rattle.tuning.proofs.sum_at.Invariants.{each}
 

@@ -1,8 +1,7 @@
 -- `tried_over` is right because after i turns the first i TTRT have been tried.
-use Prim.Native.Nat.{◌+◌, ◌-◌, ◌≤◌}
+use Prim.Native.Nat.{◌+◌, ◌-◌}
 use mathlib.Core.Path.{◌≡◌, sym, ◌∙◌}
 use native.Mathlib.Omega.{arith}
-use borrow.Author.Rules.{rules}
 use Rattle.tuning.specs.Bounds.{tried_over}
 use Rattle.tuning.proofs.TriedLaws.{over_none, over_step}
 use Rattle.tuning.proofs.tried_over.Goals as goal

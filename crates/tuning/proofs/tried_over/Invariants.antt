@@ -1,10 +1,7 @@
 -- `tried_over` is right because after i turns the first i TTRT have been tried.
-use Prim.Native.Nat.{◌+◌, ◌-◌, ◌≤◌}
-use mathlib.Core.Path.{◌≡◌, sym, ◌∙◌}
-use native.Mathlib.Omega.{arith}
-use borrow.Author.Rules.{rules}
+use Prim.Native.Nat.{◌-◌, ◌≤◌}
+use mathlib.Core.Path.{◌≡◌}
 use Rattle.tuning.specs.Bounds.{tried_over}
-use Rattle.tuning.proofs.TriedLaws.{over_none, over_step}
 use Rattle.tuning.proofs.tried_over.Given as goal
 
 abbrev pub invariant-loop-i : goal.invariant-loop-i

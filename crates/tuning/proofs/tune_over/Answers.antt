@@ -1,7 +1,6 @@
 -- `tune_over` is right because a set whose other numbers are not allowed has no plan at any TTRT, and of every other one the plain numbers decide.
 use mathlib.Core.Path.{◌≡◌, sym, ◌∙◌}
 use native.Mathlib.Omega.{arith}
-use borrow.Author.Rules.{rules}
 use Rattle.sets.specs.Rules.{tau}
 use Rattle.plans.specs.Rules.{lost}
 use Rattle.tuning.specs.Bounds.{tried_over}

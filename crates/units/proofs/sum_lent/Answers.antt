@@ -1,9 +1,8 @@
 -- `sum_lent` is right because the loop's sum is the sum of the places passed.
-use Prim.Native.Nat.{◌≤◌, ◌*◌, ◌-◌, ◌^◌, min}
+use Prim.Native.Nat.{◌-◌, min}
 use mathlib.Core.Path.{◌≡◌, refl, sym, ◌∙◌}
 use native.Mathlib.Omega.{arith}
-use borrow.Author.Rules.{rules}
-use Rattle.units.specs.Places.{at, sum_below}
+use Rattle.units.specs.Places.{at}
 use Rattle.units.proofs.PlaceLaws.{sum_step, sum_none}
 use Rattle.units.proofs.sum_lent.Goals as goal
 

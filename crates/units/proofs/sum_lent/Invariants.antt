@@ -1,10 +1,7 @@
 -- `sum_lent` is right because the loop's sum is the sum of the places passed.
-use Prim.Native.Nat.{◌≤◌, ◌*◌, ◌-◌, ◌^◌, min}
-use mathlib.Core.Path.{◌≡◌, refl, sym, ◌∙◌}
-use native.Mathlib.Omega.{arith}
-use borrow.Author.Rules.{rules}
+use Prim.Native.Nat.{◌≤◌, ◌*◌, ◌-◌, ◌^◌}
+use mathlib.Core.Path.{◌≡◌}
 use Rattle.units.specs.Places.{at, sum_below}
-use Rattle.units.proofs.PlaceLaws.{sum_step, sum_none}
 use Rattle.units.proofs.sum_lent.Given as goal
 
 abbrev pub invariant-loop-i : goal.invariant-loop-i

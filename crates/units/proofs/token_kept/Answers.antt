@@ -2,7 +2,6 @@
 use Prim.Native.Nat.{◌+◌, min}
 use mathlib.Core.Path.{refl, sym}
 use native.Mathlib.Omega.{arith}
-use borrow.Author.Rules.{rules}
 use borrow.Author.Tests.{lt-leb}
 use Rattle.units.specs.Places.{at, sum_below}
 use Rattle.units.proofs.token_kept.Goals as goal

@@ -3,7 +3,6 @@ use native.Mathlib.Omega.{arith}
 use Rattle.sheets.specs.Layout.{end_bytes}
 use Rattle.versions.proofs.StoringLaws.{put_laid, empty_laid}
 use Rattle.versions.proofs.AnswerLaws.{emptied_not, emptied_all}
-use borrow.Author.Rules.{rules}
 use Rattle.versions.proofs.empty_store.Goals as goal
 
 pub returns-then-area-ne-STORE_SIZE : goal.returns-then-area-ne-STORE_SIZE

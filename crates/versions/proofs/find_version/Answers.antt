@@ -4,7 +4,6 @@ use mathlib.Core.Path.{◌∙◌}
 use native.Mathlib.Omega.{arith}
 use Rattle.versions.proofs.AreaLaws.{FieldHere}
 use Rattle.versions.proofs.AnswerLaws.{holds, found_refused, found_none, above, at_most, found_field, found_there}
-use borrow.Author.Rules.{rules}
 use Rattle.versions.proofs.find_version.Goals as goal
 
 pub returns-then-held-ne-ACCEPTED : goal.returns-then-held-ne-ACCEPTED

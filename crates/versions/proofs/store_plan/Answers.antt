@@ -7,7 +7,6 @@ use Rattle.versions.specs.Layout.{last_version}
 use Rattle.versions.specs.Area.{newest_in}
 use Rattle.versions.proofs.AreaLaws.{is_plan_lem, plan_short, store_here}
 use Rattle.versions.proofs.AnswerLaws.{area_number_lem, Holds, holds, stored_refused, number_area, number_sheet, number_used, stored_all, version_put, next_short}
-use borrow.Author.Rules.{rules}
 use Rattle.versions.proofs.store_plan.Goals as goal
 
 pub returns-then-held-ne-ACCEPTED : goal.returns-then-held-ne-ACCEPTED

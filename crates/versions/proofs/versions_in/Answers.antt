@@ -1,7 +1,6 @@
 -- `versions_in` is right because it hands on what was judged.
 use mathlib.Core.Path.{◌∙◌}
 use Rattle.versions.proofs.AnswerLaws.{versions_refused, versions_none, versions_some}
-use borrow.Author.Rules.{rules}
 use Rattle.versions.proofs.versions_in.Goals as goal
 
 pub returns-then-held-ne-ACCEPTED : goal.returns-then-held-ne-ACCEPTED

@@ -1,5 +1,4 @@
 -- `mark_in` is right because it takes the two numbers in their order.
-use borrow.Author.Rules.{rules}
 use Rattle.command_compose.proofs.sending.mark_in.Goals as goal
 
 pub returns : goal.returns

@@ -2,12 +2,10 @@
 use mathlib.Core.Path.{◌≡◌, sym, ap, ◌∙◌}
 use mathlib.Core.Bool.{true, false}
 use native.Mathlib.Omega.{arith}
-use borrow.Author.Tests.{not-true, not-false}
 use Rattle.text.proofs.TextLaws.{put_none, put_then}
 use Rattle.command_compose.specs.Compose.{is_record_line, with_record}
 use Rattle.command_compose.specs.Sent.{entry_in, goes_out}
 use Rattle.command_compose.proofs.SentLaws.{field_short, out_judged, sent_record, sent_other, sent_stopped, plan_room}
-use borrow.Author.Rules.{rules}
 use Rattle.command_compose.proofs.sending.put_line.Goals as goal
 
 -- ---- the needs

@@ -1,6 +1,5 @@
 -- `put_plan` is right because the plan was accepted and its fields have room, so they are put; behind the first visit nothing is.
 use Rattle.command_compose.proofs.SentLaws.{plan_put, no_plan_put}
-use borrow.Author.Rules.{rules}
 use Rattle.command_compose.proofs.sending.put_plan.Goals as goal
 
 pub returns-then-d-eq2 : goal.returns-then-d-eq2

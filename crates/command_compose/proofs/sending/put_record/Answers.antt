@@ -6,7 +6,6 @@ use Rattle.log_records.proofs.VisitLaws.{visit_length_lem}
 use Rattle.log_records.proofs.MarkLaws.{mark_length_lem}
 use Rattle.command_compose.specs.Compose.{is_visit_line}
 use Rattle.command_compose.proofs.SentLaws.{record_fits, entry_visit, entry_mark, field_put}
-use borrow.Author.Rules.{rules}
 use Rattle.command_compose.proofs.sending.put_record.Goals as goal
 
 -- ---- the needs

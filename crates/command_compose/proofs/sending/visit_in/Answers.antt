@@ -1,5 +1,4 @@
 -- `visit_in` is right because it takes the five numbers in their order.
-use borrow.Author.Rules.{rules}
 use Rattle.command_compose.proofs.sending.visit_in.Goals as goal
 
 pub returns : goal.returns

@@ -1,6 +1,5 @@
 -- `letter_of` is right because the letters stand in the order of their numbers.
 use Rattle.command_diff.proofs.LineLaws.{letter_first, letter_last}
-use borrow.Author.Rules.{rules}
 use Rattle.command_diff.proofs.putting.letter_of.Goals as goal
 
 pub returns-then-letter-lt4 : goal.returns-then-letter-lt4

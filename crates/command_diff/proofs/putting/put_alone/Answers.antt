@@ -3,7 +3,6 @@ use native.Mathlib.Omega.{arith}
 use Rattle.differences.specs.Views.{nth_of}
 use Rattle.text.proofs.TextLaws.{decimal_short, put_short_then, put_as}
 use Rattle.command_diff.proofs.LineLaws.{alone_line}
-use borrow.Author.Rules.{rules}
 use Rattle.command_diff.proofs.putting.put_alone.Goals as goal
 
 pub returns : goal.returns

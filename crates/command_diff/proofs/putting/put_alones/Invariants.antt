@@ -1,15 +1,11 @@
 -- `put_alones` is right because after k turns the lines of k stations are put.
 use Prim.Native.Nat.{◌*◌, ◌-◌, ◌≤◌}
-use mathlib.Core.Path.{◌≡◌, refl, ◌∙◌}
-use native.Mathlib.Omega.{arith}
+use mathlib.Core.Path.{◌≡◌}
 use lib.ListN.{length}
 use Rattle.text.specs.Text.{PutShort}
-use Rattle.text.proofs.TextLaws.{put_none, put_short_then, put_as}
 use Rattle.differences.specs.Views.{number_of}
 use Rattle.differences.specs.Differences.{alone_from}
 use Rattle.command_diff.specs.DiffText.{lines_of}
-use Rattle.command_diff.proofs.LineLaws.{lines_one, lines_none, lines_step}
-use borrow.Author.Rules.{rules}
 use Rattle.command_diff.proofs.putting.put_alones.Given as goal
 
 abbrev pub invariant-loop-k : goal.invariant-loop-k

@@ -3,7 +3,6 @@ use mathlib.Core.Path.{◌≡◌}
 use native.Mathlib.Omega.{arith}
 use Rattle.text.proofs.TextLaws.{put_short_then, put_as}
 use Rattle.command_diff.proofs.LineLaws.{sizes, lines_four}
-use borrow.Author.Rules.{rules}
 use Rattle.command_diff.proofs.putting.put_differences.Goals as goal
 
 pub returns : goal.returns

@@ -3,7 +3,6 @@ use mathlib.Core.List.{[], ◌∷◌}
 use native.Mathlib.Omega.{arith}
 use Rattle.text.proofs.TextLaws.{put_none, decimal_short, line_then, put_as}
 use Rattle.command_diff.proofs.LineLaws.{lines_same, header_line}
-use borrow.Author.Rules.{rules}
 use Rattle.command_diff.proofs.putting.put_header.Goals as goal
 
 pub returns-then-old-new : goal.returns-then-old-new

@@ -5,7 +5,6 @@ use Rattle.sets.specs.Header.{head_number}
 use Rattle.differences.specs.Views.{header_of}
 use Rattle.text.proofs.TextLaws.{put_short_then, put_as}
 use Rattle.command_diff.proofs.LineLaws.{lines_headers}
-use borrow.Author.Rules.{rules}
 use Rattle.command_diff.proofs.putting.put_headers.Goals as goal
 
 pub returns : goal.returns

@@ -3,7 +3,6 @@ use mathlib.Core.List.{[], ◌∷◌}
 use native.Mathlib.Omega.{arith}
 use Rattle.text.proofs.TextLaws.{put_none, decimal_short, within_then, line_then, put_as}
 use Rattle.command_diff.proofs.LineLaws.{lines_same, number_line_lem}
-use borrow.Author.Rules.{rules}
 use Rattle.command_diff.proofs.putting.put_number.Goals as goal
 
 pub returns-then-old-new : goal.returns-then-old-new

@@ -3,7 +3,6 @@ use mathlib.Core.Path.{refl}
 use native.Mathlib.Omega.{arith}
 use Rattle.text.proofs.TextLaws.{put_as}
 use Rattle.command_diff.specs.DiffText.{side_word}
-use borrow.Author.Rules.{rules}
 use Rattle.command_diff.proofs.putting.put_side.Goals as goal
 
 pub returns-then-new : goal.returns-then-new

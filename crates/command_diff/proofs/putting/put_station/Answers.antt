@@ -4,7 +4,6 @@ use native.Mathlib.Omega.{arith}
 use Rattle.differences.specs.Views.{nth_of}
 use Rattle.text.proofs.TextLaws.{put_short_then, put_as}
 use Rattle.command_diff.proofs.LineLaws.{lines_five}
-use borrow.Author.Rules.{rules}
 use Rattle.command_diff.proofs.putting.put_station.Goals as goal
 
 pub shape_of-page : goal.shape_of-page

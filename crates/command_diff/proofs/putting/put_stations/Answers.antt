@@ -1,15 +1,9 @@
 -- `put_stations` is right because after i turns the lines of the first i stations are put.
-use Prim.Native.Nat.{◌*◌, ◌-◌, ◌≤◌}
+use Prim.Native.Nat.{◌-◌}
 use mathlib.Core.Path.{◌≡◌, refl, ◌∙◌}
 use native.Mathlib.Omega.{arith}
-use lib.ListN.{length}
-use Rattle.text.specs.Text.{PutShort}
 use Rattle.text.proofs.TextLaws.{put_none, put_short_then, put_as}
-use Rattle.differences.specs.Views.{number_of}
-use Rattle.differences.specs.Differences.{gathered, station_changed}
-use Rattle.command_diff.specs.DiffText.{lines_of}
 use Rattle.command_diff.proofs.LineLaws.{lines_none, lines_step}
-use borrow.Author.Rules.{rules}
 use Rattle.command_diff.proofs.putting.put_stations.Goals as goal
 
 pub loop-i-init : goal.loop-i-init

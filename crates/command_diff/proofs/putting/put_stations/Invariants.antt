@@ -1,15 +1,11 @@
 -- `put_stations` is right because after i turns the lines of the first i stations are put.
 use Prim.Native.Nat.{◌*◌, ◌-◌, ◌≤◌}
-use mathlib.Core.Path.{◌≡◌, refl, ◌∙◌}
-use native.Mathlib.Omega.{arith}
+use mathlib.Core.Path.{◌≡◌}
 use lib.ListN.{length}
 use Rattle.text.specs.Text.{PutShort}
-use Rattle.text.proofs.TextLaws.{put_none, put_short_then, put_as}
 use Rattle.differences.specs.Views.{number_of}
 use Rattle.differences.specs.Differences.{gathered, station_changed}
 use Rattle.command_diff.specs.DiffText.{lines_of}
-use Rattle.command_diff.proofs.LineLaws.{lines_none, lines_step}
-use borrow.Author.Rules.{rules}
 use Rattle.command_diff.proofs.putting.put_stations.Given as goal
 
 abbrev pub invariant-loop-i : goal.invariant-loop-i

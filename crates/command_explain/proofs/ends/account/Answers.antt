@@ -1,5 +1,4 @@
 -- `account` is right because it asks for the phrases in their order.
-use borrow.Author.Rules.{rules}
 use borrow.Author.Tests.{eq-eqb, ne_eqb}
 use Rattle.command_explain.specs.Ends.{account_phrase}
 use Rattle.command_explain.proofs.ends.account.Goals as goal

@@ -1,6 +1,5 @@
 -- `account_of` is right because its body is the definition.
 use mathlib.Core.Path.{refl}
-use borrow.Author.Rules.{rules}
 use Rattle.command_explain.specs.Sheet.{account_of}
 use Rattle.command_explain.proofs.ends.account_of.Goals as goal
 

@@ -1,6 +1,5 @@
 -- `back_within` is right because its body is the definition; the sum is far below 2^64.
 use mathlib.Core.Path.{refl}
-use borrow.Author.Rules.{rules}
 use borrow.Author.Tests.{eq-eqb, ne_eqb}
 use Rattle.command_explain.specs.Sheet.{back_within}
 use Rattle.command_explain.proofs.ends.back_within.Goals as goal

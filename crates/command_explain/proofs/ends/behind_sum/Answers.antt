@@ -1,5 +1,4 @@
 -- `behind_sum` is right because its body is the definition.
-use borrow.Author.Rules.{rules}
 use borrow.Author.Tests.{eq-eqb, ne_eqb}
 use Rattle.command_explain.specs.Ends.{behind_sum}
 use Rattle.command_explain.proofs.ends.behind_sum.Goals as goal

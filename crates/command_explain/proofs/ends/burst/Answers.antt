@@ -1,6 +1,5 @@
 -- `burst` is right because its body is the definition.
 use mathlib.Core.Path.{refl}
-use borrow.Author.Rules.{rules}
 use borrow.Author.Tests.{eq-eqb, ne_eqb}
 use Rattle.command_explain.specs.Ends.{burst_promise}
 use Rattle.command_explain.proofs.ends.burst.Goals as goal

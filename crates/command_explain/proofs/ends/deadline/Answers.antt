@@ -1,5 +1,4 @@
 -- `deadline` is right because its body is the definition.
-use borrow.Author.Rules.{rules}
 use borrow.Author.Tests.{eq-eqb, ne_eqb}
 use Rattle.command_explain.specs.Ends.{deadline_promise}
 use Rattle.command_explain.proofs.ends.deadline.Goals as goal

@@ -1,5 +1,4 @@
 -- `offered` is right because its body is the definition.
-use borrow.Author.Rules.{rules}
 use borrow.Author.Tests.{eq-eqb, ne_eqb}
 use Rattle.command_explain.specs.Ends.{offered_promise}
 use Rattle.command_explain.proofs.ends.offered.Goals as goal

@@ -1,6 +1,5 @@
 -- `phrase` is right because its body is the definition.
 use mathlib.Core.Path.{refl, ◌∙◌}
-use borrow.Author.Rules.{rules}
 use borrow.Author.Tests.{eq-eqb, ne_eqb}
 use Rattle.command_explain.specs.Ends.{last_phrase}
 use Rattle.command_explain.proofs.ends.phrase.Goals as goal

@@ -1,6 +1,5 @@
 -- `promise` is right because it asks for the promises in their order.
 use mathlib.Core.Path.{refl}
-use borrow.Author.Rules.{rules}
 use borrow.Author.Tests.{eq-eqb, ne_eqb}
 use Rattle.command_explain.specs.Ends.{promise_phrase}
 use Rattle.command_explain.proofs.ends.promise.Goals as goal

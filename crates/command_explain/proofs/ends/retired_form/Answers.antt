@@ -1,7 +1,6 @@
 -- `retired_form` is right because it asks for the lines in their order.
 use mathlib.Core.Path.{sym}
 use native.Mathlib.Omega.{arith}
-use borrow.Author.Rules.{rules}
 use Prim.Native.Nat.{◌≤◌}
 use mathlib.Core.List.{[], ◌∷◌}
 use lib.ListN.{get_or-eq_default}

@@ -1,7 +1,6 @@
 -- `sums_of` is right because its body is the definition; A* is at most TTRT.
 use mathlib.Core.Path.{refl}
 use native.Mathlib.Omega.{arith}
-use borrow.Author.Rules.{rules}
 use Rattle.command_explain.proofs.SumLaws.{spare_small}
 use Rattle.command_explain.proofs.ends.sums_of.Goals as goal
 

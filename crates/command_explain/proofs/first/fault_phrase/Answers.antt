@@ -1,5 +1,4 @@
 -- `fault_phrase` is right because it asks for the phrases in their order.
-use borrow.Author.Rules.{rules}
 use borrow.Author.Tests.{eq-eqb, ne_eqb}
 use Rattle.command_explain.specs.First.{fault_phrase}
 use Rattle.command_explain.proofs.first.fault_phrase.Goals as goal

@@ -1,6 +1,5 @@
 -- `header_out` is right because its body is the definition.
 use mathlib.Core.Path.{◌≡◌, refl}
-use borrow.Author.Rules.{rules}
 use borrow.Author.Tests.{not-true, not-false}
 use mathlib.Core.Bool.{Bool}
 use Rattle.faults.specs.declared.Ranged.{Ranged}

@@ -1,5 +1,4 @@
 -- `header_phrase` is right because its body is the definition.
-use borrow.Author.Rules.{rules}
 use borrow.Author.Tests.{lt-ltb, le-ltb}
 use Rattle.command_explain.specs.First.{header_phrase}
 use Rattle.command_explain.proofs.first.header_phrase.Goals as goal

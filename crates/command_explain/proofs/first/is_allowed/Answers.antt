@@ -1,5 +1,4 @@
 -- `is_allowed` is right because the start of a field is answered with 2 exactly if it may not stand there.
-use borrow.Author.Rules.{rules}
 use Rattle.command_explain.proofs.SheetLaws.{tried}
 use Rattle.command_explain.proofs.first.is_allowed.Goals as goal
 

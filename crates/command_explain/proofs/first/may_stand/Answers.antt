@@ -1,7 +1,5 @@
 -- `may_stand` is right because its body is the definition.
 use mathlib.Core.Path.{refl, sym, ◌∙◌}
-use borrow.Author.Rules.{rules}
-use borrow.Author.Tests.{not-true, not-false}
 use Rattle.command_explain.specs.First.{may_stand}
 use Rattle.command_explain.proofs.first.may_stand.Goals as goal
 

@@ -1,6 +1,5 @@
 -- `may_stand_by` is right because its body is the definition.
 use mathlib.Core.Path.{refl}
-use borrow.Author.Rules.{rules}
 use borrow.Author.Tests.{eq-eqb, ne_eqb}
 use Rattle.command_explain.specs.First.{may_stand_by}
 use Rattle.command_explain.proofs.first.may_stand_by.Goals as goal

@@ -1,5 +1,4 @@
 -- `one_line_lem` is right because its body is the definition.
-use borrow.Author.Rules.{rules}
 use borrow.Author.Tests.{eq-eqb, ne_eqb}
 use Rattle.command_explain.specs.First.{one_line}
 use Rattle.command_explain.proofs.first.one_line.Goals as goal

@@ -1,5 +1,4 @@
 -- `second` is right because its body is the definition.
-use borrow.Author.Rules.{rules}
 use borrow.Author.Tests.{eq-eqb, ne_eqb}
 use Rattle.command_explain.specs.First.{second_phrase}
 use Rattle.command_explain.proofs.first.second.Goals as goal

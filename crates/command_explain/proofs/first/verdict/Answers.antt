@@ -1,6 +1,5 @@
 -- `verdict` is right because its body is the definition.
 use mathlib.Core.Path.{refl}
-use borrow.Author.Rules.{rules}
 use borrow.Author.Tests.{eq-eqb, ne_eqb}
 use Rattle.command_explain.specs.First.{verdict}
 use Rattle.command_explain.proofs.first.verdict.Goals as goal

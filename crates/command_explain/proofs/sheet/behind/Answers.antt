@@ -1,7 +1,6 @@
 -- `behind` is right because its body is the definition; a field of the header has at most 7 bytes.
 use mathlib.Core.Path.{◌≡◌, refl, sym, ◌∙◌}
 use native.Mathlib.Omega.{arith}
-use borrow.Author.Rules.{rules}
 use borrow.Author.Tests.{eq-eqb, ne_eqb}
 use Rattle.units.specs.Places.{at}
 use Rattle.fields.proofs.FieldLaws.{further_small}

@@ -1,7 +1,6 @@
 -- `byte_or_zero` is right because a list has 0 behind its end.
 use mathlib.Core.Path.{sym}
 use native.Mathlib.Omega.{arith}
-use borrow.Author.Rules.{rules}
 use Prim.Native.Nat.{◌≤◌}
 use lib.ListN.{length, get_or-eq_default}
 use Rattle.command_explain.proofs.sheet.byte_or_zero.Goals as goal

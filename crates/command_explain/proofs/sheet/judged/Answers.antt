@@ -1,6 +1,5 @@
 -- `judged` is right because its body is the definition.
 use mathlib.Core.Path.{refl}
-use borrow.Author.Rules.{rules}
 use Rattle.command_explain.specs.Sheet.{judged_as}
 use Rattle.command_explain.proofs.sheet.judged.Goals as goal
 

@@ -1,6 +1,5 @@
 -- `place_at` is right because its body is the definition; where three bytes are left, the place and those that are passed over lie inside the bytes.
 use mathlib.Core.Path.{refl}
-use borrow.Author.Rules.{rules}
 use borrow.Author.Tests.{lt-leb, le-leb}
 use Rattle.command_explain.proofs.SheetLaws.{short_is}
 use Rattle.command_explain.specs.Sheet.{place_at}

@@ -1,7 +1,6 @@
 -- `place_of` is right because its body is the definition.
 use mathlib.Core.Path.{refl, ◌∙◌}
 use native.Mathlib.Omega.{arith}
-use borrow.Author.Rules.{rules}
 use Rattle.command_explain.proofs.SheetLaws.{skipped_small}
 use Rattle.command_explain.proofs.sheet.place_of.Goals as goal
 

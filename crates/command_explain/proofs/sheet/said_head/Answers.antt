@@ -1,6 +1,5 @@
 -- `said_head` is right because the place of F and that of g are behind the fields before them.
 use mathlib.Core.Path.{refl}
-use borrow.Author.Rules.{rules}
 use Rattle.fields.specs.Header.{further_place}
 use Rattle.command_explain.proofs.sheet.said_head.Goals as goal
 

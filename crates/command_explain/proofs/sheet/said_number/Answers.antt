@@ -1,6 +1,5 @@
 -- `said_number` is right because its body is the definition.
 use mathlib.Core.Path.{refl}
-use borrow.Author.Rules.{rules}
 use borrow.Author.Tests.{eq-eqb, ne_eqb}
 use Rattle.command_explain.specs.Sheet.{said_number}
 use Rattle.command_explain.proofs.sheet.said_number.Goals as goal

@@ -1,5 +1,4 @@
 -- `behind_smallest` is right because its body is the definition.
-use borrow.Author.Rules.{rules}
 use borrow.Author.Tests.{eq-eqb, ne_eqb}
 use Rattle.command_explain.specs.Stations.{behind_smallest}
 use Rattle.command_explain.proofs.stations.behind_smallest.Goals as goal

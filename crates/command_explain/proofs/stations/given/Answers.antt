@@ -1,7 +1,6 @@
 -- `given` is right because its body is the definition.
-use borrow.Author.Rules.{rules}
-use borrow.Author.Tests.{eq-eqb, ne_eqb, not-true, not-false}
-use Rattle.command_explain.specs.Stations.{named, given_by}
+use borrow.Author.Tests.{eq-eqb, ne_eqb}
+use Rattle.command_explain.specs.Stations.{given_by}
 use Rattle.command_explain.proofs.stations.given.Goals as goal
 
 pub returns-then-not-named : goal.returns-then-not-named

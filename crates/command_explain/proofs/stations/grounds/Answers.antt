@@ -1,6 +1,5 @@
 -- `grounds` is right because its body is the definition.
 use mathlib.Core.Path.{refl}
-use borrow.Author.Rules.{rules}
 use borrow.Author.Tests.{eq-eqb, ne_eqb}
 use Rattle.command_explain.specs.Stations.{grounds_phrase}
 use Rattle.command_explain.proofs.stations.grounds.Goals as goal

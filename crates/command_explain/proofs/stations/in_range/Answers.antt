@@ -1,6 +1,5 @@
 -- `in_range` is right because its body is the definition.
 use mathlib.Core.Path.{◌≡◌, refl, sym, ◌∙◌}
-use borrow.Author.Rules.{rules}
 use mathlib.Core.Bool.{Bool, true, false, cond}
 use Rattle.command_explain.specs.declared.Phrase.{Phrase}
 use Rattle.command_explain.specs.Stations.{in_range_phrase}

@@ -1,7 +1,6 @@
 -- `out_form` is right because it asks for the numbers in their order.
 use mathlib.Core.Path.{sym}
 use native.Mathlib.Omega.{arith}
-use borrow.Author.Rules.{rules}
 use Prim.Native.Nat.{◌≤◌}
 use lib.ListN.{get_or-eq_default}
 use Rattle.command_explain.specs.Stations.{out_forms}

@@ -1,5 +1,4 @@
 -- `phrase` is right because its body is the definition.
-use borrow.Author.Rules.{rules}
 use borrow.Author.Tests.{eq-eqb, ne_eqb}
 use Rattle.command_explain.specs.Stations.{station_phrase}
 use Rattle.command_explain.proofs.stations.phrase.Goals as goal

@@ -1,6 +1,5 @@
 -- `ranged_out` is right because its body is the definition.
 use mathlib.Core.Path.{refl}
-use borrow.Author.Rules.{rules}
 use borrow.Author.Tests.{not-true, not-false}
 use Rattle.command_explain.specs.Stations.{ranged_out}
 use Rattle.command_explain.proofs.stations.ranged_out.Goals as goal

@@ -1,6 +1,5 @@
 -- `smallest` is right because its body is the definition.
 use mathlib.Core.Path.{refl, ◌∙◌}
-use borrow.Author.Rules.{rules}
 use borrow.Author.Tests.{eq-eqb, ne_eqb}
 use Rattle.command_explain.specs.Stations.{smallest_phrase}
 use Rattle.command_explain.proofs.stations.smallest.Goals as goal

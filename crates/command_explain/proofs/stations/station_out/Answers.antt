@@ -1,6 +1,5 @@
 -- `station_out` is right because its body is the definition.
 use mathlib.Core.Path.{refl, ◌∙◌}
-use borrow.Author.Rules.{rules}
 use Rattle.command_explain.proofs.stations.station_out.Goals as goal
 
 pub returns : goal.returns

@@ -1,6 +1,5 @@
 -- `too_much` is right because its body is the definition.
 use mathlib.Core.Path.{refl, sym, ◌∙◌}
-use borrow.Author.Rules.{rules}
 use Rattle.command_explain.specs.Stations.{too_much_phrase}
 use Rattle.command_explain.proofs.stations.too_much.Goals as goal
 

@@ -1,9 +1,5 @@
 -- `walk` is right because its body is the definition.
 use mathlib.Core.Path.{refl}
-use borrow.Author.Rules.{rules}
-use borrow.Author.Tests.{not-true, not-false}
-use mathlib.Core.Bool.{not, ◌&&◌}
-use lib.Dec.{eqb}
 use Rattle.command_explain.specs.Stations.{walk_phrase}
 use Rattle.command_explain.proofs.stations.walk.Goals as goal
 

@@ -1,6 +1,5 @@
 -- `end_line` is right because what the line did is printed, and the next line begins.
 use Rattle.command_hopper.proofs.TextLaws.{ended}
-use borrow.Author.Rules.{rules}
 use Rattle.command_hopper.proofs.change_lines.end_line.Goals as goal
 
 pub returns : goal.returns

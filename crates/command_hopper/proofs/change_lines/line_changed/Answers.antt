@@ -7,7 +7,6 @@ use Rattle.hopper.specs.declared.Wagon.{Wagon}
 use Rattle.line_reader.specs.Scan.{is_empty_line}
 use Rattle.command_hopper.specs.Refits.{is_change, is_couple}
 use Rattle.command_hopper.proofs.LineLaws.{narrow_first, narrow_second, changed_empty, changed_wagon_lem, changed_more, changed_fewer, changed_unread}
-use borrow.Author.Rules.{rules}
 use Rattle.command_hopper.proofs.change_lines.line_changed.Goals as goal
 
 pub returns-then-is_empty_line : goal.returns-then-is_empty_line

@@ -2,7 +2,6 @@
 use mathlib.Core.Path.{sym}
 use native.Mathlib.Omega.{arith}
 use Rattle.text.proofs.TextLaws.{refused_short, text_accepted, text_refused, printed}
-use borrow.Author.Rules.{rules}
 use Rattle.command_hopper.proofs.change_lines.put_answered.Goals as goal
 
 pub returns-then-number-ne-ACCEPTED : goal.returns-then-number-ne-ACCEPTED

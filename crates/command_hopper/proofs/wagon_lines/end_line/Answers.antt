@@ -3,7 +3,6 @@ use mathlib.Core.Path.{◌≡◌, sym, ◌∙◌}
 use mathlib.Core.Bool.{false}
 use Rattle.line_reader.specs.Scan.{is_empty_line}
 use Rattle.command_hopper.proofs.LineLaws.{narrow_first, listed_empty, listed_wagon, listed_unread}
-use borrow.Author.Rules.{rules}
 use Rattle.command_hopper.proofs.wagon_lines.end_line.Goals as goal
 
 pub returns-then-is_empty_line : goal.returns-then-is_empty_line

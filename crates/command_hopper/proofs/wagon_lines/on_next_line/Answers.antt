@@ -1,6 +1,5 @@
 -- `on_next_line` is right because its body is the definition.
 use mathlib.Core.Path.{refl}
-use borrow.Author.Rules.{rules}
 use Rattle.command_hopper.proofs.wagon_lines.on_next_line.Goals as goal
 
 pub returns : goal.returns

@@ -1,5 +1,5 @@
 -- `bound_ticks` is right because its body is the definition; the sum is far below 2^64.
-use Rattle.std.proofs.Common.{refl, rules, eq-eqb, ne_eqb}
+use Rattle.std.proofs.Common.{refl, eq-eqb, ne_eqb}
 use Rattle.command_page.specs.Account.{bound_ticks}
 use Rattle.command_page.proofs.answer.bound_ticks.Goals as goal
 

@@ -1,5 +1,5 @@
 -- `due_of` is right because it takes each number at the place of the token's station.
-use Rattle.std.proofs.Common.{refl, rules}
+use Rattle.std.proofs.Common.{refl}
 use Rattle.command_page.proofs.answer.due_of.Goals as goal
 
 pub returns : goal.returns

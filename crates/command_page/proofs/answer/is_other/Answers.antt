@@ -1,5 +1,5 @@
 -- `is_other` is right because it compares the two plans.
-use Rattle.std.proofs.Common.{refl, rules}
+use Rattle.std.proofs.Common.{refl}
 use Rattle.command_page.proofs.answer.is_other.Goals as goal
 
 pub returns : goal.returns

@@ -1,5 +1,5 @@
 -- `outcome_of` is right because it asks in the definition's order.
-use Rattle.std.proofs.Common.{refl, rules, eq-eqb, ne_eqb}
+use Rattle.std.proofs.Common.{refl, eq-eqb, ne_eqb}
 use Rattle.command_page.specs.Account.{outcome_of}
 use Rattle.command_page.proofs.answer.outcome_of.Goals as goal
 

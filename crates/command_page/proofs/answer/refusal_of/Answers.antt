@@ -1,5 +1,5 @@
 -- `refusal_of` is right because its body is the definition.
-use Rattle.std.proofs.Common.{refl, rules}
+use Rattle.std.proofs.Common.{refl}
 use Rattle.command_page.specs.Account.{refusal_of}
 use Rattle.command_page.proofs.answer.refusal_of.Goals as goal
 

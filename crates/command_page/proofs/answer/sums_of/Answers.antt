@@ -1,5 +1,5 @@
 -- `sums_of` is right because its body is the definition; A* is at most TTRT.
-use Rattle.std.proofs.Common.{refl, arith, rules}
+use Rattle.std.proofs.Common.{refl, arith}
 use Rattle.command_page.proofs.AccountLaws.{spare_small}
 use Rattle.command_page.proofs.answer.sums_of.Goals as goal
 

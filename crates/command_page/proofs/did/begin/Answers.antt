@@ -1,5 +1,5 @@
 -- `begin` is right because its body is the definition.
-use Rattle.std.proofs.Common.{refl, rules, eq-eqb, ne_eqb}
+use Rattle.std.proofs.Common.{refl, eq-eqb, ne_eqb}
 use Rattle.command_page.specs.Did.{did_begin}
 use Rattle.command_page.proofs.did.begin.Goals as goal
 

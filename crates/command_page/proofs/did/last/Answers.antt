@@ -1,5 +1,5 @@
 -- `last` is right because it asks for the parts in their order.
-use Rattle.std.proofs.Common.{rules, eq-eqb, ne_eqb}
+use Rattle.std.proofs.Common.{eq-eqb, ne_eqb}
 use Rattle.command_page.specs.Did.{last_part}
 use Rattle.command_page.proofs.did.last.Goals as goal
 

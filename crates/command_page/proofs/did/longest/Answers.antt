@@ -1,5 +1,5 @@
 -- `longest` is right because its body is the definition.
-use Rattle.std.proofs.Common.{refl, rules, le-ltb, lt-ltb}
+use Rattle.std.proofs.Common.{refl, le-ltb, lt-ltb}
 use Rattle.command_page.specs.Did.{longest_part}
 use Rattle.command_page.proofs.did.longest.Goals as goal
 

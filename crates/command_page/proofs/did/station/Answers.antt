@@ -1,5 +1,5 @@
 -- `station` is right because it takes each number from its column.
-use Rattle.std.proofs.Common.{refl, rules, eq-eqb, ne_eqb}
+use Rattle.std.proofs.Common.{refl, eq-eqb, ne_eqb}
 use Rattle.command_page.specs.Did.{did_part}
 use Rattle.command_page.proofs.did.station.Goals as goal
 

@@ -1,5 +1,5 @@
 -- `asynchronous` is right because its body is the definition.
-use Rattle.std.proofs.Common.{refl, rules, eq-eqb, ne_eqb}
+use Rattle.std.proofs.Common.{refl, eq-eqb, ne_eqb}
 use Rattle.command_page.specs.Named.{asynchronous_numbers}
 use Rattle.command_page.proofs.named.asynchronous.Goals as goal
 

@@ -1,5 +1,5 @@
 -- `expected` is right because it asks for the rules in their order.
-use Rattle.std.proofs.Common.{rules, eq-eqb, ne_eqb}
+use Rattle.std.proofs.Common.{eq-eqb, ne_eqb}
 use Rattle.command_page.specs.Named.{numbers_of}
 use Rattle.command_page.proofs.named.expected.Goals as goal
 

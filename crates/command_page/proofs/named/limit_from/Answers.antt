@@ -1,5 +1,5 @@
 -- `limit_from` is right because its body is the definition.
-use Rattle.std.proofs.Common.{refl, rules, eq-eqb, ne_eqb}
+use Rattle.std.proofs.Common.{refl, eq-eqb, ne_eqb}
 use Rattle.command_page.specs.Named.{limit_from}
 use Rattle.command_page.proofs.named.limit_from.Goals as goal
 

@@ -1,5 +1,5 @@
 -- `mark_row` is right because it asks for the parts in their order.
-use Rattle.std.proofs.Common.{refl, rules, eq-eqb, ne_eqb}
+use Rattle.std.proofs.Common.{refl, eq-eqb, ne_eqb}
 use Rattle.command_page.specs.Named.{mark_row}
 use Rattle.command_page.proofs.named.mark_row.Goals as goal
 

@@ -1,5 +1,5 @@
 -- `part` is right because it asks for the parts in their order.
-use Rattle.std.proofs.Common.{rules, le-ltb, lt-ltb, eq-eqb, ne_eqb}
+use Rattle.std.proofs.Common.{le-ltb, lt-ltb, eq-eqb, ne_eqb}
 use Rattle.command_page.specs.Named.{named_part}
 use Rattle.command_page.proofs.named.part.Goals as goal
 

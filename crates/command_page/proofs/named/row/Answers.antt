@@ -1,5 +1,5 @@
 -- `row` is right because its body is the definition.
-use Rattle.std.proofs.Common.{rules, le-ltb, lt-ltb, eq-eqb, ne_eqb}
+use Rattle.std.proofs.Common.{le-ltb, lt-ltb, eq-eqb, ne_eqb}
 use Rattle.command_page.specs.Named.{row_of}
 use Rattle.command_page.proofs.named.row.Goals as goal
 

@@ -1,5 +1,4 @@
 -- `rule_row` is right because it goes by the kind of the record, as the definition does.
-use Rattle.std.proofs.Common.{rules}
 use Rattle.command_page.proofs.named.rule_row.Goals as goal
 
 pub returns-in-Visit : goal.returns-in-Visit

@@ -1,5 +1,4 @@
 -- `share_from` is right because its body is the definition.
-use Rattle.std.proofs.Common.{rules}
 use Rattle.command_page.specs.Named.{share_from}
 use Rattle.command_page.proofs.named.share_from.Goals as goal
 

@@ -1,5 +1,5 @@
 -- `start` is right because its body is the definition.
-use Rattle.std.proofs.Common.{refl, rules}
+use Rattle.std.proofs.Common.{refl}
 use Rattle.command_page.specs.Named.{start_numbers}
 use Rattle.command_page.proofs.named.start.Goals as goal
 

@@ -1,5 +1,5 @@
 -- `visit_row` is right because it asks for the parts in their order.
-use Rattle.std.proofs.Common.{rules, eq-eqb, ne_eqb}
+use Rattle.std.proofs.Common.{eq-eqb, ne_eqb}
 use Rattle.command_page.specs.Named.{visit_row}
 use Rattle.command_page.proofs.named.visit_row.Goals as goal
 

@@ -1,5 +1,4 @@
 -- `word` is right because each arm is the definition's own.
-use Rattle.std.proofs.Common.{rules}
 use Rattle.command_page.proofs.named.word.Goals as goal
 
 pub returns-in-PlanRefused : goal.returns-in-PlanRefused

@@ -1,5 +1,5 @@
 -- `behind` is right because it asks for the parts in their order.
-use Rattle.std.proofs.Common.{rules, le-ltb, lt-ltb}
+use Rattle.std.proofs.Common.{le-ltb, lt-ltb}
 use Rattle.command_page.specs.Parts.{part_behind}
 use Rattle.command_page.proofs.order.behind.Goals as goal
 

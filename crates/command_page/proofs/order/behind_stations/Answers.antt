@@ -1,5 +1,5 @@
 -- `behind_stations` is right because it asks for the parts in their order.
-use Rattle.std.proofs.Common.{rules, le-ltb, lt-ltb}
+use Rattle.std.proofs.Common.{le-ltb, lt-ltb}
 use Rattle.command_page.specs.Parts.{behind_stations}
 use Rattle.command_page.proofs.order.behind_stations.Goals as goal
 

@@ -1,5 +1,5 @@
 -- `did_or_last` is right because it asks for the parts in their order.
-use Rattle.std.proofs.Common.{rules, le-ltb, lt-ltb}
+use Rattle.std.proofs.Common.{le-ltb, lt-ltb}
 use Rattle.command_page.specs.Parts.{did_or_last}
 use Rattle.command_page.proofs.order.did_or_last.Goals as goal
 

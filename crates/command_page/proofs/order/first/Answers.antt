@@ -1,5 +1,5 @@
 -- `first` is right because it asks for the parts in their order.
-use Rattle.std.proofs.Common.{sym, ◌∙◌, rules, le-ltb, lt-ltb}
+use Rattle.std.proofs.Common.{sym, ◌∙◌, le-ltb, lt-ltb}
 use Rattle.command_page.specs.Parts.{first_part}
 use Rattle.command_page.proofs.order.first.Goals as goal
 

@@ -1,5 +1,5 @@
 -- `burst` is right because its body is the definition.
-use Rattle.std.proofs.Common.{refl, rules, eq-eqb, ne_eqb}
+use Rattle.std.proofs.Common.{refl, eq-eqb, ne_eqb}
 use Rattle.command_page.specs.Plan.{burst_part}
 use Rattle.command_page.proofs.planned.burst.Goals as goal
 

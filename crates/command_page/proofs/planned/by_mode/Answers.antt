@@ -1,5 +1,5 @@
 -- `by_mode` is right because it asks for the parts in their order.
-use Rattle.std.proofs.Common.{rules, eq-eqb, ne_eqb}
+use Rattle.std.proofs.Common.{eq-eqb, ne_eqb}
 use Rattle.command_page.specs.Plan.{mode_promise}
 use Rattle.command_page.proofs.planned.by_mode.Goals as goal
 

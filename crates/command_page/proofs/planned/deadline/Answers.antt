@@ -1,5 +1,5 @@
 -- `deadline` is right because its body is the definition.
-use Rattle.std.proofs.Common.{rules, eq-eqb, ne_eqb}
+use Rattle.std.proofs.Common.{eq-eqb, ne_eqb}
 use Rattle.command_page.specs.Plan.{deadline_part}
 use Rattle.command_page.proofs.planned.deadline.Goals as goal
 

@@ -1,5 +1,5 @@
 -- `promise` is right because it asks for the parts in their order.
-use Rattle.std.proofs.Common.{rules, eq-eqb, ne_eqb}
+use Rattle.std.proofs.Common.{eq-eqb, ne_eqb}
 use Rattle.command_page.specs.Plan.{promise_part}
 use Rattle.command_page.proofs.planned.promise.Goals as goal
 

@@ -1,5 +1,5 @@
 -- `station` is right because it takes each number at the station's place.
-use Rattle.std.proofs.Common.{refl, rules}
+use Rattle.std.proofs.Common.{refl}
 use Rattle.command_page.proofs.planned.station.Goals as goal
 
 pub returns : goal.returns

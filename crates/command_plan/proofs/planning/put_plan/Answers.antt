@@ -3,7 +3,6 @@ use mathlib.Core.Path.{refl}
 use native.Mathlib.Omega.{arith}
 use Rattle.command_plan.specs.PlanText.{plan_lines}
 use Rattle.text.proofs.TextLaws.{put_short_then, put_as}
-use borrow.Author.Rules.{rules}
 use Rattle.command_plan.proofs.planning.put_plan.Goals as goal
 
 pub returns : goal.returns

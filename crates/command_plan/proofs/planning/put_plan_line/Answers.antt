@@ -5,7 +5,6 @@ use native.Mathlib.Omega.{arith}
 use Rattle.text.specs.Text.{number_words}
 use Rattle.text.proofs.TextLaws.{line_put, put_as}
 use Rattle.command_plan.specs.PlanText.{plan_word}
-use borrow.Author.Rules.{rules}
 use Rattle.command_plan.proofs.planning.put_plan_line.Goals as goal
 
 pub returns : goal.returns

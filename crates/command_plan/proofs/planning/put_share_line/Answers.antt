@@ -4,7 +4,6 @@ use mathlib.Core.List.{[], ◌∷◌}
 use native.Mathlib.Omega.{arith}
 use Rattle.text.specs.Text.{line, number_words}
 use Rattle.text.proofs.TextLaws.{decimal_short, line_then, put_as}
-use borrow.Author.Rules.{rules}
 use Rattle.command_plan.proofs.planning.put_share_line.Goals as goal
 
 pub returns : goal.returns

@@ -1,15 +1,9 @@
 -- `put_shares` is right because after i turns the lines of the first i stations are put.
-use Prim.Native.Nat.{◌*◌, ◌-◌, ◌≤◌}
+use Prim.Native.Nat.{◌-◌}
 use mathlib.Core.Path.{◌≡◌, refl, ◌∙◌}
 use native.Mathlib.Omega.{arith}
-use lib.ListN.{length}
-use Rattle.units.specs.Places.{at as place_at}
-use Rattle.fields.specs.Rows.{rows}
 use Rattle.fields.proofs.RowLaws.{rows_none, rows_step}
-use Rattle.text.specs.Text.{PutShort}
-use Rattle.command_plan.specs.PlanText.{share_line}
 use Rattle.text.proofs.TextLaws.{put_none, put_short_then, put_as}
-use borrow.Author.Rules.{rules}
 use Rattle.command_plan.proofs.planning.put_shares.Goals as goal
 
 pub loop-i-init : goal.loop-i-init

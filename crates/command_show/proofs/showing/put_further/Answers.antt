@@ -6,7 +6,6 @@ use Rattle.text.specs.Text.{PutShort}
 use Rattle.text.proofs.TextLaws.{put_none, put_as}
 use Rattle.sheet_text_rules.proofs.ShowLaws.{line_none, word_line, mode_named, frame_named, grid_named}
 use Rattle.command_compose.specs.Compose.{mode_word, frame_word, grid_word}
-use borrow.Author.Rules.{rules}
 use Rattle.command_show.proofs.showing.put_further.Goals as goal
 
 pub returns-then-number-eq-ABSENT : goal.returns-then-number-eq-ABSENT

@@ -4,7 +4,6 @@ use Rattle.fields.specs.Header.{further_count}
 use Rattle.text.proofs.TextLaws.{put_short_then, put_as}
 use Rattle.sheet_text_rules.specs.ShowText.{ttrt_line}
 use Rattle.sheet_text_rules.proofs.ShowLaws.{lines_rows}
-use borrow.Author.Rules.{rules}
 use Rattle.command_show.proofs.showing.put_header.Goals as goal
 
 pub returns : goal.returns

@@ -4,7 +4,6 @@ use mathlib.Core.List.{[], ◌∷◌}
 use native.Mathlib.Omega.{arith}
 use Rattle.text.specs.Text.{number_words}
 use Rattle.text.proofs.TextLaws.{line_put, put_as}
-use borrow.Author.Rules.{rules}
 use Rattle.command_show.proofs.showing.put_named.Goals as goal
 
 pub returns : goal.returns

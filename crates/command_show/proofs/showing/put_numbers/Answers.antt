@@ -1,15 +1,11 @@
 -- `put_numbers` is right because after k turns the lines of the first k numbers are put.
-use Prim.Native.Nat.{◌+◌, ◌*◌, ◌-◌, ◌≤◌}
+use Prim.Native.Nat.{◌+◌, ◌-◌}
 use mathlib.Core.Path.{◌≡◌, refl, ap, ◌∙◌}
 use native.Mathlib.Omega.{arith}
-use lib.ListN.{length}
-use Rattle.fields.specs.Rows.{rows}
 use Rattle.fields.proofs.RowLaws.{rows_none, rows_step}
 use Rattle.fields.specs.Header.{further_count}
-use Rattle.text.specs.Text.{PutShort}
 use Rattle.text.proofs.TextLaws.{put_none, put_short_then, put_as}
-use Rattle.sheet_text_rules.specs.ShowText.{further_line, number_line}
-use borrow.Author.Rules.{rules}
+use Rattle.sheet_text_rules.specs.ShowText.{further_line}
 use Rattle.command_show.proofs.showing.put_numbers.Goals as goal
 
 pub loop-k-init : goal.loop-k-init

@@ -3,7 +3,6 @@ use mathlib.Core.Path.{refl}
 use native.Mathlib.Omega.{arith}
 use Rattle.sheet_text_rules.specs.ShowText.{sheet_text}
 use Rattle.text.proofs.TextLaws.{put_short_then, put_as}
-use borrow.Author.Rules.{rules}
 use Rattle.command_show.proofs.showing.put_sheet.Goals as goal
 
 pub returns : goal.returns

@@ -6,7 +6,6 @@ use Rattle.sheet_text_rules.specs.ShowText.{share_words, station_line}
 use Rattle.command_compose.specs.Compose.{station_word}
 use Rattle.text.specs.Text.{number_words}
 use Rattle.text.proofs.TextLaws.{line_put, put_as}
-use borrow.Author.Rules.{rules}
 use Rattle.command_show.proofs.showing.put_station.Goals as goal
 
 pub returns-then-plan : goal.returns-then-plan

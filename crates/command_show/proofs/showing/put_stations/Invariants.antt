@@ -1,14 +1,10 @@
 -- `put_stations` is right because after i turns the lines of the first i stations are put.
 use Prim.Native.Nat.{◌*◌, ◌-◌, ◌≤◌}
-use mathlib.Core.Path.{◌≡◌, refl, ◌∙◌}
-use native.Mathlib.Omega.{arith}
+use mathlib.Core.Path.{◌≡◌}
 use lib.ListN.{length}
 use Rattle.fields.specs.Rows.{rows}
-use Rattle.fields.proofs.RowLaws.{rows_none, rows_step}
 use Rattle.text.specs.Text.{PutShort}
 use Rattle.sheet_text_rules.specs.ShowText.{station_line}
-use Rattle.text.proofs.TextLaws.{put_none, put_short_then, put_as}
-use borrow.Author.Rules.{rules}
 use Rattle.command_show.proofs.showing.put_stations.Given as goal
 
 abbrev pub invariant-loop-i : goal.invariant-loop-i

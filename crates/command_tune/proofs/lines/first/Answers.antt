@@ -1,5 +1,4 @@
 -- `first` is right because it asks for the lines in their order.
-use borrow.Author.Rules.{rules}
 use mathlib.Core.Path.{refl, ◌∙◌}
 use borrow.Author.Tests.{eq-eqb, ne_eqb}
 use Rattle.command_tune.specs.Lines.{first_line}

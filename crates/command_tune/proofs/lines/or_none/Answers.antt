@@ -1,5 +1,4 @@
 -- `or_none` is right because its body is the definition.
-use borrow.Author.Rules.{rules}
 use borrow.Author.Tests.{eq-eqb, ne_eqb}
 use Rattle.command_tune.specs.Lines.{or_none}
 use Rattle.command_tune.proofs.lines.or_none.Goals as goal

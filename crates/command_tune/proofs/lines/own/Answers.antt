@@ -1,5 +1,4 @@
 -- `own` is right because its body is the definition.
-use borrow.Author.Rules.{rules}
 use borrow.Author.Tests.{eq-eqb, ne_eqb}
 use Rattle.command_tune.specs.Lines.{own_line}
 use Rattle.command_tune.proofs.lines.own.Goals as goal

@@ -2,7 +2,6 @@
 use mathlib.Core.Path.{refl}
 use borrow.Author.Tests.{eq-eqb, ne_eqb}
 use Rattle.command_versions.specs.VersionsText.{count_from}
-use borrow.Author.Rules.{rules}
 use Rattle.command_versions.proofs.listing.count_from.Goals as goal
 
 pub returns-then-oldest-eq0 : goal.returns-then-oldest-eq0

@@ -2,7 +2,6 @@
 use mathlib.Core.Path.{refl}
 use native.Mathlib.Omega.{arith}
 use Rattle.text.proofs.TextLaws.{put_as}
-use borrow.Author.Rules.{rules}
 use Rattle.command_versions.proofs.listing.put_line.Goals as goal
 
 pub returns : goal.returns

@@ -4,7 +4,6 @@ use native.Mathlib.Omega.{arith}
 use Rattle.sheets.specs.declared.ReadPlan.{ReadPlan}
 use Rattle.text.proofs.TextLaws.{put_as}
 use Rattle.command_versions.specs.VersionsText.{version_line}
-use borrow.Author.Rules.{rules}
 use Rattle.command_versions.proofs.listing.put_version.Goals as goal
 
 pub returns : goal.returns

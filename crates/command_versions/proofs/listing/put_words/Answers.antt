@@ -5,7 +5,6 @@ use native.Mathlib.Omega.{arith}
 use Rattle.text.specs.Text.{space, line, number_words}
 use Rattle.text.proofs.TextLaws.{decimal_short, line_then, put_as}
 use Rattle.command_plan.specs.PlanText.{plan_word}
-use borrow.Author.Rules.{rules}
 use Rattle.command_versions.proofs.listing.put_words.Goals as goal
 
 pub returns : goal.returns

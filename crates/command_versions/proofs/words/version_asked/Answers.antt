@@ -2,7 +2,6 @@
 use mathlib.Core.Path.{refl, sym, ◌∙◌}
 use native.Mathlib.Omega.{arith}
 use borrow.Author.Tests.{eq-eqb, ne_eqb}
-use borrow.Author.Rules.{rules}
 use Rattle.command_versions.proofs.words.version_asked.Goals as goal
 
 pub returns-then-value-eq-ABOVE : goal.returns-then-value-eq-ABOVE

@@ -1,5 +1,4 @@
 -- `asks_for_status` is right because it compares the word with the one that asks.
-use borrow.Author.Rules.{rules}
 use Rattle.commands.proofs.words.asks_for_status.Goals as goal
 
 pub returns : goal.returns

@@ -1,17 +1,13 @@
 -- `name_of` is right because after i turns the first i bytes of the word have been put, each as it is shown.
-use Prim.Native.Nat.{ℕ, suc, ◌+◌, ◌-◌, ◌≤◌, ◌<◌, min}
+use Prim.Native.Nat.{ℕ, ◌-◌, ◌≤◌, ◌<◌, min}
 use mathlib.Core.Path.{◌≡◌, refl, sym, ap, ◌∙◌}
-use mathlib.Core.List.{List, [], ◌∷◌, map, map-append}
-use mathlib.Core.Logic.{⊎_elim}
-use native.Mathlib.Numerals.{add-one}
+use mathlib.Core.List.{map}
 use native.Mathlib.Omega.{arith}
-use lib.ListN.{length, take, drop, set, get_or, replicate, length-set}
-use lib.Seq.{take-suc, take-suc-set, take_all, length-take-le, drop-set-lt, drop-drop}
-use Rattle.units.proofs.SmallLaws.{below_or_not}
+use lib.ListN.{length, take, length-set}
+use lib.Seq.{length-take-le}
 use Rattle.commands.specs.Words.{shown_byte, name_of}
-use borrow.Author.Rules.{rules}
 use Rattle.commands.proofs.words.name_of.Goals as goal
-use Rattle.commands.proofs.words.name_of.Invariants.{Shown, shown_next, zero_next, all_of_it}
+use Rattle.commands.proofs.words.name_of.Invariants.{shown_next, zero_next, all_of_it}
 
 pub loop-i-init : goal.loop-i-init
 loop-i-init c =

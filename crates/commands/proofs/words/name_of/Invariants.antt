@@ -1,15 +1,14 @@
 -- `name_of` is right because after i turns the first i bytes of the word have been put, each as it is shown.
 use Prim.Native.Nat.{ℕ, suc, ◌+◌, ◌-◌, ◌≤◌, ◌<◌, min}
-use mathlib.Core.Path.{◌≡◌, refl, sym, ap, ◌∙◌}
+use mathlib.Core.Path.{◌≡◌, refl, sym, ◌∙◌}
 use mathlib.Core.List.{List, [], ◌∷◌, map, map-append}
 use mathlib.Core.Logic.{⊎_elim}
 use native.Mathlib.Numerals.{add-one}
 use native.Mathlib.Omega.{arith}
-use lib.ListN.{length, take, drop, set, get_or, replicate, length-set}
-use lib.Seq.{take-suc, take-suc-set, take_all, length-take-le, drop-set-lt, drop-drop}
+use lib.ListN.{length, take, drop, set, get_or, replicate}
+use lib.Seq.{take-suc, take-suc-set, take_all, drop-set-lt, drop-drop}
 use Rattle.units.proofs.SmallLaws.{below_or_not}
 use Rattle.commands.specs.Words.{shown_byte, name_of}
-use borrow.Author.Rules.{rules}
 use Rattle.commands.proofs.words.name_of.Given as goal
 
 -- the first i bytes of the word have been put

@@ -1,14 +1,12 @@
 -- `same_bytes_lem` is right because after i turns the first i places have been compared.
-use Prim.Native.Nat.{◌≤◌, ◌-◌}
+use Prim.Native.Nat.{◌-◌}
 use mathlib.Core.Path.{◌≡◌, refl, sym}
 use native.Mathlib.Omega.{arith}
 use borrow.Author.Tests.{eq-eqb, ne_eqb}
-use lib.Dec.{eqb}
 use lib.ListN.{length}
-use Rattle.units.specs.Places.{at, all_below}
+use Rattle.units.specs.Places.{at}
 use Rattle.units.proofs.PlaceLaws.{all_step, all_none}
 use Rattle.commands.specs.Words.{same_bytes}
-use borrow.Author.Rules.{rules}
 use Rattle.commands.proofs.words.same_bytes.Goals as goal
 
 pub returns-then-v-w : goal.returns-then-v-w

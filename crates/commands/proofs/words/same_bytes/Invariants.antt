@@ -1,14 +1,10 @@
 -- `same_bytes_lem` is right because after i turns the first i places have been compared.
 use Prim.Native.Nat.{◌≤◌, ◌-◌}
-use mathlib.Core.Path.{◌≡◌, refl, sym}
-use native.Mathlib.Omega.{arith}
-use borrow.Author.Tests.{eq-eqb, ne_eqb}
+use mathlib.Core.Path.{◌≡◌}
 use lib.Dec.{eqb}
 use lib.ListN.{length}
 use Rattle.units.specs.Places.{at, all_below}
-use Rattle.units.proofs.PlaceLaws.{all_step, all_none}
 use Rattle.commands.specs.Words.{same_bytes}
-use borrow.Author.Rules.{rules}
 use Rattle.commands.proofs.words.same_bytes.Given as goal
 
 abbrev pub invariant-loop-i : goal.invariant-loop-i

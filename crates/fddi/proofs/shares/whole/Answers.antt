@@ -1,6 +1,5 @@
 -- `whole` is right because it hands on the quotient; by 0 that is 0.
 use native.Mathlib.Nat.{div-mul-le_self}
-use borrow.Author.Rules.{rules}
 use Rattle.fddi.proofs.shares.whole.Goals as goal
 
 pub returns : goal.returns

@@ -1,7 +1,6 @@
 -- `short_at` is right because its body is the definition; two bytes stay below 65,536.
 use native.Mathlib.Omega.{arith}
 use Rattle.fields.specs.Bytes.{short_at}
-use borrow.Author.Rules.{rules}
 use Rattle.fields.proofs.bytes.short_at.Goals as goal
 
 pub returns : goal.returns

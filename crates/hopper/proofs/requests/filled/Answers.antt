@@ -2,9 +2,7 @@
 use Prim.Native.Nat.{◌-◌}
 use mathlib.Core.Path.{◌≡◌, refl, ◌∙◌}
 use native.Mathlib.Omega.{arith}
-use Rattle.units.specs.Places.{zeros}
-use Rattle.units.proofs.FillLaws.{Filling, filling_begins, filling_goes_on, filling_ends}
-use borrow.Author.Rules.{rules}
+use Rattle.units.proofs.FillLaws.{filling_begins, filling_goes_on, filling_ends}
 use Rattle.hopper.proofs.requests.filled.Goals as goal
 
 pub loop-i-preserved : goal.loop-i-preserved

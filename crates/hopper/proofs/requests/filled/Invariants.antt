@@ -1,10 +1,7 @@
 -- `filled` is right because the places passed hold the number, and every other is still 0.
 use Prim.Native.Nat.{◌-◌}
-use mathlib.Core.Path.{◌≡◌, refl, ◌∙◌}
-use native.Mathlib.Omega.{arith}
 use Rattle.units.specs.Places.{zeros}
-use Rattle.units.proofs.FillLaws.{Filling, filling_begins, filling_goes_on, filling_ends}
-use borrow.Author.Rules.{rules}
+use Rattle.units.proofs.FillLaws.{Filling}
 use Rattle.hopper.proofs.requests.filled.Given as goal
 
 abbrev pub invariant-loop-i : goal.invariant-loop-i

@@ -1,11 +1,8 @@
 -- `messages` is right because the places passed hold the longest messages of their wagons, and every other is still 0.
 use Prim.Native.Nat.{◌-◌}
-use mathlib.Core.Path.{◌≡◌, ◌∙◌}
-use native.Mathlib.Omega.{arith}
 use Rattle.units.specs.Places.{zeros}
-use Rattle.units.proofs.FillLaws.{Filling, filling_begins, filling_goes_on, filling_ends}
+use Rattle.units.proofs.FillLaws.{Filling}
 use Rattle.hopper.specs.Requests.{longest_at}
-use borrow.Author.Rules.{rules}
 use Rattle.hopper.proofs.requests.messages.Given as goal
 
 abbrev pub invariant-loop-i : goal.invariant-loop-i

@@ -1,6 +1,5 @@
 -- `set_of` is right because each of its columns is the definition's.
 use mathlib.Core.Path.{refl}
-use borrow.Author.Rules.{rules}
 use Rattle.hopper.proofs.requests.set_of.Goals as goal
 
 pub returns : goal.returns

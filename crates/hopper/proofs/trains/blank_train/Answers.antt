@@ -1,6 +1,5 @@
 -- `blank_train` is right because its body is the definition.
 use mathlib.Core.Path.{refl}
-use borrow.Author.Rules.{rules}
 use Rattle.hopper.proofs.trains.blank_train.Goals as goal
 
 pub returns : goal.returns

@@ -1,9 +1,8 @@
 -- `place_number` is right because it asks the definition's questions in the definition's order: the list, the wagon, the place.
 use mathlib.Core.Path.{◌≡◌, sym, ◌∙◌}
-use borrow.Author.Tests.{not-true, not-false, le-ltb, lt-ltb}
+use borrow.Author.Tests.{le-ltb, lt-ltb}
 use Rattle.hopper.specs.Wagons.{judged_list}
 use Rattle.hopper.proofs.TrainLaws.{place_list, place_wagon, place_past, place_none}
-use borrow.Author.Rules.{rules}
 use Rattle.hopper.proofs.trains.place_number.Goals as goal
 
 pub returns-then-number-ne-ACCEPTED : goal.returns-then-number-ne-ACCEPTED

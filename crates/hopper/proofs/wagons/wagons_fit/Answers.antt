@@ -1,11 +1,9 @@
 -- `wagons_fit` is right because its flag is the test over the wagons passed, and it passes all of the list.
-use Prim.Native.Nat.{◌≤◌, ◌-◌}
+use Prim.Native.Nat.{◌-◌}
 use mathlib.Core.Path.{◌≡◌, sym, ◌∙◌}
 use native.Mathlib.Omega.{arith}
-use Rattle.units.specs.Places.{all_below}
 use Rattle.units.proofs.PlaceLaws.{all_then, all_none}
 use Rattle.hopper.specs.Wagons.{wagon_fits_at}
-use borrow.Author.Rules.{rules}
 use Rattle.hopper.proofs.wagons.wagons_fit.Goals as goal
 
 pub loop-i-preserved : goal.loop-i-preserved

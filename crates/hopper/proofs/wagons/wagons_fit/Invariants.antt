@@ -1,11 +1,8 @@
 -- `wagons_fit` is right because its flag is the test over the wagons passed, and it passes all of the list.
 use Prim.Native.Nat.{◌≤◌, ◌-◌}
-use mathlib.Core.Path.{◌≡◌, sym, ◌∙◌}
-use native.Mathlib.Omega.{arith}
+use mathlib.Core.Path.{◌≡◌}
 use Rattle.units.specs.Places.{all_below}
-use Rattle.units.proofs.PlaceLaws.{all_then, all_none}
 use Rattle.hopper.specs.Wagons.{wagon_fits_at}
-use borrow.Author.Rules.{rules}
 use Rattle.hopper.proofs.wagons.wagons_fit.Given as goal
 
 abbrev pub invariant-loop-i : goal.invariant-loop-i

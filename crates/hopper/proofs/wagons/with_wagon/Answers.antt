@@ -1,7 +1,6 @@
 -- `with_wagon` is right because its branch is the definition's, and so are its three stores.
 use mathlib.Core.Path.{sym}
 use Rattle.hopper.proofs.WagonLaws.{with_past, with_at}
-use borrow.Author.Rules.{rules}
 use Rattle.hopper.proofs.wagons.with_wagon.Goals as goal
 
 pub returns-then-place-ge12 : goal.returns-then-place-ge12

@@ -1,5 +1,5 @@
 -- `divided_between` is right because the divisors of the amount come in pairs, and it ends when the smaller one of a pair would be above the other.
-use Rattle.std.proofs.Common.{◌+◌, ◌-◌, sym, arith, rules}
+use Rattle.std.proofs.Common.{◌+◌, ◌-◌, sym, arith}
 use Rattle.inspection.proofs.FrameLaws.{Tried, tried_first, none_divides, turn_found, turn_next}
 use Rattle.inspection.proofs.frames.divided_between.Goals as goal
 

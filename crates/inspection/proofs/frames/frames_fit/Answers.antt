@@ -1,5 +1,5 @@
 -- `frames_fit` is right because an amount within the limit is given by frames of one tick, and one above it only by frames longer than what it is above.
-use Rattle.std.proofs.Common.{sym, ◌∙◌, rules}
+use Rattle.std.proofs.Common.{sym, ◌∙◌}
 use Rattle.inspection.proofs.FrameLaws.{fit_within, fit_none, fit_searched}
 use Rattle.inspection.proofs.frames.frames_fit.Goals as goal
 

@@ -1,5 +1,5 @@
 -- `inspect_on` is right because a refused record and one behind a broken rule leave the arrays, and any other is one step.
-use Rattle.std.proofs.Common.{◌≡◌, sym, ◌∙◌, rules}
+use Rattle.std.proofs.Common.{◌≡◌, sym, ◌∙◌}
 use Rattle.inspection.specs.Kept.{standing, kept_of, inspection_in, next_of}
 use Rattle.inspection.specs.declared.KeptInspection.{KeptInspection}
 use Rattle.inspection.proofs.KeptLaws.{entry_visit, entry_mark, record_refused, record_behind, record_stepped}

@@ -1,5 +1,5 @@
 -- `mark_on` is right because by the one rule of a mark it stops, or stores the mark.
-use Rattle.std.proofs.Common.{refl, rules}
+use Rattle.std.proofs.Common.{refl}
 use Rattle.sets.specs.Judged.{zeros}
 use Rattle.sets.specs.Lent.{set_of}
 use Rattle.plans.specs.Lent.{alloc_of}

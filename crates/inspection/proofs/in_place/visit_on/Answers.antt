@@ -1,5 +1,5 @@
 -- `visit_on` is right because it asks what the visit must say, and by the first rule that is broken it stops, or stores what the visit moves.
-use Rattle.std.proofs.Common.{◌≡◌, ℕ, List, refl, rules}
+use Rattle.std.proofs.Common.{◌≡◌, ℕ, List, refl}
 use Rattle.sets.specs.Lent.{set_of}
 use Rattle.plans.specs.Lent.{alloc_of}
 use Rattle.log_records.specs.declared.Entry.TheVariants.{Visit}

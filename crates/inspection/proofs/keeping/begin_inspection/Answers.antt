@@ -1,5 +1,5 @@
 -- `begin_inspection` is right because only a plan that is judged 0 begins one.
-use Rattle.std.proofs.Common.{◌≡◌, sym, ◌∙◌, rules}
+use Rattle.std.proofs.Common.{◌≡◌, sym, ◌∙◌}
 use Rattle.inspection.proofs.KeptLaws.{begun_refused, begun_accepted}
 use Rattle.inspection.proofs.keeping.begin_inspection.Goals as goal
 

@@ -1,5 +1,5 @@
 -- `in_field` is right because it goes by the kind as the definition does.
-use Rattle.std.proofs.Common.{refl, rules, eq-eqb, ne_eqb}
+use Rattle.std.proofs.Common.{refl, eq-eqb, ne_eqb}
 use Rattle.inspection.specs.Kept.{entry_of, in_field}
 use Rattle.inspection.proofs.keeping.in_field.Goals as goal
 

@@ -1,5 +1,5 @@
 -- `next_of` is right because its parts are the definition's.
-use Rattle.std.proofs.Common.{refl, rules}
+use Rattle.std.proofs.Common.{refl}
 use Rattle.inspection.proofs.keeping.next_of.Goals as goal
 
 pub returns : goal.returns

@@ -1,6 +1,5 @@
 -- `record_number` is right because it asks the definition's three tests in the definition's order.
-use Rattle.std.proofs.Common.{◌≡◌, sym, ◌∙◌, rules}
-use borrow.Author.Tests.{not-true, not-false}
+use Rattle.std.proofs.Common.{◌≡◌, sym, ◌∙◌}
 use Rattle.units.proofs.JudgingLaws.{failed, held}
 use Rattle.inspection.specs.Kept.{entry_of, in_field, record_number}
 use Rattle.inspection.proofs.keeping.record_number.Goals as goal

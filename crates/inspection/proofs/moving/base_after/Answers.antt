@@ -1,5 +1,5 @@
 -- `base_after` is right because its branches are the definition's own.
-use Rattle.std.proofs.Common.{◌<◌, ◌≤◌, sym, ◌∙◌, arith, rules}
+use Rattle.std.proofs.Common.{◌<◌, ◌≤◌, sym, ◌∙◌, arith}
 use Rattle.inspection.specs.Counter.{ticks_between}
 use Rattle.inspection.proofs.RecordLaws.{base_late, base_early, base_timely}
 use Rattle.inspection.proofs.moving.base_after.Goals as goal

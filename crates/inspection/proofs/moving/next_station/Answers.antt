@@ -1,6 +1,6 @@
 -- `next_station` is right because its branch is the definition's own.
 use Rattle.rings.specs.State.{following}
-use Rattle.std.proofs.Common.{refl, rules, le-ltb, lt-ltb}
+use Rattle.std.proofs.Common.{refl, le-ltb, lt-ltb}
 use Rattle.inspection.proofs.moving.next_station.Goals as goal
 
 pub returns-then-next-n : goal.returns-then-next-n

@@ -1,5 +1,5 @@
 -- `begin_lent` is right because each of its numbers is the definition's, and a place past the 128th adds nothing.
-use Rattle.std.proofs.Common.{refl, rules}
+use Rattle.std.proofs.Common.{refl}
 use Rattle.units.proofs.PlaceLaws.{sum_all}
 use Rattle.inspection.specs.Opening.{begun}
 use Rattle.inspection.proofs.opening.begin_lent.Goals as goal

@@ -1,9 +1,9 @@
 -- `passing_times` is right because what was walked so far is the sum of w before the present station, on the counter.
-use Rattle.std.proofs.Common.{◌≡◌, ℕ, ◌+◌, ◌-◌, ◌%◌, ◌^◌, List, sym, refl, ap, ◌∙◌, arith, rules}
+use Rattle.std.proofs.Common.{◌≡◌, ℕ, ◌+◌, ◌-◌, ◌%◌, ◌^◌, sym, refl, ap, ◌∙◌, arith}
 use native.Mathlib.Nat.{mod-add-mod}
-use Rattle.units.specs.Places.{at, sum_below, zeros}
+use Rattle.units.specs.Places.{at, sum_below}
 use Rattle.units.proofs.PlaceLaws.{sum_none, sum_step}
-use Rattle.units.proofs.FillLaws.{Filling, filling_begins, filling_goes_on}
+use Rattle.units.proofs.FillLaws.{filling_begins, filling_goes_on}
 use Rattle.arrays.proofs.LoopLaws.{filled}
 use Rattle.inspection.specs.Opening.{passing_times}
 use Rattle.inspection.proofs.opening.passing_times.Goals as goal

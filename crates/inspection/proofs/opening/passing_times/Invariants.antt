@@ -1,10 +1,7 @@
 -- `passing_times` is right because what was walked so far is the sum of w before the present station, on the counter.
-use Rattle.std.proofs.Common.{◌≡◌, ℕ, ◌+◌, ◌-◌, ◌%◌, ◌^◌, List, sym, refl, ap, ◌∙◌, arith, rules}
-use native.Mathlib.Nat.{mod-add-mod}
+use Rattle.std.proofs.Common.{◌≡◌, ℕ, ◌-◌, ◌%◌, ◌^◌, List}
 use Rattle.units.specs.Places.{at, sum_below, zeros}
-use Rattle.units.proofs.PlaceLaws.{sum_none, sum_step}
-use Rattle.units.proofs.FillLaws.{Filling, filling_begins, filling_goes_on}
-use Rattle.arrays.proofs.LoopLaws.{filled}
+use Rattle.units.proofs.FillLaws.{Filling}
 use Rattle.inspection.specs.Opening.{passing_times}
 use Rattle.inspection.proofs.opening.passing_times.Given as goal
 

@@ -1,14 +1,11 @@
 -- `inspect_lent` is right because the records that are left always lead to the whole inspection, and each is moved on or stops it by the first rule that it breaks.
-use Rattle.std.proofs.Common.{◌≡◌, ℕ, ◌+◌, ◌%◌, ◌^◌, List, sym, refl, ap, ◌∙◌, ⊎_elim, arith, rules}
+use Rattle.std.proofs.Common.{ℕ, List}
 use Rattle.units.specs.Places.{at}
 use Rattle.sets.specs.Lent.{set_of}
-use Rattle.sets.specs.declared.Set.{Set}
 use Rattle.plans.specs.Lent.{alloc_of}
-use Rattle.plans.specs.declared.Alloc.{Alloc}
 use Rattle.logs.specs.Reading.{handed_from}
-use Rattle.inspection.specs.Rules.{expected}
-use Rattle.inspection.specs.Records.{base_with, moved_on, inspected_all}
-use Rattle.inspection.proofs.RecordLaws.{all_stays, asked_there, counting, visit_stored, mark_stored, Going, going_first, going_next, going_stops, going_ends}
+use Rattle.inspection.specs.Records.{inspected_all}
+use Rattle.inspection.proofs.RecordLaws.{Going}
 use Rattle.inspection.proofs.records.inspect_lent.Given as goal
 
 abbrev pub invariant-records : goal.invariant-records

@@ -1,5 +1,4 @@
 -- `inspect_records` is right because the plan's own w and S are lent.
-use Rattle.std.proofs.Common.{rules}
 use Rattle.inspection.proofs.records.inspect_records.Goals as goal
 
 pub returns : goal.returns

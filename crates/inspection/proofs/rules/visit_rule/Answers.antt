@@ -1,6 +1,6 @@
 -- `visit_rule` is right because it asks the definition's five tests in the definition's order.
 use Rattle.std.proofs.Common.{◌≡◌, ℕ, true, ◌||◌, eqb, sym, ap, ◌∙◌, rules, eq-eqb, ne_eqb, le-leb}
-use borrow.Author.Tests.{lt-leb, not-true, not-false}
+use borrow.Author.Tests.{lt-leb}
 use Rattle.units.proofs.JudgingLaws.{held, failed}
 use Rattle.inspection.specs.Rules.{start_kept, first_failed}
 use Rattle.inspection.proofs.rules.visit_rule.Goals as goal

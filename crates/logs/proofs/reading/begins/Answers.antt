@@ -1,5 +1,5 @@
 -- `begins` is right because it tests the tag, and the length in the two bytes behind it.
-use Rattle.std.proofs.Common.{◌≡◌, ◌+◌, refl, arith, rules}
+use Rattle.std.proofs.Common.{◌≡◌, ◌+◌, refl, arith}
 use Rattle.fields.specs.Bytes.{short_at}
 use Rattle.logs.proofs.reading.begins.Goals as goal
 

@@ -1,5 +1,5 @@
 -- `mark_stands` is right because it tests for the 5 bytes, and then for the tag and the length.
-use Rattle.std.proofs.Common.{◌+◌, ◌<◌, ◌≤◌, length, refl, ◌∙◌, arith, rules, le-leb}
+use Rattle.std.proofs.Common.{◌+◌, ◌<◌, ◌≤◌, length, refl, ◌∙◌, arith, le-leb}
 use borrow.Author.Tests.{lt-leb}
 use Rattle.log_records.specs.Mark.{mark_stands}
 use Rattle.logs.proofs.reading.mark_stands.Goals as goal

@@ -1,5 +1,5 @@
 -- `record_size` is right because a record is a visit of 20 bytes or a mark of 5.
-use Rattle.std.proofs.Common.{sym, refl, ◌∙◌, rules}
+use Rattle.std.proofs.Common.{sym, refl, ◌∙◌}
 use Rattle.logs.specs.Records.{record_size}
 use Rattle.logs.proofs.reading.record_size.Goals as goal
 

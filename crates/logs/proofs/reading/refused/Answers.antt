@@ -1,5 +1,5 @@
 -- `refused` is right because its body is the definition.
-use Rattle.std.proofs.Common.{refl, rules}
+use Rattle.std.proofs.Common.{refl}
 use Rattle.logs.proofs.reading.refused.Goals as goal
 
 pub returns : goal.returns

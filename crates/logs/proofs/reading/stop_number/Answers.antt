@@ -1,6 +1,5 @@
 -- `stop_number` is right because it goes by the definition's tests, in their order.
-use Rattle.std.proofs.Common.{◌≡◌, ◌≤◌, true, false, sym, ◌∙◌, arith, rules}
-use borrow.Author.Tests.{not-true, not-false}
+use Rattle.std.proofs.Common.{◌≡◌, ◌≤◌, true, false, sym, ◌∙◌, arith}
 use Rattle.fields.specs.Fields.{left}
 use Rattle.log_records.specs.Visit.{is_visit}
 use Rattle.log_records.specs.Mark.{is_mark}

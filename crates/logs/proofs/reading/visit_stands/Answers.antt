@@ -1,5 +1,5 @@
 -- `visit_stands` is right because it tests for the 20 bytes, and then for the tag and the length.
-use Rattle.std.proofs.Common.{◌+◌, ◌<◌, ◌≤◌, length, refl, ◌∙◌, arith, rules, le-leb}
+use Rattle.std.proofs.Common.{◌+◌, ◌<◌, ◌≤◌, length, refl, ◌∙◌, arith, le-leb}
 use borrow.Author.Tests.{lt-leb}
 use Rattle.log_records.specs.Visit.{visit_stands}
 use Rattle.logs.proofs.reading.visit_stands.Goals as goal

@@ -1,8 +1,7 @@
 -- `walk_records` is right because at each turn the walk from the place on is the rest of the definition's walk, and it stops where the definition stops.
-use Rattle.std.proofs.Common.{◌≡◌, ℕ, suc, ◌+◌, ◌<◌, ◌≤◌, ◌≢◌, length, sym, refl, ap, ◌∙◌, arith, rules}
-use Rattle.fields.specs.Fields.{left}
+use Rattle.std.proofs.Common.{◌≡◌, ℕ, suc, ◌<◌, ◌≢◌, length, sym, refl, ap, ◌∙◌, arith}
 use Rattle.logs.specs.Records.{record_size}
-use Rattle.logs.specs.Walked.{walk_from, walked}
+use Rattle.logs.specs.Walked.{walked}
 use Rattle.logs.proofs.RecordLaws.{RecordThere, record_there}
 use Rattle.logs.proofs.WalkLaws.{walk_stops, walk_more}
 use Rattle.logs.proofs.reading.walk_records.Goals as goal

@@ -1,10 +1,8 @@
 -- `walk_records` is right because at each turn the walk from the place on is the rest of the definition's walk, and it stops where the definition stops.
-use Rattle.std.proofs.Common.{◌≡◌, ℕ, suc, ◌+◌, ◌<◌, ◌≤◌, ◌≢◌, length, sym, refl, ap, ◌∙◌, arith, rules}
+use Rattle.std.proofs.Common.{◌≡◌, ℕ, ◌+◌, ◌<◌, ◌≤◌}
 use Rattle.fields.specs.Fields.{left}
 use Rattle.logs.specs.Records.{record_size}
 use Rattle.logs.specs.Walked.{walk_from, walked}
-use Rattle.logs.proofs.RecordLaws.{RecordThere, record_there}
-use Rattle.logs.proofs.WalkLaws.{walk_stops, walk_more}
 use Rattle.logs.proofs.reading.walk_records.Given as goal
 
 abbrev pub invariant-loop-size : goal.invariant-loop-size

@@ -1,5 +1,5 @@
 -- `counter_at` is right because a wrapping difference is what the counter rises by, and a wrapping sum runs past the top to 0.
-use Rattle.std.proofs.Common.{◌≡◌, ℕ, ◌+◌, ◌%◌, ◌^◌, sym, ap, ◌∙◌, arith, rules}
+use Rattle.std.proofs.Common.{◌≡◌, ℕ, ◌+◌, ◌%◌, ◌^◌, sym, ap, ◌∙◌, arith}
 use Rattle.logs.specs.Writing.{low, rise, counter_at}
 use Rattle.logs.proofs.WritingLaws.{rise_is}
 use Rattle.logs.proofs.writing.counter_at.Goals as goal

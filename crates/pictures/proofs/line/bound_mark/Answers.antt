@@ -1,5 +1,5 @@
 -- `bound_mark` is right because its body is the definition.
-use Rattle.std.proofs.Common.{refl, rules}
+use Rattle.std.proofs.Common.{refl}
 use Rattle.pictures.specs.Parts.{bound_mark}
 use Rattle.pictures.proofs.line.bound_mark.Goals as goal
 

@@ -1,5 +1,5 @@
 -- `line_begin` is right because its body is the definition.
-use Rattle.std.proofs.Common.{refl, rules}
+use Rattle.std.proofs.Common.{refl}
 use Rattle.pictures.specs.Parts.{line_begin}
 use Rattle.pictures.proofs.line.line_begin.Goals as goal
 

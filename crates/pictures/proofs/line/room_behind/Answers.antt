@@ -1,5 +1,4 @@
 -- `room_behind` is right because its body is the definition.
-use Rattle.std.proofs.Common.{rules}
 use Rattle.pictures.proofs.line.room_behind.Goals as goal
 
 pub returns-in-Visit : goal.returns-in-Visit

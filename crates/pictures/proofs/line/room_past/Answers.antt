@@ -1,5 +1,5 @@
 -- `room_past` is right because its body is the definition.
-use Rattle.std.proofs.Common.{sym, refl, ◌∙◌, rules}
+use Rattle.std.proofs.Common.{sym, refl, ◌∙◌}
 use Rattle.pictures.specs.Parts.{room_past}
 use Rattle.pictures.proofs.line.room_past.Goals as goal
 

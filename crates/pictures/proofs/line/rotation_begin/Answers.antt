@@ -1,5 +1,5 @@
 -- `rotation_begin` is right because its body is the definition.
-use Rattle.std.proofs.Common.{refl, rules}
+use Rattle.std.proofs.Common.{refl}
 use Rattle.pictures.specs.Parts.{rotation_begin}
 use Rattle.pictures.proofs.line.rotation_begin.Goals as goal
 

@@ -1,5 +1,4 @@
 -- `rotation_end` is right because its body is the definition.
-use Rattle.std.proofs.Common.{rules}
 use Rattle.pictures.specs.Parts.{rotation_end}
 use Rattle.pictures.proofs.line.rotation_end.Goals as goal
 

@@ -1,5 +1,5 @@
 -- `bar` is right because a moment has the place that it has as far as the line asks for it.
-use Rattle.std.proofs.Common.{refl, rules}
+use Rattle.std.proofs.Common.{refl}
 use Rattle.pictures.proofs.PlacedLaws.{placed_held}
 use Rattle.pictures.proofs.places.bar.Goals as goal
 

@@ -1,5 +1,5 @@
 -- `line` is right because a moment has the place that it has as far as the line asks for it; two numbers of 32 bits have a product of 64.
-use Rattle.std.proofs.Common.{refl, arith, rules}
+use Rattle.std.proofs.Common.{refl, arith}
 use Rattle.units.proofs.SmallLaws.{product_small}
 use Rattle.pictures.proofs.PlacedLaws.{placed_held}
 use Rattle.pictures.proofs.places.line.Goals as goal

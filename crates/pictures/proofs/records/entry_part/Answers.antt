@@ -1,5 +1,4 @@
 -- `entry_part` is right because it goes by the kind of the record, as the definition does.
-use Rattle.std.proofs.Common.{rules}
 use Rattle.pictures.proofs.records.entry_part.Goals as goal
 
 pub returns-in-Visit : goal.returns-in-Visit

@@ -1,5 +1,5 @@
 -- `frame` is right because its body is the definition.
-use Rattle.std.proofs.Common.{refl, rules, eq-eqb, ne_eqb}
+use Rattle.std.proofs.Common.{refl, eq-eqb, ne_eqb}
 use Rattle.pictures.specs.Parts.{frame}
 use Rattle.pictures.proofs.records.frame.Goals as goal
 

@@ -1,5 +1,5 @@
 -- `mark_part` is right because its body is the definition.
-use Rattle.std.proofs.Common.{rules, eq-eqb, ne_eqb}
+use Rattle.std.proofs.Common.{eq-eqb, ne_eqb}
 use Rattle.pictures.specs.Parts.{mark_part}
 use Rattle.pictures.proofs.records.mark_part.Goals as goal
 

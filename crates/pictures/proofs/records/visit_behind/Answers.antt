@@ -1,5 +1,5 @@
 -- `visit_behind` is right because it asks for the parts in their order.
-use Rattle.std.proofs.Common.{rules, eq-eqb, ne_eqb}
+use Rattle.std.proofs.Common.{eq-eqb, ne_eqb}
 use Rattle.pictures.proofs.PlacedLaws.{frame_held}
 use Rattle.pictures.specs.Parts.{visit_behind}
 use Rattle.pictures.proofs.records.visit_behind.Goals as goal

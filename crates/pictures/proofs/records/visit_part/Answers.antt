@@ -1,5 +1,5 @@
 -- `visit_part` is right because it asks for the parts in their order.
-use Rattle.std.proofs.Common.{rules, eq-eqb, ne_eqb}
+use Rattle.std.proofs.Common.{eq-eqb, ne_eqb}
 use Rattle.pictures.specs.Parts.{visit_part}
 use Rattle.pictures.proofs.records.visit_part.Goals as goal
 

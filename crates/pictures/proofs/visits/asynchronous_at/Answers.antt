@@ -1,5 +1,5 @@
 -- `asynchronous_at` is right because the part that comes first begins with the visit.
-use Rattle.std.proofs.Common.{arith, rules}
+use Rattle.std.proofs.Common.{arith}
 use Rattle.pictures.specs.Parts.{asynchronous_at}
 use Rattle.pictures.proofs.visits.asynchronous_at.Goals as goal
 

@@ -1,5 +1,4 @@
 -- `asynchronous_bar` is right because its moment is as far as the line asks for it.
-use Rattle.std.proofs.Common.{rules}
 use Rattle.pictures.proofs.PlacedLaws.{bar_held}
 use Rattle.pictures.proofs.visits.asynchronous_bar.Goals as goal
 

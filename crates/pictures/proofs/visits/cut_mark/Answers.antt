@@ -1,5 +1,5 @@
 -- `cut_mark` is right because a moment behind the end of the line stays behind it.
-use Rattle.std.proofs.Common.{refl, rules, le-ltb, lt-ltb}
+use Rattle.std.proofs.Common.{refl, le-ltb, lt-ltb}
 use Rattle.pictures.proofs.PlacedLaws.{past, within}
 use Rattle.pictures.specs.Parts.{cut_mark}
 use Rattle.pictures.proofs.visits.cut_mark.Goals as goal

@@ -1,5 +1,4 @@
 -- `limit_at` is right because a moment so many ticks on is as far as the line asks for it too.
-use Rattle.std.proofs.Common.{rules}
 use Rattle.pictures.proofs.PlacedLaws.{held_on}
 use Rattle.pictures.proofs.visits.limit_at.Goals as goal
 

@@ -1,5 +1,4 @@
 -- `limit_line` is right because its moment is as far as the line asks for it.
-use Rattle.std.proofs.Common.{rules}
 use Rattle.pictures.proofs.PlacedLaws.{line_held}
 use Rattle.pictures.proofs.visits.limit_line.Goals as goal
 

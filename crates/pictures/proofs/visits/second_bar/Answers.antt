@@ -1,5 +1,5 @@
 -- `second_bar` is right because its body is the definition.
-use Rattle.std.proofs.Common.{◌∙◌, rules}
+use Rattle.std.proofs.Common.{◌∙◌}
 use Rattle.pictures.proofs.ChoiceLaws.{chosen, left_out}
 use Rattle.pictures.specs.Parts.{second_bar}
 use Rattle.pictures.proofs.visits.second_bar.Goals as goal

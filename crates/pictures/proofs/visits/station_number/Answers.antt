@@ -1,5 +1,5 @@
 -- `station_number` is right because its body is the definition.
-use Rattle.std.proofs.Common.{refl, rules}
+use Rattle.std.proofs.Common.{refl}
 use Rattle.pictures.proofs.visits.station_number.Goals as goal
 
 pub returns : goal.returns

@@ -1,5 +1,5 @@
 -- `synchronous_at` is right because the part that comes first begins with the visit.
-use Rattle.std.proofs.Common.{arith, rules}
+use Rattle.std.proofs.Common.{arith}
 use Rattle.pictures.specs.Parts.{synchronous_at}
 use Rattle.pictures.proofs.visits.synchronous_at.Goals as goal
 

@@ -1,5 +1,5 @@
 -- `tick` is right because its body is the definition.
-use Rattle.std.proofs.Common.{refl, rules}
+use Rattle.std.proofs.Common.{refl}
 use Rattle.pictures.specs.Parts.{tick}
 use Rattle.pictures.proofs.visits.tick.Goals as goal
 

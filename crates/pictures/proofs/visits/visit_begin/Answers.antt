@@ -1,5 +1,5 @@
 -- `visit_begin` is right because its body is the definition.
-use Rattle.std.proofs.Common.{refl, rules}
+use Rattle.std.proofs.Common.{refl}
 use Rattle.pictures.proofs.visits.visit_begin.Goals as goal
 
 pub returns : goal.returns

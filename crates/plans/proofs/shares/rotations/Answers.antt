@@ -2,7 +2,6 @@
 use Prim.Native.Nat.{◌+◌, ◌-◌, ◌*◌}
 use mathlib.Core.Path.{◌≡◌, ◌∙◌}
 use native.Mathlib.Omega.{arith}
-use borrow.Author.Rules.{rules}
 use Rattle.units.proofs.SmallLaws.{one_more_lem}
 use Rattle.quotients.proofs.Promised.{promised}
 use Rattle.plans.proofs.PlanLaws.{rotations_within, alpha_small}

@@ -1,5 +1,4 @@
 -- `hand_in` is right because the call on its arrays, taken out, is.
-use borrow.Author.Rules.{rules}
 use Rattle.rings.proofs.Ring.hand_in.Goals as goal
 
 pub returns : goal.returns

@@ -1,5 +1,4 @@
 -- `mark` is right because the call on its arrays, taken out, is.
-use borrow.Author.Rules.{rules}
 use Rattle.rings.proofs.Ring.mark.Goals as goal
 
 pub returns : goal.returns

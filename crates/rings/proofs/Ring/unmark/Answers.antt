@@ -1,5 +1,4 @@
 -- `unmark` is right because the call on its arrays, taken out, is.
-use borrow.Author.Rules.{rules}
 use Rattle.rings.proofs.Ring.unmark.Goals as goal
 
 pub returns : goal.returns

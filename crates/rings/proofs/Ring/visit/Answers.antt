@@ -1,5 +1,4 @@
 -- `visit` is right because the call on its arrays, taken out, is.
-use borrow.Author.Rules.{rules}
 use Rattle.rings.proofs.Ring.visit.Goals as goal
 
 pub returns : goal.returns

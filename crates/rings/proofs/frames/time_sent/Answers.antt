@@ -2,7 +2,6 @@
 use Prim.Native.Nat.{ℕ, ◌+◌, ◌-◌, ◌*◌, ◌≤◌}
 use mathlib.Core.Path.{◌≡◌, refl, sym, ap, ◌∙◌}
 use native.Mathlib.Omega.{arith}
-use borrow.Author.Rules.{rules}
 use Rattle.units.specs.Small.{rounded_up}
 use Rattle.units.proofs.SmallLaws.{shares_enough, shares_least}
 use Rattle.rings.specs.Frames.{frames_sent, frames_time}

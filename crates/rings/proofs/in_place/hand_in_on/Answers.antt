@@ -3,7 +3,6 @@ use Prim.Native.Nat.{ℕ}
 use mathlib.Core.Path.{◌≡◌, refl, sym, ap, ◌∙◌}
 use mathlib.Core.Bool.{true}
 use native.Mathlib.Omega.{arith}
-use borrow.Author.Tests.{not-true, not-false}
 use Rattle.units.proofs.JudgingLaws.{held, failed}
 use Rattle.rings.specs.Lent.{ring_of, ArrivalsFit}
 use Rattle.rings.specs.Sound.{is_sound}
@@ -11,7 +10,6 @@ use Rattle.rings.specs.HandingIn.{hand_in_number, holding}
 use Rattle.rings.proofs.RingLaws.{sound_sentences, sound_plan, taken_refused, taken_accepted, takes_holdable}
 use Rattle.rings.specs.declared.Ring.{Ring}
 use Rattle.rings.specs.declared.Taken.{Taken}
-use borrow.Author.Rules.{rules}
 use Rattle.rings.proofs.in_place.hand_in_on.Goals as goal
 
 pub returns-then-not-steady : goal.returns-then-not-steady

@@ -3,7 +3,6 @@ use Prim.Native.Nat.{◌<◌}
 use mathlib.Core.Path.{◌≡◌, sym, ap, ◌∙◌}
 use mathlib.Core.Bool.{Bool}
 use lib.Dec.{ltb}
-use borrow.Author.Rules.{rules}
 use Rattle.units.specs.Judging.{or_else}
 use Rattle.rings.specs.Lent.{ring_of}
 use Rattle.rings.specs.Marking.{mark_number, none_withdrawn}

@@ -4,7 +4,6 @@ use mathlib.Core.Path.{◌≡◌, refl, sym, ap, ◌∙◌}
 use mathlib.Core.Bool.{Bool}
 use mathlib.Core.List.{List}
 use lib.Dec.{ltb}
-use borrow.Author.Rules.{rules}
 use Rattle.units.specs.Judging.{or_else}
 use Rattle.rings.specs.Lent.{ring_of}
 use Rattle.rings.specs.Marking.{mark_number, switched_in}

@@ -13,7 +13,6 @@ use Rattle.rings.specs.declared.Visited.{Visited}
 use Rattle.rings.specs.declared.VisitAnswer.{VisitAnswer}
 use Rattle.rings.specs.declared.view.View.{View}
 use Rattle.rings.proofs.ViewLaws.{Moving, moving, safe_seen, safe_timers_seen, timers_moved, ring_moved, visit_done}
-use borrow.Author.Rules.{rules}
 use Rattle.rings.proofs.in_place.visit_on.Goals as goal
 
 pub returns-then-number-ne-ACCEPTED : goal.returns-then-number-ne-ACCEPTED

@@ -1,7 +1,6 @@
 -- `mark_number` is right because it asks the definition's two tests in the definition's order.
 use mathlib.Core.Path.{sym, ◌∙◌}
-use borrow.Author.Tests.{not-true, not-false, le-ltb, lt-ltb}
-use borrow.Author.Rules.{rules}
+use borrow.Author.Tests.{le-ltb, lt-ltb}
 use Rattle.units.proofs.JudgingLaws.{failed, held}
 use Rattle.rings.proofs.marking.mark_number.Goals as goal
 

@@ -1,6 +1,5 @@
 -- `switch_in` is right because its one store is the definition's.
 use mathlib.Core.Path.{refl}
-use borrow.Author.Rules.{rules}
 use Rattle.rings.proofs.marking.switch_in.Goals as goal
 
 pub returns : goal.returns

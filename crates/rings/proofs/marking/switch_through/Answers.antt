@@ -3,7 +3,6 @@ use Rattle.rings.specs.Marking.{switched_through}
 use Rattle.rings.proofs.MarkLaws.{ring_marked, ring_unmarked}
 use Rattle.rings.proofs.TimerLaws.{none_left}
 use mathlib.Core.Path.{sym}
-use borrow.Author.Rules.{rules}
 use Rattle.rings.proofs.marking.switch_through.Goals as goal
 
 pub returns-then-mark-i-gt0 : goal.returns-then-mark-i-gt0

@@ -1,7 +1,6 @@
 -- `withdrawal_of` is right because its branch is the definition's own.
 use Rattle.rings.proofs.MarkLaws.{withdrawn, not_withdrawn}
 use mathlib.Core.Path.{sym, ◌∙◌}
-use borrow.Author.Rules.{rules}
 use Rattle.rings.proofs.marking.withdrawal_of.Goals as goal
 
 pub returns-then-held : goal.returns-then-held

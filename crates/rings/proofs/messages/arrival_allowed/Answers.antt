@@ -1,6 +1,5 @@
 -- `arrival_allowed` is right because its body is the definition, test by test.
 use mathlib.Core.Path.{refl}
-use borrow.Author.Rules.{rules}
 use Rattle.rings.specs.HandingIn.{arrival_allowed}
 use Rattle.rings.proofs.messages.arrival_allowed.Goals as goal
 

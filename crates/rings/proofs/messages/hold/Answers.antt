@@ -1,6 +1,5 @@
 -- `hold` is right because its stores are the definition's.
 use mathlib.Core.Path.{refl}
-use borrow.Author.Rules.{rules}
 use Rattle.rings.proofs.messages.hold.Goals as goal
 
 pub returns : goal.returns

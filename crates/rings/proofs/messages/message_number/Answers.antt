@@ -4,14 +4,13 @@ use mathlib.Core.Path.{◌≡◌, sym, ap, ◌∙◌}
 use mathlib.Core.Bool.{true, false, ◌&&◌}
 use mathlib.Core.List.{List}
 use native.Mathlib.Omega.{arith}
-use borrow.Author.Tests.{not-true, not-false, lt-ltb, le-ltb, le-leb, lt-leb}
+use borrow.Author.Tests.{lt-ltb, le-ltb, le-leb, lt-leb}
 use lib.Dec.{leb, ltb, eqb}
 use Rattle.units.specs.Places.{at}
 use Rattle.sets.specs.declared.Head.{Head}
 use Rattle.rings.specs.Lent.{ring_of}
 use Rattle.rings.proofs.RingLaws.{message_9, message_10, message_11, message_15, message_12, message_0}
 use Rattle.rings.specs.declared.Ring.{Ring}
-use borrow.Author.Rules.{rules}
 use Rattle.rings.proofs.messages.message_number.Goals as goal
 
 pub returns-then-wide-m : goal.returns-then-wide-m

@@ -1,6 +1,5 @@
 -- `blank_ring` is right because its body is the definition.
 use mathlib.Core.Path.{refl}
-use borrow.Author.Rules.{rules}
 use Rattle.rings.proofs.opening.blank_ring.Goals as goal
 
 pub returns : goal.returns

@@ -1,6 +1,5 @@
 -- `opening_number` is right because the judgement's number is opening's as long as it is 2, 4 or 5, and behind that the mode is asked for before the rules.
 use mathlib.Core.Path.{sym, ◌∙◌}
-use borrow.Author.Rules.{rules}
 use Rattle.rings.proofs.OpeningLaws.{opening_before, opening_retired, opening_in_use}
 use Rattle.rings.proofs.opening.opening_number.Goals as goal
 

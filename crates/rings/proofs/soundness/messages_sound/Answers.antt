@@ -1,6 +1,5 @@
 -- `messages_sound` is right because its two tests are the definition's.
 use mathlib.Core.Path.{refl}
-use borrow.Author.Rules.{rules}
 use Rattle.rings.proofs.soundness.messages_sound.Goals as goal
 
 pub returns : goal.returns

@@ -14,7 +14,6 @@ use Rattle.plans.specs.Planned.{judged_plan}
 use Rattle.plans.specs.declared.Alloc.{Alloc}
 use Rattle.plans.proofs.PlanLaws.{given_none}
 use Rattle.rings.specs.Sound.{is_sound}
-use borrow.Author.Rules.{rules}
 use Rattle.rings.proofs.soundness.sound_lent.Goals as goal
 
 -- the tests in the code's brackets and in the list's

@@ -1,6 +1,5 @@
 -- `completes_with` is right because its body is the definition, test by test.
 use mathlib.Core.Path.{refl}
-use borrow.Author.Rules.{rules}
 use Rattle.rings.proofs.steps.completes_with.Goals as goal
 
 pub returns : goal.returns

@@ -1,6 +1,6 @@
 -- `first_refusal` is right because it asks the definition's three tests in the definition's order.
 use mathlib.Core.Path.{sym, ◌∙◌}
-use borrow.Author.Tests.{not-true, not-false, lt-leb, le-leb}
+use borrow.Author.Tests.{lt-leb, le-leb}
 use Rattle.units.proofs.JudgingLaws.{failed, held}
 use Rattle.rings.proofs.steps.first_refusal.Goals as goal
 

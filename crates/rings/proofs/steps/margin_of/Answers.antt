@@ -6,7 +6,6 @@ use mir.Syntax.{w64}
 use mir.Val.{to_z, of_z, SFits}
 use mir.ValLaws.{to_z_pos, to_z-of_z}
 use Rattle.rings.proofs.RingLaws.{difference, difference_fits}
-use borrow.Author.Rules.{rules}
 use Rattle.rings.proofs.steps.margin_of.Goals as goal
 
 pub returns : goal.returns

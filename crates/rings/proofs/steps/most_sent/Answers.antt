@@ -4,7 +4,6 @@ use native.Mathlib.Omega.{arith}
 use Rattle.rings.proofs.TimerLaws.{none_left}
 use Rattle.rings.proofs.RingLaws.{most_marked, most_unmarked}
 use Rattle.rings.specs.Views.{point_of}
-use borrow.Author.Rules.{rules}
 use Rattle.rings.proofs.steps.most_sent.Goals as goal
 
 pub returns-then-v-gt0 : goal.returns-then-v-gt0

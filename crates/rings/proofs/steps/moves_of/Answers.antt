@@ -4,7 +4,6 @@ use native.Mathlib.Omega.{arith}
 use Rattle.rings.specs.Bounds.{Sendable}
 use Rattle.rings.specs.Steps.{async_sent}
 use Rattle.rings.specs.Views.{point_of}
-use borrow.Author.Rules.{rules}
 use Rattle.rings.proofs.steps.moves_of.Goals as goal
 
 pub time_sent-asynchronous-requires : goal.time_sent-asynchronous-requires

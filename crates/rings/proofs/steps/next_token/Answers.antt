@@ -1,7 +1,6 @@
 -- `next_token` is right because its branch is the definition's own.
 use Rattle.rings.specs.State.{following}
 use borrow.Author.Tests.{lt-ltb, le-ltb}
-use borrow.Author.Rules.{rules}
 use Rattle.rings.proofs.steps.next_token.Goals as goal
 
 pub returns-then-next-n : goal.returns-then-next-n

@@ -15,7 +15,6 @@ use Rattle.rings.proofs.TimerLaws.{lead_within}
 use Rattle.rings.specs.Views.{point_of, record_at}
 use Rattle.rings.specs.declared.VisitRecord.{VisitRecord}
 use Rattle.rings.specs.declared.view.View.{View}
-use borrow.Author.Rules.{rules}
 use Rattle.rings.proofs.steps.record_of.Goals as goal
 
 -- a record is the definition's if its numbers are

@@ -1,6 +1,5 @@
 -- `store` is right because its three stores are the definition's.
 use mathlib.Core.Path.{refl}
-use borrow.Author.Rules.{rules}
 use Rattle.rings.proofs.steps.store.Goals as goal
 
 pub returns : goal.returns

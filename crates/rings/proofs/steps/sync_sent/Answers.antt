@@ -7,7 +7,6 @@ use lib.Dec.{leb, ltb}
 use Rattle.rings.specs.Steps.{most_sent}
 use Rattle.rings.proofs.RingLaws.{served, not_served}
 use Rattle.rings.specs.Views.{point_of}
-use borrow.Author.Rules.{rules}
 use Rattle.rings.proofs.steps.sync_sent.Goals as goal
 
 pub returns-then-held-arrived : goal.returns-then-held-arrived

@@ -3,7 +3,6 @@ use mathlib.Core.Path.{sym, ap}
 use native.Mathlib.Omega.{arith}
 use Rattle.fddi_timer_rules.specs.Timers.{Timer}
 use Rattle.rings.proofs.TimerLaws.{came_late, came_early}
-use borrow.Author.Rules.{rules}
 use Rattle.rings.proofs.timing.count_on_token.Goals as goal
 
 pub returns-then-count-eq0 : goal.returns-then-count-eq0

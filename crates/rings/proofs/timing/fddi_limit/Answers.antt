@@ -3,7 +3,6 @@ use Prim.Native.Nat.{◌-◌}
 use mathlib.Core.Path.{◌≡◌, refl, sym, ◌∙◌}
 use native.Mathlib.Omega.{arith}
 use Rattle.rings.proofs.TimerLaws.{offered_late, offered_early}
-use borrow.Author.Rules.{rules}
 use Rattle.rings.proofs.timing.fddi_limit.Goals as goal
 
 pub returns-then-v-gt0 : goal.returns-then-v-gt0

@@ -1,6 +1,5 @@
 -- `fddi_sound` is right because its two tests are the definition's.
 use mathlib.Core.Path.{refl}
-use borrow.Author.Rules.{rules}
 use Rattle.rings.proofs.timing.fddi_sound.Goals as goal
 
 pub returns : goal.returns

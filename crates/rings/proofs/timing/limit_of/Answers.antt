@@ -3,7 +3,6 @@ use mathlib.Core.Path.{sym, ◌∙◌}
 use native.Mathlib.Omega.{arith}
 use Rattle.rings.proofs.TimerLaws.{none_left, limit_marked, limit_unmarked}
 use Rattle.rings.specs.Views.{point_of}
-use borrow.Author.Rules.{rules}
 use Rattle.rings.proofs.timing.limit_of.Goals as goal
 
 pub returns-then-v-gt0 : goal.returns-then-v-gt0

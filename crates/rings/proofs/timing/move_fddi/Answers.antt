@@ -4,7 +4,6 @@ use mathlib.Core.Path.{◌≡◌, ap, ◌∙◌}
 use mathlib.Core.List.{List}
 use native.Mathlib.Omega.{arith}
 use Rattle.arrays.specs.Laps.{ran_on, laps_counted}
-use borrow.Author.Rules.{rules}
 use Rattle.rings.proofs.timing.move_fddi.Goals as goal
 
 pub returns : goal.returns

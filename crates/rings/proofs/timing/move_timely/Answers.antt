@@ -4,7 +4,6 @@ use mathlib.Core.Path.{◌≡◌, ap, ◌∙◌}
 use native.Mathlib.Omega.{arith}
 use lib.ListN.{set}
 use Rattle.arrays.specs.Held.{raised_held}
-use borrow.Author.Rules.{rules}
 use Rattle.rings.proofs.timing.move_timely.Goals as goal
 
 pub returns : goal.returns

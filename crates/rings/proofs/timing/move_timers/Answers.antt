@@ -1,7 +1,6 @@
 -- `move_timers` is right because it asks for the mode as the definition does.
 use mathlib.Core.Path.{refl}
 use native.Mathlib.Omega.{arith}
-use borrow.Author.Rules.{rules}
 use Rattle.rings.proofs.timing.move_timers.Goals as goal
 
 pub move_fddi-requires : goal.move_fddi-requires

@@ -1,7 +1,6 @@
 -- `rise_of` is right because it adds the definition's three numbers; a safe ring's leave room for the sum.
 use Prim.Native.Nat.{ℕ, ◌+◌}
 use mathlib.Core.Path.{ap}
-use borrow.Author.Rules.{rules}
 use Rattle.rings.proofs.timing.rise_of.Goals as goal
 
 pub returns : goal.returns

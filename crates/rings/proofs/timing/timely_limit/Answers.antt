@@ -5,7 +5,6 @@ use native.Mathlib.Omega.{arith}
 use Rattle.rings.specs.State.{overrun}
 use Rattle.rings.specs.Timers.{timely_limit}
 use Rattle.rings.specs.Views.{point_of}
-use borrow.Author.Rules.{rules}
 use Rattle.rings.proofs.timing.timely_limit.Goals as goal
 
 pub returns : goal.returns

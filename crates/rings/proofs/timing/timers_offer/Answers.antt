@@ -2,7 +2,6 @@
 use mathlib.Core.Path.{sym, ◌∙◌}
 use Rattle.rings.proofs.TimerLaws.{offer_fddi, offer_timely}
 use Rattle.rings.specs.Views.{point_of}
-use borrow.Author.Rules.{rules}
 use Rattle.rings.proofs.timing.timers_offer.Goals as goal
 
 pub returns-then-v-eq-FDDI : goal.returns-then-v-eq-FDDI

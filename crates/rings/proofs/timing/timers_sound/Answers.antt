@@ -5,7 +5,6 @@ use native.Mathlib.Omega.{arith}
 use Rattle.sets.specs.Lent.{set_of}
 use Rattle.rings.specs.Timers.{timely_sound, fddi_sound, timers_sound}
 use Rattle.rings.proofs.TimerLaws.{fddi_true, fddi_false}
-use borrow.Author.Rules.{rules}
 use Rattle.rings.proofs.timing.timers_sound.Goals as goal
 
 pub returns-then-head-eq-FDDI : goal.returns-then-head-eq-FDDI

@@ -1,7 +1,6 @@
 -- `token_came` is right because its two stores are the definition's.
 use mathlib.Core.Path.{refl}
 use Rattle.rings.specs.Timers.{token_came}
-use borrow.Author.Rules.{rules}
 use Rattle.rings.proofs.timing.token_came.Goals as goal
 
 pub returns : goal.returns

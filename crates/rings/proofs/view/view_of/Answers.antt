@@ -1,6 +1,5 @@
 -- `view_of` is right because it reads the place of the token's station in each array.
 use mathlib.Core.Path.{refl}
-use borrow.Author.Rules.{rules}
 use Rattle.rings.proofs.view.view_of.Goals as goal
 
 pub returns : goal.returns

@@ -1,7 +1,6 @@
 -- `number_at` is right because its body is the definition; four bytes stay below 2^32.
 use mathlib.Core.Path.{refl}
 use Rattle.fields.specs.Bytes.{number_at}
-use borrow.Author.Rules.{rules}
 use Rattle.sheets.proofs.bytes.number_at.Goals as goal
 
 pub returns : goal.returns

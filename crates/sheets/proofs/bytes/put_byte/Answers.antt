@@ -1,6 +1,5 @@
 -- `put_byte` is right because one store lays a segment of one byte.
 use Rattle.fields.proofs.SegmentLaws.{laid_one}
-use borrow.Author.Rules.{rules}
 use Rattle.sheets.proofs.bytes.put_byte.Goals as goal
 
 pub returns : goal.returns

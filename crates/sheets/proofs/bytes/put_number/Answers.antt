@@ -3,7 +3,6 @@ use native.Mathlib.Omega.{arith}
 use lib.ListN.{length-set}
 use Rattle.fields.specs.Bytes.{bytes_of}
 use Rattle.fields.proofs.SegmentLaws.{laid_four}
-use borrow.Author.Rules.{rules}
 use Rattle.sheets.proofs.bytes.put_number.Goals as goal
 
 pub bounds-out-at-2 : goal.bounds-out-at-2

@@ -4,7 +4,6 @@ use Prim.Native.Nat.{ℕ, ◌+◌}
 use native.Mathlib.Omega.{arith}
 use Rattle.fields.proofs.FieldLaws.{further_small}
 use Rattle.fields.proofs.HeaderLaws.{behind_there, behind_not}
-use borrow.Author.Rules.{rules}
 use Rattle.sheets.proofs.reading.behind_further.Goals as goal
 
 pub overflow_add-result-then-bs-at : goal.overflow_add-result-then-bs-at

@@ -2,7 +2,6 @@
 use mathlib.Core.Path.{◌∙◌}
 use Rattle.plans.specs.Planned.{judged_plan}
 use Rattle.sheets.proofs.ReadingLaws.{set_read, alloc_read}
-use borrow.Author.Rules.{rules}
 use Rattle.sheets.proofs.reading.judge_fields.Goals as goal
 
 pub returns : goal.returns

@@ -3,7 +3,6 @@ use mathlib.Core.Path.{◌≡◌, ap, ◌∙◌}
 use Rattle.fields.specs.Bytes.{body_at}
 use Rattle.fields.specs.Fields.{further_size}
 use Rattle.fields.proofs.FieldLaws.{further_one, further_four}
-use borrow.Author.Rules.{rules}
 use Rattle.sheets.proofs.reading.read_body.Goals as goal
 
 pub returns-then-tag-eq-MODE_TAG : goal.returns-then-tag-eq-MODE_TAG

@@ -1,12 +1,8 @@
 -- `read_column` is right because the places passed hold the numbers of the fields passed.
 use Prim.Native.Nat.{◌+◌, ◌-◌, ◌*◌}
-use mathlib.Core.Path.{◌≡◌, ◌∙◌}
-use native.Mathlib.Nat.{mul-zero, mul-suc}
-use native.Mathlib.Numerals.{add-one}
-use native.Mathlib.Omega.{arith}
-use Rattle.units.proofs.FillLaws.{Filling, filling_begins, filling_goes_on, filling_ends}
+use mathlib.Core.Path.{◌≡◌}
+use Rattle.units.proofs.FillLaws.{Filling}
 use Rattle.fields.specs.Bytes.{number_at}
-use borrow.Author.Rules.{rules}
 use Rattle.sheets.proofs.reading.read_column.Given as goal
 
 abbrev pub invariant-loop-i : goal.invariant-loop-i

@@ -1,6 +1,5 @@
 -- `read_columns` is right because it reads the five columns at their places, one after another.
 use mathlib.Core.Path.{refl, ◌∙◌}
-use borrow.Author.Rules.{rules}
 use Rattle.sheets.proofs.reading.read_columns.Goals as goal
 
 pub returns : goal.returns

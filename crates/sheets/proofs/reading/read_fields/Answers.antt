@@ -1,9 +1,7 @@
 -- `read_fields` is right because it hands out the header and the columns that the fields hold with their judgement, and goes by the test of the definition.
 use mathlib.Core.Path.{◌≡◌, ◌∙◌}
-use borrow.Author.Tests.{not-true, not-false}
 use Rattle.sheets.specs.Reading.{set_of, alloc_of, judged_sheet}
 use Rattle.sheets.proofs.ReadingLaws.{answer_blank, answer_whole, set_read, alloc_read}
-use borrow.Author.Rules.{rules}
 use Rattle.sheets.proofs.reading.read_fields.Goals as goal
 
 pub returns-then-not-whole : goal.returns-then-not-whole

@@ -1,5 +1,4 @@
 -- `read_further` is right because it asks for the tag at the place, and hands on the number in the body behind it.
-use borrow.Author.Rules.{rules}
 use Rattle.sheets.proofs.reading.read_further.Goals as goal
 
 pub returns : goal.returns

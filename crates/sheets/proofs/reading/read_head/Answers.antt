@@ -1,5 +1,5 @@
 -- `read_head` is right because it looks for each field behind those before it, and puts its number into the header.
-use Prim.Native.Nat.{ℕ, ◌+◌, ◌-◌, ◌≤◌}
+use Prim.Native.Nat.{ℕ, ◌+◌, ◌-◌}
 use mathlib.Core.Path.{◌≡◌, sym, ap, ◌∙◌}
 use native.Mathlib.Numerals.{add-one}
 use native.Mathlib.Omega.{arith}
@@ -10,7 +10,6 @@ use Rattle.fields.specs.Header.{further_count, behind_tag, further_place, given_
 use Rattle.fields.proofs.HeaderLaws.{place_first, place_next}
 use Rattle.sheets.specs.Reading.{head_in}
 use Rattle.sheets.proofs.ReadingLaws.{number_at_lem, places_rise}
-use borrow.Author.Rules.{rules}
 use Rattle.sheets.proofs.reading.read_head.Goals as goal
 
 pub loop-k-init : goal.loop-k-init

@@ -5,7 +5,6 @@ use Rattle.field_reader.specs.declared.Scanned.{Scanned}
 use Rattle.sheets.specs.Bounds.{PassedFits}
 use Rattle.sheets.specs.Reading.{set_of, alloc_of, fields_answer}
 use Rattle.sheets.proofs.ReadingLaws.{scanned_fits, kept_misshapen, kept_read}
-use borrow.Author.Rules.{rules}
 use Rattle.sheets.proofs.reading.read_sheet.Goals as goal
 
 pub returns-then-scanned-ne-ACCEPTED : goal.returns-then-scanned-ne-ACCEPTED

@@ -1,5 +1,4 @@
 -- `refused` is right because its body is the definition.
-use borrow.Author.Rules.{rules}
 use Rattle.sheets.proofs.reading.refused.Goals as goal
 
 pub returns : goal.returns

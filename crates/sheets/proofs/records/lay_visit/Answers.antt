@@ -4,7 +4,6 @@ use native.Mathlib.Omega.{arith}
 use Rattle.fields.specs.Bytes.{bytes_of}
 use Rattle.fields.proofs.SegmentLaws.{laid_more}
 use Rattle.log_records.specs.Visit.{visit_bytes}
-use borrow.Author.Rules.{rules}
 use Rattle.sheets.proofs.records.lay_visit.Goals as goal
 
 pub returns : goal.returns

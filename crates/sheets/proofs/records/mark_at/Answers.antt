@@ -5,7 +5,6 @@ use native.Mathlib.Omega.{arith}
 use lib.ListN.{length}
 use borrow.Author.Tests.{le-leb, lt-leb}
 use Rattle.log_records.specs.Mark.{mark_or_blank}
-use borrow.Author.Rules.{rules}
 use Rattle.sheets.proofs.records.mark_at.Goals as goal
 
 pub returns-then-left-lt-MARK_LENGTH : goal.returns-then-left-lt-MARK_LENGTH

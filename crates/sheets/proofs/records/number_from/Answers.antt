@@ -2,7 +2,6 @@
 use Prim.Native.Nat.{◌≤◌, ◌<◌}
 use mathlib.Core.Path.{refl}
 use native.Mathlib.Omega.{arith}
-use borrow.Author.Rules.{rules}
 use borrow.Author.Tests.{lt-leb, le-leb}
 use Rattle.fields.specs.Fields.{left}
 use Rattle.sheets.specs.Reading.{number_or_zero}

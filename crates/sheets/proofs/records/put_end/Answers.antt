@@ -2,7 +2,6 @@
 use native.Mathlib.Omega.{arith}
 use Rattle.sheets.specs.Layout.{end_bytes}
 use Rattle.sheets.proofs.WritingLaws.{put_short, put_there}
-use borrow.Author.Rules.{rules}
 use Rattle.sheets.proofs.records.put_end.Goals as goal
 
 pub returns-then-left-lt3 : goal.returns-then-left-lt3

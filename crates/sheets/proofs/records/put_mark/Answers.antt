@@ -5,7 +5,6 @@ use Rattle.fields.proofs.SegmentLaws.{laid_more}
 use Rattle.log_records.specs.Mark.{mark_bytes}
 use Rattle.log_records.proofs.MarkLaws.{mark_length_lem}
 use Rattle.sheets.proofs.WritingLaws.{put_short, put_there}
-use borrow.Author.Rules.{rules}
 use Rattle.sheets.proofs.records.put_mark.Goals as goal
 
 pub returns-then-left : goal.returns-then-left

@@ -3,7 +3,6 @@ use native.Mathlib.Omega.{arith}
 use Rattle.fields.specs.Bytes.{bytes_of}
 use Rattle.fields.proofs.ByteLaws.{bytes_length}
 use Rattle.sheets.proofs.WritingLaws.{put_short, put_there}
-use borrow.Author.Rules.{rules}
 use Rattle.sheets.proofs.records.put_number.Goals as goal
 
 pub returns-then-left-lt4 : goal.returns-then-left-lt4

@@ -3,7 +3,6 @@ use native.Mathlib.Omega.{arith}
 use Rattle.log_records.specs.Visit.{visit_bytes}
 use Rattle.log_records.proofs.VisitLaws.{visit_length_lem}
 use Rattle.sheets.proofs.WritingLaws.{put_short, put_there}
-use borrow.Author.Rules.{rules}
 use Rattle.sheets.proofs.records.put_visit.Goals as goal
 
 pub returns-then-left : goal.returns-then-left

@@ -1,6 +1,5 @@
 -- `read_visit` is right because it reads the five numbers at their places.
 use mathlib.Core.Path.{refl}
-use borrow.Author.Rules.{rules}
 use Rattle.sheets.proofs.records.read_visit.Goals as goal
 
 pub returns : goal.returns

@@ -5,7 +5,6 @@ use native.Mathlib.Omega.{arith}
 use lib.ListN.{length}
 use borrow.Author.Tests.{le-leb, lt-leb}
 use Rattle.log_records.specs.Visit.{visit_or_blank}
-use borrow.Author.Rules.{rules}
 use Rattle.sheets.proofs.records.visit_at.Goals as goal
 
 pub returns-then-left-lt-VISIT_LENGTH : goal.returns-then-left-lt-VISIT_LENGTH

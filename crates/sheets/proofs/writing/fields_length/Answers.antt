@@ -2,7 +2,6 @@
 use native.Mathlib.Omega.{arith}
 use Rattle.fields.proofs.FieldLaws.{allocations_few}
 use Rattle.sheets.proofs.WritingLaws.{head_small}
-use borrow.Author.Rules.{rules}
 use Rattle.sheets.proofs.writing.fields_length.Goals as goal
 
 pub overflow_add-result : goal.overflow_add-result

@@ -4,7 +4,6 @@ use mathlib.Core.Path.{sym, ap, ◌∙◌}
 use native.Mathlib.Omega.{arith}
 use Rattle.fields.proofs.FieldLaws.{further_small}
 use Rattle.sheets.proofs.WritingLaws.{length_none, length_some}
-use borrow.Author.Rules.{rules}
 use Rattle.sheets.proofs.writing.further_length.Goals as goal
 
 pub returns-then-number-eq-ABSENT : goal.returns-then-number-eq-ABSENT

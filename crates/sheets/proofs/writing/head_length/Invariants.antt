@@ -1,12 +1,8 @@
 -- `head_length` is right because it adds the lengths of the fields behind TTRT, one after another.
-use Prim.Native.Nat.{◌+◌, ◌-◌, ◌≤◌}
-use mathlib.Core.Path.{◌≡◌, refl, ap, ◌∙◌}
-use native.Mathlib.Omega.{arith}
-use Rattle.units.specs.Places.{sum_below}
+use Prim.Native.Nat.{◌-◌, ◌≤◌}
+use mathlib.Core.Path.{◌≡◌}
 use Rattle.fields.specs.Header.{further_count}
 use Rattle.sheets.specs.Layout.{length_up_to}
-use Rattle.sheets.proofs.WritingLaws.{length_small, length_turn, head_small}
-use borrow.Author.Rules.{rules}
 use Rattle.sheets.proofs.writing.head_length.Given as goal
 
 abbrev pub invariant-loop-k : goal.invariant-loop-k

@@ -1,10 +1,8 @@
 -- `put_allocations` is right because each turn lays one more row behind the rows laid.
 use Prim.Native.Nat.{◌-◌}
-use native.Mathlib.Omega.{arith}
 use Rattle.plans.specs.Lent.{alloc_of}
 use Rattle.sheets.specs.Layout.{allocation_bytes}
-use Rattle.sheets.proofs.WritingLaws.{allocation_length, RowsLaid, rows_begin, rows_turn, rows_end}
-use borrow.Author.Rules.{rules}
+use Rattle.sheets.proofs.WritingLaws.{RowsLaid}
 use Rattle.sheets.proofs.writing.put_allocations.Given as goal
 
 abbrev pub invariant-loop-i : goal.invariant-loop-i

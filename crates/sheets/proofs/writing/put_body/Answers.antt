@@ -4,7 +4,6 @@ use native.Mathlib.Omega.{arith}
 use Rattle.fields.specs.Bytes.{body_of}
 use Rattle.fields.specs.Fields.{further_size}
 use Rattle.fields.proofs.FieldLaws.{further_one, further_four}
-use borrow.Author.Rules.{rules}
 use Rattle.sheets.proofs.writing.put_body.Goals as goal
 
 pub put_byte-requires : goal.put_byte-requires

@@ -8,7 +8,6 @@ use Rattle.plans.specs.Lent.{alloc_of}
 use Rattle.plans.specs.declared.Alloc.{Alloc}
 use Rattle.fields.proofs.FieldLaws.{allocations_few}
 use Rattle.sheets.proofs.WritingLaws.{fields_laid}
-use borrow.Author.Rules.{rules}
 use Rattle.sheets.proofs.writing.put_fields.Goals as goal
 
 pub put_allocations-requires : goal.put_allocations-requires

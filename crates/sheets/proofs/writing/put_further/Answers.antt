@@ -9,7 +9,6 @@ use Rattle.fields.proofs.FieldLaws.{further_small}
 use Rattle.fields.proofs.HeaderLaws.{body_length}
 use Rattle.sheets.specs.Layout.{further_length}
 use Rattle.sheets.proofs.WritingLaws.{further_none, further_some, length_some}
-use borrow.Author.Rules.{rules}
 use Rattle.sheets.proofs.writing.put_further.Goals as goal
 
 pub overflow_cast-short : goal.overflow_cast-short

@@ -5,8 +5,7 @@ use native.Mathlib.Omega.{arith}
 use Rattle.fields.specs.Rows.{rows, laid}
 use Rattle.fields.specs.Header.{further_count}
 use Rattle.sheets.specs.Layout.{further_field}
-use Rattle.sheets.proofs.WritingLaws.{length_small, head_small, FurtherLaid, further_begin, further_room, further_turn}
-use borrow.Author.Rules.{rules}
+use Rattle.sheets.proofs.WritingLaws.{length_small, head_small, further_begin, further_room, further_turn}
 use Rattle.sheets.proofs.writing.put_furthers.Goals as goal
 
 pub put_further-requires : goal.put_further-requires

@@ -5,7 +5,6 @@ use Rattle.fields.specs.Bytes.{bytes_of}
 use Rattle.fields.specs.Header.{further_count}
 use Rattle.fields.proofs.SegmentLaws.{laid_more}
 use Rattle.sheets.proofs.WritingLaws.{up_to_rows, further_rows}
-use borrow.Author.Rules.{rules}
 use Rattle.sheets.proofs.writing.put_head.Goals as goal
 
 pub returns : goal.returns

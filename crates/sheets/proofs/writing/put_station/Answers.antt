@@ -4,7 +4,6 @@ use native.Mathlib.Omega.{arith}
 use Rattle.fields.specs.Bytes.{bytes_of}
 use Rattle.sheets.specs.Layout.{station_with}
 use Rattle.fields.proofs.SegmentLaws.{laid_more}
-use borrow.Author.Rules.{rules}
 use Rattle.sheets.proofs.writing.put_station.Goals as goal
 
 pub returns : goal.returns

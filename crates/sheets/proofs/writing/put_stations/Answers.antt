@@ -1,9 +1,7 @@
 -- `put_stations` is right because each turn lays one more row behind the rows laid.
 use Prim.Native.Nat.{◌-◌}
 use native.Mathlib.Omega.{arith}
-use Rattle.sheets.specs.Layout.{station_in}
-use Rattle.sheets.proofs.WritingLaws.{station_length, RowsLaid, rows_begin, rows_turn, rows_end}
-use borrow.Author.Rules.{rules}
+use Rattle.sheets.proofs.WritingLaws.{station_length, rows_begin, rows_turn, rows_end}
 use Rattle.sheets.proofs.writing.put_stations.Goals as goal
 
 pub loop-i-preserved : goal.loop-i-preserved

@@ -13,7 +13,6 @@ use Rattle.sheets.specs.Layout.{sheet_length}
 use Rattle.sheets.specs.Reading.{judged_sheet}
 use Rattle.sheets.proofs.WritingLaws.{head_small, number_judged, number_short, fields_refused, fields_all}
 use Rattle.sheets.proofs.ReadLaws.{judged_kept}
-use borrow.Author.Rules.{rules}
 use Rattle.sheets.proofs.writing.write_fields.Goals as goal
 
 pub returns-then-number-ne-ACCEPTED : goal.returns-then-number-ne-ACCEPTED

@@ -5,7 +5,6 @@ use Rattle.sets.specs.declared.Set.{Set}
 use Rattle.plans.specs.Lent.{alloc_of}
 use Rattle.plans.specs.declared.Alloc.{Alloc}
 use Rattle.sheets.proofs.WritingLaws.{wrote_refused, fields_fit, fields_end, wrote_all}
-use borrow.Author.Rules.{rules}
 use Rattle.sheets.proofs.writing.write_sheet.Goals as goal
 
 pub returns-then-so_far-ne-ACCEPTED : goal.returns-then-so_far-ne-ACCEPTED

@@ -1,6 +1,5 @@
 -- `begins` is right because its body is the definition.
 use mathlib.Core.Path.{refl}
-use borrow.Author.Rules.{rules}
 use Rattle.text_faults.specs.Lines.{begins}
 use Rattle.text_faults.proofs.lines.begins.Goals as goal
 

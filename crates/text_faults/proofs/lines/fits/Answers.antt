@@ -1,6 +1,5 @@
 -- `fits` is right because its body is the definition.
 use mathlib.Core.Path.{refl}
-use borrow.Author.Rules.{rules}
 use Rattle.text_faults.specs.Lines.{fits}
 use Rattle.text_faults.proofs.lines.fits.Goals as goal
 

@@ -1,6 +1,5 @@
 -- `is_read_lem` is right because its body is the definition.
 use mathlib.Core.Path.{refl}
-use borrow.Author.Rules.{rules}
 use Rattle.text_faults.specs.Lines.{is_read}
 use Rattle.text_faults.proofs.lines.is_read.Goals as goal
 

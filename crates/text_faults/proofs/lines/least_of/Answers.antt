@@ -1,6 +1,5 @@
 -- `least_of` is right because it asks for the words in the definition's order.
 use mathlib.Core.Path.{refl, sym, ◌∙◌}
-use borrow.Author.Rules.{rules}
 use borrow.Author.Tests.{eq-eqb, ne_eqb}
 use Rattle.text_faults.specs.Lines.{least_of}
 use Rattle.text_faults.proofs.lines.least_of.Goals as goal

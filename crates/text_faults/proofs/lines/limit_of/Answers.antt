@@ -1,6 +1,5 @@
 -- `limit_of` is right because its body is the definition.
 use mathlib.Core.Path.{refl, sym, ◌∙◌}
-use borrow.Author.Rules.{rules}
 use Rattle.text_faults.specs.Lines.{limit_of}
 use Rattle.text_faults.proofs.lines.limit_of.Goals as goal
 

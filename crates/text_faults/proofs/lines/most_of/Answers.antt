@@ -1,6 +1,5 @@
 -- `most_of` is right because its body is the definition.
 use mathlib.Core.Path.{refl}
-use borrow.Author.Rules.{rules}
 use borrow.Author.Tests.{eq-eqb, ne_eqb}
 use Rattle.text_faults.specs.Lines.{most_of}
 use Rattle.text_faults.proofs.lines.most_of.Goals as goal

@@ -1,6 +1,5 @@
 -- `place_of` is right because its body is the definition.
 use mathlib.Core.Path.{refl}
-use borrow.Author.Rules.{rules}
 use borrow.Author.Tests.{eq-eqb, ne_eqb, lt-ltb, le-ltb}
 use Rattle.text_faults.specs.Lines.{place_of}
 use Rattle.text_faults.proofs.lines.place_of.Goals as goal

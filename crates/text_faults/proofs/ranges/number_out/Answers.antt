@@ -1,6 +1,5 @@
 -- `number_out` is right because it asks for the words in the definition's order.
 use mathlib.Core.Path.{refl}
-use borrow.Author.Rules.{rules}
 use borrow.Author.Tests.{eq-eqb, ne_eqb}
 use Rattle.text_faults.specs.Ranges.{number_out}
 use Rattle.text_faults.proofs.ranges.number_out.Goals as goal

@@ -1,6 +1,5 @@
 -- `station_out` is right because it asks for the numbers in the definition's order.
 use mathlib.Core.Path.{refl}
-use borrow.Author.Rules.{rules}
 use borrow.Author.Tests.{lt-ltb, le-ltb}
 use Rattle.text_faults.specs.Ranges.{station_out}
 use Rattle.text_faults.proofs.ranges.station_out.Goals as goal

@@ -3,7 +3,6 @@ use mathlib.Core.Path.{◌≡◌, ◌∙◌}
 use native.Mathlib.Omega.{arith}
 use Rattle.fields.specs.Bytes.{number_at}
 use Rattle.versions.proofs.AreaLaws.{number_there}
-use borrow.Author.Rules.{rules}
 use Rattle.versions.proofs.area.before_in.Goals as goal
 
 pub returns-then-first-eq0 : goal.returns-then-first-eq0

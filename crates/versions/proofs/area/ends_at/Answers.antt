@@ -2,7 +2,6 @@
 use mathlib.Core.Path.{sym, ◌∙◌}
 use native.Mathlib.Omega.{arith}
 use Rattle.versions.proofs.AreaLaws.{ends_short, ends_other, ends_zeros}
-use borrow.Author.Rules.{rules}
 use Rattle.versions.proofs.area.ends_at.Goals as goal
 
 pub returns-then-left-lt3 : goal.returns-then-left-lt3

@@ -1,7 +1,6 @@
 -- `is_plan` is right because it reads just these bytes.
 use mathlib.Core.Path.{refl}
 use Rattle.versions.specs.Area.{is_plan}
-use borrow.Author.Rules.{rules}
 use Rattle.versions.proofs.area.is_plan.Goals as goal
 
 pub returns : goal.returns

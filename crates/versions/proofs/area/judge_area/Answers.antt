@@ -1,14 +1,12 @@
 -- `judge_area` is right because it goes by the tests of the definition, in their order.
 use mathlib.Core.Path.{◌≡◌, sym, ap, ◌∙◌}
 use mathlib.Core.Bool.{true}
-use borrow.Author.Tests.{not-true, not-false}
 use lib.ListN.{length}
 use Rattle.versions.specs.Layout.{store_size}
 use Rattle.versions.specs.Area.{count_in, end_in, none_missing, ends_at}
 use Rattle.versions.specs.declared.VersionsWalked.{VersionsWalked}
 use Rattle.versions.proofs.AreaLaws.{missing, not_missing, other_length, some_missing, not_ended, all_stands}
 use Rattle.versions.proofs.AnswerLaws.{judged_not, judged_store}
-use borrow.Author.Rules.{rules}
 use Rattle.versions.proofs.area.judge_area.Goals as goal
 
 pub returns-then-count_bytes-ne-STORE_SIZE : goal.returns-then-count_bytes-ne-STORE_SIZE

@@ -1,5 +1,5 @@
 -- `place_of` is right because each turn comes by one more field, and a version stands there.
-use Prim.Native.Nat.{◌-◌, ◌≤◌}
+use Prim.Native.Nat.{◌-◌}
 use mathlib.Core.Path.{◌≡◌, sym, ap, ◌∙◌}
 use native.Mathlib.Omega.{arith}
 use Rattle.versions.specs.Area.{place_of}

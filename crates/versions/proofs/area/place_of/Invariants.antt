@@ -1,9 +1,7 @@
 -- `place_of` is right because each turn comes by one more field, and a version stands there.
 use Prim.Native.Nat.{◌-◌, ◌≤◌}
-use mathlib.Core.Path.{◌≡◌, sym, ap, ◌∙◌}
-use native.Mathlib.Omega.{arith}
+use mathlib.Core.Path.{◌≡◌}
 use Rattle.versions.specs.Area.{place_of}
-use Rattle.versions.proofs.AreaLaws.{FieldHere, kept_here, place_none, place_next}
 use Rattle.versions.proofs.area.place_of.Given as goal
 
 abbrev pub invariant-loop-i : goal.invariant-loop-i

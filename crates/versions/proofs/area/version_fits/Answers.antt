@@ -1,9 +1,7 @@
 -- `version_fits` is right because it goes by the tests of the definition.
 use mathlib.Core.Path.{sym}
 use native.Mathlib.Omega.{arith}
-use Rattle.fields.specs.Fields.{left}
 use Rattle.versions.proofs.AreaLaws.{fits_short, fits_tests}
-use borrow.Author.Rules.{rules}
 use Rattle.versions.proofs.area.version_fits.Goals as goal
 
 pub returns-then-left-lt7 : goal.returns-then-left-lt7

@@ -3,13 +3,11 @@ use Prim.Native.Nat.{ℕ, ◌+◌, ◌-◌}
 use mathlib.Core.Path.{◌≡◌, sym, ap, ◌∙◌}
 use mathlib.Core.Bool.{true}
 use native.Mathlib.Omega.{arith}
-use borrow.Author.Tests.{not-true, not-false}
 use lib.ListN.{take, drop}
 use Rattle.fields.specs.Bytes.{number_at}
 use Rattle.fields.specs.Fields.{size_at}
 use Rattle.versions.specs.Area.{version_fits, is_plan}
 use Rattle.versions.proofs.AreaLaws.{FieldHere, field_here, number_there, stands_not, stands_other, stands_plan}
-use borrow.Author.Rules.{rules}
 use Rattle.versions.proofs.area.version_stands.Goals as goal
 
 pub returns-then-not-version_fits : goal.returns-then-not-version_fits

@@ -3,10 +3,8 @@ use Prim.Native.Nat.{◌+◌}
 use mathlib.Core.Path.{◌≡◌, sym, ap, ◌∙◌}
 use mathlib.Core.Bool.{true}
 use native.Mathlib.Omega.{arith}
-use borrow.Author.Tests.{not-true, not-false}
 use Rattle.versions.specs.Area.{version_stands}
 use Rattle.versions.proofs.AreaLaws.{FieldHere, version_here, turn_over, turn_fails, turn_more}
-use borrow.Author.Rules.{rules}
 use Rattle.versions.proofs.area.walk_on.Goals as goal
 
 pub returns-then-walked-k : goal.returns-then-walked-k

@@ -1,5 +1,5 @@
 -- `walk_versions` is right because each turn comes by one more place.
-use Prim.Native.Nat.{◌-◌, ◌≤◌}
+use Prim.Native.Nat.{◌-◌}
 use mathlib.Core.Path.{◌≡◌, ap, ◌∙◌}
 use native.Mathlib.Omega.{arith}
 use Rattle.versions.specs.Bounds.{walked_to}

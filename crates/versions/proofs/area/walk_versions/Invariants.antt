@@ -1,9 +1,7 @@
 -- `walk_versions` is right because each turn comes by one more place.
 use Prim.Native.Nat.{◌-◌, ◌≤◌}
-use mathlib.Core.Path.{◌≡◌, ap, ◌∙◌}
-use native.Mathlib.Omega.{arith}
+use mathlib.Core.Path.{◌≡◌}
 use Rattle.versions.specs.Bounds.{walked_to}
-use Rattle.versions.proofs.AreaLaws.{walk_begins}
 use Rattle.versions.proofs.area.walk_versions.Given as goal
 
 abbrev pub invariant-loop-k : goal.invariant-loop-k

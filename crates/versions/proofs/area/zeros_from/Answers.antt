@@ -1,5 +1,5 @@
 -- `zeros_from` is right because each turn tests one more byte.
-use Prim.Native.Nat.{ℕ, ◌+◌, ◌-◌, ◌≤◌}
+use Prim.Native.Nat.{ℕ, ◌+◌, ◌-◌}
 use mathlib.Core.Path.{◌≡◌, refl, ap, ◌∙◌}
 use native.Mathlib.Omega.{arith}
 use lib.Dec.{eqb}
@@ -7,7 +7,6 @@ use lib.ListN.{length}
 use Rattle.units.specs.Places.{at, all_below}
 use Rattle.units.proofs.PlaceLaws.{all_then}
 use Rattle.versions.specs.Area.{zeros_from}
-use borrow.Author.Rules.{rules}
 use Rattle.versions.proofs.area.zeros_from.Goals as goal
 
 pub loop-i-init : goal.loop-i-init

@@ -1,13 +1,9 @@
 -- `zeros_from` is right because each turn tests one more byte.
-use Prim.Native.Nat.{ℕ, ◌+◌, ◌-◌, ◌≤◌}
-use mathlib.Core.Path.{◌≡◌, refl, ap, ◌∙◌}
-use native.Mathlib.Omega.{arith}
+use Prim.Native.Nat.{◌+◌, ◌-◌, ◌≤◌}
+use mathlib.Core.Path.{◌≡◌}
 use lib.Dec.{eqb}
-use lib.ListN.{length}
 use Rattle.units.specs.Places.{at, all_below}
-use Rattle.units.proofs.PlaceLaws.{all_then}
 use Rattle.versions.specs.Area.{zeros_from}
-use borrow.Author.Rules.{rules}
 use Rattle.versions.proofs.area.zeros_from.Given as goal
 
 abbrev pub invariant-loop-i : goal.invariant-loop-i

@@ -3,7 +3,7 @@ use Prim.Native.Nat.{◌-◌}
 use mathlib.Core.Path.{sym}
 use native.Mathlib.Omega.{arith}
 use Rattle.versions.specs.Layout.{zero_bytes}
-use Rattle.versions.proofs.StoringLaws.{BytesLaid, laid_begin, laid_turn, laid_end, zeros_long, zeros_are}
+use Rattle.versions.proofs.StoringLaws.{laid_begin, laid_turn, laid_end, zeros_long, zeros_are}
 use Rattle.versions.proofs.storing.clear.Goals as goal
 
 pub loop-i-init : goal.loop-i-init

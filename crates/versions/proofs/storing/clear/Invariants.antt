@@ -1,9 +1,7 @@
 -- `clear` is right because each turn lays one more of the zeros.
 use Prim.Native.Nat.{◌-◌}
-use mathlib.Core.Path.{sym}
-use native.Mathlib.Omega.{arith}
 use Rattle.versions.specs.Layout.{zero_bytes}
-use Rattle.versions.proofs.StoringLaws.{BytesLaid, laid_begin, laid_turn, laid_end, zeros_long, zeros_are}
+use Rattle.versions.proofs.StoringLaws.{BytesLaid}
 use Rattle.versions.proofs.storing.clear.Given as goal
 
 abbrev pub invariant-loop-i : goal.invariant-loop-i

@@ -2,9 +2,7 @@
 use Prim.Native.Nat.{◌-◌}
 use mathlib.Core.Path.{refl}
 use native.Mathlib.Omega.{arith}
-use lib.ListN.{length}
-use Rattle.versions.proofs.StoringLaws.{BytesLaid, laid_begin, laid_turn, laid_end}
-use borrow.Author.Rules.{rules}
+use Rattle.versions.proofs.StoringLaws.{laid_begin, laid_turn}
 use Rattle.versions.proofs.storing.copy_in.Goals as goal
 
 pub loop-i-preserved : goal.loop-i-preserved

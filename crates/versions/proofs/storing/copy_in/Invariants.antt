@@ -1,10 +1,7 @@
 -- `copy_in` is right because each turn lays one more byte of the sheet.
 use Prim.Native.Nat.{◌-◌}
-use mathlib.Core.Path.{refl}
-use native.Mathlib.Omega.{arith}
 use lib.ListN.{length}
-use Rattle.versions.proofs.StoringLaws.{BytesLaid, laid_begin, laid_turn, laid_end}
-use borrow.Author.Rules.{rules}
+use Rattle.versions.proofs.StoringLaws.{BytesLaid}
 use Rattle.versions.proofs.storing.copy_in.Given as goal
 
 abbrev pub invariant-loop-i : goal.invariant-loop-i

@@ -6,7 +6,6 @@ use Rattle.fields.proofs.SegmentLaws.{laid_more}
 use Rattle.versions.specs.Layout.{zero_bytes}
 use Rattle.versions.specs.Answers.{moved_down}
 use Rattle.versions.proofs.StoringLaws.{part_long, zeros_long}
-use borrow.Author.Rules.{rules}
 use Rattle.versions.proofs.storing.drop_oldest.Goals as goal
 
 pub returns : goal.returns

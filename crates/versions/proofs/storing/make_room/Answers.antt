@@ -5,7 +5,6 @@ use native.Mathlib.Omega.{arith}
 use lib.ListN.{length}
 use Rattle.versions.specs.Area.{place_of}
 use Rattle.versions.proofs.AnswerLaws.{room_enough, oldest_field, behind_oldest, end_inside, oldest_before, room_made}
-use borrow.Author.Rules.{rules}
 use Rattle.versions.proofs.storing.make_room.Goals as goal
 
 pub returns-then-count-ne-MOST_KEPT : goal.returns-then-count-ne-MOST_KEPT

@@ -2,8 +2,7 @@
 use Prim.Native.Nat.{◌-◌}
 use native.Mathlib.Omega.{arith}
 use lib.ListN.{take, drop}
-use Rattle.versions.proofs.StoringLaws.{BytesLaid, laid_begin, laid_turn, laid_end, moved_next, part_long}
-use borrow.Author.Rules.{rules}
+use Rattle.versions.proofs.StoringLaws.{laid_begin, laid_turn, laid_end, moved_next, part_long}
 use Rattle.versions.proofs.storing.move_down.Goals as goal
 
 pub loop-i-preserved : goal.loop-i-preserved

@@ -1,9 +1,7 @@
 -- `move_down` is right because each turn lays one more byte, and that byte still stands where it stood.
 use Prim.Native.Nat.{◌-◌}
-use native.Mathlib.Omega.{arith}
 use lib.ListN.{take, drop}
-use Rattle.versions.proofs.StoringLaws.{BytesLaid, laid_begin, laid_turn, laid_end, moved_next, part_long}
-use borrow.Author.Rules.{rules}
+use Rattle.versions.proofs.StoringLaws.{BytesLaid}
 use Rattle.versions.proofs.storing.move_down.Given as goal
 
 abbrev pub invariant-loop-i : goal.invariant-loop-i

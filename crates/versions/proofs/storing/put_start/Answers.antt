@@ -2,7 +2,6 @@
 use native.Mathlib.Omega.{arith}
 use lib.ListN.{length-set}
 use Rattle.fields.proofs.SegmentLaws.{laid_three}
-use borrow.Author.Rules.{rules}
 use Rattle.versions.proofs.storing.put_start.Goals as goal
 
 pub bounds-out-at-2 : goal.bounds-out-at-2

@@ -6,7 +6,6 @@ use Rattle.fields.specs.Bytes.{bytes_of}
 use Rattle.fields.proofs.ByteLaws.{bytes_length}
 use Rattle.sheets.specs.Layout.{end_bytes}
 use Rattle.versions.proofs.StoringLaws.{put_laid, version_laid}
-use borrow.Author.Rules.{rules}
 use Rattle.versions.proofs.storing.put_version.Goals as goal
 
 pub returns : goal.returns
