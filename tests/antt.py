@@ -57,15 +57,16 @@ class Module:
             self.names[alias or name] = (module, name)
 
     def named(self, key, text):
-        """The declarations that a text names, where this file is the module `key`."""
+        """The declarations that a text names, where this file is the module `key`. What stands behind a point is a field,
+        or a name of a module that is called by a name."""
         for name in NAME.findall(text):
             first, _, last = name.partition(".")
-            if name in self.declared:
-                yield (key, name)
-            elif name in self.names:
-                yield self.names[name]
+            if first in self.declared:
+                yield (key, first)
+            elif first in self.names:
+                yield self.names[first]
             elif last and first in self.modules:
-                yield (self.modules[first], last)
+                yield (self.modules[first], last.partition(".")[0])
 
     def at(self, line):
         """The declaration that has this line; None if there is none."""
@@ -74,7 +75,7 @@ class Module:
 
 def module_at(crate, path):
     """The crate and the module of a path in a `use` line."""
-    found = re.match(r"Rattle·(\w+?)(?:·(?:specs|proofs))?\.((?:specs|proofs)\..+)$", path)
+    found = re.match(r"Rattle\.(\w+)\.((?:specs|proofs)\..+)$", path)
     return (found[1], found[2]) if found else (crate, path)
 
 

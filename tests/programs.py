@@ -1,8 +1,8 @@
 """The programs that the tests run: where they stand, how they are built, how they run, and what they answer.
 
-What is proved is for x86-64. The kit has a compiler, a linker, a C library and its loader for it, and on other machines
-an emulator. A program in C is linked with the archive of the exported functions; a program of crates/ stands in
-target/bin. Both run by `running`.
+What is proved is for x86-64. The kit has a compiler, a linker, a C library and its loader for it; on other machines an
+emulator must be on the path. A program in C is linked with the archive of the exported functions; a program of crates/
+stands in the folder out/ of its crate. Both run by `running`.
 """
 
 import collections
@@ -17,7 +17,8 @@ import tempfile
 
 ROOT = os.path.dirname(os.path.dirname(os.path.abspath(__file__)))
 SECOND = os.path.join(ROOT, "second", "target", "release", "second")
-ARCHIVE = os.path.join(ROOT, "target", "staticlib", "libhost.a")
+LIBRARY = "host_c"
+ARCHIVE = os.path.join(ROOT, "crates", LIBRARY, "out", f"lib{LIBRARY}.a")
 BUILT = os.path.join(ROOT, "target", "tests")
 
 # The emulator's machine without the instruction that the C library likes to copy by: the emulator does it byte by byte.
@@ -48,19 +49,20 @@ def kit():
     rt = shutil.which("rt")
     if not rt:
         fail("there is no `rt` on the path")
-    return os.environ.get("RATTLE_HOME") or os.path.dirname(os.path.dirname(os.path.realpath(rt)))
+    return os.path.dirname(os.path.dirname(os.path.realpath(rt)))
 
 
 def tool(*names):
-    """A file of the kit's toolchain for this machine."""
-    return os.path.join(kit(), "on", platform.machine(), "toolchain", *names)
+    """A file of the kit's toolchain."""
+    return os.path.join(kit(), "toolchain", *names)
 
 
 def running(program):
-    """The words that run a program for x86-64: by the kit's loader, on other machines under the kit's emulator."""
+    """The words that run a program for x86-64: by the kit's loader, on other machines under an emulator."""
     words = [tool("lib", "ld-linux-x86-64.so.2"), "--library-path", tool("lib"), program]
-    emulator = tool("bin", "qemu-x86_64")
-    return [emulator, *MACHINE, *words] if os.access(emulator, os.X_OK) else words
+    if platform.machine() == "x86_64":
+        return words
+    return [shutil.which("qemu-x86_64") or fail("there is no `qemu-x86_64` on the path"), *MACHINE, *words]
 
 
 # ---- the table of the commands
@@ -97,11 +99,10 @@ def program_of(words):
 
 
 def build_proved(name):
-    """`rt check` proves and builds a program of crates/, again only if something changed. ./check says when it has."""
+    """A program of crates/ is proved and built as ./olivastrum does it, again only if something changed."""
     kit()
-    if os.environ.get("OLIVASTRUM_BUILT"):
-        return
-    made(["rt", "check", name], ROOT)
+    script = 'here=$PWD me=$1; say() { printf "%s: %s\\n" "$me" "$*" >&2; }; . ./build.sh; build "$2"'
+    made(["sh", "-c", script, "sh", os.path.basename(sys.argv[0]), name], ROOT)
 
 
 def build_programs():
@@ -111,7 +112,7 @@ def build_programs():
 
 
 def proved_command(name):
-    return running(os.path.join(ROOT, "target", "bin", name))
+    return running(os.path.join(ROOT, "crates", name, "out", name))
 
 
 def calling(words):
@@ -130,15 +131,23 @@ def second_command(planted=0):
 # ---- programs in C that are linked with the proved archive
 
 
-def crate_line(name):
-    """A crate's line of crates.txt: its name, and what it sees."""
+def crate_lines(name):
+    """The lines of crates.txt that a crate is made by, by their crates: its own, and those of all that it sees."""
     with open(os.path.join(ROOT, "crates.txt")) as file:
-        return next(line for line in file if line.startswith(name + ":"))
+        lines = [line.split("#")[0].strip() for line in file]
+    listed = {line.split(":")[0].split()[0]: line for line in lines if ":" in line}
+    found, left = {}, [name]
+    while left:
+        crate = left.pop()
+        if crate in listed and crate not in found:
+            found[crate] = listed[crate]
+            left += listed[crate].split(":")[1].split()
+    return found
 
 
-def sources_of(line):
-    """The files that a crate is proved from, its own and those of all that it sees."""
-    for crate in line.replace(":", " ").split():
+def sources_of(crates):
+    """The files that crates are proved from."""
+    for crate in crates:
         for part in ["src", "specs", "proofs"]:
             for folder, _, files in os.walk(os.path.join(ROOT, "crates", crate, part)):
                 yield from (os.path.join(folder, file) for file in files)
@@ -146,21 +155,21 @@ def sources_of(line):
 
 def sum_of(name):
     """A sum over what a crate is proved from, and by which kit."""
-    line = crate_line(name)
-    total = hashlib.sha256(line.encode())
-    for path in sorted([os.path.join(kit(), "KIT-ID"), *sources_of(line)]):
+    lines = crate_lines(name)
+    total = hashlib.sha256(repr(sorted(lines.items())).encode())
+    for path in sorted([os.path.join(kit(), "KIT-ID"), *sources_of(lines)]):
         with open(path, "rb") as file:
             total.update(f"{os.path.relpath(path, ROOT)}\n{hashlib.sha256(file.read()).hexdigest()}\n".encode())
     return total.hexdigest()
 
 
 def build_archive():
-    """`rt staticlib` proves `host` at every call, which takes ten seconds: here only if something changed."""
-    mark = os.path.join(BUILT, "libhost.sum")
-    total = sum_of("host")
+    """`rt lib` builds the static library anew at every call: here only if something changed."""
+    mark = os.path.join(BUILT, f"lib{LIBRARY}.sum")
+    total = sum_of(LIBRARY)
     if os.path.exists(ARCHIVE) and os.path.exists(mark) and open(mark).read() == total:
         return
-    made(["rt", "staticlib", "host"], ROOT)
+    made(["rt", "lib"], os.path.join(ROOT, "crates", LIBRARY))
     os.makedirs(BUILT, exist_ok=True)
     with open(mark, "w") as file:
         file.write(total)

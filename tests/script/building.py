@@ -32,7 +32,7 @@ def proved(count, total, crate):
     return rb"olivastrum: proved %d of %d, %s \(\d+ s so far\)\n" % (count, total, crate)
 
 
-# All that is said of a build by the stub's usual lines. The crate that is unchanged is counted, and has no line.
+# All that is said of a build by the stub's usual lines. Of a crate that is unchanged rt says nothing; it is counted, and has no line.
 ALL = FIRST + proved(2, 4, b"sets") + proved(3, 4, b"plans") + proved(4, 4, b"planner") + BUILT
 
 
@@ -49,7 +49,7 @@ def called(project, calls):
     return [] if said == calls else [f"the prover's calls are {said}, and not {calls}"]
 
 
-ONCE = ["begin check planner", "end check planner"]
+ONCE = ["begin run planner", "end run planner"]
 
 
 # ---- when
@@ -67,10 +67,10 @@ def first_and_second_use(project):
 def each_program_by_itself(project):
     project.call("plan")
     found = called(project, ONCE)
-    project.does("unchanged units\nunchanged others\nproved ringer\n")
+    project.does("proved ringer\n")
     said = FIRST.replace(b"planner", b"ringer") + proved(3, 3, b"ringer") + BUILT
     found += wrong(project.call("run", "a plan", "and more"), 0, b"ringer --status-on-3 run a plan and more\n", said)
-    found += called(project, ["begin check ringer", "end check ringer"])
+    found += called(project, ["begin run ringer", "end run ringer"])
     found += wrong(project.call("plan"), 0, RAN, b"")
     return found + called(project, [])
 
@@ -86,12 +86,13 @@ def changes(project):
         ("crates/units/specs/Lib.antt", "a new folder", ONCE),
         ("crates/planner/stdout", "what it writes", ONCE),
         ("crates/others/src/lib.rt", "not below it", []),
-        ("crates/planner/must-fail/a.edit", "a wrong answer", ONCE),  # its folder is new
+        ("crates/planner/must-fail/a.edit", "a wrong answer", []),
         ("crates/planner/must-fail/b.edit", "a second wrong answer", []),
+        ("crates/sets/out/kept", "what the prover keeps", []),
         ("commands.txt", open(os.path.join(project.root, "commands.txt")).read() + "> more\n", []),
         ("crates.txt", crates.replace("others: units", "others: units sets"), []),
         ("crates.txt", crates.replace("sets: units", "sets:"), ONCE),
-        ("crates.txt", crates.replace("io libc", "io libc os"), ONCE),
+        ("crates.txt", crates.replace("thiserror", "thiserror anyhow"), ONCE),
     ]:
         project.change(name, text)
         found += wrong(project.call("plan"), 0, RAN, ALL if calls else b"")
@@ -99,7 +100,10 @@ def changes(project):
         found += [f"{name}: {fault}" for fault in wrong(project.call("plan"), 0, RAN, b"") + called(project, [])]
     os.remove(os.path.join(project.root, "crates/units/specs/Lib.antt"))
     project.call("plan")
-    return found + [f"a file less: {fault}" for fault in called(project, ONCE)]
+    found += [f"a file less: {fault}" for fault in called(project, ONCE)]
+    os.rmdir(os.path.join(project.root, "crates/units/specs"))
+    project.call("plan")
+    return found + [f"a folder less: {fault}" for fault in called(project, ONCE)]
 
 
 @test
@@ -116,11 +120,10 @@ def a_change_while_it_builds(project):
 
 @test
 def a_program_that_is_gone(project):
-    # rt takes what it has a stamp of for proved, and does not look for the program.
     project.call("plan")
-    os.remove(os.path.join(project.root, "target", "bin", "planner"))
-    project.does('if [ -f "target/stamp/$2" ]; then unchanged "$2"; exit; fi\n' + "proved planner\n")
-    return wrong(project.call("plan"), 0, RAN, FIRST + proved(1, 4, b"planner") + BUILT)
+    os.remove(os.path.join(project.root, "crates", "planner", "out", "planner"))
+    project.does("proved planner\n")
+    return wrong(project.call("plan"), 0, RAN, FIRST + proved(4, 4, b"planner") + BUILT)
 
 
 # ---- what it says
@@ -131,7 +134,7 @@ def the_provers_own_words(project):
     project.call("plan")
     log = os.path.join(project.root, "target", "built", "planner.log")
     said = open(log).read() if os.path.exists(log) else ""
-    lines = ["rattle: a line of the prover's own", "rattle: a second one", "rt: planner proved (3 s)"]
+    lines = ["rattle: a line of the prover's own", "rattle: a second one", "rt: chose --jobs 2 for planner"]
     return [f"{log} has no line `{line}`" for line in lines if line not in said.splitlines()]
 
 
@@ -142,7 +145,7 @@ def a_line_as_each_is_proved(project):
     said = run.stderr.readline() + run.stderr.readline()
     project.tell("go")
     found = [] if re.fullmatch(FIRST + proved(1, 4, b"units"), said) else [f"it said {said!r}"]
-    return found + wrong(ended(run), 0, RAN, proved(2, 4, b"planner") + BUILT)
+    return found + wrong(ended(run), 0, RAN, proved(4, 4, b"planner") + BUILT)
 
 
 @test
@@ -150,7 +153,7 @@ def something_not_proved(project):
     log = os.path.join(project.root, "target", "built", "planner.log")
     found = []
     for does, why in [
-        ("proved units\necho 'rt: sets NOT PROVED (exit 1, 3 s)'\necho 'rt: plans NOT PROVED: its dependency'\nexit 1\n", b": sets is not proved"),
+        ("proved units\nnot_proved sets\n", b": sets is not proved"),
         ("echo 'rt: crates.txt: no line'\nexit 2\n", b""),
         ("kill -9 $$\n", b""),
     ]:
@@ -159,7 +162,7 @@ def something_not_proved(project):
         found += wrong(project.call("plan"), 2, b"", said)
         found += [] if "rattle: a second one" in open(log).read() else [f"{log} has not what the prover said"]
     project.does("proved planner\n")
-    return found + wrong(project.call("plan"), 0, RAN, FIRST + proved(1, 4, b"planner") + BUILT)
+    return found + wrong(project.call("plan"), 0, RAN, FIRST + proved(4, 4, b"planner") + BUILT)
 
 
 @test
@@ -182,7 +185,7 @@ def two_at_once(project):
     project.tell("go")
     answers = [(status, out, first + err) for first, (status, out, err) in zip(firsts, map(ended, runs))]
     waited, built = sorted(answers, key=lambda answer: len(answer[2]))
-    said = FIRST + proved(1, 4, b"units") + proved(2, 4, b"planner") + BUILT
+    said = FIRST + proved(1, 4, b"units") + proved(4, 4, b"planner") + BUILT
     return wrong(waited, 0, RAN, WAITING) + wrong(built, 0, RAN, said) + called(project, ONCE)
 
 
@@ -198,7 +201,7 @@ def many_at_once_and_none_builds(project):
 
 @test
 def two_programs_at_once(project):
-    project.does("until_told go\nproved $2\n")
+    project.does("until_told go\nproved $name\n")
     runs = [project.start("plan"), project.start("run", "x")]
     firsts = [run.stderr.readline() for run in runs]
     project.tell("go")
@@ -233,7 +236,7 @@ def free_again(project, prover):
     found = [] if await_that(lambda: not session(prover)) else ["the prover goes on"]
     project.calls()
     project.does("proved planner\n")
-    found += wrong(project.call("plan"), 0, RAN, FIRST + proved(1, 4, b"planner") + BUILT)
+    found += wrong(project.call("plan"), 0, RAN, FIRST + proved(4, 4, b"planner") + BUILT)
     project.prover()
     return found + called(project, ONCE)
 
@@ -326,7 +329,7 @@ class Terminal:
 
 @test
 def a_line_that_moves_on(project):
-    project.does("unchanged units\nuntil_told 1\nproved sets\nuntil_told 2\nproved planner\nuntil_told 3\n")
+    project.does("proved units\nuntil_told 1\nproved sets\nuntil_told 2\nproved planner\nuntil_told 3\n")
     terminal = Terminal(project, "plan")
     terminal.read(until=rb"(\r[^\r]*units[^\r]*){3}")
     project.tell("1")
@@ -337,7 +340,7 @@ def a_line_that_moves_on(project):
     terminal.read(until=rb"built in")
     terminal.type(b"\x04")
     answer = terminal.end()
-    moves = b"".join(rb"(\rolivastrum: proved %d of 4, %s \(\d+ s so far\) *)+" % part for part in [(1, b"units"), (2, b"sets"), (3, b"planner")])
+    moves = b"".join(rb"(\rolivastrum: proved %d of 4, %s \(\d+ s so far\) *)+" % part for part in [(1, b"units"), (2, b"sets"), (4, b"planner")])
     found = wrong(answer, 0, RAN, FIRST + rb"(\rolivastrum: proved 0 of 4 \(\d+ s so far\) *)*" + moves + rb"\n" + BUILT)
     seconds = [int(text) for text in re.findall(rb"\((\d+) s so far", answer[2])]
     if seconds != sorted(seconds) or len(set(seconds)) < 2:
@@ -486,8 +489,10 @@ def no_table(project):
 def on_another_machine(project):
     write(os.path.join(project.kit, "machine", "uname"), "#!/bin/sh\necho aarch64\n", 0o755)
     found = wrong(project.call("plan", given=b"in"), 0, b"emulated\n" + RAN + b"in", ALL)
-    needs = rb"olivastrum: the programs are for x86-64; to run on this machine, aarch64, they need the emulator of the Rattle kit, whose command rt is not on the PATH\n"
-    return found + wrong(project.call("plan", kit=False), 2, b"", needs)
+    needs = rb"olivastrum: the programs are for x86-64; to run on this machine, aarch64, they need the %s is not on the PATH\n"
+    found += wrong(project.call("plan", kit=False), 2, b"", needs % b"C library of the Rattle kit, whose command rt")
+    os.remove(os.path.join(project.kit, "machine", "qemu-x86_64"))
+    return found + wrong(project.call("plan"), 2, b"", needs % b"emulator qemu-x86_64, which")
 
 
 @test

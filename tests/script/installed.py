@@ -25,12 +25,12 @@ FILES += [*(f"libexec/olivastrum/{name}" for name in PROGRAMS), "share/man/man1/
 
 def archived(project, folder="an installed one", **how):
     """./archive of the project with its own table: the folder, and status, standard output and standard error."""
-    crates = "host:\n" + "".join(f"{name}: host io\n" for name in PROGRAMS)
+    crates = "units:\nhost_c staticlib: units\n" + "".join(f"{name}: units\n" for name in PROGRAMS)
     project.change("crates.txt", crates)
     project.change("commands.txt", content("commands.txt"))
     for name in PROGRAMS:
         project.change(f"crates/{name}/src/main.rt", "one")
-    project.does("proved $2\n")
+    project.does("proved $name\n")
     archive = os.path.join(project.root, "archive")
     done = project.call(folder, script=archive, **how)
     return os.path.join(project.kit, folder), done
@@ -63,7 +63,7 @@ def what_is_written(project):
     found = [] if done[:2] == (0, b"") else [f"./archive ended with {done}"]
     found += [] if listed(folder) == FILES else [f"./archive wrote {listed(folder)}"]
     found += [] if b"the prover's own" not in done[2] else ["./archive says what the prover says"]
-    calls = ["staticlib host", *(f"check {name}" for name in PROGRAMS)]
+    calls = ["lib host_c", *(f"run {name}" for name in PROGRAMS)]
     expected = [f"{when} {call}" for call in calls for when in ["begin", "end"]]
     said = project.calls()
     return found + ([] if said == expected else [f"the prover's calls are {said}"])
@@ -108,7 +108,7 @@ def on_another_machine(project):
     folder, _ = archived(project)
     write(os.path.join(project.kit, "machine", "uname"), "#!/bin/sh\necho aarch64\n", 0o755)
     script = os.path.join(folder, "bin", "olivastrum")
-    needs = rb"olivastrum: the programs are for x86-64; to run on this machine, aarch64, they need the emulator of the Rattle kit, whose command rt is not on the PATH\n"
+    needs = rb"olivastrum: the programs are for x86-64; to run on this machine, aarch64, they need the C library of the Rattle kit, whose command rt is not on the PATH\n"
     found = wrong(project.call("plan", script=script, kit=False), 2, b"", needs)
     found += wrong(project.call("help", script=script, kit=False)[::2] + (b"",), 0, b"", b"")
     plan = next(row[3] for row in ROWS if row[0] == "plan")
@@ -136,8 +136,8 @@ def nothing_is_written_of_what_is_not_proved(project):
     archived(project)
     found = []
     for does, why in [
-        ("echo 'rt: host NOT PROVED (exit 1, 1 s)'\nexit 1\n", rb"host is not proved"),
-        (f"[ $1 = staticlib ] || {{ echo 'rt: {PROGRAMS[-1]} NOT PROVED (exit 1, 1 s)'; exit 1; }}\n", PROGRAMS[-1].encode() + rb" is not proved"),
+        ("not_proved host_c\n", rb"host_c is not proved"),
+        (f"[ $1 = lib ] || not_proved {PROGRAMS[-1]}\n", PROGRAMS[-1].encode() + rb" is not proved"),
     ]:
         for name in PROGRAMS:
             project.change(f"crates/{name}/src/main.rt", "two")
@@ -181,7 +181,7 @@ def it_waits_for_a_build(project):
     project.calls()
     name = PROGRAMS[0]
     project.change(f"crates/{name}/src/main.rt", "two")
-    project.does("until_told go\nproved $2\n")
+    project.does("until_told go\nproved $name\n")
     run = project.start(*words_of(next(row for row in ROWS if row[3] == name and row[0] != "help")))
     run.stderr.readline()
     second = project.start("x", script=os.path.join(project.root, "archive"))

@@ -33,21 +33,26 @@ def words_of(row):
 
 
 RT = r"""#!/bin/sh
-# In place of rt: `does` says what it prints and how it ends, `calls` keeps when it began and when it ended.
-kit=$(dirname "$(dirname "$0")")
-echo "begin $*" >>"$kit/calls"
+# In place of rt, in the folder of a crate: `does` says what it prints and how it ends, `calls` keeps when it began and when it ended.
+kit=$(dirname "$(dirname "$0")") name=$(basename "$PWD")
+echo "begin $1 $name" >>"$kit/calls"
 echo $$ >"$kit/pid.new" && mv "$kit/pid.new" "$kit/pid"
-trap 'echo "end $*" >>"$kit/calls"' EXIT
+trap 'echo "end $1 $name" >>"$kit/calls"' EXIT
 echo "rattle: a line of the prover's own"
 echo "rattle: a second one" >&2
-unchanged() { echo "rt: $1 proved (unchanged since it was last proved)"; }
-proved() { echo "rt: $1 proved (3 s)"; }
+begun() { echo "rt: chose --jobs 2 for $1"; }
+proved() { begun "$1"; echo "crate $1: modules loaded=2 checked=3"; echo "logic=proved functions=1"; }
+not_proved() { begun "$1"; echo "logic=not-proved"; exit 1; }
 until_told() { turns=0; while [ ! -f "$kit/told $1" ] && [ $turns -lt 900 ]; do sleep 0.1; turns=$((turns + 1)); done; }
 . "$kit/does"
-mkdir -p target/bin target/stamp target/staticlib
+mkdir -p out
 case $1 in
-    check) cp "$kit/program" "target/bin/$2" && touch "target/stamp/$2" ;;
-    staticlib) echo "the archive of $2" >"target/staticlib/lib$2.a" ;;
+    run)
+        cp "$kit/program" "out/$name"
+        echo "rt: running out/$name; to give it other input, run that file yourself" >&2
+        "out/$name"
+        ;;
+    lib) echo "the archive of $name" >"out/lib$name.a" ;;
 esac
 """
 
@@ -61,7 +66,7 @@ printf 0 >&3
 
 EMULATOR = r"""#!/bin/sh
 # In place of the emulator, which is given the kit's loader and the folder of its libraries.
-toolchain=$(dirname "$(dirname "$0")")
+toolchain=$(dirname "$(dirname "$0")")/toolchain
 [ "$1 $2 $3" = "$toolchain/lib/ld-linux-x86-64.so.2 --library-path $toolchain/lib" ] || exit 9
 shift 3
 echo emulated
@@ -74,9 +79,9 @@ units:
 sets: units
 plans: units sets # and one here
 others: units
-host: units
-planner: plans io libc
-ringer: others units io
+host_c staticlib: units
+planner: plans thiserror
+ringer: others units
 """
 
 COMMANDS = """# WORD LEAST MOST PROGRAM USAGE
@@ -90,7 +95,7 @@ help 0 0 planner olivastrum help             print this
 """
 
 # What the stub does where a test asks for nothing else.
-DOES = "unchanged units\nproved sets\nproved plans\nproved planner\n"
+DOES = "proved sets\nproved plans\nproved planner\n"
 
 
 def write(path, text, mode=0o644):
@@ -101,12 +106,12 @@ def write(path, text, mode=0o644):
 
 
 def system_path(folder):
-    """A PATH of the system's own folders, as links in one folder, without `rt`."""
+    """A PATH of the system's own folders, as links in one folder, without `rt` and an emulator."""
     farm = os.path.join(folder, "system")
     os.makedirs(farm, exist_ok=True)
     for place in os.defpath.split(os.pathsep):
         for name in os.listdir(place) if os.path.isdir(place) else []:
-            if name != "rt" and not os.path.lexists(os.path.join(farm, name)):
+            if name not in ["rt", "qemu-x86_64"] and not os.path.lexists(os.path.join(farm, name)):
                 os.symlink(os.path.join(place, name), os.path.join(farm, name))
     return farm
 
@@ -124,11 +129,11 @@ class Project:
                 shutil.copy(os.path.join(ROOT, name), os.path.join(self.root, name))
         write(os.path.join(self.root, "crates.txt"), CRATES)
         write(os.path.join(self.root, "commands.txt"), COMMANDS)
-        for crate in ["units", "sets", "plans", "others", "host", "planner", "ringer"]:
+        for crate in ["units", "sets", "plans", "others", "host_c", "planner", "ringer"]:
             self.change(f"crates/{crate}/src/lib.rt", "one")
         write(os.path.join(self.kit, "bin", "rt"), RT, 0o755)
         write(os.path.join(self.kit, "program"), PROGRAM, 0o755)
-        write(os.path.join(self.kit, "on", "aarch64", "toolchain", "bin", "qemu-x86_64"), EMULATOR, 0o755)
+        write(os.path.join(self.kit, "machine", "qemu-x86_64"), EMULATOR, 0o755)
         write(os.path.join(self.kit, "machine", "uname"), f"#!/bin/sh\necho {machine}\n", 0o755)
         self.does(DOES)
 
@@ -167,8 +172,7 @@ class Project:
 
     def environment(self, kit=True):
         paths = [os.path.join(self.kit, "machine"), *([os.path.join(self.kit, "bin")] if kit else []), self.system]
-        kept = {name: value for name, value in os.environ.items() if name != "RATTLE_HOME"}
-        return {**kept, "PATH": os.pathsep.join(paths)}
+        return {**os.environ, "PATH": os.pathsep.join(paths)}
 
     def start(self, *words, script=None, kit=True, **how):
         """A call that goes on; its input is empty where nothing else is said."""
