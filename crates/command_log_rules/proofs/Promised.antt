@@ -1,5 +1,5 @@
 -- The promises hold because the text's calls are a run, its log is what goes out, and a run's log is read back.
-use Prim.Native.Nat.{ℕ, ◌-◌}
+use Prim.Native.Nat.{ℕ}
 use mathlib.Core.Path.{◌≡◌, refl, sym, ap, ◌∙◌}
 use mathlib.Core.List.{List, [], ◌∷◌, map, reverse}
 use native.Mathlib.Omega.{arith}

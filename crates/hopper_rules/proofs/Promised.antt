@@ -1,5 +1,4 @@
 -- Everything that `specs/Promised.antt` lists, proved.
-use Prim.Native.Nat.{◌-◌}
 use mathlib.Core.Path.{◌≡◌, refl, sym, ap, ◌∙◌}
 use native.Mathlib.Omega.{arith}
 use Rattle.units.specs.Places.{zeros, sum_below, all_below, fill}

@@ -1,5 +1,5 @@
 -- What is promised of what `show` prints; `proofs/Promised.antt` proves it.
-use Rattle.std.specs.Prelude.{ℕ, ◌+◌, ◌-◌, ◌≤◌, ◌<◌, ◌≡◌, Bool, true, false, List, [], ◌∷◌, ◌++◌, ◌≢◌}
+use Rattle.std.specs.Prelude.{ℕ, ◌+◌, ◌≤◌, ◌<◌, ◌≡◌, Bool, true, false, List, [], ◌∷◌, ◌++◌, ◌≢◌}
 use Rattle.units.specs.Places.{at}
 use Rattle.sets.specs.Header.{head_number}
 use Rattle.sets.specs.Rules.{CountAllowed}

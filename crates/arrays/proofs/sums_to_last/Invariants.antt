@@ -3,7 +3,7 @@ use Prim.Native.Nat.{◌-◌, min}
 use mathlib.Core.Path.{◌≡◌}
 use Rattle.units.specs.Places.{at, sum_from}
 use Rattle.sets.specs.Judged.{zeros}
-use Rattle.arrays.specs.Held.{held, sums_to_last}
+use Rattle.arrays.specs.Held.{held}
 use Rattle.units.proofs.FillLaws.{Filling}
 use Rattle.arrays.proofs.sums_to_last.Given as goal
 

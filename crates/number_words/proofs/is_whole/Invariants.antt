@@ -3,7 +3,7 @@ use Prim.Native.Nat.{◌≤◌, ◌-◌}
 use mathlib.Core.Path.{◌≡◌}
 use lib.ListN.{length}
 use Rattle.units.specs.Places.{at, all_below}
-use Rattle.number_words.specs.Words.{is_digit, is_whole}
+use Rattle.number_words.specs.Words.{is_digit}
 use Rattle.number_words.proofs.is_whole.Given as goal
 
 abbrev pub invariant-loop-i : goal.invariant-loop-i

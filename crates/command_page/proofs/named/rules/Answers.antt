@@ -1,5 +1,4 @@
 -- `rules` is right because its body is the definition.
-use Rattle.std.proofs.Common.{rules}
 use Rattle.command_page.specs.Named.{rules_where}
 use Rattle.command_page.proofs.named.rules.Goals as goal
 

@@ -8,7 +8,7 @@ use native.Mathlib.Omega.{arith}
 use lib.ListN.{length, take, drop, set, get_or, replicate}
 use lib.Seq.{take-suc, take-suc-set, take_all, drop-set-lt, drop-drop}
 use Rattle.units.proofs.SmallLaws.{below_or_not}
-use Rattle.commands.specs.Words.{shown_byte, name_of}
+use Rattle.commands.specs.Words.{shown_byte}
 use Rattle.commands.proofs.words.name_of.Given as goal
 
 -- the first i bytes of the word have been put

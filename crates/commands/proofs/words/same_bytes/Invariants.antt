@@ -4,7 +4,6 @@ use mathlib.Core.Path.{◌≡◌}
 use lib.Dec.{eqb}
 use lib.ListN.{length}
 use Rattle.units.specs.Places.{at, all_below}
-use Rattle.commands.specs.Words.{same_bytes}
 use Rattle.commands.proofs.words.same_bytes.Given as goal
 
 abbrev pub invariant-loop-i : goal.invariant-loop-i

@@ -2,7 +2,6 @@
 use Rattle.std.proofs.Common.{◌≡◌, ℕ, ◌-◌, ◌%◌, ◌^◌, List}
 use Rattle.units.specs.Places.{at, sum_below, zeros}
 use Rattle.units.proofs.FillLaws.{Filling}
-use Rattle.inspection.specs.Opening.{passing_times}
 use Rattle.inspection.proofs.opening.passing_times.Given as goal
 
 -- when the rotation passed station j

@@ -1,5 +1,4 @@
 -- `broken_rule` is right because it asks a visit by a visit's rules, and a mark by a mark's.
-use Rattle.std.proofs.Common.{rules}
 use Rattle.inspection.proofs.rules.broken_rule.Goals as goal
 
 -- what is told of the frames

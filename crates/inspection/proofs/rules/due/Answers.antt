@@ -1,5 +1,5 @@
 -- `due` is right because each of its numbers is the definition's.
-use Rattle.std.proofs.Common.{refl, rules}
+use Rattle.std.proofs.Common.{refl}
 use Rattle.inspection.proofs.rules.due.Goals as goal
 
 pub returns : goal.returns

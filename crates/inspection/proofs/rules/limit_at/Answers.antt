@@ -1,5 +1,5 @@
 -- `limit_at` is right because it asks for the mode as the definition does, and takes off one number after another.
-use Rattle.std.proofs.Common.{refl, rules, eq-eqb, ne_eqb}
+use Rattle.std.proofs.Common.{refl, eq-eqb, ne_eqb}
 use Rattle.inspection.specs.Rules.{limit_with}
 use Rattle.inspection.proofs.rules.limit_at.Goals as goal
 

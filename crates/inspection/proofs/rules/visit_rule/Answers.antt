@@ -1,5 +1,5 @@
 -- `visit_rule` is right because it asks the definition's five tests in the definition's order.
-use Rattle.std.proofs.Common.{◌≡◌, ℕ, true, ◌||◌, eqb, sym, ap, ◌∙◌, rules, eq-eqb, ne_eqb, le-leb}
+use Rattle.std.proofs.Common.{◌≡◌, ℕ, true, ◌||◌, eqb, sym, ap, ◌∙◌, eq-eqb, ne_eqb, le-leb}
 use borrow.Author.Tests.{lt-leb}
 use Rattle.units.proofs.JudgingLaws.{held, failed}
 use Rattle.inspection.specs.Rules.{start_kept, first_failed}

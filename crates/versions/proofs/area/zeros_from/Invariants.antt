@@ -3,7 +3,6 @@ use Prim.Native.Nat.{◌+◌, ◌-◌, ◌≤◌}
 use mathlib.Core.Path.{◌≡◌}
 use lib.Dec.{eqb}
 use Rattle.units.specs.Places.{at, all_below}
-use Rattle.versions.specs.Area.{zeros_from}
 use Rattle.versions.proofs.area.zeros_from.Given as goal
 
 abbrev pub invariant-loop-i : goal.invariant-loop-i
