@@ -1,4 +1,5 @@
 // `keep STORE`: the plan sheet on standard input becomes the next version of the store in a file.
+use crate::replacing::Locked;
 use crate::{files, replacing};
 use commands::status;
 use std::env::Env;
@@ -62,7 +63,7 @@ where
     R::File: AsRawFd,
 {
     match replacing::lock(rt, path) {
-        Some(mut locked) => hold(rt, path, locked.new.as_str(), &mut locked.file, sheet),
+        Some(Locked { new, mut file }) => hold(rt, path, new.as_str(), &mut file, sheet),
         None => status::FAILED,
     }
 }

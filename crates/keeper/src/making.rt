@@ -1,4 +1,5 @@
 // `empty-store STORE`: the file is made, a store without a version; one that is there already is not touched.
+use crate::replacing::Locked;
 use crate::{files, replacing};
 use commands::status;
 use std::env::Env;
@@ -29,7 +30,7 @@ where
     R::File: AsRawFd,
 {
     match replacing::lock(rt, path) {
-        Some(mut locked) => hold(rt, path, locked.new.as_str(), &mut locked.file),
+        Some(Locked { new, mut file }) => hold(rt, path, new.as_str(), &mut file),
         None => status::FAILED,
     }
 }
