@@ -71,6 +71,14 @@ fn say_progress(rt: &impl Complain, k: Tune) {
     warn(rt, &page, put);
 }
 
+// Where it is shown how far it is, and from the second second on, says that once for each.
+fn show(rt: &impl Complain, shown: bool, before: Watch, later: Watch, k: Tune) {
+    let due = shown & (later.changes == 2) & (later.second != before.second);
+    if due {
+        say_progress(rt, k);
+    }
+}
+
 // Tries every TTRT. Where standard error is a terminal, it says from the second second on how far it is.
 fn try_all(rt: &(impl Clock + Complain), first: Tune) -> Tune
     ensures { TriedAll first result }
@@ -84,10 +92,7 @@ fn try_all(rt: &(impl Clock + Complain), first: Tune) -> Tune
     while !command_tune::is_done(k) {
         k = command_tune::go_on(k);
         let later = watched(rt, watch);
-        let due = shown & (later.changes == 2) & (later.second != watch.second);
-        if due {
-            say_progress(rt, k);
-        }
+        show(rt, shown, watch, later, k);
         watch = later;
     }
     if shown & (watch.changes == 2) {
