@@ -9,6 +9,7 @@ use lib.ListN.{length}
 use Rattle.fields.specs.Fields.{end_tag, tag_at, behind, field_at, FieldWhole}
 use Rattle.fields.specs.declared.Field.{Field}
 use Rattle.fields.specs.declared.Passed.{Passed}
+use Rattle.field_reader.specs.Cursor.{step_of}
 use Rattle.field_reader.specs.declared.Step.{Step}
 use Rattle.field_reader.specs.Scanned.{stops_at, stop_number, with_field, scanned}
 use Rattle.field_reader.proofs.ScannedLaws.{passes, cursor_behind, has_tag, counts_one, scan_stops, scan_more}
