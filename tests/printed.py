@@ -5,6 +5,8 @@ import random
 import re
 
 WORD = re.compile(r"[(){},;]|λ|[^\s(){},;λ]+")
+# The name of something in a module of the libraries or of this repository.
+NAMED = re.compile(r"(?:Rattle|Prim|mathlib|native|lib|borrow|mir|denote)\.(?:.*\.)?(?P<name>[^.]+)")
 # How strongly an operator binds; one that is not here binds as strongly as a relation.
 BINDS = {":": -1, "=": -1, "→": 0, "↔": 0.5, "×": 1, "⊎": 1, "∷": 3, "++": 3, "∙": 3, "+": 4, "-": 4, "*": 5, "/": 5, "%": 5}
 RELATIONS = {"≡": lambda a, b: a == b, "≢": lambda a, b: a != b, "≤": lambda a, b: a <= b, "<": lambda a, b: a < b}
@@ -62,7 +64,8 @@ class Reader:
             elif word == "(":
                 parts.append(self.inner())
             else:
-                parts.append(word if word.startswith(".") else word.rpartition(".")[2] or word)
+                known = NAMED.fullmatch(word)
+                parts.append(known["name"] if known else word)
         return headed(parts)
 
     def inner(self):
@@ -78,7 +81,7 @@ def headed(parts):
     if not parts:
         return ("()",)
     head, *rest = parts
-    sign = re.fullmatch(r"_(\S+)_", head) if isinstance(head, str) else None
+    sign = re.fullmatch(r"◌(\S+)◌", head) if isinstance(head, str) else None
     if sign and len(rest) == 2:
         return (sign[1], *rest)
     if head == "Path" and len(rest) == 3:
@@ -185,7 +188,7 @@ def gives(given, wanted):
         return gives(wanted[1], given[1]) and gives(given[2], wanted[2])
     if given[0] in ["×", "⊎"]:
         return gives(given[1], wanted[1]) and gives(given[2], wanted[2])
-    if given[0] == "¬_":
+    if given[0] == "¬◌":
         return gives(wanted[1], given[1])
     return False
 

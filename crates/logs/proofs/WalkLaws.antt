@@ -124,6 +124,12 @@ module _ (bs : List ℕ) (a : ℕ) (p : Passed) (kind : p.plan ≡ true) (all : 
   pub record_not_allowed : is_record bs a ≡ true → allowed_at bs a p ≡ false
   record_not_allowed v = fails _ (λ may. absurd (omega (arith, (end_says bs a (allowed_end may)).0, (record_tag bs a v).1)))
 
+  -- a record or what may stand in a plan sheet is all that may stand
+  may_stand : log_allowed_at bs a p ≡ true → (is_record bs a ≡ true) ⊎ (allowed_at bs a p ≡ true)
+  may_stand may =
+      ⊎_elim (λ v. inl (and-true (plan_passed p) (is_record bs a) v).1) inr
+      (or_true (plan_passed p && is_record bs a) (allowed_at bs a p) may)
+
   -- a fault is where the walk over the records stops, with its number
   fault_stops : (k : ℕ) → LogFault bs a p k → (record_size bs a ≡ 0) × (stop_number bs a ≡ k)
   fault_stops _ (no_start short) = (record_short bs a short, stop_short bs a short)
@@ -132,11 +138,9 @@ module _ (bs : List ℕ) (a : ℕ) (p : Passed) (kind : p.plan ≡ true) (all : 
       let other : is_record bs a ≡ false = not_both _ _ all both.0 in
       (record_other bs a other, stop_wrong bs a three other (fails _ (λ e. true≢false (sym (end_allowed e) ∙ both.1))))
   fault_stops _ (cut_body three may cut) =
-      ⊎_elim (λ v.
-      let is : is_record bs a ≡ true = (and-true (plan_passed p) (is_record bs a) v).1 in
-      (record_half bs a (omega arith), stop_cut bs a three is))
+      ⊎_elim (λ is. (record_half bs a (omega arith), stop_cut bs a three is))
       (λ e. absurd (omega (arith, (end_says bs a (allowed_end e)).1)))
-      (or_true (plan_passed p && is_record bs a) (allowed_at bs a p) may)
+      (may_stand may)
   fault_stops _ (follows w e runs) =
       let is = allowed_end w.allowed in
       let inside = w.inside in

@@ -9,10 +9,15 @@ use lib.ListN.{length}
 use Rattle.fields.specs.Fields.{end_tag, tag_at, behind, field_at, FieldWhole}
 use Rattle.fields.specs.declared.Field.{Field}
 use Rattle.fields.specs.declared.Passed.{Passed}
+use Rattle.field_reader.specs.Cursor.{step_of}
 use Rattle.field_reader.specs.declared.Step.{Step}
 use Rattle.field_reader.specs.Scanned.{stops_at, stop_number, with_field, scanned}
 use Rattle.field_reader.proofs.ScannedLaws.{passes, cursor_behind, has_tag, counts_one, scan_stops, scan_more}
 use Rattle.field_reader.proofs.scan_sheet.Goals as goal
+
+-- behind a field that passes the cursor stands where the next one begins
+next_place : (bs : List ℕ) (at : ℕ) (passed : Passed) → FieldWhole bs at passed → (step_of bs at passed).at ≡ behind bs at
+next_place bs at passed whole = cursor_behind bs at passed whole
 
 pub loop-at-init : goal.loop-at-init
 unfolding scanned
@@ -38,7 +43,7 @@ loop-at-smaller c =
     let so_far : Passed = c.loop-at.passed in
     let same_field : c.loop-at.step.field ≡ field_at (bytes) (place) (so_far) = ap (λ (r : Step). r.field) c.loop-at.invariant.0 in
     let passes_here : FieldWhole (bytes) (place) (so_far) × (tag_at (bytes) (place) ≢ end_tag) = passes (bytes) (place) (so_far) (ap stops_at (sym (same_field)) ∙ sym c.stops.ensures ∙ c.loop-at-test.true) in
-    let next_place_lem : c.loop-at.step.at ≡ behind (bytes) (place) = ap (λ (r : Step). r.at) c.loop-at.invariant.0 ∙ cursor_behind (bytes) (place) (so_far) (passes_here).0 in
+    let next_place_lem : c.loop-at.step.at ≡ behind (bytes) (place) = ap (λ (r : Step). r.at) c.loop-at.invariant.0 ∙ next_place bytes place so_far passes_here.0 in
     let inside = passes_here.0.inside in
     omega (arith, next_place_lem)
 
@@ -50,7 +55,7 @@ loop-at-preserved c =
     let same_field : c.loop-at.step.field ≡ field_at (bytes) (place) (so_far) = ap (λ (r : Step). r.field) c.loop-at.invariant.0 in
     let passes_here : FieldWhole (bytes) (place) (so_far) × (tag_at (bytes) (place) ≢ end_tag) = passes (bytes) (place) (so_far) (ap stops_at (sym (same_field)) ∙ sym c.stops.ensures ∙ c.loop-at-test.true) in
     let next_tag : c.loop-at.step.field.tag ≡ tag_at (bytes) (place) = ap (λ (f : Field). f.tag) (same_field) ∙ has_tag (bytes) (place) (so_far) (passes_here).0 in
-    let next_place_lem : c.loop-at.step.at ≡ behind (bytes) (place) = ap (λ (r : Step). r.at) c.loop-at.invariant.0 ∙ cursor_behind (bytes) (place) (so_far) (passes_here).0 in
+    let next_place_lem : c.loop-at.step.at ≡ behind (bytes) (place) = ap (λ (r : Step). r.at) c.loop-at.invariant.0 ∙ next_place bytes place so_far passes_here.0 in
     let passed_said : c.with_field-passed.result ≡ with_field (so_far) (tag_at (bytes) (place)) (behind (bytes) (place)) = c.with_field-passed.ensures
     ∙ ap (λ (t : ℕ). with_field (so_far) t c.loop-at.step.at) (next_tag)
     ∙ ap (with_field (so_far) (tag_at (bytes) (place))) (next_place_lem) in

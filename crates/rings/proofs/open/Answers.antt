@@ -21,6 +21,7 @@ use Rattle.rings.specs.declared.Ring.{Ring}
 use Rattle.rings.specs.declared.Timers.{Timers}
 use Rattle.rings.proofs.OpeningLaws.{opening_none}
 use Rattle.rings.proofs.open.Goals as goal
+use Rattle.rings.proofs.open.Goals.{After-sums_to_last-trt, After-sum_lent}
 
 -- the blank ring with the plan and these timers is the opened ring of a mode in use
 opened_is : (t : Set) (a : Alloc) (blank : Ring) (trt : List ℕ) (unused : ℕ) → ¬ Fddi t → blank ≡ blank_ring → trt ≡ fill t.n (silent_trt t) zeros → unused ≡ silent_unused t a
@@ -39,18 +40,29 @@ returns-then-number-ne-ACCEPTED c =
     let number_said : c.opening_number-number.result ≡ opening_number (set-of) (alloc-of) = c.opening_number-number.ensures in
     rw (c.blank_ring-ring-then-number-ne-ACCEPTED.ensures, number_said) (sym (opened_refused _ _ (λ e. c.if-number-ne-ACCEPTED.true (number_said ∙ e))))
 
+-- the silent rotation has left the timers at the sums of the walks to the last station
+walked : (c : After-sums_to_last-trt) → let t = c.args.set in c.sums_to_last-trt.result ≡ fill t.n (silent_trt t) zeros
+walked c =
+    let t : Set = c.args.set in
+    let a : Alloc = c.args.alloc in
+    let plan = (given_none t a).0 ((opening_none t a).0 (sym c.opening_number-number.ensures ∙ c.if-number-ne-ACCEPTED.false)).0 in
+    let few : min t.n 128 ≡ t.n = omega (arith, plan.0.1) in
+    c.sums_to_last-trt.ensures ∙ ap (λ (n : ℕ). sums_to_last n t.w) few ∙ promised.sums_fit t.n t.w (omega (arith, plan.1.0.0.header.ttrt, plan.1.1.0))
+
+-- u is the sum of S
+unused_said : (c : After-sum_lent) → c.sum_lent.result ≡ silent_unused c.args.set c.args.alloc
+unused_said c =
+    let t : Set = c.args.set in
+    let a : Alloc = c.args.alloc in
+    let plan = (given_none t a).0 ((opening_none t a).0 (sym c.opening_number-number.ensures ∙ c.if-number-ne-ACCEPTED.false)).0 in
+    let few : min t.n 128 ≡ t.n = omega (arith, plan.0.1) in
+    c.sum_lent.ensures.sum ∙ ap (λ (n : ℕ). sum_below n (at a.s)) few
+
 pub returns-else-number-ne-ACCEPTED : goal.returns-else-number-ne-ACCEPTED
 returns-else-number-ne-ACCEPTED c =
-    let set-of : Set = c.args.set in
-    let alloc-of : Alloc = c.args.alloc in
-    let number_said : c.opening_number-number.result ≡ opening_number (set-of) (alloc-of) = c.opening_number-number.ensures in
-    let accepted : (judged_plan (set-of) (alloc-of) ≡ 0) × ¬ Fddi (set-of) = (opening_none (set-of) (alloc-of)).0 (sym (number_said) ∙ c.if-number-ne-ACCEPTED.false) in
-    let few : min (set-of).n 128 ≡ (set-of).n = omega (arith, ((given_none (set-of) (alloc-of)).0 (accepted).0).0.1) in
-    let walked : let t = set-of in c.sums_to_last-trt.result ≡ fill t.n (silent_trt t) zeros = let t = set-of in
-    let plan = (given_none t (alloc-of)).0 (accepted).0 in
-    c.sums_to_last-trt.ensures ∙ ap (λ (n : ℕ). sums_to_last n t.w) (few) ∙ promised.sums_fit t.n t.w (omega (arith, plan.1.0.0.header.ttrt, plan.1.1.0)) in
-    let unused_said : c.sum_lent.result ≡ silent_unused (set-of) (alloc-of) = c.sum_lent.ensures.sum ∙ ap (λ (n : ℕ). sum_below n (at (alloc-of).s)) (few) in
-    let t = set-of in
-    let a = alloc-of in
+    let t : Set = c.args.set in
+    let a : Alloc = c.args.alloc in
+    let number_said : c.opening_number-number.result ≡ opening_number t a = c.opening_number-number.ensures in
     let zero : c.opening_number-number.result ≡ 0 = c.if-number-ne-ACCEPTED.false in
-    answered t a _ (opened_is t a _ _ _ accepted.1 c.blank_ring-ring.ensures walked unused_said) zero (sym number_said ∙ zero)
+    let accepted : (judged_plan t a ≡ 0) × ¬ Fddi t = (opening_none t a).0 (sym number_said ∙ zero) in
+    answered t a _ (opened_is t a _ _ _ accepted.1 c.blank_ring-ring.ensures (walked c.before.before) (unused_said c)) zero (sym number_said ∙ zero)
