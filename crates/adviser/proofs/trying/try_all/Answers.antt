@@ -1,5 +1,5 @@
 -- `try_all` is right because after each turn the range was gone on with once more; it ends because each turn goes on by one TTRT or more.
-use Rattle.std.proofs.Common.{ℕ, suc, ◌+◌, ◌-◌, ◌<◌, ◌≡◌, false, sym, ap, ◌∙◌, arith}
+use Rattle.std.proofs.Common.{suc, ◌+◌, ◌-◌, ◌<◌, ◌≡◌, false, sym, ap, ◌∙◌, arith}
 use borrow.Author.Tests.{ltb-false}
 use Rattle.command_tune.specs.Tune.{is_done, went_on}
 use Rattle.command_tune.specs.declared.Tune.{Tune}
