@@ -39,14 +39,15 @@ pub another_put : {t : Set} {a : Alloc} {u : Set} {b : Alloc} {before middle aft
 unfolding lines_to
 another_put {t} {a} {u} {b} {before} {middle} {after} {e} {r} few large named lines =
     let long : length middle ≡ length before = put_length named.put (omega (arith, named.short)) in
+    let both : u.n ≤ most_stations → PutShort (21 + lines_size) before 0 (another_text t a u b) after r = λ less.
+    put_as (put_short_then named (lines.put few less (omega (arith, long, named.put.next, named.short))) (omega arith))
+    (rw (le-leb u.n most_stations less) refl) (omega arith) in
     ⊎_elim
     (λ (many : most_stations < u.n).
     let same = lines.new_many many in
     let whole : PutShort 21 before 0 another_line after r = rw (same.0, same.1) named in
     put_as whole (rw (lt-leb u.n most_stations many) (sym (append-nil another_line))) (omega arith))
-    (λ (less : u.n ≤ most_stations).
-    put_as (put_short_then named (lines.put few less (omega (arith, long, named.put.next, named.short))) (omega arith))
-    (rw (le-leb u.n most_stations less) refl) (omega arith))
+    both
     (below_or_not most_stations u.n)
 
 -- ---- a log, against a plan that was read

@@ -1,5 +1,5 @@
 -- `watch_on` is right because behind each byte what is left to do is the same, and a byte that ends a record that is drawn is the last.
-use Rattle.std.proofs.Common.{◌-◌, arith}
+use Rattle.std.proofs.Common.{arith}
 use Rattle.picture_stream.proofs.TurnLaws.{going_first, going_ends, going_on, going_past, going_stops}
 use Rattle.picture_stream.proofs.watch_on.Goals as goal
 

@@ -1,12 +1,13 @@
 -- `last_record` is right because its branch is the definition's own.
-use Rattle.std.proofs.Common.{refl, eq-eqb, ne_eqb}
+use Rattle.std.proofs.Common.{◌≡◌, false, eqb, refl, eq-eqb, ne_eqb}
 use Rattle.inspection.specs.Kept.{last_record}
 use Rattle.inspection.proofs.keeping.last_record.Goals as goal
 
 pub returns-then-rule-ne0 : goal.returns-then-rule-ne0
 unfolding last_record
 returns-then-rule-ne0 c =
-    rw (ne_eqb _ 0 c.if-rule-ne0.true) c.wrapping_add_u64.ensures.value
+    let broken : eqb c.args.rule 0 ≡ false = ne_eqb _ 0 c.if-rule-ne0.true in
+    rw broken c.wrapping_add_u64.ensures.value
 
 pub returns : goal.returns
 unfolding last_record
