@@ -5,6 +5,7 @@ ghost use Rattle.streams.specs.Ends.{failed};
 use crate::complaints::Complain;
 use crate::ending;
 use commands::{Command, status, words};
+use std::io::Write;
 
 // A command's line: how it is called, and what it does. `commands.txt` has the same, and `tests/table` holds the two together.
 pub fn line_of(command: Command) -> &'static [u8] {
@@ -48,6 +49,11 @@ pub fn line_of(command: Command) -> &'static [u8] {
         Command::Help => b"olivastrum help                   print this\n",
         Command::Unknown => b"",
     }
+}
+
+// Writes a command's line, and answers whether all could be written.
+pub fn put_line(to: &mut impl Write, command: Command) -> bool {
+    to.write_all(line_of(command)).is_ok()
 }
 
 // A word that is no command: it is named, and `help` is pointed to.
