@@ -490,7 +490,7 @@ OLIVASTRUM_SIZE(struct olivastrum_coupled, 664);
 struct olivastrum_read_request olivastrum_read_request_sheet(const uint8_t *sheet, size_t length);
 
 /* Reads a plan sheet: the set and its allocation, or 1 to 5 or 7 with both blank. */
-#define OLIVASTRUM_STACK_READ_PLAN_SHEET 5632
+#define OLIVASTRUM_STACK_READ_PLAN_SHEET 8192
 struct olivastrum_read_plan olivastrum_read_plan_sheet(const uint8_t *sheet, size_t length);
 
 /* Writes a request sheet into the first bytes of out and leaves the rest: the sheet's length, or 2, 4, 5 or 14. */
@@ -504,7 +504,7 @@ struct olivastrum_written olivastrum_write_plan_sheet(struct olivastrum_set set,
 /* Plans a set: the least vector of multiples of g, no other that meets the rules has less at any station; or 2, 4, 5, 16
  * or 6. 16 is given to every set of mode 2 that 2, 4 and 5 do not apply to; of the others 6 exactly if no such allocation
  * exists. */
-#define OLIVASTRUM_STACK_PLAN_SET 5632
+#define OLIVASTRUM_STACK_PLAN_SET 6656
 struct olivastrum_planned olivastrum_plan_set(struct olivastrum_set set);
 
 /* Opens a ring: clock 0, the token at station 0, nothing held, no station marked; or 2, 4, 5, 16 or 7 with the blank ring.
@@ -556,7 +556,7 @@ struct olivastrum_recorder olivastrum_add_mark(struct olivastrum_recorder record
 struct olivastrum_written olivastrum_end_log(struct olivastrum_recorder recorder, uint8_t *out, size_t length);
 
 /* Reads a log: its plan and where its records are, or 1 to 5 or 7 with all blank. A plan sheet is a log without records. */
-#define OLIVASTRUM_STACK_READ_LOG 13824
+#define OLIVASTRUM_STACK_READ_LOG 16384
 struct olivastrum_read_log olivastrum_read_log(const uint8_t *log, size_t length);
 
 /* The record whose field begins at this place of a log, and the place behind it; all blank where none does. It looks at
@@ -569,19 +569,19 @@ struct olivastrum_next_entry olivastrum_log_entry(const uint8_t *log, size_t len
  * say, could have given its visits, with any synchronous amount up to S at each visit of an unmarked station and some
  * request in frames; a marked station is visited with limit 0 and sends nothing. Else the first record that breaks a rule,
  * and the first rule that it breaks. Or 1 to 5 or 7, with the rest 0. */
-#define OLIVASTRUM_STACK_INSPECT_LOG 16384
+#define OLIVASTRUM_STACK_INSPECT_LOG 20480
 struct olivastrum_finding olivastrum_inspect_log(const uint8_t *log, size_t length);
 
 /* Inspects a log against a plan sheet, one answer in this order: the refusal of the plan sheet, 1 to 5 or 7; that of the
  * log; that their plans differ in a number of the header or of a station, or in the stations; or what
  * olivastrum_inspect_log says of the log. Plan and log may be the same bytes. */
-#define OLIVASTRUM_STACK_INSPECT_LOG_OF 22528
+#define OLIVASTRUM_STACK_INSPECT_LOG_OF 27648
 struct olivastrum_plan_finding olivastrum_inspect_log_of(const uint8_t *plan, size_t plan_length, const uint8_t *log, size_t length);
 
 /* Begins an inspection of a ring that runs, with the ring's set and allocation: the inspection that the host keeps, as it is
  * before the ring's first record, at the opening. Or 2, 4, 5 or 7, as olivastrum_read_log says of a log with this plan, with
  * the blank inspection. Mode 2, FDDI, is inspected as ever. */
-#define OLIVASTRUM_STACK_BEGIN_INSPECTION 7680
+#define OLIVASTRUM_STACK_BEGIN_INSPECTION 10240
 struct olivastrum_begun_inspection olivastrum_begin_inspection(struct olivastrum_set set, struct olivastrum_alloc alloc);
 
 /* Inspects one record more, a visit (kind 16) or a mark (kind 17), in the order in which they come; `next` is not looked at.
@@ -600,7 +600,7 @@ uint8_t olivastrum_empty_store(uint8_t *area, size_t length);
  * is no store; then 1, 2, 3, 4, 5 or 7 as reading the sheet gives them; then 18 where the newest version is 4,294,967,295:
  * none is stored from then on. A refused call writes no byte. Of sixteen the oldest goes. The area is written where it
  * stands, byte after byte: a host whose power may fail in between stores in a copy, and keeps that when the call is over. */
-#define OLIVASTRUM_STACK_STORE_PLAN 3072
+#define OLIVASTRUM_STACK_STORE_PLAN 3584
 struct olivastrum_stored_plan olivastrum_store_plan(uint8_t *area, size_t length, const uint8_t *sheet, size_t sheet_length);
 
 /* Where the plan sheet of a version stands in the area: the bytes that were stored. 2 where the area is no store, then 17
@@ -614,40 +614,40 @@ struct olivastrum_found_version olivastrum_find_version(const uint8_t *area, siz
 struct olivastrum_versions olivastrum_versions_in(const uint8_t *area, size_t length);
 
 /* The request of a wagon list: its set, or 2 or 4 with the blank set. */
-#define OLIVASTRUM_STACK_HOPPER_REQUEST 4608
+#define OLIVASTRUM_STACK_HOPPER_REQUEST 5632
 struct olivastrum_read_request olivastrum_hopper_request(struct olivastrum_wagon_list list);
 
 /* Writes the request sheet of a wagon list, as olivastrum_write_request_sheet does: its length, or 2, 4 or 14. A list that
  * has no plan has its sheet. */
-#define OLIVASTRUM_STACK_WRITE_HOPPER_SHEET 7680
+#define OLIVASTRUM_STACK_WRITE_HOPPER_SHEET 8192
 struct olivastrum_written olivastrum_write_hopper_sheet(struct olivastrum_wagon_list list, uint8_t *out, size_t length);
 
 /* Couples the wagons of a list: the train with its plan, which is what olivastrum_plan_set answers to the list's request; or
  * 2, 4 or 6 with the blank train. */
-#define OLIVASTRUM_STACK_COUPLE_TRAIN 6144
+#define OLIVASTRUM_STACK_COUPLE_TRAIN 7680
 struct olivastrum_coupled olivastrum_couple_train(struct olivastrum_wagon_list list);
 
 /* A train with another list. The train that is handed in is not looked at; where the list is refused with 2, 4 or 6 it is
  * handed back as it was. */
-#define OLIVASTRUM_STACK_CHANGE_TRAIN 6656
+#define OLIVASTRUM_STACK_CHANGE_TRAIN 7680
 struct olivastrum_coupled olivastrum_change_train(struct olivastrum_train train, struct olivastrum_wagon_list list);
 
 /* Another wagon at a place of a train, counted from 0; 2, 4, 9 or 6 hand the train back as it was. 2 and 4 are of the list
  * with that wagon, and 4 of the wagon itself, which comes before 9. */
-#define OLIVASTRUM_STACK_CHANGE_WAGON 7680
+#define OLIVASTRUM_STACK_CHANGE_WAGON 8192
 struct olivastrum_coupled olivastrum_change_wagon(struct olivastrum_train train, struct olivastrum_station place, struct olivastrum_wagon wagon);
 
 /* One wagon more at the end of a train; 2, 4 or 6 hand it back as it was. A thirteenth is 2. */
-#define OLIVASTRUM_STACK_COUPLE_WAGON 7168
+#define OLIVASTRUM_STACK_COUPLE_WAGON 9216
 struct olivastrum_coupled olivastrum_couple_wagon(struct olivastrum_train train, struct olivastrum_wagon wagon);
 
 /* The last wagon off a train; 2, 4 or 6 hand it back as it was, 4 and 6 only of a train that no call made. A train's only
  * wagon stays: 2. */
-#define OLIVASTRUM_STACK_UNCOUPLE_WAGON 7168
+#define OLIVASTRUM_STACK_UNCOUPLE_WAGON 9216
 struct olivastrum_coupled olivastrum_uncouple_wagon(struct olivastrum_train train);
 
 /* The most that a call of any of them needs. */
-#define OLIVASTRUM_STACK_MOST 22528
+#define OLIVASTRUM_STACK_MOST 27648
 
 #ifdef __cplusplus
 }
