@@ -486,19 +486,19 @@ OLIVASTRUM_SIZE(struct olivastrum_coupled, 664);
 /* ---- the functions */
 
 /* Reads a request sheet: the set, or 1 to 5 with the blank set. */
-#define OLIVASTRUM_STACK_READ_REQUEST_SHEET 8192
+#define OLIVASTRUM_STACK_READ_REQUEST_SHEET 5632
 struct olivastrum_read_request olivastrum_read_request_sheet(const uint8_t *sheet, size_t length);
 
 /* Reads a plan sheet: the set and its allocation, or 1 to 5 or 7 with both blank. */
-#define OLIVASTRUM_STACK_READ_PLAN_SHEET 8192
+#define OLIVASTRUM_STACK_READ_PLAN_SHEET 10752
 struct olivastrum_read_plan olivastrum_read_plan_sheet(const uint8_t *sheet, size_t length);
 
 /* Writes a request sheet into the first bytes of out and leaves the rest: the sheet's length, or 2, 4, 5 or 14. */
-#define OLIVASTRUM_STACK_WRITE_REQUEST_SHEET 5120
+#define OLIVASTRUM_STACK_WRITE_REQUEST_SHEET 3072
 struct olivastrum_written olivastrum_write_request_sheet(struct olivastrum_set set, uint8_t *out, size_t length);
 
 /* Writes a plan sheet into the first bytes of out and leaves the rest: the sheet's length, or 2, 4, 5, 7 or 14. */
-#define OLIVASTRUM_STACK_WRITE_PLAN_SHEET 5120
+#define OLIVASTRUM_STACK_WRITE_PLAN_SHEET 3072
 struct olivastrum_written olivastrum_write_plan_sheet(struct olivastrum_set set, struct olivastrum_alloc alloc, uint8_t *out, size_t length);
 
 /* Plans a set: the least vector of multiples of g, no other that meets the rules has less at any station; or 2, 4, 5, 16
@@ -537,7 +537,7 @@ uint8_t olivastrum_unmark(struct olivastrum_ring *ring, struct olivastrum_statio
  * says it is at the ring's clock (0 and 0 give the log that the program's `log` writes). The rest of out is left as it
  * was. 2, 4, 5, 7 or 14 write nothing; the recorder then has only its number, and is not to be used: what is added to it
  * would be written from place 0 on, and would be no log. */
-#define OLIVASTRUM_STACK_BEGIN_LOG 5120
+#define OLIVASTRUM_STACK_BEGIN_LOG 3072
 struct olivastrum_recorder olivastrum_begin_log(struct olivastrum_set set, struct olivastrum_alloc alloc, uint32_t counter, uint64_t clock, uint8_t *out, size_t length);
 
 /* Adds the record of an accepted visit: the counter moves on by what the clock rose. 14 where its field and the end do
@@ -600,7 +600,7 @@ uint8_t olivastrum_empty_store(uint8_t *area, size_t length);
  * is no store; then 1, 2, 3, 4, 5 or 7 as reading the sheet gives them; then 18 where the newest version is 4,294,967,295:
  * none is stored from then on. A refused call writes no byte. Of sixteen the oldest goes. The area is written where it
  * stands, byte after byte: a host whose power may fail in between stores in a copy, and keeps that when the call is over. */
-#define OLIVASTRUM_STACK_STORE_PLAN 3584
+#define OLIVASTRUM_STACK_STORE_PLAN 6144
 struct olivastrum_stored_plan olivastrum_store_plan(uint8_t *area, size_t length, const uint8_t *sheet, size_t sheet_length);
 
 /* Where the plan sheet of a version stands in the area: the bytes that were stored. 2 where the area is no store, then 17
@@ -614,12 +614,12 @@ struct olivastrum_found_version olivastrum_find_version(const uint8_t *area, siz
 struct olivastrum_versions olivastrum_versions_in(const uint8_t *area, size_t length);
 
 /* The request of a wagon list: its set, or 2 or 4 with the blank set. */
-#define OLIVASTRUM_STACK_HOPPER_REQUEST 5632
+#define OLIVASTRUM_STACK_HOPPER_REQUEST 6144
 struct olivastrum_read_request olivastrum_hopper_request(struct olivastrum_wagon_list list);
 
 /* Writes the request sheet of a wagon list, as olivastrum_write_request_sheet does: its length, or 2, 4 or 14. A list that
  * has no plan has its sheet. */
-#define OLIVASTRUM_STACK_WRITE_HOPPER_SHEET 8192
+#define OLIVASTRUM_STACK_WRITE_HOPPER_SHEET 6656
 struct olivastrum_written olivastrum_write_hopper_sheet(struct olivastrum_wagon_list list, uint8_t *out, size_t length);
 
 /* Couples the wagons of a list: the train with its plan, which is what olivastrum_plan_set answers to the list's request; or
@@ -638,7 +638,7 @@ struct olivastrum_coupled olivastrum_change_train(struct olivastrum_train train,
 struct olivastrum_coupled olivastrum_change_wagon(struct olivastrum_train train, struct olivastrum_station place, struct olivastrum_wagon wagon);
 
 /* One wagon more at the end of a train; 2, 4 or 6 hand it back as it was. A thirteenth is 2. */
-#define OLIVASTRUM_STACK_COUPLE_WAGON 9216
+#define OLIVASTRUM_STACK_COUPLE_WAGON 10240
 struct olivastrum_coupled olivastrum_couple_wagon(struct olivastrum_train train, struct olivastrum_wagon wagon);
 
 /* The last wagon off a train; 2, 4 or 6 hand it back as it was, 4 and 6 only of a train that no call made. A train's only

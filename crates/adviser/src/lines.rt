@@ -1,32 +1,26 @@
 // The words of each line of `tune`. `#` stands for the next of its numbers.
 use command_tune::{Form, Line};
 
-// Which TTRT have a plan.
-fn put_found(page: &mut [u8], form: Form, numbers: [u64; 6]) -> usize {
+// The words of a form.
+fn words(form: Form) -> &'static [u8] {
     match form {
-        Form::Smallest => text::put_filled(page, 0, b"smallest #\n", numbers),
-        Form::Largest => text::put_filled(page, 0, b"largest #\n", numbers),
-        Form::Below => text::put_filled(page, 0, b"below #\n", numbers),
-        Form::NoneBelow => text::put_filled(page, 0, b"below -\n", numbers),
-        Form::Above => text::put_filled(page, 0, b"above #\n", numbers),
-        Form::NoneAbove => text::put_filled(page, 0, b"above -\n", numbers),
-        Form::Best => text::put_filled(page, 0, b"best #\n", numbers),
-        Form::Plan => text::put_filled(page, 0, b"plan # # # #\n", numbers),
-        _ => 0,
+        Form::Refused => b"refused #\n",
+        Form::Tried => b"tried # to #\n",
+        Form::OwnPlan => b"own # plan\n",
+        Form::OwnRefused => b"own # refused #\n",
+        Form::Plans => b"plans #\n",
+        Form::Smallest => b"smallest #\n",
+        Form::Largest => b"largest #\n",
+        Form::Below => b"below #\n",
+        Form::NoneBelow => b"below -\n",
+        Form::Above => b"above #\n",
+        Form::NoneAbove => b"above -\n",
+        Form::Best => b"best #\n",
+        Form::Plan => b"plan # # # #\n",
     }
 }
 
 // A line in its words.
 pub(crate) fn put_line(page: &mut [u8], line: Line) -> usize {
-    let numbers = line.numbers;
-    let form = line.form;
-    match form {
-        Form::Nothing => 0,
-        Form::Refused => text::put_filled(page, 0, b"refused #\n", numbers),
-        Form::Tried => text::put_filled(page, 0, b"tried # to #\n", numbers),
-        Form::OwnPlan => text::put_filled(page, 0, b"own # plan\n", numbers),
-        Form::OwnRefused => text::put_filled(page, 0, b"own # refused #\n", numbers),
-        Form::Plans => text::put_filled(page, 0, b"plans #\n", numbers),
-        _ => put_found(page, form, numbers),
-    }
+    text::put_filled(page, 0, words(line.form), line.numbers)
 }

@@ -13,10 +13,12 @@ use std::time::Clock;
 use streams::complaints::Complain;
 use streams::{ending, reading, usage, words};
 
-// Writes phrase k in its words.
+// Writes phrase k in its words, if there is one.
 fn say_phrase(rt: &(impl Print + Complain), e: Explained, k: usize) -> bool {
+    let Some(phrase) = command_explain::phrase_at(e, k) else {
+        return true;
+    };
     let mut page = io::buffer();
-    let phrase = command_explain::phrase_at(e, k);
     let put = forms::put_phrase(&mut page, phrase);
     ending::say_put(rt, &page, put)
 }
@@ -39,8 +41,7 @@ fn explain(rt: &(impl Input + Print + Complain)) -> u8 {
     if let Some(error) = filled.failed {
         return ending::unread_input(rt, error);
     }
-    let read = filled.length;
-    let e = command_explain::explain(&sheet[..read]);
+    let e = command_explain::explain(&sheet[..filled.length]);
     if !say_all(rt, e) {
         return status::FAILED;
     }

@@ -10,13 +10,6 @@ use std::time::Clock;
 use streams::complaints::Complain;
 use streams::{ending, reading, usage, words};
 
-// What a word writes, and whether it is a whole number.
-#[derive(Clone, Copy)]
-struct Number {
-    value: u64,
-    whole: bool,
-}
-
 // The second by the clock that was seen last, and how often it was another one, up to two: then more than a second has passed.
 #[derive(Clone, Copy)]
 struct Watch {
@@ -26,10 +19,7 @@ struct Watch {
 
 // The second by the clock; 0 where it cannot be read.
 fn second_of(rt: &impl Clock) -> u64 {
-    match rt.since_1970() {
-        Ok(now) => now.as_secs(),
-        Err(_) => 0,
-    }
+    rt.since_1970().map_or(0, |now| now.as_secs())
 }
 
 // Looks at the clock again.
@@ -38,15 +28,9 @@ fn watched(rt: &impl Clock, watch: Watch) -> Watch {
     if now == watch.second {
         return watch;
     }
-    if watch.changes < 2 {
-        return Watch {
-            second: now,
-            changes: watch.changes + 1,
-        };
-    }
     Watch {
         second: now,
-        changes: 2,
+        changes: watch.changes.saturating_add(1).min(2),
     }
 }
 
@@ -59,9 +43,9 @@ fn warn(rt: &impl Complain, page: &[u8], put: usize) {
 // Says how far it is.
 fn say_progress(rt: &impl Complain, k: Tune) {
     let mut page = io::buffer();
-    let from = units::wide(k.from);
-    let tried = units::room(k.next, from);
-    let all = units::room(units::wide(k.to) + 1, from);
+    let from = u64::from(k.from);
+    let tried = k.next.saturating_sub(from);
+    let all = (u64::from(k.to) + 1).saturating_sub(from);
     let put = text::put_filled(
         &mut page,
         0,
@@ -101,10 +85,12 @@ fn try_all(rt: &(impl Clock + Complain), first: Tune) -> Tune
     k
 }
 
-// Writes line i in its words.
+// Writes line i in its words, if there is one.
 fn say_line(rt: &(impl Print + Complain), k: Tune, i: usize) -> bool {
+    let Some(line) = command_tune::line_at(k, i) else {
+        return true;
+    };
     let mut page = io::buffer();
-    let line = command_tune::line_at(k, i);
     let put = lines::put_line(&mut page, line);
     ending::say_put(rt, &page, put)
 }
@@ -120,19 +106,15 @@ fn say_all(rt: &(impl Print + Complain), k: Tune) -> bool {
     true
 }
 
-// The word at this place as a whole number.
-fn number_at(rt: &impl Env, place: usize) -> Number {
-    let mut word = io::buffer();
-    match words::whole_word(rt, place, &mut word) {
-        Ok(length) => Number {
-            value: number_words::value_of(&word[..length]),
-            whole: number_words::is_whole(&word[..length]),
-        },
-        Err(_) => Number {
-            value: 0,
-            whole: false,
-        },
+// The whole number that the word at this place writes, if it is one.
+fn number_at(rt: &impl Env, place: usize) -> Option<u64> {
+    let mut buffer = io::buffer();
+    let length = words::whole_word(rt, place, &mut buffer).ok()?;
+    let word = &buffer[..length];
+    if number_words::is_whole(word) {
+        return Some(number_words::value_of(word));
     }
+    None
 }
 
 // The same of the request sheet on standard input, from FROM to TO.
@@ -142,8 +124,7 @@ fn tune_from(rt: &(impl Clock + Input + Print + Complain), from: u64, to: u64) -
     if let Some(error) = filled.failed {
         return ending::unread_input(rt, error);
     }
-    let read = filled.length;
-    let k = try_all(rt, command_tune::begin(&sheet[..read], from, to));
+    let k = try_all(rt, command_tune::begin(&sheet[..filled.length], from, to));
     if !say_all(rt, k) {
         return status::FAILED;
     }
@@ -159,11 +140,8 @@ pub(crate) fn tune(
     if !words::is_given(rt, second) {
         return tune_from(rt, 1, 1_000_000);
     }
-    let from = number_at(rt, second);
-    let to = number_at(rt, third);
-    let whole = from.whole & to.whole;
-    if !whole {
+    let (Some(from), Some(to)) = (number_at(rt, second), number_at(rt, third)) else {
         return usage::misused(rt, Command::Tune);
-    }
-    tune_from(rt, from.value, to.value)
+    };
+    tune_from(rt, from, to)
 }

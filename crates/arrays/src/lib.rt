@@ -1,106 +1,82 @@
 // Loops over the first n places of arrays of 128. Each answers every n: of lent arrays 128 places are looked at and no more; past the end of an array by value a place reads as 0, and nothing is stored there.
 #![tactic(auto)]
 
-ghost use Rattle.std.specs.Prelude.{◌≡◌, ◌+◌, ◌-◌, ◌<◌, min, leb, ltb};
-ghost use Rattle.units.specs.Places.{at, sum_below, all_below};
+ghost use Rattle.std.specs.Prelude.{◌≡◌, ◌+◌, ◌-◌, ◌<◌, ℕ, Bool, min, leb, ltb};
+ghost use Rattle.units.specs.Places.{at, sum_below, all_below, fill};
+ghost use Rattle.arrays.specs.Places.{Told, Made};
 ghost use Rattle.arrays.specs.Held.{held, raised_held, sums_to_last};
 ghost use Rattle.arrays.specs.Laps.{lapped, lap, lapped_twice, laps, ran_on, laps_counted};
 
 // The largest 32-bit number.
 const LARGEST: u64 = 4_294_967_295;
 
+// A test holds at each of the first n places. It is asked at all of them, so the loop has no branch.
+fn each<F: Fn(usize) -> bool>(n: u32, holds: F) -> bool
+    requires { (i : ℕ) → i < 128 → F.pre holds i }
+    ensures { (p : ℕ → Bool) → Told (F.post holds) p → result ≡ all_below (min n 128) p }
+{
+    let mut all = true;
+    for i in 0..units::places(n) {
+        all &= holds(i);
+    }
+    all
+}
+
+// At each of the first n places stands what is made of its index and its number.
+fn change<F: Fn(usize, u32) -> u32>(xs: &mut [u32; 128], n: u32, made: F)
+    requires { (i x : ℕ) → i < 128 → F.pre made i x }
+    ensures { (f : ℕ → ℕ → ℕ) → Made (F.post made) f → xs.new ≡ fill (min n 128) (λ i. f i (at xs.old i)) xs.old }
+{
+    for i in 0..units::places(n) {
+        xs[i] = made(i, xs[i]);
+    }
+}
+
 // None of the first n places is above this number.
 pub fn none_above(xs: &[u32; 128], most: u32, n: u32) -> bool
     ensures { result ≡ all_below (min n 128) (λ i. leb (at xs.now i) most) }
 {
-    let end = units::places(n);
-    let mut all = true;
-    let mut i: usize = 0;
-    while i < end {
-        let one = xs[i] <= most;
-        all = all & one;
-        i += 1;
-    }
-    all
+    each(n, |i| xs[i] <= most)
 }
 
 // None of the first n places has reached this number.
 pub fn none_reaching(xs: &[u32; 128], top: u32, n: u32) -> bool
     ensures { result ≡ all_below (min n 128) (λ i. ltb (at xs.now i) top) }
 {
-    let end = units::places(n);
-    let mut all = true;
-    let mut i: usize = 0;
-    while i < end {
-        let one = xs[i] < top;
-        all = all & one;
-        i += 1;
-    }
-    all
+    each(n, |i| xs[i] < top)
 }
 
 // None of the first n times is later than this one.
 pub fn none_later(times: &[u64; 128], latest: u64, n: u32) -> bool
     ensures { result ≡ all_below (min n 128) (λ i. leb (at times.now i) latest) }
 {
-    let end = units::places(n);
-    let mut all = true;
-    let mut i: usize = 0;
-    while i < end {
-        let one = times[i] <= latest;
-        all = all & one;
-        i += 1;
-    }
-    all
+    each(n, |i| times[i] <= latest)
 }
 
 // None of the first n places of xs is above that of most.
 pub fn each_within<'a>(xs: &'a [u32; 128], most: &'a [u32; 128], n: u32) -> bool
     ensures { result ≡ all_below (min n 128) (λ i. leb (at xs.now i) (at most.now i)) }
 {
-    let end = units::places(n);
-    let mut all = true;
-    let mut i: usize = 0;
-    while i < end {
-        let one = xs[i] <= most[i];
-        all = all & one;
-        i += 1;
-    }
-    all
+    each(n, |i| xs[i] <= most[i])
 }
 
 // The sum of xs − taken over the first n places, each difference held at 0.
 pub fn room_first<'a>(xs: &'a [u32; 128], taken: &'a [u32; 128], n: u32) -> u64
     ensures { result ≡ sum_below (min n 128) (λ i. at xs.now i - at taken.now i) }
 {
-    let end = units::places(n);
     let mut sum: u64 = 0;
-    let mut i: usize = 0;
-    while i < end {
-        sum += units::room(units::wide(xs[i]), units::wide(taken[i]));
-        i += 1;
+    for i in 0..units::places(n) {
+        sum += u64::from(xs[i].saturating_sub(taken[i]));
     }
     sum
-}
-
-// The smaller of two numbers.
-fn lesser(a: u32, b: u32) -> u32
-    ensures { result ≡ min a b }
-{
-    if a < b { a } else { b }
 }
 
 // Each of the first n places rises by x where it stands, held at the largest 32-bit number.
 pub fn raise(xs: &mut [u32; 128], n: u32, x: u32)
     ensures { xs.new ≡ raised_held (min n 128) x xs.old }
 {
-    let end = units::places(n);
     let top = u32::MAX - x;
-    let mut i: usize = 0;
-    while i < end {
-        xs[i] = lesser(xs[i], top) + x;
-        i += 1;
-    }
+    change(xs, n, |_, old| old.min(top) + x);
 }
 
 // Each of the first n places risen by x, held at the largest 32-bit number.
@@ -115,15 +91,12 @@ pub fn raised(mut xs: [u32; 128], n: u32, x: u32) -> [u32; 128]
 pub fn sums_to_last(xs: &[u32; 128], n: u32) -> [u32; 128]
     ensures { result ≡ sums_to_last (min n 128) xs.now }
 {
-    let end = units::places(n);
     let mut left = units::sum_lent(xs, n);
-    let mut sums: [u32; 128] = [0; 128];
-    let mut i: usize = 0;
-    while i < end {
-        let stored = units::least(left, LARGEST) as u32;
+    let mut sums = [0; 128];
+    for i in 0..units::places(n) {
+        let stored = left.min(LARGEST) as u32;
         sums[i] = stored;
-        left -= units::wide(xs[i]);
-        i += 1;
+        left -= u64::from(xs[i]);
     }
     sums
 }
@@ -146,20 +119,21 @@ fn reached(t: u64, top: u64) -> u64
 fn one_on(t: u32, x: u32, top: u32) -> u32
     ensures { result ≡ held (lapped_twice top (t + x)) }
 {
-    let most = units::wide(top);
-    let risen = units::wide(t) + units::wide(x);
+    let most = u64::from(top);
+    let risen = u64::from(t) + u64::from(x);
     let left = less_top(less_top(risen, most), most);
-    units::least(left, LARGEST) as u32
+    left.min(LARGEST) as u32
 }
 
 // A count that has risen by how often, in two looks, a number that has run on by x has reached the top.
+#[tactic(auto, using(crate::proofs::LapLaws::lap_small))]
 fn one_counted(count: u32, t: u32, x: u32, top: u32) -> u32
     ensures { result ≡ held (count + laps top (t + x)) }
 {
-    let most = units::wide(top);
-    let risen = units::wide(t) + units::wide(x);
+    let most = u64::from(top);
+    let risen = u64::from(t) + u64::from(x);
     let times = reached(risen, most) + reached(less_top(risen, most), most);
-    units::least(units::wide(count) + times, LARGEST) as u32
+    (u64::from(count) + times).min(LARGEST) as u32
 }
 
 // Below the top, all in 32 bits: a number that runs on by x has reached the top if it was no further below it.
@@ -171,7 +145,7 @@ fn narrow_once(t: u32, x: u32, top: u32) -> u32
     if gap <= t { t - gap } else { t + x }
 }
 
-// What `less_top` says, in 32 bits.
+// What `less_top` says, in 32 bits: by itself, as is the next one, since over any type of number `<=` and `-` promise nothing of whole numbers.
 fn narrow_less(number: u32, top: u32) -> u32
     ensures { result ≡ lapped top number }
 {
@@ -194,6 +168,7 @@ fn narrow_on(t: u32, x: u32, top: u32) -> u32
 }
 
 // What `one_counted` says of an x below the top, in 32 bits.
+#[tactic(auto, using(crate::proofs::LapLaws::lap_small))]
 fn narrow_counted(count: u32, t: u32, x: u32, top: u32) -> u32
     requires { x < top }
     ensures { result ≡ held (count + laps top (t + x)) }
@@ -201,43 +176,18 @@ fn narrow_counted(count: u32, t: u32, x: u32, top: u32) -> u32
     let first = narrow_reached(t, top - x);
     let second = narrow_reached(narrow_once(t, x, top), top);
     let times = first + second;
-    lesser(count, u32::MAX - times) + times
+    count.min(u32::MAX - times) + times
 }
 
-// What `run` does with an x below the top: a loop in 32 bits and without a branch.
-fn run_narrow(xs: &mut [u32; 128], n: u32, x: u32, top: u32)
-    requires { x < top }
-    ensures { xs.new ≡ ran_on (min n 128) x top xs.old }
-{
-    let end = units::places(n);
-    let mut i: usize = 0;
-    while i < end {
-        xs[i] = narrow_on(xs[i], x, top);
-        i += 1;
-    }
-}
-
-// What it does with any x.
-fn run_wide(xs: &mut [u32; 128], n: u32, x: u32, top: u32)
-    ensures { xs.new ≡ ran_on (min n 128) x top xs.old }
-{
-    let end = units::places(n);
-    let mut i: usize = 0;
-    while i < end {
-        xs[i] = one_on(xs[i], x, top);
-        i += 1;
-    }
-}
-
-// Each of the first n numbers runs on by x where it stands, less the top for each of two times that it has reached it.
+// Each of the first n numbers runs on by x where it stands, less the top for each of two times that it has reached it. With an x below the top all of it is in 32 bits.
 pub fn run(xs: &mut [u32; 128], n: u32, x: u32, top: u32)
     ensures { xs.new ≡ ran_on (min n 128) x top xs.old }
 {
     if x < top {
-        run_narrow(&mut *xs, n, x, top);
+        change(xs, n, |_, t| narrow_on(t, x, top));
         return;
     }
-    run_wide(&mut *xs, n, x, top);
+    change(xs, n, |_, t| one_on(t, x, top));
 }
 
 // Each of the first n numbers has run on by x, less the top for each of two times that it has reached it.
@@ -248,40 +198,15 @@ pub fn run_on(mut xs: [u32; 128], n: u32, x: u32, top: u32) -> [u32; 128]
     xs
 }
 
-// What `count` does with an x below the top: a loop in 32 bits and without a branch.
-fn count_narrow<'a>(counts: &'a mut [u32; 128], xs: &'a [u32; 128], n: u32, x: u32, top: u32)
-    requires { x < top }
-    ensures { counts.new ≡ laps_counted (min n 128) x top xs.now counts.old }
-{
-    let end = units::places(n);
-    let mut i: usize = 0;
-    while i < end {
-        counts[i] = narrow_counted(counts[i], xs[i], x, top);
-        i += 1;
-    }
-}
-
-// What it does with any x.
-fn count_wide<'a>(counts: &'a mut [u32; 128], xs: &'a [u32; 128], n: u32, x: u32, top: u32)
-    ensures { counts.new ≡ laps_counted (min n 128) x top xs.now counts.old }
-{
-    let end = units::places(n);
-    let mut i: usize = 0;
-    while i < end {
-        counts[i] = one_counted(counts[i], xs[i], x, top);
-        i += 1;
-    }
-}
-
-// Each of the first n counts rises where it stands by how often its number, run on by x, has reached the top.
+// Each of the first n counts rises where it stands by how often its number, run on by x, has reached the top. With an x below the top all of it is in 32 bits.
 pub fn count<'a>(counts: &'a mut [u32; 128], xs: &'a [u32; 128], n: u32, x: u32, top: u32)
     ensures { counts.new ≡ laps_counted (min n 128) x top xs.now counts.old }
 {
     if x < top {
-        count_narrow(&mut *counts, xs, n, x, top);
+        change(counts, n, |i, count| narrow_counted(count, xs[i], x, top));
         return;
     }
-    count_wide(&mut *counts, xs, n, x, top);
+    change(counts, n, |i, count| one_counted(count, xs[i], x, top));
 }
 
 // Each of the first n counts has risen by how often its number, run on by x, has reached the top.

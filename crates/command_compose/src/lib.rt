@@ -69,13 +69,7 @@ pub struct Composed {
 fn all_fit(s: Scan) -> bool
     ensures { result ≡ all_fit s }
 {
-    let values = s.values;
-    let a = values[0] < 4_294_967_296;
-    let b = values[1] < 4_294_967_296;
-    let c = values[2] < 4_294_967_296;
-    let d = values[3] < 4_294_967_296;
-    let e = values[4] < 4_294_967_296;
-    a & (b & (c & (d & e)))
+    s.values.iter().all(|value| *value < 4_294_967_296)
 }
 
 // This word, with this many numbers.
@@ -90,17 +84,7 @@ pub fn is_line(s: Scan, code: u64, count: usize) -> bool
 fn misplaced_in(d: Draft) -> Draft
     ensures { result ≡ misplaced d }
 {
-    let set = d.set;
-    let alloc = d.alloc;
-    Draft {
-        set,
-        alloc,
-        line: d.line,
-        unread: d.unread,
-        head: d.head,
-        kind: d.kind,
-        wrong: 1,
-    }
+    Draft { wrong: 1, ..d }
 }
 
 // TTRT stands on the first line, once.
@@ -110,18 +94,11 @@ fn with_ttrt(d: Draft, ttrt: u32) -> Draft
     if d.head != 0 {
         return misplaced_in(d);
     }
-    let mut set = d.set;
     let head = sets::head_of(ttrt);
-    set.head = head;
-    let alloc = d.alloc;
     Draft {
-        set,
-        alloc,
-        line: d.line,
-        unread: d.unread,
+        set: Set { head, ..d.set },
         head: fields::HEAD_TAG,
-        kind: d.kind,
-        wrong: d.wrong,
+        ..d
     }
 }
 
@@ -129,25 +106,16 @@ fn with_ttrt(d: Draft, ttrt: u32) -> Draft
 fn with_further(d: Draft, tag: u8, number: u32) -> Draft
     ensures { result ≡ with_further d tag number }
 {
-    let told = d.set;
-    let placed = (fields::HEAD_TAG <= d.head) & ((d.head < tag) & (told.n == 0));
+    let placed = (fields::HEAD_TAG <= d.head) & ((d.head < tag) & (d.set.n == 0));
     if !placed {
         return misplaced_in(d);
     }
-    let first = told.head;
     let given = fields::header_number(true, number);
-    let head = sets::with_head_number(first, tag, given);
-    let mut set = d.set;
-    set.head = head;
-    let alloc = d.alloc;
+    let head = sets::with_head_number(d.set.head, tag, given);
     Draft {
-        set,
-        alloc,
-        line: d.line,
-        unread: d.unread,
+        set: Set { head, ..d.set },
         head: tag,
-        kind: d.kind,
-        wrong: d.wrong,
+        ..d
     }
 }
 
@@ -164,29 +132,13 @@ fn set_and(t: Set, s: Scan) -> Set
     requires { (t.n < 128) × NumbersFit s }
     ensures { result ≡ set_and t s }
 {
-    let n = t.n as usize;
-    let values = s.values;
-    let mut w = t.w;
-    let walk = narrow(values[0]);
-    w[n] = walk;
-    let mut c = t.c;
-    let longest = narrow(values[1]);
-    c[n] = longest;
-    let mut d = t.d;
-    let deadline = narrow(values[2]);
-    d[n] = deadline;
-    let mut p = t.p;
-    let gap = narrow(values[3]);
-    p[n] = gap;
-    let head = t.head;
-    Set {
-        head,
-        n: t.n + 1,
-        w,
-        c,
-        d,
-        p,
-    }
+    let at = t.n as usize;
+    let mut longer = Set { n: t.n + 1, ..t };
+    longer.w[at] = narrow(s.values[0]);
+    longer.c[at] = narrow(s.values[1]);
+    longer.d[at] = narrow(s.values[2]);
+    longer.p[at] = narrow(s.values[3]);
+    longer
 }
 
 // The allocation of the next station.
@@ -194,12 +146,9 @@ fn alloc_and(a: Alloc, n: u32, s: Scan) -> Alloc
     requires { (n < 128) × NumbersFit s }
     ensures { result ≡ alloc_and a n s }
 {
-    let at = n as usize;
-    let values = s.values;
-    let mut shares = a.s;
-    let share = narrow(values[4]);
-    shares[at] = share;
-    Alloc { s: shares }
+    let mut longer = a;
+    longer.s[n as usize] = narrow(s.values[4]);
+    longer
 }
 
 // A station behind TTRT, one of at most 128, all of one kind.
@@ -207,23 +156,18 @@ fn with_station(d: Draft, s: Scan, kind: u8) -> Draft
     requires { NumbersFit s }
     ensures { result ≡ with_station d s kind }
 {
-    let told = d.set;
     let same = (d.kind == 0) | (d.kind == kind);
-    let placed = (fields::HEAD_TAG <= d.head) & ((told.n < 128) & same);
+    let placed = (fields::HEAD_TAG <= d.head) & ((d.set.n < 128) & same);
     if !placed {
         return misplaced_in(d);
     }
-    let set = set_and(told, s);
-    let shares = d.alloc;
-    let alloc = alloc_and(shares, told.n, s);
+    let set = set_and(d.set, s);
+    let alloc = alloc_and(d.alloc, d.set.n, s);
     Draft {
         set,
         alloc,
-        line: d.line,
-        unread: d.unread,
-        head: d.head,
         kind,
-        wrong: d.wrong,
+        ..d
     }
 }
 
@@ -231,8 +175,7 @@ fn with_station(d: Draft, s: Scan, kind: u8) -> Draft
 pub(crate) fn is_visit_line(s: Scan) -> bool
     ensures { result ≡ is_visit_line s }
 {
-    let values = s.values;
-    let short = values[0] < 256;
+    let short = s.values[0] < 256;
     is_line(s, VISIT, 5) & short
 }
 
@@ -240,8 +183,7 @@ pub(crate) fn is_visit_line(s: Scan) -> bool
 fn is_mark_line(s: Scan) -> bool
     ensures { result ≡ is_mark_line s }
 {
-    let values = s.values;
-    let short = (values[0] < 256) & (values[1] < 256);
+    let short = (s.values[0] < 256) & (s.values[1] < 256);
     is_line(s, MARK, 2) & short
 }
 
@@ -256,7 +198,7 @@ pub(crate) fn is_record_line(s: Scan) -> bool
 fn logged_kind(t: Set, a: Alloc) -> u8
     ensures { result ≡ logged_kind t a }
 {
-    if plans::judge_plan(t, a) == numbers::ACCEPTED {
+    if plans::judge_plan(t, a).is_ok() {
         return 3;
     }
     4
@@ -267,18 +209,8 @@ pub(crate) fn with_record(d: Draft) -> Draft
     ensures { result ≡ with_record d }
 {
     if d.kind == 2 {
-        let set = d.set;
-        let alloc = d.alloc;
-        let kind = logged_kind(set, alloc);
-        return Draft {
-            set,
-            alloc,
-            line: d.line,
-            unread: d.unread,
-            head: d.head,
-            kind,
-            wrong: d.wrong,
-        };
+        let kind = logged_kind(d.set, d.alloc);
+        return Draft { kind, ..d };
     }
     if d.kind < 3 {
         return misplaced_in(d);
@@ -290,18 +222,8 @@ pub(crate) fn with_record(d: Draft) -> Draft
 fn with_unread(d: Draft) -> Draft
     ensures { result ≡ with_unread d }
 {
-    let set = d.set;
-    let alloc = d.alloc;
     let unread = if d.unread == 0 { d.line } else { d.unread };
-    Draft {
-        set,
-        alloc,
-        line: d.line,
-        unread,
-        head: d.head,
-        kind: d.kind,
-        wrong: d.wrong,
-    }
+    Draft { unread, ..d }
 }
 
 // The tag of a line of the header behind TTRT's; 0 for any other line.
@@ -338,14 +260,12 @@ fn line_drafted(d: Draft, s: Scan) -> Draft
         return d;
     }
     if is_line(s, TTRT, 1) {
-        let values = s.values;
-        let ttrt = narrow(values[0]);
+        let ttrt = narrow(s.values[0]);
         return with_ttrt(d, ttrt);
     }
     let tag = line_tag(s);
     if fields::MODE_TAG <= tag {
-        let values = s.values;
-        let number = narrow(values[0]);
+        let number = narrow(s.values[0]);
         return with_further(d, tag, number);
     }
     if is_line(s, STATION, 4) {
@@ -361,16 +281,9 @@ fn line_drafted(d: Draft, s: Scan) -> Draft
 fn on_next_line(d: Draft) -> Draft
     ensures { result ≡ on_next_line d }
 {
-    let set = d.set;
-    let alloc = d.alloc;
     Draft {
-        set,
-        alloc,
         line: line_reader::next_line(d.line),
-        unread: d.unread,
-        head: d.head,
-        kind: d.kind,
-        wrong: d.wrong,
+        ..d
     }
 }
 
@@ -378,30 +291,26 @@ fn on_next_line(d: Draft) -> Draft
 pub fn begin() -> Composing
     ensures { result ≡ compose_start }
 {
-    let set = sets::blank_set();
-    let alloc = plans::blank_alloc();
     let draft = Draft {
-        set,
-        alloc,
+        set: sets::blank_set(),
+        alloc: plans::blank_alloc(),
         line: 1,
         unread: 0,
         head: 0,
         kind: 0,
         wrong: 0,
     };
-    let fresh = line_reader::fresh();
-    Composing { draft, scan: fresh }
+    Composing {
+        draft,
+        scan: line_reader::fresh(),
+    }
 }
 
 // How many of the bytes are read at once.
 fn piece_length(text: &[u8]) -> usize
     ensures { result ≡ min (length text.now) 2_048 }
 {
-    if text.len() < PIECE_SIZE {
-        text.len()
-    } else {
-        PIECE_SIZE
-    }
+    text.len().min(PIECE_SIZE)
 }
 
 // The first bytes of the text, read line by line; what they let out is put at the start of the page.
@@ -412,22 +321,18 @@ fn compose_piece(c: Composing, text: &[u8], end: usize, page: &mut [u8]) -> Comp
     let mut draft = c.draft;
     let mut read = c.scan;
     let mut next: usize = 0;
-    let mut i: usize = 0;
-    while i < end {
-        let byte = text[i];
-        if byte == b'\n' {
+    for byte in &text[..end] {
+        if *byte == b'\n' {
             next = sending::put_line(page, next, draft, read);
             let drafted = line_drafted(draft, read);
             draft = on_next_line(drafted);
             read = line_reader::fresh();
         } else {
-            read = line_reader::step(read, byte);
+            read = line_reader::step(read, *byte);
         }
-        i += 1;
     }
-    let stands = Composing { draft, scan: read };
     Composed {
-        composing: stands,
+        composing: Composing { draft, scan: read },
         length: next,
     }
 }
@@ -472,12 +377,10 @@ fn write_draft(d: Draft, out: &mut [u8]) -> Written
             number: numbers::WRONG_SHAPE,
         };
     }
-    let set = d.set;
-    let alloc = d.alloc;
     if 2 <= d.kind {
-        return sheets::write_plan(set, alloc, out);
+        return sheets::write_plan(d.set, d.alloc, out);
     }
-    sheets::write_request(set, out)
+    sheets::write_request(d.set, out)
 }
 
 // The last bytes of the text that was read, put at the start of the buffer: a log's end, or the sheet; refused, no byte of it changes.

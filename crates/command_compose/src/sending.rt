@@ -14,13 +14,12 @@ fn visit_in(s: Scan) -> VisitEntry
     requires { NumbersFit s }
     ensures { result ≡ visit_in s }
 {
-    let values = s.values;
     VisitEntry {
-        station: crate::narrow(values[0]),
-        start: crate::narrow(values[1]),
-        limit: crate::narrow(values[2]),
-        synchronous: crate::narrow(values[3]),
-        asynchronous: crate::narrow(values[4]),
+        station: crate::narrow(s.values[0]),
+        start: crate::narrow(s.values[1]),
+        limit: crate::narrow(s.values[2]),
+        synchronous: crate::narrow(s.values[3]),
+        asynchronous: crate::narrow(s.values[4]),
     }
 }
 
@@ -29,9 +28,8 @@ fn mark_in(s: Scan) -> MarkEntry
     requires { NumbersFit s }
     ensures { result ≡ mark_in s }
 {
-    let values = s.values;
-    let station = crate::narrow(values[0]);
-    let mark = crate::narrow(values[1]);
+    let station = crate::narrow(s.values[0]);
+    let mark = crate::narrow(s.values[1]);
     MarkEntry { station, mark }
 }
 
@@ -41,9 +39,7 @@ fn put_plan(page: &mut [u8], at: usize, d: Draft) -> usize
     ensures { Put page.old at (plan_sent d) page.new result }
 {
     if d.kind == 2 {
-        let set = d.set;
-        let alloc = d.alloc;
-        let written = sheets::write_plan_fields(set, alloc, page);
+        let written = sheets::write_plan_fields(d.set, d.alloc, page);
         return written.length;
     }
     at

@@ -1,5 +1,5 @@
 -- The lines of lists that are put together, for the proofs of what puts them. No rule stands here.
-use Prim.Native.Nat.{ℕ, zero, suc, ◌+◌, ◌-◌, ◌*◌, ◌≤◌, ◌<◌, min}
+use Prim.Native.Nat.{ℕ, ◌+◌, ◌-◌, ◌*◌, ◌≤◌, min}
 use mathlib.Core.Path.{◌≡◌, refl, sym, ap, ◌∙◌}
 use mathlib.Core.Bool.{Bool}
 use mathlib.Core.List.{List, [], ◌∷◌, ◌++◌, append_assoc, append-nil}
@@ -7,7 +7,7 @@ use mathlib.Core.Logic.{◌≢◌}
 use native.Mathlib.Numerals.{add-one}
 use native.Mathlib.Omega.{arith}
 use borrow.Author.Tests.{eq-eqb, ne_eqb}
-use lib.ListN.{length, get_or}
+use lib.ListN.{length}
 use Rattle.text.specs.Text.{space, decimal_of, line_on, line, number_words, refused_word}
 use Rattle.text.proofs.TextLaws.{line_first, line_next}
 use Rattle.differences.specs.Differences.{Difference, in_header, in_station, one_sided, changed, gathered, header_changed, headers_changed}
@@ -96,17 +96,16 @@ side_refused_lem side n = append_assoc side (space ∷ refused_word) (line_on (d
 
 -- ---- how much is put, of plans with n and m stations: the lines of the header, of the stations that both have, and of those that one has more
 
-pub record Sizes (place n m come gone size : ℕ) : Type 0 where
-  pub shared : n - gone ≡ min n m
-  pub shared_fit : place + 252 + 415 * (n - gone) ≤ size
-  pub come_fit : place + (252 + 415 * (n - gone)) + 146 * come ≤ size
-  pub gone_fit : place + (252 + 415 * (n - gone) + 146 * come) + 146 * gone ≤ size
-  pub all_fit : 252 + 415 * (n - gone) + 146 * come + 146 * gone ≤ lines_size
+pub record Sizes (place n m shared size : ℕ) : Type 0 where
+  pub shared_fit : place + 252 + 415 * shared ≤ size
+  pub come_fit : place + (252 + 415 * shared) + 146 * (m - n) ≤ size
+  pub gone_fit : place + (252 + 415 * shared + 146 * (m - n)) + 146 * (n - m) ≤ size
+  pub all_fit : 252 + 415 * shared + 146 * (m - n) + 146 * (n - m) ≤ lines_size
 
-pub sizes : (place n m come gone size : ℕ) → n ≤ 128 → m ≤ 128 → come ≡ m - n → gone ≡ n - m → place + lines_size ≤ size → Sizes place n m come gone size
-sizes place n m come gone size few many more less large =
-    let most : 415 * (n - gone) + 146 * come + 146 * gone ≤ 415 * 128 = omega arith in
-    record { shared = omega arith; shared_fit = omega arith; come_fit = omega arith; gone_fit = omega arith; all_fit = omega arith }
+pub sizes : (place n m shared size : ℕ) → n ≤ 128 → m ≤ 128 → shared ≡ min n m → place + lines_size ≤ size → Sizes place n m shared size
+sizes place n m shared size few many both large =
+    let most : 415 * shared + 146 * (m - n) + 146 * (n - m) ≤ 415 * 128 = omega arith in
+    record { shared_fit = omega arith; come_fit = omega arith; gone_fit = omega arith; all_fit = omega arith }
 
 -- ---- no line
 
@@ -118,21 +117,3 @@ pub none_told : (ds : List Difference) → length (lines_of ds) ≡ 0 → ds ≡
 unfolding lines_of
 none_told [] e = refl
 none_told (d ∷ ds) e = absurd (line_some d (lines_of ds) (empty _ e))
-
--- ---- the letters
-
-pub letter_first : (j : ℕ) → j < 4 → get_or (119 ∷ 67 ∷ 68 ∷ 80 ∷ []) j 0 ∷ [] ≡ letter_word j
-unfolding letter_word
-letter_first zero b = refl
-letter_first (suc zero) b = refl
-letter_first (suc (suc zero)) b = refl
-letter_first (suc (suc (suc zero))) b = refl
-letter_first (suc (suc (suc (suc j)))) b = absurd (omega (arith, b))
-
-pub letter_last : (j : ℕ) → 4 ≤ j → 83 ∷ [] ≡ letter_word j
-unfolding letter_word
-letter_last zero b = absurd (omega (arith, b))
-letter_last (suc zero) b = absurd (omega (arith, b))
-letter_last (suc (suc zero)) b = absurd (omega (arith, b))
-letter_last (suc (suc (suc zero))) b = absurd (omega (arith, b))
-letter_last (suc (suc (suc (suc j)))) b = refl

@@ -33,7 +33,7 @@ pub fn put_lines(page: &mut [u8], at: usize, t: Set, a: Alloc, u: Set, b: Alloc)
     if !few {
         return at;
     }
-    if putting::beyond(page.len(), at) < LINES_SIZE {
+    if page.len().saturating_sub(at) < LINES_SIZE {
         return at;
     }
     putting::put_differences(page, at, t, a, u, b)
@@ -45,9 +45,9 @@ fn put_refused(page: &mut [u8], new: bool, number: u8) -> usize
     ensures { PutShort 62 page.old 0 (side_refused (cond new new_word old_word) number) page.new result }
 {
     if new {
-        return text::put_line(page, 0, b"new refused", &[number as u64]);
+        return text::put_line(page, 0, b"new refused", &[u64::from(number)]);
     }
-    text::put_line(page, 0, b"old refused", &[number as u64])
+    text::put_line(page, 0, b"old refused", &[u64::from(number)])
 }
 
 // `same`.
@@ -84,15 +84,17 @@ pub fn diff_text(old: &[u8], new: &[u8], page: &mut [u8]) -> Diffed
             same: false,
         };
     }
-    let t = before.set;
-    let a = before.alloc;
-    let u = after.set;
-    let b = after.alloc;
-    let length = putting::put_differences(page, 0, t, a, u, b);
+    let length = putting::put_differences(
+        page,
+        0,
+        before.set,
+        before.alloc,
+        after.set,
+        after.alloc,
+    );
     if length == 0 {
-        let said = put_same(page);
         return Diffed {
-            length: said,
+            length: put_same(page),
             same: true,
         };
     }

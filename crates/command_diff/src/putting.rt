@@ -20,7 +20,7 @@ fn put_header(page: &mut [u8], at: usize, tag: u64, old: u32, new: u32) -> usize
         return at;
     }
     let tagged = text::put_number(page, at, tag);
-    text::put_line(page, tagged, b"", &[old as u64, new as u64])
+    text::put_line(page, tagged, b"", &[u64::from(old), u64::from(new)])
 }
 
 // Tags 1, 4, 5 and 6.
@@ -37,14 +37,17 @@ fn put_headers(page: &mut [u8], at: usize, h: Head, k: Head) -> usize
 // ---- a station that both plans have
 
 // w, C, D, P or S.
+#[tactic(auto, unfolding(crate::specs::DiffText::letter_word))]
 fn letter_of(letter: u8) -> u8
     ensures { result ∷ [] ≡ letter_word letter }
 {
-    if letter < 4 {
-        let letters = [b'w', b'C', b'D', b'P'];
-        return letters[letter as usize];
+    match letter {
+        0 => b'w',
+        1 => b'C',
+        2 => b'D',
+        3 => b'P',
+        _ => b'S',
     }
-    b'S'
 }
 
 // One of its numbers, if it differs: the station, the letter, old and new.
@@ -57,7 +60,7 @@ fn put_number(page: &mut [u8], at: usize, station: u64, letter: u8, old: u32, ne
     }
     let numbered = text::put_number(page, at, station);
     let named = text::put_short(page, numbered, &[b' ', letter_of(letter)]);
-    text::put_line(page, named, b"", &[old as u64, new as u64])
+    text::put_line(page, named, b"", &[u64::from(old), u64::from(new)])
 }
 
 // All five.
@@ -87,10 +90,8 @@ fn put_stations(
     ensures { PutShort (415 * shared) page.old at (lines_of (gathered shared (station_changed (number_of t a) (number_of u b)))) page.new result }
 {
     let mut next = at;
-    let mut i: usize = 0;
-    while i < shared {
+    for i in 0..shared {
         next = put_station(page, next, t, a, u, b, i);
-        i += 1;
     }
     next
 }
@@ -118,11 +119,11 @@ fn put_five(page: &mut [u8], at: usize, t: Set, a: Alloc, i: usize) -> usize
         at,
         b"",
         &[
-            units::wide(t.w[i]),
-            units::wide(t.c[i]),
-            units::wide(t.d[i]),
-            units::wide(t.p[i]),
-            units::wide(a.s[i]),
+            u64::from(t.w[i]),
+            u64::from(t.c[i]),
+            u64::from(t.d[i]),
+            u64::from(t.p[i]),
+            u64::from(a.s[i]),
         ],
     )
 }
@@ -138,7 +139,7 @@ fn put_alone(page: &mut [u8], at: usize, new: bool, t: Set, a: Alloc, i: usize) 
     put_five(page, sided, t, a, i)
 }
 
-// So many of them, from one station on.
+// Those from one station on, up to another.
 fn put_alones(
     page: &mut [u8],
     at: usize,
@@ -146,31 +147,19 @@ fn put_alones(
     t: Set,
     a: Alloc,
     from: usize,
-    count: usize,
+    end: usize,
 ) -> usize
-    requires { (from + count ≤ 128) × (at + 146 * count ≤ length page.old) }
-    ensures { PutShort (146 * count) page.old at (lines_of (alone_from new (number_of t a) from count)) page.new result }
+    requires { ((from ≤ 128) × (end ≤ 128)) × (at + 146 * (end - from) ≤ length page.old) }
+    ensures { PutShort (146 * (end - from)) page.old at (lines_of (alone_from new (number_of t a) from (end - from))) page.new result }
 {
     let mut next = at;
-    let mut k: usize = 0;
-    while k < count {
-        next = put_alone(page, next, new, t, a, from + k);
-        k += 1;
+    for i in from..end {
+        next = put_alone(page, next, new, t, a, i);
     }
     next
 }
 
 // ---- all of it
-
-// By how much one number is above another, which it need not be.
-pub(crate) fn beyond(n: usize, m: usize) -> usize
-    ensures { result ≡ n - m }
-{
-    if n < m {
-        return 0;
-    }
-    n - m
-}
 
 // All differences of two plans.
 pub(crate) fn put_differences(
@@ -186,11 +175,9 @@ pub(crate) fn put_differences(
 {
     let n = units::places(t.n);
     let m = units::places(u.n);
-    let come = beyond(m, n);
-    let gone = beyond(n, m);
-    let shared = n - gone;
+    let shared = n.min(m);
     let headed = put_headers(page, at, t.head, u.head);
     let changed = put_stations(page, headed, t, a, u, b, shared);
-    let coming = put_alones(page, changed, true, u, b, n, come);
-    put_alones(page, coming, false, t, a, m, gone)
+    let coming = put_alones(page, changed, true, u, b, n, m);
+    put_alones(page, coming, false, t, a, m, n)
 }

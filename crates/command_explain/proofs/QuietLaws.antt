@@ -3,6 +3,7 @@ use Prim.Native.Nat.{ℕ, zero, suc, ◌-◌, ◌*◌, ◌/◌, ◌%◌}
 use mathlib.Core.Path.{◌≡◌, refl}
 use mathlib.Core.Bool.{Bool, true, false, cond, not, ◌&&◌, ◌||◌}
 use mathlib.Core.List.{List}
+use Rattle.std.proofs.Common.{Option, None, Some}
 use lib.Dec.{leb, ltb, eqb}
 use Rattle.units.specs.Numbers.{accepted, runs_on, out_of_range, bad_walk_time, no_allocation, retired, timely, fddi, earlier}
 use Rattle.units.specs.Judging.{between}
@@ -22,9 +23,9 @@ use Rattle.command_explain.specs.declared.Place.{Place}
 use Rattle.command_explain.specs.declared.Explained.{Explained}
 use Rattle.command_explain.specs.First.{phrase, verdict_form, verdict, kind_at, may_stand, may_stand_by, read_as, stands, fault_phrase, one_line, second_phrase, first_phrase}
 use Rattle.command_explain.specs.Stations.{walk_phrase, grounds_phrase, grounds, too_much_phrase, times, behind_smallest, smallest_phrase, held_form, named, given_by, in_range_phrase, station_phrase}
-use Rattle.command_explain.specs.Ends.{against_phrase, retired_form, deadline_promise, burst_promise, offered_promise, promise_phrase, behind_sum, account_phrase, last_phrase}
+use Rattle.command_explain.specs.Ends.{against_phrase, retired_phrase, deadline_promise, burst_promise, offered_promise, promise_phrase, behind_sum, account_phrase, last_phrase}
 use Rattle.command_explain.specs.Phrases.{first_count, station_count, stations_of, phrase_behind, phrase_at}
-use Rattle.command_explain.specs.Out.{says_out}
+use Rattle.command_explain.specs.Out.{says_out, says_so}
 
 -- a form that does not say it, and a phrase of such a form
 record QuietForm (f : Form) : Type 0 where
@@ -36,6 +37,20 @@ record Quiet (p : Phrase) : Type 0 where
 either : (b : Bool) {x y : Phrase} → Quiet x → Quiet y → Quiet (cond b x y)
 either true q r = q
 either false q r = r
+
+-- of an empty place nothing is said
+record QuietAt (p : Option Phrase) : Type 0 where
+  is : says_so p ≡ false
+
+none : QuietAt None
+none = record { is = refl }
+
+there : {p : Phrase} → Quiet p → QuietAt (Some p)
+there q = record { is = q.form.is }
+
+either_at : (b : Bool) {x y : Option Phrase} → QuietAt x → QuietAt y → QuietAt (cond b x y)
+either_at true q r = q
+either_at false q r = r
 
 either_form : (b : Bool) {x y : Form} → QuietForm x → QuietForm y → QuietForm (cond b x y)
 either_form true q r = q
@@ -70,31 +85,31 @@ kind_quiet (suc (suc (suc (suc zero)))) = said refl
 kind_quiet (suc (suc (suc (suc (suc zero))))) = said refl
 kind_quiet (suc (suc (suc (suc (suc (suc k)))))) = said refl
 
-may_quiet : (number : ℕ) (p : Passed) (k : ℕ) → Quiet (may_stand_by number p k)
+may_quiet : (number : ℕ) (p : Passed) (k : ℕ) → QuietAt (may_stand_by number p k)
 unfolding may_stand_by may_stand says_out
 may_quiet number p k =
-    either (eqb number runs_on) (either (eqb k 0) (plain refl) (plain refl))
-    (either (is_allowed p (kind_at k).tag (kind_at k).size) (with_form (kind_quiet k)) (plain refl))
+    either_at (eqb number runs_on) (either_at (eqb k 0) (there (plain refl)) none)
+    (either_at (is_allowed p (kind_at k).tag (kind_at k).size) (there (with_form (kind_quiet k))) none)
 
 stands_quiet : (number : ℕ) (place : Place) → Quiet (stands number place)
 unfolding stands says_out
 stands_quiet number place = either (eqb number runs_on || ltb place.left 3) (plain refl) (plain refl)
 
-fault_quiet : (e : Explained) (j : ℕ) → Quiet (fault_phrase e j)
+fault_quiet : (e : Explained) (j : ℕ) → QuietAt (fault_phrase e j)
 unfolding fault_phrase read_as says_out
 fault_quiet e j =
-    either (eqb j 0) (either e.plan (plain refl) (plain refl))
-    (either (eqb j 1) (stands_quiet e.number e.place) (may_quiet e.number e.place.passed (j - 2)))
+    either_at (eqb j 0) (there (either e.plan (plain refl) (plain refl)))
+    (either_at (eqb j 1) (there (stands_quiet e.number e.place)) (may_quiet e.number e.place.passed (j - 2)))
 
-line_quiet : (e : Explained) (j : ℕ) → Quiet (one_line e j)
+line_quiet : (e : Explained) (j : ℕ) → QuietAt (one_line e j)
 unfolding one_line says_out
-line_quiet e j = either (eqb j 0) (either (eqb e.number bad_walk_time) (plain refl) (plain refl)) (plain refl)
+line_quiet e j = either_at (eqb j 0) (either_at (eqb e.number bad_walk_time) (there (plain refl)) (there (plain refl))) none
 
 -- ---- a station
 
-walk_quiet : (i w j : ℕ) → Quiet (walk_phrase i w j)
+walk_quiet : (i w j : ℕ) → QuietAt (walk_phrase i w j)
 unfolding walk_phrase says_out
-walk_quiet i w j = either (eqb j 0 && not (eqb w 0)) (plain refl) (plain refl)
+walk_quiet i w j = either_at (eqb j 0 && not (eqb w 0)) (there (plain refl)) none
 
 grounds_quiet : (h : Head) (i c d s : ℕ) → Quiet (grounds h i c d s)
 unfolding grounds_phrase says_out
@@ -106,11 +121,11 @@ behind_quiet e rests largest =
     either (eqb e.number no_allocation) (either (too_much e.sums.available rests.smallest) (plain refl) (plain refl))
     (either (eqb rests.smallest 0) (plain refl) (plain refl))
 
-smallest_quiet : (e : Explained) (i j : ℕ) → Quiet (smallest_phrase e i j)
+smallest_quiet : (e : Explained) (i j : ℕ) → QuietAt (smallest_phrase e i j)
 unfolding smallest_phrase says_out
 smallest_quiet e i j =
-    either (eqb j 0) (grounds_quiet e.set.head i _ _ _)
-    (either (eqb j 1) (behind_quiet e (grounds_at e.set i) (at e.rooms.c i)) (plain refl))
+    either_at (eqb j 0) (there (grounds_quiet e.set.head i _ _ _))
+    (either_at (eqb j 1) (there (behind_quiet e (grounds_at e.set i) (at e.rooms.c i))) none)
 
 held_quiet : (h : Holding) → QuietForm (held_form h)
 unfolding held_form says_out
@@ -118,73 +133,75 @@ held_quiet h =
     either_form h.short (either_form h.off_grid (said refl) (said refl))
     (either_form h.off_grid (said refl) (either_form (eqb h.excess 0) (said refl) (said refl)))
 
-given_quiet : (e : Explained) (i j : ℕ) (h : Holding) → Quiet (given_by e i j h)
+given_quiet : (e : Explained) (i j : ℕ) (h : Holding) → QuietAt (given_by e i j h)
 unfolding given_by says_out
 given_quiet e i j h =
-    either (named e.number h) (either (eqb j 0) (grounds_quiet e.set.head i _ _ _) (either (eqb j 1) (with_form (held_quiet h)) (plain refl)))
-    (plain refl)
+    either_at (named e.number h)
+    (either_at (eqb j 0) (there (grounds_quiet e.set.head i _ _ _)) (either_at (eqb j 1) (there (with_form (held_quiet h))) none))
+    none
 
-in_range_quiet : (e : Explained) (i j : ℕ) → Quiet (in_range_phrase e i j)
+in_range_quiet : (e : Explained) (i j : ℕ) → QuietAt (in_range_phrase e i j)
 unfolding in_range_phrase says_out
 in_range_quiet e i j =
-    either (eqb e.number retired) (plain refl)
-    (either e.plan (given_quiet e i j (holding_at e.set e.alloc i)) (smallest_quiet e i j))
+    either_at (eqb e.number retired) none
+    (either_at e.plan (given_quiet e i j (holding_at e.set e.alloc i)) (smallest_quiet e i j))
 
 -- ---- behind the stations
 
-retired_quiet : (j : ℕ) → QuietForm (retired_form j)
+retired_quiet : (j : ℕ) → QuietAt (retired_phrase j)
 unfolding says_out
-retired_quiet zero = said refl
-retired_quiet (suc zero) = said refl
-retired_quiet (suc (suc zero)) = said refl
-retired_quiet (suc (suc (suc j))) = said refl
+retired_quiet zero = there (plain refl)
+retired_quiet (suc zero) = there (plain refl)
+retired_quiet (suc (suc zero)) = there (plain refl)
+retired_quiet (suc (suc (suc j))) = none
 
-offered_quiet : (mode spare : ℕ) → Quiet (offered_promise mode spare)
+offered_quiet : (mode spare : ℕ) → QuietAt (offered_promise mode spare)
 unfolding offered_promise says_out
 offered_quiet mode spare =
-    either (eqb mode earlier) (plain refl) (either (eqb mode timely && leb 1 spare) (plain refl) (plain refl))
+    either_at (eqb mode earlier) (there (plain refl)) (either_at (eqb mode timely && leb 1 spare) (there (plain refl)) none)
 
-promise_quiet : (e : Explained) (j : ℕ) → Quiet (promise_phrase e j)
+promise_quiet : (e : Explained) (j : ℕ) → QuietAt (promise_phrase e j)
 unfolding promise_phrase deadline_promise burst_promise says_out
 promise_quiet e j =
     let mode = e.set.head.mode in
-    either (eqb j 0) (plain refl)
-    (either (eqb j 1) (plain refl)
-    (either (eqb j 2) (either (eqb mode fddi) (plain refl) (plain refl))
-    (either (eqb j 3) (either (eqb mode fddi) (plain refl) (either (eqb e.set.n 1) (plain refl) (plain refl))) (either (eqb j 4) (offered_quiet mode e.sums.spare) (plain refl)))))
+    either_at (eqb j 0) (there (plain refl))
+    (either_at (eqb j 1) (there (plain refl))
+    (either_at (eqb j 2) (there (either (eqb mode fddi) (plain refl) (plain refl)))
+    (either_at (eqb j 3) (either_at (eqb mode fddi) none (either_at (eqb e.set.n 1) (there (plain refl)) (there (plain refl))))
+    (either_at (eqb j 4) (offered_quiet mode e.sums.spare) none))))
 
-account_quiet : (e : Explained) (j : ℕ) → Quiet (account_phrase e j)
+account_quiet : (e : Explained) (j : ℕ) → QuietAt (account_phrase e j)
 unfolding account_phrase against_phrase behind_sum says_out
 account_quiet e j =
-    either (eqb j 0) (plain refl)
-    (either (eqb j 1) (either (eqb e.number accepted) (plain refl) (plain refl))
-    (either (eqb e.number accepted) (promise_quiet e (j - 2))
-    (either (eqb e.number no_allocation && e.grid_cause && eqb (j - 2) 0) (plain refl) (plain refl))))
+    either_at (eqb j 0) (there (plain refl))
+    (either_at (eqb j 1) (there (either (eqb e.number accepted) (plain refl) (plain refl)))
+    (either_at (eqb e.number accepted) (promise_quiet e (j - 2))
+    (either_at (eqb e.number no_allocation && e.grid_cause && eqb (j - 2) 0) (there (plain refl)) none)))
 
-last_quiet : (e : Explained) (j : ℕ) → Quiet (last_phrase e j)
+last_quiet : (e : Explained) (j : ℕ) → QuietAt (last_phrase e j)
 unfolding last_phrase says_out
 last_quiet e j =
-    either (eqb e.number retired) (with_form (retired_quiet j))
-    (either (between 1 bad_walk_time e.number) (plain refl) (account_quiet e j))
+    either_at (eqb e.number retired) (retired_quiet j)
+    (either_at (between 1 bad_walk_time e.number) none (account_quiet e j))
 
 -- ---- all of them
 
 module _ (e : Explained) (other : eqb e.number out_of_range ≡ false) where
-  first_quiet : (j : ℕ) → Quiet (first_phrase e j)
+  first_quiet : (j : ℕ) → QuietAt (first_phrase e j)
   unfolding first_phrase second_phrase
   first_quiet j =
-      rw other (either (eqb j 0) (verdict_quiet e) (either (between 1 runs_on e.number) (fault_quiet e (j - 1)) (line_quiet e (j - 1))))
+      rw other (either_at (eqb j 0) (there (verdict_quiet e)) (either_at (between 1 runs_on e.number) (fault_quiet e (j - 1)) (line_quiet e (j - 1))))
 
-  station_quiet : (i j : ℕ) → Quiet (station_phrase e i j)
+  station_quiet : (i j : ℕ) → QuietAt (station_phrase e i j)
   unfolding station_phrase
-  station_quiet i j = rw other (either (eqb e.number bad_walk_time) (walk_quiet i (at e.set.w i) j) (in_range_quiet e i j))
+  station_quiet i j = rw other (either_at (eqb e.number bad_walk_time) (walk_quiet i (at e.set.w i) j) (in_range_quiet e i j))
 
-  all_quiet : (k : ℕ) → Quiet (phrase_at e k)
+  all_quiet : (k : ℕ) → QuietAt (phrase_at e k)
   unfolding phrase_at phrase_behind
   all_quiet k =
       let b = k - first_count in
-      either (ltb k first_count) (first_quiet k)
-      (either (ltb (b / station_count) (stations_of e)) (station_quiet (b / station_count) (b % station_count)) (last_quiet e (b - station_count * stations_of e)))
+      either_at (ltb k first_count) (first_quiet k)
+      (either_at (ltb (b / station_count) (stations_of e)) (station_quiet (b / station_count) (b % station_count)) (last_quiet e (b - station_count * stations_of e)))
 
-  pub quiet : (k : ℕ) → says_out (phrase_at e k).form ≡ false
-  quiet k = (all_quiet k).form.is
+  pub quiet : (k : ℕ) → says_so (phrase_at e k) ≡ false
+  quiet k = (all_quiet k).is

@@ -3,7 +3,7 @@ use Prim.Native.Nat.{ℕ, zero, suc, ◌+◌, ◌-◌, ◌*◌, ◌/◌, ◌%◌
 use mathlib.Core.Path.{◌≡◌, refl, sym, ap, ◌∙◌}
 use mathlib.Core.Bool.{Bool, true, false, cond, true≢false}
 use mathlib.Core.List.{List}
-use mathlib.Core.Logic.{◌↔◌, ◌⊎◌, inl, inr, ⊎_elim, ◌≢◌}
+use mathlib.Core.Logic.{◌↔◌, inl, inr, ⊎_elim, ◌≢◌}
 use native.Mathlib.Omega.{arith}
 use lib.Dec.{ltb, eqb}
 use borrow.Author.Tests.{eqb-true, ne_eqb, lt-ltb, le-ltb}
@@ -30,7 +30,7 @@ use Rattle.command_explain.specs.Sheet.{is_plan, judged_as, explained_as, explai
 use Rattle.command_explain.specs.First.{row_at, out_form, second_phrase, first_phrase}
 use Rattle.command_explain.specs.Stations.{out_form as stationForm, station_phrase}
 use Rattle.command_explain.specs.Phrases.{first_count, station_count, phrase_behind, phrase_at}
-use Rattle.command_explain.specs.Out.{says_out, SomeOutSaid}
+use Rattle.command_explain.specs.Out.{says_out, says_so, SomeOutSaid}
 use Rattle.command_explain.proofs.ListedLaws.{listed, header_listed}
 use Rattle.command_explain.proofs.QuietLaws.{quiet}
 
@@ -124,7 +124,7 @@ module _ (e : Explained) (four : e.number ≡ out_of_range) where
   header_said : (k : ℕ) → k < 4 → says_out (row_at k).one ≡ true → says_out (row_at k).out ≡ true → (header_range e.set.head (row_at k).tag).out ≡ true → SomeOutSaid e
   unfolding phrase_at first_phrase out_form
   header_said k few one out o =
-      let here : says_out (second_phrase e k).form ≡ true = rw ((header_listed e four k few).out o) (either_out (eqb (header_range e.said (row_at k).tag).value absent) _ _ one out) in
+      let here : says_so (second_phrase e k) ≡ true = rw ((header_listed e four k few).out o) (either_out (eqb (header_range e.said (row_at k).tag).value absent) _ _ one out) in
       let first : ltb (k + 1) first_count ≡ true = lt-ltb (k + 1) first_count (omega arith) in
       let behind : eqb (k + 1) 0 ≡ false = ne_eqb (k + 1) 0 (omega arith) in
       let back : k + 1 - 1 ≡ k = omega arith in
@@ -133,7 +133,7 @@ module _ (e : Explained) (four : e.number ≡ out_of_range) where
   station_said : (i j : ℕ) → i < min e.set.n 128 → j < 5 → (range_at e.set e.alloc i j).out ≡ true → SomeOutSaid e
   unfolding phrase_at phrase_behind
   station_said i j l few o =
-      let here : says_out (station_phrase e i j).form ≡ true = rw ((listed e four i j).out o) (station_form j) in
+      let here : says_so (station_phrase e i j) ≡ true = rw ((listed e four i j).out o) (station_form j) in
       let late : ltb (10 + (5 * i + j)) first_count ≡ false = le-ltb (10 + (5 * i + j)) first_count (omega arith) in
       let back : 10 + (5 * i + j) - first_count ≡ 5 * i + j = omega arith in
       let own : (5 * i + j) / station_count ≡ i = omega arith in

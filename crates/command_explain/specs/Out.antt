@@ -1,13 +1,13 @@
 -- Which lines say that a number is out of its range.
-use Rattle.std.specs.Prelude.{ℕ, ◌<◌, ◌≡◌, Bool, true, false}
+use Rattle.std.specs.Prelude.{ℕ, ◌<◌, ◌≡◌, Bool, true, false, Option, None, Some}
 use Rattle.command_explain.specs.declared.Form.{Form}
-use Rattle.command_explain.specs.declared.Form.TheVariants.{Nothing, Refused, Planned, Accepted, Header, AsRequest, AsPlan, Start, Left, MayTtrt, MayStation, MayShare, MayMode, MayFrame, MayGrid, MayEnd, MayNothing, TtrtOut, ModeOut, FrameOut, GridOut, ModeOne, FrameOne, GridOne, WalkOut, LongestOut, DeadlineOut, GapOut, ShareOut, TauOut, Walk, Grounds, FddiGrounds, End, TooMuch, Times, FirstTime, Held, HeldMore, HeldShort, HeldOff, HeldShortOff, Sum, Missing, Spare, GridCause, Retired, Readable, Again, Back, OnlyShare, InTime, Burst, OwnBurst, Offered, NotOffered, NoDeadline}
+use Rattle.command_explain.specs.declared.Form.TheVariants.{Refused, Planned, Accepted, Header, AsRequest, AsPlan, Start, Left, MayTtrt, MayStation, MayShare, MayMode, MayFrame, MayGrid, MayEnd, MayNothing, TtrtOut, ModeOut, FrameOut, GridOut, ModeOne, FrameOne, GridOne, WalkOut, LongestOut, DeadlineOut, GapOut, ShareOut, TauOut, Walk, Grounds, FddiGrounds, End, TooMuch, Times, FirstTime, Held, HeldMore, HeldShort, HeldOff, HeldShortOff, Sum, Missing, Spare, GridCause, Retired, Readable, Again, Back, OnlyShare, InTime, Burst, OwnBurst, Offered, NotOffered, NoDeadline}
+use Rattle.command_explain.specs.declared.Phrase.{Phrase}
 use Rattle.command_explain.specs.declared.Explained.{Explained}
 use Rattle.command_explain.specs.Phrases.{phrase_at, phrase_count}
 
 -- by the form: a number of the header, a field of it that says 1 and is to be left out, or a number of a station
 unfoldable pub says_out : Form → Bool
-says_out Nothing = false
 says_out Refused = false
 says_out Planned = false
 says_out Accepted = false
@@ -65,6 +65,11 @@ says_out Offered = false
 says_out NotOffered = false
 says_out NoDeadline = false
 
+-- a phrase says it by its form
+abbrev pub says_so : Option Phrase → Bool
+says_so None = false
+says_so (Some p) = says_out p.form
+
 -- such a line is printed
 abbrev pub SomeOutSaid : Explained → Type 0
-SomeOutSaid e = (k : ℕ) × ((k < phrase_count e) × (says_out (phrase_at e k).form ≡ true))
+SomeOutSaid e = (k : ℕ) × ((k < phrase_count e) × (says_so (phrase_at e k) ≡ true))

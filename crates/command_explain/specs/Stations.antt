@@ -1,5 +1,5 @@
 -- The phrases of a station: its numbers that are out of their ranges, its walk time, what its S rests on, or what it holds.
-use Rattle.std.specs.Prelude.{ℕ, ◌-◌, Bool, cond, not, ◌&&◌, ◌||◌, List, [], ◌∷◌, eqb, get_or}
+use Rattle.std.specs.Prelude.{ℕ, ◌-◌, Bool, cond, not, ◌&&◌, ◌||◌, Option, None, Some, List, [], ◌∷◌, eqb, get_or}
 use Rattle.units.specs.Numbers.{accepted, out_of_range, bad_walk_time, no_allocation, retired, fddi}
 use Rattle.units.specs.Places.{at}
 use Rattle.sets.specs.declared.Head.{Head}
@@ -14,7 +14,7 @@ use Rattle.command_explain.specs.declared.Form.{Form}
 use Rattle.command_explain.specs.declared.Form.TheVariants as form
 use Rattle.command_explain.specs.declared.Phrase.{Phrase}
 use Rattle.command_explain.specs.declared.Explained.{Explained}
-use Rattle.command_explain.specs.First.{phrase, bare, nothing}
+use Rattle.command_explain.specs.First.{phrase, bare}
 
 -- ---- 4 and 5
 
@@ -26,16 +26,16 @@ abbrev pub out_form : ℕ → Form
 out_form j = get_or out_forms j form.ShareOut
 
 -- number j of station i, if it is out of its range: the number, and the range
-unfoldable pub ranged_out : ℕ → ℕ → Ranged → Phrase
+unfoldable pub ranged_out : ℕ → ℕ → Ranged → Option Phrase
 ranged_out i j range =
-    cond range.out (phrase (out_form j) (i ∷ range.value ∷ range.low ∷ range.high ∷ 0 ∷ 0 ∷ [])) nothing
+    cond range.out (Some (phrase (out_form j) (i ∷ range.value ∷ range.low ∷ range.high ∷ 0 ∷ 0 ∷ []))) None
 
-abbrev pub station_out : Explained → ℕ → ℕ → Phrase
+abbrev pub station_out : Explained → ℕ → ℕ → Option Phrase
 station_out e i j = ranged_out i j (range_at e.set e.alloc i j)
 
 -- its walk time, if that is above 0
-unfoldable pub walk_phrase : ℕ → ℕ → ℕ → Phrase
-walk_phrase i w j = cond (eqb j 0 && not (eqb w 0)) (phrase form.Walk (i ∷ w ∷ 0 ∷ 0 ∷ 0 ∷ 0 ∷ [])) nothing
+unfoldable pub walk_phrase : ℕ → ℕ → ℕ → Option Phrase
+walk_phrase i w j = cond (eqb j 0 && not (eqb w 0)) (Some (phrase form.Walk (i ∷ w ∷ 0 ∷ 0 ∷ 0 ∷ 0 ∷ []))) None
 
 -- ---- what S rests on
 
@@ -63,10 +63,10 @@ unfoldable pub behind_smallest : Explained → Grounds → ℕ → Phrase
 behind_smallest e rests largest =
     cond (eqb e.number no_allocation) (too_much_phrase e.sums.available rests.smallest) (times rests largest)
 
-unfoldable pub smallest_phrase : Explained → ℕ → ℕ → Phrase
+unfoldable pub smallest_phrase : Explained → ℕ → ℕ → Option Phrase
 smallest_phrase e i j =
-    cond (eqb j 0) (grounds e.set.head i (at e.set.c i) (at e.set.d i) (grounds_at e.set i).smallest)
-    (cond (eqb j 1) (behind_smallest e (grounds_at e.set i) (at e.rooms.c i)) nothing)
+    cond (eqb j 0) (Some (grounds e.set.head i (at e.set.c i) (at e.set.d i) (grounds_at e.set i).smallest))
+    (cond (eqb j 1) (Some (behind_smallest e (grounds_at e.set i) (at e.rooms.c i))) None)
 
 -- ---- what a station of a given plan holds
 
@@ -84,22 +84,22 @@ abbrev pub held : Holding → Phrase
 held h = phrase (held_form h) (h.time ∷ h.excess ∷ 0 ∷ 0 ∷ 0 ∷ 0 ∷ [])
 
 -- C, D, m, α and its S; then what it holds
-unfoldable pub given_by : Explained → ℕ → ℕ → Holding → Phrase
+unfoldable pub given_by : Explained → ℕ → ℕ → Holding → Option Phrase
 given_by e i j h =
     cond (named e.number h)
-    (cond (eqb j 0) (grounds e.set.head i (at e.set.c i) (at e.set.d i) (at e.alloc.s i))
-    (cond (eqb j 1) (held h) nothing))
-    nothing
+    (cond (eqb j 0) (Some (grounds e.set.head i (at e.set.c i) (at e.set.d i) (at e.alloc.s i)))
+    (cond (eqb j 1) (Some (held h)) None))
+    None
 
-abbrev pub given_phrase : Explained → ℕ → ℕ → Phrase
+abbrev pub given_phrase : Explained → ℕ → ℕ → Option Phrase
 given_phrase e i j = given_by e i j (holding_at e.set e.alloc i)
 
 -- ---- all of them
 
-unfoldable pub in_range_phrase : Explained → ℕ → ℕ → Phrase
-in_range_phrase e i j = cond (eqb e.number retired) nothing (cond e.plan (given_phrase e i j) (smallest_phrase e i j))
+unfoldable pub in_range_phrase : Explained → ℕ → ℕ → Option Phrase
+in_range_phrase e i j = cond (eqb e.number retired) None (cond e.plan (given_phrase e i j) (smallest_phrase e i j))
 
-unfoldable pub station_phrase : Explained → ℕ → ℕ → Phrase
+unfoldable pub station_phrase : Explained → ℕ → ℕ → Option Phrase
 station_phrase e i j =
     cond (eqb e.number out_of_range) (station_out e i j)
     (cond (eqb e.number bad_walk_time) (walk_phrase i (at e.set.w i) j) (in_range_phrase e i j))

@@ -1,10 +1,10 @@
 // The phrases behind the stations': the sum of S and what there is for it, why the grid is the cause, what can be done with an FDDI sheet, and what the mode promises.
 ghost use Rattle.std.specs.Prelude.{◌≡◌};
 ghost use Rattle.command_explain.specs.Sheet.{back_within, account_of, sums_of};
-ghost use Rattle.command_explain.specs.First.{bare};
-ghost use Rattle.command_explain.specs.Ends.{sum_phrase, against_phrase, retired_form, deadline_promise, burst_promise, offered_promise, promise_phrase, behind_sum, account_phrase, last_phrase};
+ghost use Rattle.command_explain.specs.Ends.{sum_phrase, against_phrase, retired_phrase, deadline_promise, burst_promise, offered_promise, promise_phrase, behind_sum, account_phrase, last_phrase};
 
-use crate::{Explained, Form, Phrase, Sums, first};
+use crate::first::bare;
+use crate::{Explained, Form, Phrase, Sums};
 use faults::Token;
 use plans::Alloc;
 use sets::Set;
@@ -16,10 +16,10 @@ use units::numbers;
 fn back_within(t: Set, a: Alloc) -> u64
     ensures { result ≡ back_within t a }
 {
-    let ttrt = units::wide(t.head.ttrt);
+    let ttrt = u64::from(t.head.ttrt);
     if t.head.mode == numbers::FDDI {
-        let s = a.s;
-        return ttrt + units::sum_first(s, t.n) + units::room(units::wide(t.head.frame), 1);
+        let more = u64::from(t.head.frame).saturating_sub(1);
+        return ttrt + units::sum_first(a.s, t.n) + more;
     }
     ttrt
 }
@@ -45,7 +45,7 @@ pub(crate) fn sums_of(plan: bool, t: Set, a: Alloc) -> Sums
 {
     let account = account_of(plan, t, a);
     let tau = sets::walk_time(t);
-    let more = units::room(units::wide(t.head.frame), 1);
+    let more = u64::from(t.head.frame).saturating_sub(1);
     let spare = plans::spare(t, a);
     Sums {
         sum: account.sum,
@@ -61,21 +61,11 @@ pub(crate) fn sums_of(plan: bool, t: Set, a: Alloc) -> Sums
 
 // ---- the phrases
 
-// A form without numbers.
-fn bare(form: Form) -> Phrase
-    ensures { result ≡ bare form }
-{
-    Phrase {
-        form,
-        numbers: [0; 6],
-    }
-}
-
 // The sum of S, τ, F − 1 and TTRT.
 fn sum(e: Explained) -> Phrase
     ensures { result ≡ sum_phrase e }
 {
-    let ttrt = units::wide(e.set.head.ttrt);
+    let ttrt = u64::from(e.set.head.ttrt);
     Phrase {
         form: Form::Sum,
         numbers: [e.sums.sum, e.sums.tau, e.sums.more, ttrt, 0, 0],
@@ -99,19 +89,15 @@ fn against(e: Explained) -> Phrase
 }
 
 // 16: what can still be done with the sheet.
-fn retired_form(j: usize) -> Form
-    ensures { result ≡ retired_form j }
+fn retired(j: usize) -> Option<Phrase>
+    ensures { result ≡ retired_phrase j }
 {
-    if j == 0 {
-        return Form::Retired;
+    match j {
+        0 => Some(bare(Form::Retired)),
+        1 => Some(bare(Form::Readable)),
+        2 => Some(bare(Form::Again)),
+        _ => None,
     }
-    if j == 1 {
-        return Form::Readable;
-    }
-    if j == 2 {
-        return Form::Again;
-    }
-    Form::Nothing
 }
 
 // What is promised of deadlines; FDDI promises none.
@@ -125,66 +111,58 @@ fn deadline(mode: u32) -> Phrase
 }
 
 // How much N visits send asynchronously at most, in a ring of one station each; FDDI does not promise it.
-fn burst(e: Explained) -> Phrase
+fn burst(e: Explained) -> Option<Phrase>
     ensures { result ≡ burst_promise e }
 {
     if e.set.head.mode == numbers::FDDI {
-        return first::nothing();
+        return None;
     }
-    let n = units::wide(e.set.n);
+    let n = u64::from(e.set.n);
     if n == 1 {
-        return Phrase {
+        return Some(Phrase {
             form: Form::OwnBurst,
             numbers: [e.sums.burst, 0, 0, 0, 0, 0],
-        };
+        });
     }
-    Phrase {
+    Some(Phrase {
         form: Form::Burst,
         numbers: [n, e.sums.burst, 0, 0, 0, 0],
-    }
+    })
 }
 
 // Whether every station is offered asynchronous time: in the 2003 edition, where A* is above 0.
-fn offered(mode: u32, spare: u64) -> Phrase
+fn offered(mode: u32, spare: u64) -> Option<Phrase>
     ensures { result ≡ offered_promise mode spare }
 {
     if mode == numbers::EARLIER {
-        return bare(Form::NotOffered);
+        return Some(bare(Form::NotOffered));
     }
     let all = (mode == numbers::TIMELY) & (1 <= spare);
     if all {
-        return bare(Form::Offered);
+        return Some(bare(Form::Offered));
     }
-    first::nothing()
+    None
 }
 
 // Promise j of the mode.
-fn promise(e: Explained, j: usize) -> Phrase
+fn promise(e: Explained, j: usize) -> Option<Phrase>
     ensures { result ≡ promise_phrase e j }
 {
-    if j == 0 {
-        return Phrase {
+    match j {
+        0 => Some(Phrase {
             form: Form::Back,
             numbers: [e.sums.back, 0, 0, 0, 0, 0],
-        };
+        }),
+        1 => Some(bare(Form::OnlyShare)),
+        2 => Some(deadline(e.set.head.mode)),
+        3 => burst(e),
+        4 => offered(e.set.head.mode, e.sums.spare),
+        _ => None,
     }
-    if j == 1 {
-        return bare(Form::OnlyShare);
-    }
-    if j == 2 {
-        return deadline(e.set.head.mode);
-    }
-    if j == 3 {
-        return burst(e);
-    }
-    if j == 4 {
-        return offered(e.set.head.mode, e.sums.spare);
-    }
-    first::nothing()
 }
 
 // Phrase j behind the sum: what is promised of an accepted sheet, and of 6 whether the grid is the cause.
-fn behind_sum(e: Explained, j: usize) -> Phrase
+fn behind_sum(e: Explained, j: usize) -> Option<Phrase>
     ensures { result ≡ behind_sum e j }
 {
     if e.number == numbers::ACCEPTED {
@@ -193,34 +171,32 @@ fn behind_sum(e: Explained, j: usize) -> Phrase
     let cause = (e.number == numbers::NO_ALLOCATION) & e.grid_cause;
     let said = cause & (j == 0);
     if said {
-        return bare(Form::GridCause);
+        return Some(bare(Form::GridCause));
     }
-    first::nothing()
+    None
 }
 
 // Phrase j of a sheet whose S are summed up.
-fn account(e: Explained, j: usize) -> Phrase
+fn account(e: Explained, j: usize) -> Option<Phrase>
     ensures { result ≡ account_phrase e j }
 {
-    if j == 0 {
-        return sum(e);
+    match j {
+        0 => Some(sum(e)),
+        1 => Some(against(e)),
+        _ => behind_sum(e, j - 2),
     }
-    if j == 1 {
-        return against(e);
-    }
-    behind_sum(e, j - 2)
 }
 
 // Phrase j behind the stations'. Of a first fault, of numbers out of range and of a bad walk time there is none.
-pub(crate) fn phrase(e: Explained, j: usize) -> Phrase
+pub(crate) fn phrase(e: Explained, j: usize) -> Option<Phrase>
     ensures { result ≡ last_phrase e j }
 {
     if e.number == numbers::RETIRED {
-        return bare(retired_form(j));
+        return retired(j);
     }
     let early = (1 <= e.number) & (e.number <= numbers::BAD_WALK_TIME);
     if early {
-        return first::nothing();
+        return None;
     }
     account(e, j)
 }

@@ -1,19 +1,19 @@
 // The phrases before the stations': the verdict, and behind it the first fault, the header's numbers that are out of their ranges, τ, or the header.
 ghost use Rattle.std.specs.Prelude.{◌≡◌};
 ghost use Rattle.fields.specs.Fields.{is_allowed};
-ghost use Rattle.command_explain.specs.First.{nothing, verdict_form, verdict, kind_at, may_stand, read_as, stands, may_stand_by, fault_phrase, row_at, out_form, header_out, header_phrase, tau_out, header, one_line, second_phrase, first_phrase};
+ghost use Rattle.command_explain.specs.First.{bare, verdict_form, verdict, kind_at, may_stand, read_as, stands, may_stand_by, fault_phrase, row_at, out_form, header_out, header_phrase, tau_out, header, one_line, second_phrase, first_phrase};
 
 use crate::{Explained, Form, Phrase, Place};
 use fields::Passed;
 use sets::Head;
 use units::numbers;
 
-// No words.
-pub(crate) fn nothing() -> Phrase
-    ensures { result ≡ nothing }
+// A form without numbers.
+pub(crate) fn bare(form: Form) -> Phrase
+    ensures { result ≡ bare form }
 {
     Phrase {
-        form: Form::Nothing,
+        form,
         numbers: [0; 6],
     }
 }
@@ -30,17 +30,16 @@ fn verdict(e: Explained) -> Phrase
     ensures { result ≡ verdict e }
 {
     if e.number != numbers::ACCEPTED {
-        let number = e.number as u64;
+        let number = u64::from(e.number);
         return Phrase {
             form: Form::Refused,
             numbers: [number, 0, 0, 0, 0, 0],
         };
     }
-    let n = units::wide(e.set.n);
-    let ttrt = units::wide(e.set.head.ttrt);
-    let form = verdict_form(e.plan);
+    let n = u64::from(e.set.n);
+    let ttrt = u64::from(e.set.head.ttrt);
     Phrase {
-        form,
+        form: verdict_form(e.plan),
         numbers: [n, ttrt, e.sums.tau, e.sums.spare, 0, 0],
     }
 }
@@ -59,52 +58,42 @@ pub(crate) struct Kind {
 fn kind_at(k: usize) -> Kind
     ensures { result ≡ kind_at k }
 {
-    if k == 0 {
-        return Kind {
+    match k {
+        0 => Kind {
             tag: fields::HEAD_TAG,
             size: 4,
             form: Form::MayTtrt,
-        };
-    }
-    if k == 1 {
-        return Kind {
+        },
+        1 => Kind {
             tag: fields::STATION_TAG,
             size: 16,
             form: Form::MayStation,
-        };
-    }
-    if k == 2 {
-        return Kind {
+        },
+        2 => Kind {
             tag: fields::ALLOCATION_TAG,
             size: 4,
             form: Form::MayShare,
-        };
-    }
-    if k == 3 {
-        return Kind {
+        },
+        3 => Kind {
             tag: fields::MODE_TAG,
             size: 1,
             form: Form::MayMode,
-        };
-    }
-    if k == 4 {
-        return Kind {
+        },
+        4 => Kind {
             tag: fields::FRAME_TAG,
             size: 4,
             form: Form::MayFrame,
-        };
-    }
-    if k == 5 {
-        return Kind {
+        },
+        5 => Kind {
             tag: fields::GRID_TAG,
             size: 4,
             form: Form::MayGrid,
-        };
-    }
-    Kind {
-        tag: fields::END_TAG,
-        size: 0,
-        form: Form::MayEnd,
+        },
+        _ => Kind {
+            tag: fields::END_TAG,
+            size: 0,
+            form: Form::MayEnd,
+        },
     }
 }
 
@@ -118,20 +107,19 @@ fn is_allowed(passed: Passed, tag: u8, size: u8) -> bool
 }
 
 // Kind k, if it may stand there.
-fn may_stand(passed: Passed, k: usize) -> Phrase
+fn may_stand(passed: Passed, k: usize) -> Option<Phrase>
     ensures { result ≡ may_stand passed k }
 {
     let kind = kind_at(k);
     if !is_allowed(passed, kind.tag, kind.size) {
-        return nothing();
+        return None;
     }
-    let form = kind.form;
-    let tag = kind.tag as u64;
-    let size = kind.size as u64;
-    Phrase {
-        form,
+    let tag = u64::from(kind.tag);
+    let size = u64::from(kind.size);
+    Some(Phrase {
+        form: kind.form,
         numbers: [tag, size, 0, 0, 0, 0],
-    }
+    })
 }
 
 // As what the bytes were read.
@@ -139,15 +127,9 @@ fn read_as(plan: bool) -> Phrase
     ensures { result ≡ read_as plan }
 {
     if plan {
-        return Phrase {
-            form: Form::AsPlan,
-            numbers: [0; 6],
-        };
+        return bare(Form::AsPlan);
     }
-    Phrase {
-        form: Form::AsRequest,
-        numbers: [0; 6],
-    }
+    bare(Form::AsRequest)
 }
 
 // What stands at the place of the fault. Behind the end field, and where fewer than three bytes are left, it is said only how many.
@@ -169,33 +151,27 @@ fn stands(number: u8, place: Place) -> Phrase
 }
 
 // What may stand there: behind the end field nothing.
-fn may_stand_by(number: u8, passed: Passed, k: usize) -> Phrase
+fn may_stand_by(number: u8, passed: Passed, k: usize) -> Option<Phrase>
     ensures { result ≡ may_stand_by number passed k }
 {
     if number != numbers::RUNS_ON {
         return may_stand(passed, k);
     }
     if k == 0 {
-        return Phrase {
-            form: Form::MayNothing,
-            numbers: [0; 6],
-        };
+        return Some(bare(Form::MayNothing));
     }
-    nothing()
+    None
 }
 
 // Phrase j of a first fault.
-fn fault_phrase(e: Explained, j: usize) -> Phrase
+fn fault_phrase(e: Explained, j: usize) -> Option<Phrase>
     ensures { result ≡ fault_phrase e j }
 {
-    if j == 0 {
-        return read_as(e.plan);
+    match j {
+        0 => Some(read_as(e.plan)),
+        1 => Some(stands(e.number, e.place)),
+        _ => may_stand_by(e.number, e.place.passed, j - 2),
     }
-    let place = e.place;
-    if j == 1 {
-        return stands(e.number, place);
-    }
-    may_stand_by(e.number, place.passed, j - 2)
 }
 
 // ---- 4
@@ -213,35 +189,31 @@ pub(crate) struct Row {
 fn row_at(k: usize) -> Row
     ensures { result ≡ row_at k }
 {
-    if k == 0 {
-        return Row {
+    match k {
+        0 => Row {
             tag: fields::HEAD_TAG,
             low: 1,
             out: Form::TtrtOut,
             one: Form::TtrtOut,
-        };
-    }
-    if k == 1 {
-        return Row {
+        },
+        1 => Row {
             tag: fields::MODE_TAG,
             low: 2,
             out: Form::ModeOut,
             one: Form::ModeOne,
-        };
-    }
-    if k == 2 {
-        return Row {
+        },
+        2 => Row {
             tag: fields::FRAME_TAG,
             low: 2,
             out: Form::FrameOut,
             one: Form::FrameOne,
-        };
-    }
-    Row {
-        tag: fields::GRID_TAG,
-        low: 2,
-        out: Form::GridOut,
-        one: Form::GridOne,
+        },
+        _ => Row {
+            tag: fields::GRID_TAG,
+            low: 2,
+            out: Form::GridOut,
+            one: Form::GridOne,
+        },
     }
 }
 
@@ -250,40 +222,38 @@ fn out_form(row: Row, value: u32) -> Form
     ensures { result ≡ out_form row value }
 {
     if value == fields::ABSENT {
-        let one = row.one;
-        return one;
+        row.one
+    } else {
+        row.out
     }
-    let out = row.out;
-    out
 }
 
 // Field k of the header, if its number is out of range.
-fn header_out(h: Head, said: Head, k: usize) -> Phrase
+fn header_out(h: Head, said: Head, k: usize) -> Option<Phrase>
     ensures { result ≡ header_out h said k }
 {
     let row = row_at(k);
     let range = faults::header_range(h, row.tag);
     if !range.out {
-        return nothing();
+        return None;
     }
     let stands = faults::header_range(said, row.tag);
-    let value = units::wide(stands.value);
-    let high = units::wide(range.high);
-    let form = out_form(row, stands.value);
-    Phrase {
-        form,
+    let value = u64::from(stands.value);
+    let high = u64::from(range.high);
+    Some(Phrase {
+        form: out_form(row, stands.value),
         numbers: [value, row.low, high, 0, 0, 0],
-    }
+    })
 }
 
 // Phrase j of these; there are four.
-fn header_phrase(e: Explained, j: usize) -> Phrase
+fn header_phrase(e: Explained, j: usize) -> Option<Phrase>
     ensures { result ≡ header_phrase e j }
 {
     if j < 4 {
         return header_out(e.set.head, e.said, j);
     }
-    nothing()
+    None
 }
 
 // ---- 5 and the header
@@ -292,7 +262,7 @@ fn header_phrase(e: Explained, j: usize) -> Phrase
 fn tau_out(e: Explained) -> Phrase
     ensures { result ≡ tau_out e }
 {
-    let ttrt = units::wide(e.set.head.ttrt);
+    let ttrt = u64::from(e.set.head.ttrt);
     Phrase {
         form: Form::TauOut,
         numbers: [e.sums.tau, 1, ttrt, 0, 0, 0],
@@ -303,10 +273,10 @@ fn tau_out(e: Explained) -> Phrase
 fn header(h: Head) -> Phrase
     ensures { result ≡ header h }
 {
-    let ttrt = units::wide(h.ttrt);
-    let mode = units::wide(h.mode);
-    let frame = units::wide(h.frame);
-    let grid = units::wide(h.grid);
+    let ttrt = u64::from(h.ttrt);
+    let mode = u64::from(h.mode);
+    let frame = u64::from(h.frame);
+    let grid = u64::from(h.grid);
     Phrase {
         form: Form::Header,
         numbers: [ttrt, mode, frame, grid, 0, 0],
@@ -316,20 +286,20 @@ fn header(h: Head) -> Phrase
 // ---- all of them
 
 // The line behind the verdict, where it is only one.
-fn one_line(e: Explained, j: usize) -> Phrase
+fn one_line(e: Explained, j: usize) -> Option<Phrase>
     ensures { result ≡ one_line e j }
 {
     if j != 0 {
-        return nothing();
+        return None;
     }
     if e.number == numbers::BAD_WALK_TIME {
-        return tau_out(e);
+        return Some(tau_out(e));
     }
-    header(e.set.head)
+    Some(header(e.set.head))
 }
 
 // Phrase j behind the verdict.
-fn second(e: Explained, j: usize) -> Phrase
+fn second(e: Explained, j: usize) -> Option<Phrase>
     ensures { result ≡ second_phrase e j }
 {
     let walked = (1 <= e.number) & (e.number <= numbers::RUNS_ON);
@@ -343,11 +313,11 @@ fn second(e: Explained, j: usize) -> Phrase
 }
 
 // Phrase j before the stations'.
-pub(crate) fn phrase(e: Explained, j: usize) -> Phrase
+pub(crate) fn phrase(e: Explained, j: usize) -> Option<Phrase>
     ensures { result ≡ first_phrase e j }
 {
     if j == 0 {
-        return verdict(e);
+        return Some(verdict(e));
     }
     second(e, j - 1)
 }

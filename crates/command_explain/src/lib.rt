@@ -18,8 +18,6 @@ use sets::{Head, Set};
 // The forms of words. What each of them says stands in `adviser`.
 #[derive(Clone, Copy)]
 pub enum Form {
-    // No words.
-    Nothing,
     // The verdict.
     Refused,
     Planned,
@@ -141,7 +139,7 @@ pub struct Explained {
     pub grid_cause: bool,
 }
 
-// How many phrases stand before the stations', at each station, and behind them; those that have no words among them.
+// How many phrases stand before the stations', at each station, and behind them; the places that have none among them.
 pub const FIRST_COUNT: usize = 10;
 
 pub const STATION_COUNT: usize = 5;
@@ -182,8 +180,8 @@ pub fn phrase_count(e: Explained) -> usize
     FIRST_COUNT + STATION_COUNT * n + LAST_COUNT
 }
 
-// Phrase k; behind the last of them there is none.
-pub fn phrase_at(e: Explained, k: usize) -> Phrase
+// Phrase k, if there is one at this place.
+pub fn phrase_at(e: Explained, k: usize) -> Option<Phrase>
     ensures { result ≡ phrase_at e k }
 {
     if k < FIRST_COUNT {

@@ -14,20 +14,17 @@ use units::numbers;
 fn left_from(bs: &[u8], at: usize) -> usize
     ensures { result ≡ left bs.now at }
 {
-    if bs.len() < at {
-        return 0;
-    }
-    bs.len() - at
+    bs.len().saturating_sub(at)
 }
 
 // The byte at a place; 0 where there is none.
 fn byte_or_zero(bs: &[u8], at: usize) -> u32
     ensures { ByteOrZero bs.now at result }
 {
-    if bs.len() <= at {
-        return 0;
+    match bs.get(at) {
+        Some(byte) => u32::from(*byte),
+        None => 0,
     }
-    fields::bytes::wide(bs[at])
 }
 
 // The bytes are a plan sheet if they stop being a request sheet at an allocation, behind a station.
@@ -36,9 +33,8 @@ pub(crate) fn is_plan(bs: &[u8]) -> bool
 {
     let scanned = field_reader::scan_sheet(bs, false);
     let tag = byte_or_zero(bs, scanned.at);
-    let share = fields::bytes::wide(fields::ALLOCATION_TAG);
-    let passed = scanned.passed;
-    (1 <= passed.stations) & (tag == share)
+    let share = u32::from(fields::ALLOCATION_TAG);
+    (1 <= scanned.passed.stations) & (tag == share)
 }
 
 // The number and S: of a plan sheet those of reading, of a request sheet those of `plan`.
@@ -48,12 +44,10 @@ pub(crate) fn judged(plan: bool, given: ReadPlan) -> ReadPlan
     if plan {
         return given;
     }
-    let set = given.set;
-    let request = ReadRequest {
-        set,
+    command_plan::plan_of(ReadRequest {
+        set: given.set,
         number: given.number,
-    };
-    command_plan::plan_of(request)
+    })
 }
 
 // What stands at a place, where so many bytes are passed over.
@@ -71,15 +65,15 @@ fn place_at(bs: &[u8], at: usize, skipped: usize, passed: Passed) -> Place
             passed,
         };
     }
-    let high = fields::bytes::wide(bs[at + 1]);
-    let low = fields::bytes::wide(bs[at + 2]);
+    let high = u64::from(bs[at + 1]);
+    let low = u64::from(bs[at + 2]);
     let byte = at + skipped;
     let behind = there - skipped;
     Place {
         byte: byte as u64,
         left: behind as u64,
-        tag: units::wide(fields::bytes::wide(bs[at])),
-        size: units::wide(high * 256 + low),
+        tag: u64::from(bs[at]),
+        size: high * 256 + low,
         passed,
     }
 }
@@ -99,8 +93,7 @@ pub(crate) fn place_of(bs: &[u8], plan: bool) -> Place
     ensures { result ≡ place_in plan bs.now }
 {
     let scanned = field_reader::scan_sheet(bs, plan);
-    let passed = scanned.passed;
-    place_at(bs, scanned.at, skipped_by(scanned.number), passed)
+    place_at(bs, scanned.at, skipped_by(scanned.number), scanned.passed)
 }
 
 // ---- the header's numbers as they stand in their fields
@@ -111,7 +104,7 @@ fn behind(bs: &[u8], at: usize, tag: u8) -> usize
     ensures { (result ≡ behind_tag bs.now tag at) × (result < at + 8) }
 {
     let there = byte_or_zero(bs, at);
-    if there == fields::bytes::wide(tag) {
+    if there == u32::from(tag) {
         return at + 3 + fields::further_size(tag);
     }
     at
@@ -135,10 +128,11 @@ pub(crate) fn said_head(bs: &[u8], h: Head) -> Head
     let grid_at = behind(bs, frame_at, fields::FRAME_TAG);
     let mode = said_number(bs, 10, h.mode);
     let frame = said_number(bs, frame_at + 6, h.frame);
+    let grid = said_number(bs, grid_at + 6, h.grid);
     Head {
-        ttrt: h.ttrt,
         mode,
         frame,
-        grid: said_number(bs, grid_at + 6, h.grid),
+        grid,
+        ..h
     }
 }

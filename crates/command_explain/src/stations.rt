@@ -2,7 +2,8 @@
 ghost use Rattle.std.specs.Prelude.{◌≡◌, ◌<◌};
 ghost use Rattle.command_explain.specs.Stations.{out_form, ranged_out, station_out, walk_phrase, grounds, too_much_phrase, times, behind_smallest, smallest_phrase, held_form, held, given_phrase, in_range_phrase, station_phrase};
 
-use crate::{Explained, Form, Phrase, first};
+use crate::first::bare;
+use crate::{Explained, Form, Phrase};
 use faults::{Holding, Ranged};
 use reasons::Grounds;
 use sets::Head;
@@ -14,23 +15,17 @@ use units::numbers;
 fn out_form(j: u8) -> Form
     ensures { result ≡ out_form j }
 {
-    if j == 0 {
-        return Form::WalkOut;
+    match j {
+        0 => Form::WalkOut,
+        1 => Form::LongestOut,
+        2 => Form::DeadlineOut,
+        3 => Form::GapOut,
+        _ => Form::ShareOut,
     }
-    if j == 1 {
-        return Form::LongestOut;
-    }
-    if j == 2 {
-        return Form::DeadlineOut;
-    }
-    if j == 3 {
-        return Form::GapOut;
-    }
-    Form::ShareOut
 }
 
 // Number j of a station, if it is out of its range.
-fn station_out(e: Explained, i: usize, j: u8) -> Phrase
+fn station_out(e: Explained, i: usize, j: u8) -> Option<Phrase>
     requires { i < 128 }
     ensures { result ≡ station_out e i j }
 {
@@ -45,37 +40,36 @@ fn station_out(e: Explained, i: usize, j: u8) -> Phrase
 }
 
 // A number with its range, if it is out of it.
-fn ranged_out(i: usize, j: u8, range: Ranged) -> Phrase
+fn ranged_out(i: usize, j: u8, range: Ranged) -> Option<Phrase>
     ensures { result ≡ ranged_out i j range }
 {
     if !range.out {
-        return first::nothing();
+        return None;
     }
-    let value = units::wide(range.value);
-    let low = units::wide(range.low);
-    let high = units::wide(range.high);
+    let value = u64::from(range.value);
+    let low = u64::from(range.low);
+    let high = u64::from(range.high);
     let station = i as u64;
-    let form = out_form(j);
-    Phrase {
-        form,
+    Some(Phrase {
+        form: out_form(j),
         numbers: [station, value, low, high, 0, 0],
-    }
+    })
 }
 
 // The walk time, if it is above 0.
-fn walk(i: usize, w: u32, j: u8) -> Phrase
+fn walk(i: usize, w: u32, j: u8) -> Option<Phrase>
     ensures { result ≡ walk_phrase i w j }
 {
     let said = (j == 0) & (w != 0);
     if !said {
-        return first::nothing();
+        return None;
     }
     let station = i as u64;
-    let time = units::wide(w);
-    Phrase {
+    let time = u64::from(w);
+    Some(Phrase {
         form: Form::Walk,
         numbers: [station, time, 0, 0, 0, 0],
-    }
+    })
 }
 
 // ---- what S rests on
@@ -86,12 +80,12 @@ fn grounds(h: Head, i: usize, c: u32, d: u32, s: u32) -> Phrase
 {
     let rests = reasons::grounds_of(h.grid, h.ttrt, c, d);
     let station = i as u64;
-    let longest = units::wide(c);
-    let deadline = units::wide(d);
-    let whole = units::wide(rests.whole);
-    let share = units::wide(s);
+    let longest = u64::from(c);
+    let deadline = u64::from(d);
+    let whole = u64::from(rests.whole);
+    let share = u64::from(s);
     if h.mode == numbers::FDDI {
-        let rest = units::room(units::wide(h.ttrt), rests.alpha);
+        let rest = u64::from(h.ttrt).saturating_sub(rests.alpha);
         return Phrase {
             form: Form::FddiGrounds,
             numbers: [station, longest, deadline, whole, rest, share],
@@ -107,24 +101,18 @@ fn grounds(h: Head, i: usize, c: u32, d: u32, s: u32) -> Phrase
 fn too_much(available: u64, s: u32) -> Phrase
     ensures { result ≡ too_much_phrase available s }
 {
-    let above = reasons::too_much(available, units::wide(s));
+    let above = reasons::too_much(available, u64::from(s));
     if above {
-        return Phrase {
-            form: Form::TooMuch,
-            numbers: [0; 6],
-        };
+        return bare(Form::TooMuch);
     }
-    Phrase {
-        form: Form::End,
-        numbers: [0; 6],
-    }
+    bare(Form::End)
 }
 
 // X at S, X at the next smaller S, and the largest C.
 fn times(rests: Grounds, largest: u32) -> Phrase
     ensures { result ≡ times rests largest }
 {
-    let room = units::wide(largest);
+    let room = u64::from(largest);
     if rests.smallest == 0 {
         return Phrase {
             form: Form::FirstTime,
@@ -148,7 +136,7 @@ fn behind_smallest(e: Explained, rests: Grounds, largest: u32) -> Phrase
 }
 
 // Phrase j of a station with its smallest S: of a request that is accepted, or refused with 6.
-fn smallest(e: Explained, i: usize, j: u8) -> Phrase
+fn smallest(e: Explained, i: usize, j: u8) -> Option<Phrase>
     requires { i < 128 }
     ensures { result ≡ smallest_phrase e i j }
 {
@@ -159,13 +147,11 @@ fn smallest(e: Explained, i: usize, j: u8) -> Phrase
     let largest = rooms.c[i];
     let h = set.head;
     let rests = reasons::grounds_of(h.grid, h.ttrt, c, d);
-    if j == 0 {
-        return grounds(h, i, c, d, rests.smallest);
+    match j {
+        0 => Some(grounds(h, i, c, d, rests.smallest)),
+        1 => Some(behind_smallest(e, rests, largest)),
+        _ => None,
     }
-    if j == 1 {
-        return behind_smallest(e, rests, largest);
-    }
-    first::nothing()
 }
 
 // ---- what a station of a given plan holds
@@ -193,15 +179,14 @@ fn held_form(holding: Holding) -> Form
 fn held(holding: Holding) -> Phrase
     ensures { result ≡ held holding }
 {
-    let form = held_form(holding);
     Phrase {
-        form,
+        form: held_form(holding),
         numbers: [holding.time, holding.excess, 0, 0, 0, 0],
     }
 }
 
 // Phrase j of a station with its given S. Of a plan that is refused only the stations that have a fault are named.
-fn given(e: Explained, i: usize, j: u8) -> Phrase
+fn given(e: Explained, i: usize, j: u8) -> Option<Phrase>
     requires { i < 128 }
     ensures { result ≡ given_phrase e i j }
 {
@@ -212,27 +197,24 @@ fn given(e: Explained, i: usize, j: u8) -> Phrase
     let faulty = holding.short | holding.off_grid;
     let named = (e.number == numbers::ACCEPTED) | faulty;
     if !named {
-        return first::nothing();
+        return None;
     }
-    if j == 0 {
-        return grounds(set.head, i, set.c[i], set.d[i], alloc.s[i]);
+    match j {
+        0 => Some(grounds(set.head, i, set.c[i], set.d[i], alloc.s[i])),
+        1 => Some(held(holding)),
+        _ => None,
     }
-    if j == 1 {
-        return held(holding);
-    }
-    first::nothing()
 }
 
 // ---- all of them
 
 // Phrase j of a station where the numbers are in range.
-fn in_range(e: Explained, i: usize, j: u8) -> Phrase
+fn in_range(e: Explained, i: usize, j: u8) -> Option<Phrase>
     requires { i < 128 }
     ensures { result ≡ in_range_phrase e i j }
 {
-    let retired = e.number == numbers::RETIRED;
-    if retired {
-        return first::nothing();
+    if e.number == numbers::RETIRED {
+        return None;
     }
     if e.plan {
         return given(e, i, j);
@@ -241,7 +223,7 @@ fn in_range(e: Explained, i: usize, j: u8) -> Phrase
 }
 
 // Phrase j of station i.
-pub(crate) fn phrase(e: Explained, i: usize, j: u8) -> Phrase
+pub(crate) fn phrase(e: Explained, i: usize, j: u8) -> Option<Phrase>
     requires { i < 128 }
     ensures { result ≡ station_phrase e i j }
 {
@@ -249,8 +231,7 @@ pub(crate) fn phrase(e: Explained, i: usize, j: u8) -> Phrase
         return station_out(e, i, j);
     }
     if e.number == numbers::BAD_WALK_TIME {
-        let set = e.set;
-        return walk(i, set.w[i], j);
+        return walk(i, e.set.w[i], j);
     }
     in_range(e, i, j)
 }

@@ -75,7 +75,7 @@ first_kept u e = rw (ne_eqb u.unread 0 e) refl
 -- ---- a line of changes
 
 module _ (t : Train) (s : Scan) where
-  pub changed_empty : is_empty_line s ≡ true → record { train = t; change = Nothing; unread = false } ≡ line_changed t s
+  pub changed_empty : is_empty_line s ≡ true → record { train = t; change = Nothing } ≡ line_changed t s
   unfolding line_changed
   changed_empty e = rw e
 
@@ -93,6 +93,6 @@ module _ (t : Train) (s : Scan) where
   changed_fewer c e i j k m = rw (e, i, j, k) (ap told_of m)
 
   pub changed_unread : is_empty_line s ≡ false → is_change s ≡ false → is_couple s ≡ false → is_uncouple s ≡ false
-      → record { train = t; change = Unread; unread = true } ≡ line_changed t s
+      → record { train = t; change = Unread } ≡ line_changed t s
   unfolding line_changed
   changed_unread e i j k = rw (e, i, j, k)

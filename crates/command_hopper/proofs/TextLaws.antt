@@ -4,17 +4,16 @@ use mathlib.Core.Path.{◌≡◌, refl, sym, ap, subst, ◌∙◌}
 use mathlib.Core.List.{List, [], ◌∷◌, ◌++◌, append_assoc}
 use mathlib.Core.Logic.{◌≢◌}
 use mathlib.Core.Bool.{false}
-use native.Mathlib.Numerals.{add-one}
 use native.Mathlib.Omega.{arith}
 use lib.ListN.{length, take}
-use lib.Seq.{take-suc}
+use Rattle.std.proofs.lemmas.List.{take_more}
 use borrow.Author.Tests.{eq-eqb, ne_eqb, lt-ltb, le-ltb}
 use Rattle.units.specs.Places.{at}
 use Rattle.text.specs.Text.{newline, page_size, Printed}
 use Rattle.text.proofs.TextLaws.{put_none, printed, not_printed}
 use Rattle.line_reader.specs.Scan.{fresh_scan, stepped, next_line}
 use Rattle.command_hopper.specs.Lists.{line_listed, list_on, list_over}
-use Rattle.command_hopper.specs.Refits.{line_changed, change_text, refit_on, refit_said, refit_unread, EndedLine, RefitRead, refit_over, refit_text}
+use Rattle.command_hopper.specs.Refits.{line_changed, change_text, is_unread, refit_on, refit_said, refit_unread, EndedLine, RefitRead, refit_over, refit_text}
 use Rattle.command_hopper.specs.declared.Changed.{Changed}
 use Rattle.command_hopper.specs.declared.Listing.{Listing}
 use Rattle.command_hopper.specs.declared.Refit.{Refit}
@@ -38,19 +37,18 @@ list_append u (b ∷ first) rest = list_append (list_on u b) first rest
 pub list_more : (u : Listing) (text : List ℕ) (i : ℕ) → i < length text → list_over u (take (i + 1) text) ≡ list_on (list_over u (take i text)) (at text i)
 unfolding list_over
 list_more u text i l =
-    let e : take (i + 1) text ≡ take i text ++ (at text i ∷ []) = rw add-one (take-suc text i 0 l) in
-    ap (list_over u) e ∙ list_append u (take i text) (at text i ∷ [])
+    ap (list_over u) (take_more text i 0 l) ∙ list_append u (take i text) (at text i ∷ [])
 
 -- ---- changes
 
 -- a line that ended
 pub ended : (u : Refit) (before after : List ℕ) (d : Changed) (n : ℕ) → d ≡ line_changed u.train u.scan → Printed (change_text d.change d.train u.line) before after n
-    → EndedLine u before after (record { refit = record { train = d.train; scan = fresh_scan; line = next_line u.line }; length = n; unread = d.unread })
+    → EndedLine u before after (record { refit = record { train = d.train; scan = fresh_scan; line = next_line u.line }; length = n; unread = is_unread d.change })
 ended u before after d n e h =
     record {
       behind = ap (λ (x : Changed). record { train = x.train; scan = fresh_scan; line = next_line u.line }) e;
       said = subst (λ (x : Changed). Printed (change_text x.change x.train u.line) before after n) e h;
-      unread = ap (λ (x : Changed). x.unread) e;
+      unread = ap (λ (x : Changed). is_unread x.change) e;
     }
 
 module _ (u : Refit) (b : ℕ) (before : List ℕ) where

@@ -58,16 +58,16 @@ is_uncouple s = is_line s (code_of uncouple_word) 0
 
 -- a change was asked for: the train then, and the number
 abbrev pub told_of : Coupled → Changed
-told_of c = record { train = c.train; change = Answered c.number; unread = false }
+told_of c = record { train = c.train; change = Answered c.number }
 
 -- what a line asks for, and the train then
 unfoldable pub line_changed : Train → Scan → Changed
 line_changed t s =
-    cond (is_empty_line s) (record { train = t; change = Nothing; unread = false })
+    cond (is_empty_line s) (record { train = t; change = Nothing })
     (cond (is_change s) (told_of (changed_wagon t (record { 0 = at s.values 0 }) (wagon_in s 1)))
     (cond (is_couple s) (told_of (changed_train t (with_more t.list (wagon_in s 0))))
     (cond (is_uncouple s) (told_of (changed_train t (without_last t.list)))
-    (record { train = t; change = Unread; unread = true }))))
+    (record { train = t; change = Unread }))))
 
 -- the plan now in force, or the refusal
 abbrev pub answered_text : ℕ → Train → List ℕ
@@ -78,6 +78,12 @@ unfoldable pub change_text : Change → Train → ℕ → List ℕ
 change_text Nothing t n = []
 change_text (Answered number) t n = answered_text number t
 change_text Unread t n = unread_line n
+
+-- the line cannot be read
+abbrev pub is_unread : Change → Bool
+is_unread Nothing = false
+is_unread (Answered number) = false
+is_unread Unread = true
 
 -- ---- byte after byte
 
@@ -94,7 +100,7 @@ pub record EndedLine (u : Refit) (before after : List ℕ) (r : Refitted) : Type
   pub said : Printed
       (change_text (line_changed u.train u.scan).change (line_changed u.train u.scan).train u.line)
       before after r.length
-  pub unread : r.unread ≡ (line_changed u.train u.scan).unread
+  pub unread : r.unread ≡ is_unread (line_changed u.train u.scan).change
 
 -- one byte more: a newline ends the line
 unfoldable pub refit_on : Refit → ℕ → Refit
@@ -110,7 +116,7 @@ refit_said u b =
 
 -- a line ends there that cannot be read
 unfoldable pub refit_unread : Refit → ℕ → Bool
-refit_unread u b = cond (eqb b newline) (line_changed u.train u.scan).unread false
+refit_unread u b = cond (eqb b newline) (is_unread (line_changed u.train u.scan).change) false
 
 -- the page has no room for every answer
 abbrev pub is_small : List ℕ → Bool

@@ -19,11 +19,9 @@ const UNCOUPLE: u64 = 8_461_810_080_238_562_405;
 fn told_of(answer: Coupled) -> Changed
     ensures { result ≡ told_of answer }
 {
-    let train = answer.train;
     Changed {
-        train,
+        train: answer.train,
         change: Change::Answered(answer.number),
-        unread: false,
     }
 }
 
@@ -35,14 +33,12 @@ fn line_changed(train: Train, s: Scan) -> Changed
         return Changed {
             train,
             change: Change::Nothing,
-            unread: false,
         };
     }
     if command_compose::is_line(s, CHANGE, 4) {
-        let values = s.values;
-        let place = values[0];
+        let place = Station(s.values[0]);
         let wagon = wagon_lines::wagon_in(s, 1);
-        return told_of(hopper::change_wagon(train, Station(place), wagon));
+        return told_of(hopper::change_wagon(train, place, wagon));
     }
     if command_compose::is_line(s, COUPLE, 3) {
         let wagon = wagon_lines::wagon_in(s, 0);
@@ -54,7 +50,6 @@ fn line_changed(train: Train, s: Scan) -> Changed
     Changed {
         train,
         change: Change::Unread,
-        unread: true,
     }
 }
 
@@ -66,8 +61,7 @@ fn put_answered(page: &mut [u8], number: u8, train: Train) -> usize
     if number != numbers::ACCEPTED {
         return text::put_refused(page, 0, number);
     }
-    let list = train.list;
-    let said = crate::hopper_text(list, page);
+    let said = crate::hopper_text(train.list, page);
     said.length
 }
 
@@ -88,20 +82,15 @@ pub(crate) fn end_line(refit: Refit, page: &mut [u8]) -> Refitted
     requires { page_size ≤ length page.old }
     ensures { EndedLine refit page.old page.new result }
 {
-    let train = refit.train;
-    let read = refit.scan;
-    let done = line_changed(train, read);
-    let behind = done.train;
-    let change = done.change;
-    let length = put_change(page, change, behind, refit.line);
-    let scan = line_reader::fresh();
+    let done = line_changed(refit.train, refit.scan);
+    let length = put_change(page, done.change, done.train, refit.line);
     Refitted {
         refit: Refit {
-            train: behind,
-            scan,
+            train: done.train,
+            scan: line_reader::fresh(),
             line: line_reader::next_line(refit.line),
         },
         length,
-        unread: done.unread,
+        unread: done.change.is_unread(),
     }
 }

@@ -7,7 +7,7 @@ mod wagon_lines;
 ghost use Rattle.std.specs.Prelude.{◌≡◌};
 ghost use Rattle.text.specs.Text.{Says};
 ghost use Rattle.command_hopper.specs.Lists.{list_start, list_on, list_over};
-ghost use Rattle.command_hopper.specs.Refits.{hopper_text, hopper_number, refit_from, RefitRead};
+ghost use Rattle.command_hopper.specs.Refits.{is_unread, hopper_text, hopper_number, refit_from, RefitRead};
 
 use hopper::{Train, WagonList};
 use line_reader::Scan;
@@ -36,12 +36,20 @@ pub enum Change {
     Unread,
 }
 
-// What a line did: the train behind it, the answer, and whether the line cannot be read.
+impl Change {
+    // The line is neither empty nor a change.
+    pub fn is_unread(self) -> bool
+        ensures { result ≡ is_unread self }
+    {
+        matches!(self, Change::Unread)
+    }
+}
+
+// What a line did: the train behind it, and the answer.
 #[derive(Clone, Copy)]
 pub(crate) struct Changed {
     train: Train,
     change: Change,
-    unread: bool,
 }
 
 // A text of changes that is being read: the train, what was read of the line, and the line's number.
@@ -68,11 +76,9 @@ pub struct Refitted {
 pub fn begin_list() -> Listing
     ensures { result ≡ list_start }
 {
-    let list = hopper::blank_list();
-    let scan = line_reader::fresh();
     Listing {
-        list,
-        scan,
+        list: hopper::blank_list(),
+        scan: line_reader::fresh(),
         line: 1,
         unread: 0,
     }
@@ -85,15 +91,8 @@ pub fn list_byte(listing: Listing, byte: u8) -> Listing
     if byte == b'\n' {
         return wagon_lines::end_line(listing);
     }
-    let read = listing.scan;
-    let list = listing.list;
-    let scan = line_reader::step(read, byte);
-    Listing {
-        list,
-        scan,
-        line: listing.line,
-        unread: listing.unread,
-    }
+    let scan = line_reader::step(listing.scan, byte);
+    Listing { scan, ..listing }
 }
 
 // All the bytes of a piece of the text.
@@ -101,10 +100,8 @@ pub fn list_bytes(listing: Listing, text: &[u8]) -> Listing
     ensures { result ≡ list_over listing text.now }
 {
     let mut stands = listing;
-    let mut i: usize = 0;
-    while i < text.len() {
-        stands = list_byte(stands, text[i]);
-        i += 1;
+    for byte in text {
+        stands = list_byte(stands, *byte);
     }
     stands
 }
@@ -123,10 +120,9 @@ pub fn hopper_text(list: WagonList, page: &mut [u8]) -> Said
 pub fn begin_refit(train: Train) -> Refit
     ensures { result ≡ refit_from train }
 {
-    let scan = line_reader::fresh();
     Refit {
         train,
-        scan,
+        scan: line_reader::fresh(),
         line: 1,
     }
 }
@@ -145,15 +141,9 @@ pub fn refit_byte(refit: Refit, byte: u8, page: &mut [u8]) -> Refitted
     if byte == b'\n' {
         return change_lines::end_line(refit, page);
     }
-    let read = refit.scan;
-    let train = refit.train;
-    let scan = line_reader::step(read, byte);
+    let scan = line_reader::step(refit.scan, byte);
     Refitted {
-        refit: Refit {
-            train,
-            scan,
-            line: refit.line,
-        },
+        refit: Refit { scan, ..refit },
         length: 0,
         unread: false,
     }

@@ -14,10 +14,9 @@ pub(crate) fn wagon_in(s: Scan, first: usize) -> Wagon
     requires { Narrow s first }
     ensures { result ≡ wagon_in s first }
 {
-    let values = s.values;
-    let boxes = values[first];
-    let brake = values[first + 1];
-    let door = values[first + 2];
+    let boxes = s.values[first];
+    let brake = s.values[first + 1];
+    let door = s.values[first + 2];
     Wagon {
         boxes: boxes as u32,
         brake: brake as u32,
@@ -29,10 +28,9 @@ pub(crate) fn wagon_in(s: Scan, first: usize) -> Wagon
 fn on_next_line(listing: Listing, list: WagonList, unread: u64) -> Listing
     ensures { result ≡ on_next_line listing list unread }
 {
-    let scan = line_reader::fresh();
     Listing {
         list,
-        scan,
+        scan: line_reader::fresh(),
         line: line_reader::next_line(listing.line),
         unread,
     }
@@ -54,13 +52,12 @@ pub(crate) fn end_line(listing: Listing) -> Listing
     ensures { result ≡ line_listed listing }
 {
     let read = listing.scan;
-    let list = listing.list;
     if line_reader::is_empty_line(read) {
-        return on_next_line(listing, list, listing.unread);
+        return on_next_line(listing, listing.list, listing.unread);
     }
     if command_compose::is_line(read, WAGON, 3) {
-        let longer = hopper::with_more(list, wagon_in(read, 0));
+        let longer = hopper::with_more(listing.list, wagon_in(read, 0));
         return on_next_line(listing, longer, listing.unread);
     }
-    on_next_line(listing, list, first_unread(listing))
+    on_next_line(listing, listing.list, first_unread(listing))
 }

@@ -34,19 +34,13 @@ fn put_rule(page: &mut [u8], at: usize, rule: u8) -> usize
     requires { at + 20 ≤ length page.old }
     ensures { PutShort 20 page.old at (space ∷ rule_word rule) page.new result }
 {
-    if rule == 1 {
-        return text::put_short(page, at, b" station");
+    match rule {
+        1 => text::put_short(page, at, b" station"),
+        2 => text::put_short(page, at, b" start"),
+        3 => text::put_short(page, at, b" limit"),
+        4 => text::put_short(page, at, b" synchronous"),
+        _ => text::put_short(page, at, b" asynchronous"),
     }
-    if rule == 2 {
-        return text::put_short(page, at, b" start");
-    }
-    if rule == 3 {
-        return text::put_short(page, at, b" limit");
-    }
-    if rule == 4 {
-        return text::put_short(page, at, b" synchronous");
-    }
-    text::put_short(page, at, b" asynchronous")
 }
 
 // `record K RULE`.
@@ -69,7 +63,7 @@ fn put_frames(page: &mut [u8], at: usize, longest: u32) -> usize
 {
     let whole = text::put_short(page, at, b" whole frames of one");
     let long = text::put_short(page, whole, b" length up to");
-    let numbered = text::put_field(page, long, units::wide(longest));
+    let numbered = text::put_field(page, long, u64::from(longest));
     text::put_short(page, numbered, b", begun below")
 }
 
@@ -78,20 +72,13 @@ fn put_aim(page: &mut [u8], at: usize, rule: u8, longest: u32) -> usize
     requires { at + 81 ≤ length page.old }
     ensures { PutShort 81 page.old at (aim_of rule longest) page.new result }
 {
-    if rule == 1 {
-        return text::put_short(page, at, b" station");
+    match rule {
+        1 => text::put_short(page, at, b" station"),
+        2 => at,
+        3 => text::put_short(page, at, b" limit"),
+        _ if (rule == 4) | (longest == 1) => text::put_short(page, at, b" at most"),
+        _ => put_frames(page, at, longest),
     }
-    if rule == 2 {
-        return at;
-    }
-    if rule == 3 {
-        return text::put_short(page, at, b" limit");
-    }
-    let most = (rule == 4) | (longest == 1);
-    if most {
-        return text::put_short(page, at, b" at most");
-    }
-    put_frames(page, at, longest)
 }
 
 // What a start is counted from: the record before; where that is a mark, the visit before.
@@ -131,10 +118,10 @@ fn put_compared(
 {
     let named = text::put_short(page, at, b"expected");
     let aimed = put_aim(page, named, rule, longest);
-    let expected = text::put_field(page, aimed, units::wide(compared.expected));
+    let expected = text::put_field(page, aimed, u64::from(compared.expected));
     let counted = put_unit(page, expected, rule, before);
     let came = text::put_short(page, counted, b", found");
-    let found = text::put_field(page, came, units::wide(compared.found));
+    let found = text::put_field(page, came, u64::from(compared.found));
     text::put_end(page, found)
 }
 
@@ -145,11 +132,11 @@ fn put_mark(page: &mut [u8], at: usize, compared: Compared, mark: u32) -> usize
 {
     let named = text::put_short(page, at, b"expected");
     let below = text::put_short(page, named, b" a station below");
-    let stations = text::put_field(page, below, units::wide(compared.expected));
+    let stations = text::put_field(page, below, u64::from(compared.expected));
     let marks = text::put_short(page, stations, b" and mark 0 or 1");
     let said = text::put_short(page, marks, b", found");
-    let station = text::put_field(page, said, units::wide(compared.found));
-    let both = text::put_field(page, station, units::wide(mark));
+    let station = text::put_field(page, said, u64::from(compared.found));
+    let both = text::put_field(page, station, u64::from(mark));
     text::put_end(page, both)
 }
 
@@ -180,21 +167,18 @@ fn put_broken(page: &mut [u8], inspecting: Inspecting) -> usize
     ensures { PutShort 266 page.old 0 (broken_text inspecting) page.new result }
 {
     let set = inspecting.start.set;
-    let alloc = inspecting.start.alloc;
     let looked = inspecting.looked;
     let state = looked.inspection;
     let finding = inspection::found(state, 0);
     let named = put_record(page, 0, finding.record, state.rule);
-    let before = looked.before;
-    let last = looked.last;
-    let compared = inspection::compare(state, set, alloc, last);
+    let compared = inspection::compare(state, set, inspecting.start.alloc, looked.last);
     put_people(
         page,
         named,
         state.rule,
         set.head.frame,
-        before,
-        last,
+        looked.before,
+        looked.last,
         compared,
     )
 }

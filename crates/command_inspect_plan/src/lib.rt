@@ -79,7 +79,5 @@ pub fn inspect_text(plan: &[u8], inspecting: Inspecting, page: &mut [u8]) -> Fou
             accepted: false,
         };
     }
-    let set = read.set;
-    let alloc = read.alloc;
-    put_answer(set, alloc, inspecting, page)
+    put_answer(read.set, read.alloc, inspecting, page)
 }

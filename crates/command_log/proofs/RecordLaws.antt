@@ -36,6 +36,7 @@ use Rattle.command_run.specs.Runs.{byte_on, opened_run, piece_size}
 use Rattle.command_run.proofs.RunLaws.{did, piece_none, piece_whole}
 use Rattle.command_run.specs.declared.LineStep.{LineStep}
 use Rattle.command_run.specs.declared.OpenedRun.{OpenedRun}
+use Rattle.command_run.specs.Calls.{is_unread}
 use Rattle.command_log.specs.LogBytes.{record_from, if_accepted, visits_in, clock_after, counter_after, entries_by, first_unread, record_on, logged_at, record_after, logged_over}
 use Rattle.command_log.specs.LogBytes.{Records, RecordedPiece, RecordedOn, open_number, OpenedOn}
 use Rattle.command_log.specs.declared.Recording.{Recording}
@@ -49,14 +50,14 @@ pub record_byte : (k : Recording) (b : ℕ) (s : LineStep) → s ≡ byte_on k.r
       run = s.run;
       clock = clock_after k.clock (visits_in s.answer);
       counter = counter_after k.counter k.clock (visits_in s.answer);
-      unread = first_unread k.unread k.run.line s.unread;
+      unread = first_unread k.unread k.run.line (is_unread s.answer);
     }
     ≡ record_on k b)
     × (entries_bytes (entries_by k.counter k.clock s.answer) ≡ logged_at k b)
 unfolding record_on logged_at
 record_byte k b s e =
     let it = did k.run b e in
-    rw (← it.0, ← it.1, ← it.2) (refl, refl)
+    rw (← it.0, ← it.1) (refl, refl)
 
 -- ---- one record into the page
 

@@ -60,8 +60,7 @@ fn open_plan(plan: ReadPlan, out: &mut [u8]) -> OpenedLog
     ensures { OpenedOn plan out.old out.new result }
 {
     let opened = command_run::open_plan(plan);
-    let run = opened.run;
-    let recording = start(run);
+    let recording = start(opened.run);
     if opened.number != numbers::ACCEPTED {
         return OpenedLog {
             recording,
@@ -69,9 +68,7 @@ fn open_plan(plan: ReadPlan, out: &mut [u8]) -> OpenedLog
             number: opened.number,
         };
     }
-    let set = plan.set;
-    let alloc = plan.alloc;
-    let written = sheets::write_plan_fields(set, alloc, out);
+    let written = sheets::write_plan_fields(plan.set, plan.alloc, out);
     OpenedLog {
         recording,
         length: written.length,
@@ -102,8 +99,7 @@ fn record_visit(recorder: Recorder, visit: VisitAnswer, page: &mut [u8]) -> Reco
     if visit.number != numbers::ACCEPTED {
         return recorder;
     }
-    let seen = visit.record;
-    logs::add_visit(recorder, seen, page)
+    logs::add_visit(recorder, visit.record, page)
 }
 
 // The mark of a station. That of an accepted call is below N, and so below 128: its number fits a byte.
@@ -167,22 +163,15 @@ fn record_piece(recording: Recording, text: &[u8], end: usize, page: &mut [u8]) 
         counter: recording.counter,
         number: 0,
     };
-    let mut i: usize = 0;
-    while i < end {
-        let byte = text[i];
-        if byte == b'\n' {
+    for byte in &text[..end] {
+        if *byte == b'\n' {
             let ended = command_run::end_line(stands);
-            let answer = ended.answer;
-            recorder = record_answer(recorder, answer, page);
-            unread = first_unread(unread, stands.line, ended.unread);
-            let behind = ended.run;
-            stands = behind;
+            recorder = record_answer(recorder, ended.answer, page);
+            unread = first_unread(unread, stands.line, ended.answer.is_unread());
+            stands = ended.run;
         } else {
-            let read = stands.scan;
-            let more = line_reader::step(read, byte);
-            stands.scan = more;
+            stands.scan = line_reader::step(stands.scan, *byte);
         }
-        i += 1;
     }
     let behind = Recording {
         run: stands,

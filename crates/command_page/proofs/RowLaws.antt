@@ -1,5 +1,5 @@
 -- The rows of what each station did are those of the log's records: of those before the named one, of all where none is named.
-use Rattle.std.proofs.Common.{◌≡◌, ℕ, ◌+◌, ◌<◌, Bool, true, false, eqb, List, [], ◌∷◌, sym, refl, ap, ◌∙◌, subst, arith, eqb-true}
+use Rattle.std.proofs.Common.{◌≡◌, ℕ, ◌+◌, ◌<◌, Bool, true, eqb, List, [], ◌∷◌, sym, refl, ap, ◌∙◌, subst, arith, eqb-true}
 use mathlib.Core.Bool.{false≢true}
 use Rattle.units.specs.Places.{at}
 use Rattle.units.proofs.JudgingLaws.{and-true}

@@ -17,11 +17,7 @@ use units::numbers;
 fn is_other(p: ReadPlan, k: Inspecting) -> bool
     ensures { result ≡ is_other p k }
 {
-    let t = p.set;
-    let a = p.alloc;
-    let u = k.start.set;
-    let b = k.start.alloc;
-    !differences::same_plan(t, a, u, b)
+    !differences::same_plan(p.set, p.alloc, k.start.set, k.start.alloc)
 }
 
 // The plan sheet's refusal, the log's, another plan, a broken rule, or none.
@@ -62,10 +58,10 @@ pub(crate) fn refusal_of(given: bool, p: ReadPlan, k: Inspecting) -> u8
 fn bound_ticks(t: Set, a: Alloc) -> u64
     ensures { result ≡ bound_ticks t a }
 {
-    let ttrt = units::wide(t.head.ttrt);
+    let ttrt = u64::from(t.head.ttrt);
     if t.head.mode == numbers::FDDI {
-        let s = a.s;
-        return ttrt + units::sum_first(s, t.n) + units::room(units::wide(t.head.frame), 1);
+        let more = u64::from(t.head.frame).saturating_sub(1);
+        return ttrt + units::sum_first(a.s, t.n) + more;
     }
     ttrt
 }
@@ -74,18 +70,16 @@ fn bound_ticks(t: Set, a: Alloc) -> u64
 fn bound_of(t: Set, a: Alloc) -> u32
     ensures { result ≡ bound_of t a }
 {
-    let bound = units::least(bound_ticks(t, a), 4_294_967_295);
-    bound as u32
+    bound_ticks(t, a).min(4_294_967_295) as u32
 }
 
 // The sum of S, τ, A*, and what follows of them.
 pub(crate) fn sums_of(t: Set, a: Alloc) -> Sums
     ensures { result ≡ sums_of t a }
 {
-    let s = a.s;
-    let sum = units::sum_first(s, t.n);
+    let sum = units::sum_first(a.s, t.n);
     let tau = sets::walk_time(t);
-    let more = units::room(units::wide(t.head.frame), 1);
+    let more = u64::from(t.head.frame).saturating_sub(1);
     let spare = plans::spare(t, a);
     Sums {
         sum,
@@ -102,7 +96,7 @@ pub(crate) fn sums_of(t: Set, a: Alloc) -> Sums
 fn ticks_between(earlier: u32, later: u32) -> u32
     ensures { result ≡ ticks_between earlier later }
 {
-    std::num::wrapping_sub_u32(later, earlier)
+    later.wrapping_sub(earlier)
 }
 
 // What the record behind those of an inspection must have, and where it comes from.
@@ -112,13 +106,11 @@ pub(crate) fn due_of(s: Inspection, t: Set, a: Alloc) -> Due
     let expected = inspection::expect(s, t, a);
     let course = s.course;
     let p = (course.token % 128) as usize;
-    let base = s.base[p];
-    let mark = s.mark[p];
     Due {
         expected,
-        start: std::num::wrapping_add_u32(course.start, course.span),
+        start: course.start.wrapping_add(course.span),
         unused: course.unused,
-        run: ticks_between(base, course.clock),
-        through: mark != 0,
+        run: ticks_between(s.base[p], course.clock),
+        through: s.mark[p] != 0,
     }
 }

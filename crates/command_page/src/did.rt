@@ -37,40 +37,34 @@ pub(crate) fn station(a: Account, i: usize, j: usize) -> Part
     ensures { result ≡ did_part a i j }
 {
     let numbers = a.numbers;
-    if j == 0 {
-        let number = i as u64;
-        return Part {
+    match j {
+        0 => Part {
             form: Form::DidVisits,
             numbers: [
-                number,
+                i as u64,
                 numbers[tallies::VISITS + i],
                 numbers[tallies::THROUGH + i],
                 0,
                 0,
                 0,
             ],
-        };
-    }
-    if j == 1 {
-        let bound = a.sums.bound as u64;
-        return longest(
+        },
+        1 => longest(
             numbers[tallies::VISITS + i],
             numbers[tallies::LONGEST + i],
-            bound,
-        );
-    }
-    let alloc = a.alloc;
-    let share = units::wide(alloc.s[i]);
-    Part {
-        form: Form::DidSent,
-        numbers: [
-            numbers[tallies::MOST + i],
-            share,
-            numbers[tallies::SYNCHRONOUS + i],
-            numbers[tallies::ASYNCHRONOUS + i],
-            0,
-            0,
-        ],
+            u64::from(a.sums.bound),
+        ),
+        _ => Part {
+            form: Form::DidSent,
+            numbers: [
+                numbers[tallies::MOST + i],
+                u64::from(a.alloc.s[i]),
+                numbers[tallies::SYNCHRONOUS + i],
+                numbers[tallies::ASYNCHRONOUS + i],
+                0,
+                0,
+            ],
+        },
     }
 }
 
@@ -81,7 +75,7 @@ fn rotations(window: Window, lines: u64) -> Part
     if lines == 0 {
         return forms::bare(Form::NoRotation);
     }
-    let first = std::num::wrapping_add_u64(window.first, 1);
+    let first = window.first.wrapping_add(1);
     Part {
         form: Form::Rotations,
         numbers: [first, window.end, lines, 0, 0, 0],
@@ -92,12 +86,9 @@ fn rotations(window: Window, lines: u64) -> Part
 pub(crate) fn last(a: Account, k: usize) -> Part
     ensures { result ≡ last_part a k }
 {
-    if k == 0 {
-        return forms::bare(Form::DidEnd);
+    match k {
+        0 => forms::bare(Form::DidEnd),
+        1 => rotations(a.window, a.lines),
+        _ => forms::nothing(),
     }
-    if k == 1 {
-        let window = a.window;
-        return rotations(window, a.lines);
-    }
-    forms::nothing()
 }

@@ -227,8 +227,7 @@ pub fn part_at(a: Account, k: usize) -> Part
     if k < FIRST_COUNT {
         return order::first(a, k);
     }
-    let outcome = a.outcome;
-    if named::is_judged(outcome) {
+    if named::is_judged(a.outcome) {
         return order::behind(a, k - FIRST_COUNT);
     }
     forms::nothing()

@@ -26,10 +26,8 @@ fn word(outcome: Outcome) -> Part
 fn meaning(outcome: Outcome, number: u8, named: u64) -> Part
     ensures { result ≡ meaning_of outcome number named }
 {
-    let sentence = number as u64;
     match outcome {
-        Outcome::PlanRefused => forms::one(Form::Sentence, sentence),
-        Outcome::Refused => forms::one(Form::Sentence, sentence),
+        Outcome::PlanRefused | Outcome::Refused => forms::one(Form::Sentence, u64::from(number)),
         Outcome::Another => forms::bare(Form::MeansAnother),
         Outcome::Broken => forms::one(Form::MeansBroken, named),
         Outcome::Accepted => forms::bare(Form::MeansAccepted),
@@ -40,13 +38,7 @@ fn meaning(outcome: Outcome, number: u8, named: u64) -> Part
 pub(crate) fn is_judged(outcome: Outcome) -> bool
     ensures { result ≡ is_judged outcome }
 {
-    match outcome {
-        Outcome::PlanRefused => false,
-        Outcome::Refused => false,
-        Outcome::Another => false,
-        Outcome::Broken => true,
-        Outcome::Accepted => true,
-    }
+    matches!(outcome, Outcome::Broken | Outcome::Accepted)
 }
 
 // The five rules, where the records were judged by them.
@@ -78,13 +70,13 @@ fn row(broken: usize, r: usize) -> Part
 fn start(x: Due, v: VisitEntry) -> Part
     ensures { result ≡ start_numbers x v }
 {
-    let found = v.start as u64;
+    let found = u64::from(v.start);
     if x.expected.first {
         return forms::one(Form::FirstStart, found);
     }
-    let expected = x.start as u64;
-    let last = x.expected.last as u64;
-    let span = x.expected.span as u64;
+    let expected = u64::from(x.start);
+    let last = u64::from(x.expected.last);
+    let span = u64::from(x.expected.span);
     Part {
         form: Form::StartRule,
         numbers: [expected, found, last, span, 0, 0],
@@ -95,15 +87,15 @@ fn start(x: Due, v: VisitEntry) -> Part
 fn asynchronous(x: Due, v: VisitEntry) -> Part
     ensures { result ≡ asynchronous_numbers x v }
 {
-    let limit = x.expected.limit as u64;
-    let found = v.asynchronous as u64;
+    let limit = u64::from(x.expected.limit);
+    let found = u64::from(v.asynchronous);
     if x.expected.longest == 1 {
         return Part {
             form: Form::TickRule,
             numbers: [limit, found, 0, 0, 0, 0],
         };
     }
-    let longest = x.expected.longest as u64;
+    let longest = u64::from(x.expected.longest);
     Part {
         form: Form::FrameRule,
         numbers: [limit, found, longest, 0, 0, 0],
@@ -114,11 +106,11 @@ fn asynchronous(x: Due, v: VisitEntry) -> Part
 fn compared(form: Form, expected: u32, found: u32) -> Part
     ensures { result ≡ two form expected found }
 {
-    let due = expected as u64;
-    let seen = found as u64;
+    let expected = u64::from(expected);
+    let found = u64::from(found);
     Part {
         form,
-        numbers: [due, seen, 0, 0, 0, 0],
+        numbers: [expected, found, 0, 0, 0, 0],
     }
 }
 
@@ -126,19 +118,13 @@ fn compared(form: Form, expected: u32, found: u32) -> Part
 fn expected(x: Due, v: VisitEntry, r: usize) -> Part
     ensures { result ≡ numbers_of x v r }
 {
-    if r == 1 {
-        return compared(Form::StationRule, x.expected.station, v.station);
+    match r {
+        1 => compared(Form::StationRule, x.expected.station, v.station),
+        2 => start(x, v),
+        3 => compared(Form::LimitRule, x.expected.limit, v.limit),
+        4 => compared(Form::SynchronousRule, x.expected.share, v.synchronous),
+        _ => asynchronous(x, v),
     }
-    if r == 2 {
-        return start(x, v);
-    }
-    if r == 3 {
-        return compared(Form::LimitRule, x.expected.limit, v.limit);
-    }
-    if r == 4 {
-        return compared(Form::SynchronousRule, x.expected.share, v.synchronous);
-    }
-    asynchronous(x, v)
 }
 
 // Where the limit comes from.
@@ -148,16 +134,16 @@ fn limit_from(h: Head, x: Due) -> Part
     if x.through {
         return forms::bare(Form::ThroughLimit);
     }
-    let ttrt = h.ttrt as u64;
-    let run = x.run as u64;
+    let ttrt = u64::from(h.ttrt);
+    let run = u64::from(x.run);
     if h.mode == numbers::FDDI {
         return Part {
             form: Form::FddiLimit,
             numbers: [ttrt, run, 0, 0, 0, 0],
         };
     }
-    let more = units::room(h.frame as u64, 1);
-    let unused = x.unused as u64;
+    let more = u64::from(h.frame).saturating_sub(1);
+    let unused = u64::from(x.unused);
     Part {
         form: Form::TimelyLimit,
         numbers: [ttrt, more, unused, run, 0, 0],
@@ -178,26 +164,22 @@ fn share_from(through: bool) -> Part
 fn source(h: Head, x: Due, r: usize) -> Part
     ensures { result ≡ source_of h x r }
 {
-    if r == 3 {
-        return limit_from(h, x);
+    match r {
+        3 => limit_from(h, x),
+        4 => share_from(x.through),
+        _ => forms::nothing(),
     }
-    if r == 4 {
-        return share_from(x.through);
-    }
-    forms::nothing()
 }
 
 // Part j of rule r of a named visit.
 fn visit_row(h: Head, x: Due, broken: usize, v: VisitEntry, r: usize, j: usize) -> Part
     ensures { result ≡ visit_row h x broken v r j }
 {
-    if j == 0 {
-        return row(broken, r);
+    match j {
+        0 => row(broken, r),
+        1 => expected(x, v, r),
+        _ => source(h, x, r),
     }
-    if j == 1 {
-        return expected(x, v, r);
-    }
-    source(h, x, r)
 }
 
 // A mark has the station rule alone: below which its station must be, its station and its mark.
@@ -211,9 +193,9 @@ fn mark_row(x: Due, m: MarkEntry, r: usize, j: usize) -> Part
         return forms::bare(Form::Broken);
     }
     if j == 1 {
-        let count = x.expected.count as u64;
-        let station = m.station as u64;
-        let mark = m.mark as u64;
+        let count = u64::from(x.expected.count);
+        let station = u64::from(m.station);
+        let mark = u64::from(m.mark);
         return Part {
             form: Form::MarkRule,
             numbers: [count, station, mark, 0, 0, 0],
@@ -253,10 +235,9 @@ fn part(a: Account, k: usize) -> Part
         return begin(a.named, last);
     }
     if k < 16 {
-        let broken = a.rule as usize;
-        let due = a.due;
+        let broken = usize::from(a.rule);
         let r = (k - 1) / 3 + 1;
-        return rule_row(a.set.head, due, broken, last, r, (k - 1) % 3);
+        return rule_row(a.set.head, a.due, broken, last, r, (k - 1) % 3);
     }
     if k == 16 {
         return forms::bare(Form::NamedEnd);
@@ -269,11 +250,8 @@ fn part_where(outcome: Outcome, a: Account, k: usize) -> Part
     ensures { result ≡ named_where outcome a k }
 {
     match outcome {
-        Outcome::PlanRefused => forms::nothing(),
-        Outcome::Refused => forms::nothing(),
-        Outcome::Another => forms::nothing(),
         Outcome::Broken => part(a, k),
-        Outcome::Accepted => forms::nothing(),
+        _ => forms::nothing(),
     }
 }
 
@@ -282,14 +260,10 @@ pub(crate) fn finding(a: Account, k: usize) -> Part
     ensures { result ≡ finding_part a k }
 {
     let outcome = a.outcome;
-    if k == 0 {
-        return word(outcome);
+    match k {
+        0 => word(outcome),
+        1 => meaning(outcome, a.number, a.named),
+        2 => rules(is_judged(outcome)),
+        _ => part_where(outcome, a, k - 3),
     }
-    if k == 1 {
-        return meaning(outcome, a.number, a.named);
-    }
-    if k == 2 {
-        return rules(is_judged(outcome));
-    }
-    part_where(outcome, a, k - 3)
 }

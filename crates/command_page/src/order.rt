@@ -11,8 +11,7 @@ pub(crate) fn first(a: Account, k: usize) -> Part
     if k < FINDING_COUNT {
         return named::finding(a, k);
     }
-    let outcome = a.outcome;
-    if named::is_judged(outcome) {
+    if named::is_judged(a.outcome) {
         return planned::whole(a, k - FINDING_COUNT);
     }
     forms::nothing()
@@ -56,9 +55,7 @@ pub(crate) fn behind(a: Account, k: usize) -> Part
 {
     let n = units::places(a.set.n);
     if k < n {
-        let set = a.set;
-        let alloc = a.alloc;
-        return planned::station(set, alloc, k);
+        return planned::station(a.set, a.alloc, k);
     }
     behind_stations(a, k - n)
 }

@@ -24,16 +24,12 @@ fn mode(mode: u32) -> Part
 fn sum(s: Sums, k: usize) -> Part
     ensures { result ≡ sum_part s k }
 {
-    if k == 5 {
-        return forms::one(Form::Tau, s.tau);
+    match k {
+        5 => forms::one(Form::Tau, s.tau),
+        6 => forms::one(Form::Sum, s.sum),
+        7 => forms::one(Form::Spare, s.spare),
+        _ => forms::bare(Form::StationsBegin),
     }
-    if k == 6 {
-        return forms::one(Form::Sum, s.sum);
-    }
-    if k == 7 {
-        return forms::one(Form::Spare, s.spare);
-    }
-    forms::bare(Form::StationsBegin)
 }
 
 // Part k of the plan as a whole, from 0 to 8.
@@ -41,22 +37,14 @@ pub(crate) fn whole(a: Account, k: usize) -> Part
     ensures { result ≡ plan_part a k }
 {
     let head = a.set.head;
-    if k == 0 {
-        return forms::bare(Form::PlanBegin);
+    match k {
+        0 => forms::bare(Form::PlanBegin),
+        1 => forms::one(Form::Ttrt, u64::from(head.ttrt)),
+        2 => mode(head.mode),
+        3 => forms::one(Form::LongestFrame, u64::from(head.frame)),
+        4 => forms::one(Form::Grid, u64::from(head.grid)),
+        _ => sum(a.sums, k),
     }
-    if k == 1 {
-        return forms::one(Form::Ttrt, head.ttrt as u64);
-    }
-    if k == 2 {
-        return mode(head.mode);
-    }
-    if k == 3 {
-        return forms::one(Form::LongestFrame, head.frame as u64);
-    }
-    if k == 4 {
-        return forms::one(Form::Grid, head.grid as u64);
-    }
-    sum(a.sums, k)
 }
 
 // A station: w, C, D, P and S.
@@ -65,11 +53,11 @@ pub(crate) fn station(t: Set, a: Alloc, i: usize) -> Part
     ensures { result ≡ station_part t a i }
 {
     let number = i as u64;
-    let w = units::wide(t.w[i]);
-    let c = units::wide(t.c[i]);
-    let d = units::wide(t.d[i]);
-    let p = units::wide(t.p[i]);
-    let s = units::wide(a.s[i]);
+    let w = u64::from(t.w[i]);
+    let c = u64::from(t.c[i]);
+    let d = u64::from(t.d[i]);
+    let p = u64::from(t.p[i]);
+    let s = u64::from(a.s[i]);
     Part {
         form: Form::Station,
         numbers: [number, w, c, d, p, s],
@@ -95,7 +83,7 @@ fn burst(mode: u32, n: u32, most: u64) -> Part
     if mode == numbers::FDDI {
         return forms::nothing();
     }
-    let visits = n as u64;
+    let visits = u64::from(n);
     Part {
         form: Form::Burst,
         numbers: [visits, most, 0, 0, 0, 0],
@@ -121,30 +109,22 @@ fn by_mode(a: Account, k: usize) -> Part
     ensures { result ≡ mode_promise a k }
 {
     let mode = a.set.head.mode;
-    if k == 3 {
-        return deadline(mode);
+    match k {
+        3 => deadline(mode),
+        4 => burst(mode, a.set.n, a.sums.burst),
+        5 => offered(mode, a.sums.spare),
+        _ => forms::bare(Form::PromisesEnd),
     }
-    if k == 4 {
-        return burst(mode, a.set.n, a.sums.burst);
-    }
-    if k == 5 {
-        return offered(mode, a.sums.spare);
-    }
-    forms::bare(Form::PromisesEnd)
 }
 
 // Part k behind the stations, from 0 to 6.
 pub(crate) fn promise(a: Account, k: usize) -> Part
     ensures { result ≡ promise_part a k }
 {
-    if k == 0 {
-        return forms::bare(Form::StationsEnd);
+    match k {
+        0 => forms::bare(Form::StationsEnd),
+        1 => forms::one(Form::Back, u64::from(a.sums.bound)),
+        2 => forms::bare(Form::OnlyShare),
+        _ => by_mode(a, k),
     }
-    if k == 1 {
-        return forms::one(Form::Back, a.sums.bound as u64);
-    }
-    if k == 2 {
-        return forms::bare(Form::OnlyShare);
-    }
-    by_mode(a, k)
 }

@@ -17,15 +17,11 @@ use units::numbers;
 pub fn plan_of(request: ReadRequest) -> ReadPlan
     ensures { result ≡ plan_of request }
 {
-    let set = request.set;
+    let ReadRequest { set, number } = request;
     let planned = plans::plan(set);
     let alloc = planned.alloc;
-    if request.number != numbers::ACCEPTED {
-        return ReadPlan {
-            set,
-            alloc,
-            number: request.number,
-        };
+    if number != numbers::ACCEPTED {
+        return ReadPlan { set, alloc, number };
     }
     ReadPlan {
         set,
@@ -44,14 +40,11 @@ pub fn request_text(request: ReadRequest, page: &mut [u8]) -> Said
             number: numbers::BUFFER_TOO_SHORT,
         };
     }
-    let plan = plan_of(request);
-    let number = plan.number;
+    let ReadPlan { set, alloc, number } = plan_of(request);
     if number != numbers::ACCEPTED {
         let length = text::put_refused(page, 0, number);
         return Said { length, number };
     }
-    let set = plan.set;
-    let alloc = plan.alloc;
     let length = planning::put_plan(page, set, alloc);
     Said { length, number }
 }
@@ -76,7 +69,5 @@ pub fn plan_sheet(sheet: &[u8], out: &mut [u8]) -> Written
             number: plan.number,
         };
     }
-    let set = plan.set;
-    let alloc = plan.alloc;
-    sheets::write_plan(set, alloc, out)
+    sheets::write_plan(plan.set, plan.alloc, out)
 }

@@ -30,14 +30,9 @@ fn put_shares(page: &mut [u8], at: usize, s: [u32; 128], n: u32) -> usize
     requires { (n ≤ 128) × (at + 42 * 128 ≤ length page.old) }
     ensures { PutShort (42 * 128) page.old at (rows n (λ i. share_line i (place_at s i))) page.new result }
 {
-    let end = units::places(n);
     let mut next = at;
-    let mut i: usize = 0;
-    while i < end {
-        let share = units::wide(s[i]);
-        let station = i as u64;
-        next = put_share_line(page, next, station, share);
-        i += 1;
+    for (i, share) in s[..units::places(n)].iter().enumerate() {
+        next = put_share_line(page, next, i as u64, u64::from(*share));
     }
     next
 }
@@ -47,11 +42,10 @@ pub(crate) fn put_plan(page: &mut [u8], t: Set, a: Alloc) -> usize
     requires { (t.n ≤ 128) × (6_000 ≤ length page.old) }
     ensures { PutShort 6_000 page.old 0 (plan_lines t a) page.new result }
 {
-    let n = units::wide(t.n);
-    let ttrt = units::wide(t.head.ttrt);
+    let n = u64::from(t.n);
+    let ttrt = u64::from(t.head.ttrt);
     let tau = sets::walk_time(t);
     let spare = plans::spare(t, a);
     let first = put_plan_line(page, n, ttrt, tau, spare);
-    let s = a.s;
-    put_shares(page, first, s, t.n)
+    put_shares(page, first, a.s, t.n)
 }

@@ -1,29 +1,17 @@
 -- The laws of a text that is read byte after byte: in pieces, and in a loop that puts what goes out into a page.
 use Prim.Native.Nat.{ℕ, ◌+◌, ◌*◌, ◌≤◌, ◌<◌}
 use mathlib.Core.Path.{◌≡◌, refl, sym, ap, ◌∙◌}
-use mathlib.Core.Bool.{Bool, true, false, ◌||◌}
+use mathlib.Core.Bool.{Bool, ◌||◌}
 use mathlib.Core.List.{List, [], ◌∷◌, ◌++◌, append_assoc, append-nil}
-use native.Mathlib.Numerals.{add-one}
 use native.Mathlib.Nat.{mul-add, mul-one}
 use native.Mathlib.Omega.{arith}
 use lib.ListN.{length, take}
-use lib.Seq.{take-suc}
+use Rattle.std.proofs.Math.Bool.{or_assoc, or-false}
+use Rattle.std.proofs.lemmas.List.{take_more}
 use Rattle.units.specs.Places.{at}
 use Rattle.text.specs.Text.{PutShort}
 use Rattle.text.proofs.TextLaws.{put_none, put_short_then, put_as}
 use Rattle.command_run.specs.Bytes.{moved_over, out_over, some_over}
-
-or_assoc : (a b c : Bool) → ((a || b) || c) ≡ (a || (b || c))
-or_assoc true b c = refl
-or_assoc false b c = refl
-
-pub or_false : (a : Bool) → (a || false) ≡ a
-or_false true = refl
-or_false false = refl
-
--- one byte more
-take_more : (text : List ℕ) (i : ℕ) → i < length text → take (i + 1) text ≡ take i text ++ (at text i ∷ [])
-take_more text i l = rw add-one (take-suc text i 0 l)
 
 module _ {S : Type 0} (move : S → ℕ → S) where
   -- ---- pieces of a text
@@ -51,15 +39,15 @@ module _ {S : Type 0} (move : S → ℕ → S) where
 
   moved_more : (text : List ℕ) (start : S) (i : ℕ) → i < length text → moved_over move start (take (i + 1) text) ≡ move (moved_over move start (take i text)) (at text i)
   unfolding moved_over
-  moved_more text start i l = ap (moved_over move start) (take_more text i l) ∙ moved_append start (take i text) (at text i ∷ [])
+  moved_more text start i l = ap (moved_over move start) (take_more text i 0 l) ∙ moved_append start (take i text) (at text i ∷ [])
 
   -- the test held at one of the bytes passed
   pub some_more : (test : S → ℕ → Bool) (text : List ℕ) (start s : S) (i : ℕ) → i < length text → s ≡ moved_over move start (take i text)
       → some_over move test start (take (i + 1) text) ≡ (some_over move test start (take i text) || test s (at text i))
   unfolding some_over
   some_more test text start s i l e =
-      rw (e, ← or_false (test (moved_over move start (take i text)) (at text i)))
-      (ap (some_over move test start) (take_more text i l) ∙ some_append test start (take i text) (at text i ∷ []))
+      rw (e, ← or-false (test (moved_over move start (take i text)) (at text i)))
+      (ap (some_over move test start) (take_more text i 0 l) ∙ some_append test start (take i text) (at text i ∷ []))
 
 -- after i bytes the state stands behind them, and what went out, at most so many bytes at each, is put at the start of the page
 pub record Behind {S : Type 0} (move : S → ℕ → S) (out : S → ℕ → List ℕ) (most : ℕ) (text before : List ℕ) (start : S) (i : ℕ) (s : S) (page : List ℕ) (next : ℕ) : Type 0 where
@@ -87,7 +75,7 @@ module _ {S : Type 0} {move : S → ℕ → S} {out : S → ℕ → List ℕ} {m
       ap (λ (z : S). out_over move out start (take i text) ++ out z b) was.stands
       ∙ ap (λ (x : List ℕ). out_over move out start (take i text) ++ x) (sym (append-nil (out passed b)))
       ∙ sym (out_append move out start (take i text) (b ∷ []))
-      ∙ ap (out_over move out start) (sym (take_more text i l)) in
+      ∙ ap (out_over move out start) (sym (take_more text i 0 l)) in
       record {
         long = kept ∙ was.long;
         stands = e ∙ ap (λ (z : S). move z b) was.stands ∙ sym (moved_more move text start i l);

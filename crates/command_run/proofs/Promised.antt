@@ -16,7 +16,7 @@ use Rattle.text.specs.Text.{newline, decimal_within, decimal_of, line_on, line, 
 use Rattle.line_reader.specs.Scan.{fresh_scan, is_empty_line}
 use Rattle.line_reader.specs.declared.Scan.{Scan}
 use Rattle.command_run.specs.Bytes.{moved_over}
-use Rattle.command_run.specs.Calls.{mark_word, unmark_word, is_visit, is_message, is_mark, is_unmark, unreadable, switched, called}
+use Rattle.command_run.specs.Calls.{mark_word, unmark_word, is_unread, is_visit, is_message, is_mark, is_unmark, unreadable, switched, called}
 use Rattle.command_run.specs.Runs.{run_from, line_ends, line_goes_on, run_on, unread_at, run_after, lines_in}
 use Rattle.command_run.specs.RunText.{withdrawn_words, mark_text, unmark_text, answer_text, said_at}
 use Rattle.command_run.specs.Promised.{Says, mark_line, unmark_line, marked_said, withdrawn_said, unmarked_said, refused_said, Promised}
@@ -35,8 +35,8 @@ ended u c e =
 -- by what the line is
 abbrev TellsUnread : Ring → Scan → Called → Type 0
 TellsUnread ring s c =
-    (c.unread ≡ (not (is_empty_line s) && (not (is_visit s) && (not (is_message s) && (not (is_mark s) && not (is_unmark s))))))
-    × (c.unread ≡ true → unreadable ring ≡ c)
+    (is_unread c.answer ≡ (not (is_empty_line s) && (not (is_visit s) && (not (is_message s) && (not (is_mark s) && not (is_unmark s))))))
+    × (is_unread c.answer ≡ true → unreadable ring ≡ c)
 
 told : (ring : Ring) (s : Scan) → TellsUnread ring s (called ring s)
 unfolding called switched

@@ -4,11 +4,14 @@ use mathlib.Core.Path.{◌≡◌, refl, sym, ap, ◌∙◌}
 use mathlib.Core.Bool.{Bool, true, false, true≢false, ◌&&◌, ◌||◌}
 use mathlib.Core.List.{List, [], ◌∷◌, ◌++◌, append_assoc, append-nil}
 use mathlib.Core.Logic.{◌≢◌}
+use native.Mathlib.Numerals.{add-one}
 use native.Mathlib.Omega.{arith}
 use borrow.Author.Tests.{ltb-true, lt-ltb, le-ltb, eqb-true, eq-eqb, ne_eqb}
 use lib.Dec.{ltb, eqb}
 use lib.IntN.{ℤ, pos, negsuc}
 use lib.Signed.{lt_z}
+use Rattle.std.specs.Prelude.{unsigned_abs}
+use Rattle.std.proofs.Math.Bool.{and-false}
 use lib.ListN.{length, take}
 use Rattle.units.specs.Places.{at}
 use Rattle.units.proofs.JudgingLaws.{and-true}
@@ -26,9 +29,9 @@ use Rattle.rings.specs.declared.MarkedRing.{MarkedRing}
 use Rattle.text.specs.Text.{line, line_on, space, newline, decimal_of, page_size}
 use Rattle.text.proofs.TextLaws.{line_first, line_next, take_piece, printed, not_printed}
 use Rattle.command_run.specs.Bytes.{moved_over, out_over, some_over}
-use Rattle.command_run.specs.Calls.{visit_word, message_word, mark_word, unmark_word, is_visit, ask_in, is_message, message_in, names_station, is_mark, is_unmark, station_in, answered, visit_called, message_called, mark_called, unmark_called, unreadable, switched, called}
+use Rattle.command_run.specs.Calls.{visit_word, message_word, mark_word, unmark_word, is_unread, is_visit, ask_in, is_message, message_in, names_station, is_mark, is_unmark, station_in, answered, visit_called, message_called, mark_called, unmark_called, unreadable, switched, called}
 use Rattle.command_run.specs.Runs.{run_from, opened_run, line_ends, line_goes_on, byte_on, run_on, answer_at, unread_at, run_after, some_unread, piece_size, piece_of}
-use Rattle.command_run.specs.RunText.{withdrawn_word, dash, sign_of, signed_of, completion, withdrawn_words, answer_text, said_at, said_over, RanPiece, RanOn}
+use Rattle.command_run.specs.RunText.{withdrawn_word, dash, without_sign, sign_of, signed_of, completion, withdrawn_words, answer_text, said_at, said_over, RanPiece, RanOn}
 use Rattle.command_run.specs.declared.Answer.{Answer}
 use Rattle.command_run.specs.declared.Answer.TheVariants.{Nothing}
 use Rattle.line_reader.proofs.ScanLaws.{stepped_over, has_no_end, first_and_rest}
@@ -59,6 +62,11 @@ pub sign_none : (z : ℤ) → lt_z z (pos 0) ≡ false → sign_of z ≡ []
 unfolding sign_of
 sign_none (pos n) t = refl
 sign_none (negsuc n) t = absurd (true≢false t)
+
+pub magnitude_of : (z : ℤ) → unsigned_abs z ≡ without_sign z
+unfolding without_sign
+magnitude_of (pos n) = refl
+magnitude_of (negsuc n) = sym (add-one n)
 
 pub completion_some : (k finish : ℕ) (margin : ℤ) → k ≢ 0 → completion k finish margin ≡ decimal_of finish ∷ signed_of margin ∷ []
 unfolding completion
@@ -107,10 +115,6 @@ module _ (ring : Ring) (s : Scan) where
 
 -- ---- a line that names a station has its own word
 
-and_none : (b : Bool) → (b && false) ≡ false
-and_none true = refl
-and_none false = refl
-
 module _ (s : Scan) (code : ℕ) (names : names_station code s ≡ true) where
   no_word : (other : ℕ) → code ≢ other → eqb s.word other ≡ false
   no_word other e =
@@ -118,10 +122,10 @@ module _ (s : Scan) (code : ℕ) (names : names_station code s ≡ true) where
       ne_eqb s.word other (λ w. e (sym word ∙ w))
 
   no_call : (other : ℕ) (more : Bool) → code ≢ other → (is_readable s && (eqb s.word other && more)) ≡ false
-  no_call other more e = rw (no_word other e) (and_none (is_readable s))
+  no_call other more e = rw (no_word other e) (and-false (is_readable s))
 
   pub not_empty : code ≢ 0 → is_empty_line s ≡ false
-  not_empty e = rw (no_word 0 e) (and_none (is_readable s))
+  not_empty e = rw (no_word 0 e) (and-false (is_readable s))
 
   pub no_visit : code ≢ code_of visit_word → is_visit s ≡ false
   no_visit e = no_call (code_of visit_word) _ e
@@ -182,10 +186,10 @@ line_ends_lem u b e = rw (eq-eqb b newline e)
 
 -- what it did, part by part
 abbrev pub Did : Run → ℕ → LineStep → Type 0
-Did u b s = (s.run ≡ run_on u b) × (s.answer ≡ answer_at u b) × (s.unread ≡ unread_at u b)
+Did u b s = (s.run ≡ run_on u b) × (s.answer ≡ answer_at u b) × (is_unread s.answer ≡ unread_at u b)
 
 pub did : (u : Run) (b : ℕ) {s : LineStep} → s ≡ byte_on u b → Did u b s
-did u b e = (ap (λ (x : LineStep). x.run) e, ap (λ (x : LineStep). x.answer) e, ap (λ (x : LineStep). x.unread) e)
+did u b e = (ap (λ (x : LineStep). x.run) e, ap (λ (x : LineStep). x.answer) e, ap (λ (x : LineStep). is_unread x.answer) e)
 
 -- ---- a whole line
 

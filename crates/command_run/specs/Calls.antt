@@ -78,9 +78,18 @@ station_in s = record { 0 = at s.values 0 }
 
 -- ---- what a line does
 
--- a line that can be read: the ring behind it, and the answer
+-- what is answered to a line that is neither empty nor a call
+abbrev pub is_unread : Answer → Bool
+is_unread Nothing = false
+is_unread (Visit a) = false
+is_unread (HandIn number) = false
+is_unread (Mark p a) = false
+is_unread (Unmark p number) = false
+is_unread Unread = true
+
+-- the ring behind a line, and the answer
 abbrev pub answered : Ring → Answer → Called
-answered ring answer = record { ring = ring; answer = answer; unread = false }
+answered ring answer = record { ring = ring; answer = answer }
 
 -- a visit, a handing in, a station switched through, and one switched in again
 abbrev pub visit_called : Visited → Called
@@ -97,7 +106,7 @@ unmark_called p t = answered t.ring (Unmark p t.number)
 
 -- a line that cannot be read leaves the ring as it was
 abbrev pub unreadable : Ring → Called
-unreadable ring = record { ring = ring; answer = Unread; unread = true }
+unreadable ring = answered ring Unread
 
 -- a station is switched through or in again, and any other line cannot be read
 unfoldable pub switched : Ring → Scan → Called

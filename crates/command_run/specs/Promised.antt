@@ -9,7 +9,7 @@ use Rattle.rings.specs.declared.Ring.{Ring}
 use Rattle.rings.specs.declared.Message.{Message}
 use Rattle.text.specs.Text.{newline, decimal_of, line, unread_line}
 use Rattle.line_reader.specs.Scan.{fresh_scan, is_empty_line, next_line}
-use Rattle.command_run.specs.Calls.{visit_word, message_word, mark_word, unmark_word, is_visit, ask_in, is_message, message_in, is_mark, is_unmark, station_in, called}
+use Rattle.command_run.specs.Calls.{visit_word, message_word, mark_word, unmark_word, is_unread, is_visit, ask_in, is_message, message_in, is_mark, is_unmark, station_in, called}
 use Rattle.command_run.specs.Runs.{run_from, run_on, run_after, some_unread, lines_in}
 use Rattle.command_run.specs.RunText.{visit_text, taken_text, mark_text, unmark_text, said_at, said_over}
 use Rattle.line_reader.specs.declared.Scan.{Scan}
@@ -59,7 +59,7 @@ pub record Promised : Type 0 where
   pub numbered : (ring : Ring) (text : List ℕ) → (run_after (run_from ring) text).line ≡ next_line (lines_in text)
   -- a line cannot be read exactly if it is neither empty nor a call; a call that the ring refuses is an answer
   pub unread_told : (ring : Ring) (s : Scan)
-      → (called ring s).unread
+      → is_unread (called ring s).answer
       ≡ (not (is_empty_line s) && (not (is_visit s) && (not (is_message s) && (not (is_mark s) && not (is_unmark s)))))
   -- the run's lines are the model's answers: a line that is a visit is answered by the ring's visit, and the ring moves
   pub visit_answered : (u : Run) → is_empty_line u.scan ≡ false → is_visit u.scan ≡ true
@@ -78,7 +78,7 @@ pub record Promised : Type 0 where
       → (said_at u newline ≡ unmark_text (unmarked u.ring (station_in u.scan)).number)
       × ((run_on u newline).ring ≡ (unmarked u.ring (station_in u.scan)).ring)
   -- one that cannot be read is named, and the ring is unchanged
-  pub unread_named : (u : Run) → (called u.ring u.scan).unread ≡ true
+  pub unread_named : (u : Run) → is_unread (called u.ring u.scan).answer ≡ true
       → (said_at u newline ≡ unread_line u.line) × ((run_on u newline).ring ≡ u.ring)
   -- the text of a call is that call: `visit FRAMES` is the ring's visit with so many frames of length 1
   pub visit_typed : (u : Run) (ask : Ask) → u.scan ≡ fresh_scan → ask.frames < 2 ^ 32 → ask.length ≡ 1

@@ -1,5 +1,5 @@
 -- A run: the calls are read byte after byte, and a newline ends a line.
-use Rattle.std.specs.Prelude.{ℕ, ◌+◌, ◌≤◌, Bool, false, cond, List, [], ◌∷◌, ◌++◌, ltb, eqb, length, take}
+use Rattle.std.specs.Prelude.{ℕ, ◌+◌, ◌≤◌, Bool, cond, List, [], ◌∷◌, ◌++◌, ltb, eqb, length, take}
 use Rattle.sheets.specs.Reading.{then_number}
 use Rattle.sheets.specs.declared.ReadPlan.{ReadPlan}
 use Rattle.rings.specs.Opening.{opening}
@@ -7,7 +7,7 @@ use Rattle.rings.specs.declared.Ring.{Ring}
 use Rattle.text.specs.Text.{newline, page_size}
 use Rattle.line_reader.specs.Scan.{fresh_scan, stepped, next_line}
 use Rattle.command_run.specs.Bytes.{moved_over, some_over}
-use Rattle.command_run.specs.Calls.{called}
+use Rattle.command_run.specs.Calls.{is_unread, called}
 use Rattle.command_run.specs.declared.Answer.{Answer}
 use Rattle.command_run.specs.declared.Answer.TheVariants.{Nothing}
 use Rattle.command_run.specs.declared.Run.{Run}
@@ -36,7 +36,6 @@ line_ends u =
     record {
       run = record { ring = (called u.ring u.scan).ring; scan = fresh_scan; line = next_line u.line };
       answer = (called u.ring u.scan).answer;
-      unread = (called u.ring u.scan).unread;
     }
 
 -- the line goes on
@@ -45,7 +44,6 @@ line_goes_on u b =
     record {
       run = record { ring = u.ring; scan = stepped u.scan b; line = u.line };
       answer = Nothing;
-      unread = false;
     }
 
 -- one byte more: a newline ends the line
@@ -60,7 +58,7 @@ abbrev pub answer_at : Run → ℕ → Answer
 answer_at u b = (byte_on u b).answer
 
 abbrev pub unread_at : Run → ℕ → Bool
-unread_at u b = (byte_on u b).unread
+unread_at u b = is_unread (byte_on u b).answer
 
 -- the run behind all the bytes
 abbrev pub run_after : Run → List ℕ → Run

@@ -4,9 +4,9 @@
 ghost use Rattle.std.specs.Prelude.{◌≡◌, true, ◌∷◌, ◌+◌, ◌≤◌, min, length};
 ghost use Rattle.sheets.specs.Reading.{read_plan};
 ghost use Rattle.text.specs.Text.{PutShort, space, line_on};
-ghost use Rattle.command_run.specs.Calls.{is_visit, ask_in, is_message, message_in, names_station, station_in, switched, called};
+ghost use Rattle.command_run.specs.Calls.{is_unread, is_visit, ask_in, is_message, message_in, names_station, station_in, switched, called};
 ghost use Rattle.command_run.specs.Runs.{run_from, opened_run, line_ends, piece_size, Piece};
-ghost use Rattle.command_run.specs.RunText.{without_sign, signed_of, completion, arrival_words, amount_words, visit_line, visit_text, taken_text, withdrawn_words, mark_text, unmark_text, answer_text, RanPiece, RanOn};
+ghost use Rattle.command_run.specs.RunText.{signed_of, completion, arrival_words, amount_words, visit_line, visit_text, taken_text, withdrawn_words, mark_text, unmark_text, answer_text, RanPiece, RanOn};
 
 use line_reader::Scan;
 use rings::{Ask, MarkAnswer, Message, Ring, VisitAnswer, VisitRecord};
@@ -52,20 +52,27 @@ pub enum Answer {
     Unread,
 }
 
-// What a line did: the ring behind it, the answer, and whether the line cannot be read.
+impl Answer {
+    // The line is neither empty nor a call.
+    pub fn is_unread(self) -> bool
+        ensures { result ≡ is_unread self }
+    {
+        matches!(self, Answer::Unread)
+    }
+}
+
+// What a line did: the ring behind it, and the answer.
 #[derive(Clone, Copy)]
 pub(crate) struct Called {
     ring: Ring,
     answer: Answer,
-    unread: bool,
 }
 
-// What a byte did: where the run stands behind it, and of a line that ended there the answer, and whether it cannot be read.
+// What a byte did: where the run stands behind it, and of a line that ended there the answer.
 #[derive(Clone, Copy)]
 pub struct LineStep {
     pub run: Run,
     pub answer: Answer,
-    pub unread: bool,
 }
 
 // A run that begins, and 0; or the run of a blank ring, and the refusal.
@@ -159,26 +166,12 @@ fn station_in(s: Scan) -> Station
 
 // ---- the answers
 
-// The margin without its sign.
-fn magnitude(margin: i64) -> u64
-    ensures { result ≡ without_sign margin }
-{
-    if margin < 0 {
-        let above = margin + 1;
-        let turned = 0 - above;
-        let number = turned as u64;
-        number + 1
-    } else {
-        margin as u64
-    }
-}
-
 // The margin with its sign, a space before it.
 fn put_margin(page: &mut [u8], at: usize, margin: i64) -> usize
     requires { at + 40 ≤ length page.old }
     ensures { PutShort 40 page.old at (space ∷ signed_of margin) page.new result }
 {
-    let number = magnitude(margin);
+    let number = margin.unsigned_abs();
     if margin < 0 {
         let signed = text::put_short(page, at, b" -");
         return text::put_number(page, signed, number);
@@ -239,8 +232,7 @@ fn put_visit(page: &mut [u8], at: usize, answer: VisitAnswer) -> usize
     if answer.number != numbers::ACCEPTED {
         return text::put_refused(page, at, answer.number);
     }
-    let v = answer.record;
-    put_visit_line(page, at, v)
+    put_visit_line(page, at, answer.record)
 }
 
 // `taken`, or the refusal.
@@ -317,27 +309,21 @@ fn switch_line(ring: Ring, s: Scan) -> Called
     let station = station_in(s);
     if names_station(s, MARK) {
         let marked = ring.mark(station);
-        let through = marked.ring;
-        let told = marked.answer;
         return Called {
-            ring: through,
-            answer: Answer::Mark(station, told),
-            unread: false,
+            ring: marked.ring,
+            answer: Answer::Mark(station, marked.answer),
         };
     }
     if names_station(s, UNMARK) {
         let taken = ring.unmark(station);
-        let inside = taken.ring;
         return Called {
-            ring: inside,
+            ring: taken.ring,
             answer: Answer::Unmark(station, taken.number),
-            unread: false,
         };
     }
     Called {
         ring,
         answer: Answer::Unread,
-        unread: true,
     }
 }
 
@@ -349,26 +335,20 @@ fn call_line(ring: Ring, s: Scan) -> Called
         return Called {
             ring,
             answer: Answer::Nothing,
-            unread: false,
         };
     }
     if is_visit(s) {
         let visited = ring.visit(ask_in(s));
-        let moved = visited.ring;
-        let told = visited.answer;
         return Called {
-            ring: moved,
-            answer: Answer::Visit(told),
-            unread: false,
+            ring: visited.ring,
+            answer: Answer::Visit(visited.answer),
         };
     }
     if is_message(s) {
-        let taken = ring.hand_in(message_in(s));
-        let held = taken.ring;
+        let held = ring.hand_in(message_in(s));
         return Called {
-            ring: held,
-            answer: Answer::HandIn(taken.number),
-            unread: false,
+            ring: held.ring,
+            answer: Answer::HandIn(held.number),
         };
     }
     switch_line(ring, s)
@@ -378,21 +358,15 @@ fn call_line(ring: Ring, s: Scan) -> Called
 pub fn end_line(run: Run) -> LineStep
     ensures { result ≡ line_ends run }
 {
-    let ring = run.ring;
-    let read = run.scan;
-    let called = call_line(ring, read);
-    let behind = called.ring;
-    let answer = called.answer;
-    let fresh = line_reader::fresh();
+    let called = call_line(run.ring, run.scan);
     let next = Run {
-        ring: behind,
-        scan: fresh,
+        ring: called.ring,
+        scan: line_reader::fresh(),
         line: line_reader::next_line(run.line),
     };
     LineStep {
         run: next,
-        answer,
-        unread: called.unread,
+        answer: called.answer,
     }
 }
 
@@ -402,10 +376,9 @@ pub fn end_line(run: Run) -> LineStep
 pub(crate) fn start(ring: Ring) -> Run
     ensures { result ≡ run_from ring }
 {
-    let s = line_reader::fresh();
     Run {
         ring,
-        scan: s,
+        scan: line_reader::fresh(),
         line: 1,
     }
 }
@@ -414,11 +387,8 @@ pub(crate) fn start(ring: Ring) -> Run
 pub fn open_plan(plan: ReadPlan) -> OpenedRun
     ensures { result ≡ opened_run plan }
 {
-    let set = plan.set;
-    let alloc = plan.alloc;
-    let opened = rings::open(set, alloc);
-    let ring = opened.ring;
-    let run = start(ring);
+    let opened = rings::open(plan.set, plan.alloc);
+    let run = start(opened.ring);
     if plan.number != numbers::ACCEPTED {
         return OpenedRun {
             run,
@@ -442,11 +412,7 @@ pub fn open_run(sheet: &[u8]) -> OpenedRun
 pub fn piece_length(text: &[u8]) -> usize
     ensures { result ≡ min (length text.now) piece_size }
 {
-    if text.len() < PIECE_SIZE {
-        text.len()
-    } else {
-        PIECE_SIZE
-    }
+    text.len().min(PIECE_SIZE)
 }
 
 // The first bytes of the text, answered line by line.
@@ -457,22 +423,15 @@ fn run_piece(run: Run, text: &[u8], end: usize, page: &mut [u8]) -> Ran
     let mut stands = run;
     let mut next: usize = 0;
     let mut unread = false;
-    let mut i: usize = 0;
-    while i < end {
-        let byte = text[i];
-        if byte == b'\n' {
+    for byte in &text[..end] {
+        if *byte == b'\n' {
             let ended = end_line(stands);
-            let answer = ended.answer;
-            next = put_answer(page, next, answer, stands.line);
-            unread = unread | ended.unread;
-            let behind = ended.run;
-            stands = behind;
+            next = put_answer(page, next, ended.answer, stands.line);
+            unread |= ended.answer.is_unread();
+            stands = ended.run;
         } else {
-            let read = stands.scan;
-            let more = line_reader::step(read, byte);
-            stands.scan = more;
+            stands.scan = line_reader::step(stands.scan, *byte);
         }
-        i += 1;
     }
     Ran {
         run: stands,

@@ -24,9 +24,7 @@ fn show_plan(sheet: &[u8], page: &mut [u8]) -> Said
         let length = text::put_refused(page, 0, number);
         return Said { length, number };
     }
-    let set = plan.set;
-    let alloc = plan.alloc;
-    let length = showing::put_sheet(page, true, set, alloc);
+    let length = showing::put_sheet(page, true, plan.set, plan.alloc);
     Said { length, number }
 }
 
@@ -49,8 +47,7 @@ pub fn show_text(sheet: &[u8], page: &mut [u8]) -> Said
         let length = text::put_refused(page, 0, number);
         return Said { length, number };
     }
-    let set = request.set;
-    let length = showing::put_sheet(page, false, set, plans::blank_alloc());
+    let length = showing::put_sheet(page, false, request.set, plans::blank_alloc());
     Said { length, number }
 }
 

@@ -24,13 +24,14 @@ fn put_further(page: &mut [u8], at: usize, tag: u8, number: u32) -> usize
     if number == fields::ABSENT {
         return at;
     }
+    let told = u64::from(number);
     if tag == fields::MODE_TAG {
-        return put_named(page, at, b"mode", units::wide(number));
+        return put_named(page, at, b"mode", told);
     }
     if tag == fields::FRAME_TAG {
-        return put_named(page, at, b"frame", units::wide(number));
+        return put_named(page, at, b"frame", told);
     }
-    put_named(page, at, b"grid", units::wide(number))
+    put_named(page, at, b"grid", told)
 }
 
 // The lines of the header's numbers behind TTRT.
@@ -39,12 +40,10 @@ fn put_numbers(page: &mut [u8], at: usize, h: Head) -> usize
     ensures { PutShort (42 * further_count) page.old at (rows further_count (number_line h)) page.new result }
 {
     let mut next = at;
-    let mut k: u8 = 0;
-    while k < fields::FURTHER_COUNT {
+    for k in 0..fields::FURTHER_COUNT {
         let tag = fields::MODE_TAG + k;
         let number = sets::head_number(h, tag);
         next = put_further(page, next, tag, number);
-        k += 1;
     }
     next
 }
@@ -54,7 +53,7 @@ fn put_header(page: &mut [u8], h: Head) -> usize
     requires { 42 + 42 * further_count ≤ length page.old }
     ensures { PutShort (42 + 42 * further_count) page.old 0 (head_lines h further_count) page.new result }
 {
-    let first = put_named(page, 0, b"ttrt", units::wide(h.ttrt));
+    let first = put_named(page, 0, b"ttrt", u64::from(h.ttrt));
     put_numbers(page, first, h)
 }
 
@@ -63,11 +62,11 @@ fn put_station(page: &mut [u8], at: usize, plan: bool, t: Set, a: Alloc, i: usiz
     requires { (i < 128) × (at + 126 ≤ length page.old) }
     ensures { PutShort 126 page.old at (station_line plan t a i) page.new result }
 {
-    let w = units::wide(t.w[i]);
-    let c = units::wide(t.c[i]);
-    let d = units::wide(t.d[i]);
-    let p = units::wide(t.p[i]);
-    let s = units::wide(a.s[i]);
+    let w = u64::from(t.w[i]);
+    let c = u64::from(t.c[i]);
+    let d = u64::from(t.d[i]);
+    let p = u64::from(t.p[i]);
+    let s = u64::from(a.s[i]);
     if plan {
         return text::put_line(page, at, b"station", &[w, c, d, p, s]);
     }
@@ -79,12 +78,9 @@ fn put_stations(page: &mut [u8], at: usize, plan: bool, t: Set, a: Alloc) -> usi
     requires { (t.n ≤ 128) × (at + 126 * 128 ≤ length page.old) }
     ensures { PutShort (126 * 128) page.old at (rows t.n (station_line plan t a)) page.new result }
 {
-    let end = units::places(t.n);
     let mut next = at;
-    let mut i: usize = 0;
-    while i < end {
+    for i in 0..units::places(t.n) {
         next = put_station(page, next, plan, t, a, i);
-        i += 1;
     }
     next
 }
@@ -94,7 +90,6 @@ pub(crate) fn put_sheet(page: &mut [u8], plan: bool, t: Set, a: Alloc) -> usize
     requires { (t.n ≤ 128) × (20_000 ≤ length page.old) }
     ensures { PutShort 20_000 page.old 0 (sheet_text plan t a) page.new result }
 {
-    let h = t.head;
-    let first = put_header(page, h);
+    let first = put_header(page, t.head);
     put_stations(page, first, plan, t, a)
 }

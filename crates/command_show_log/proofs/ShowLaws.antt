@@ -4,12 +4,12 @@ use mathlib.Core.Path.{◌≡◌, refl, sym, ap, ◌∙◌}
 use mathlib.Core.Bool.{Bool, true, false, not, ◌&&◌}
 use mathlib.Core.List.{List, [], ◌∷◌, ◌++◌, append_assoc, append-nil}
 use mathlib.Core.Logic.{◌≢◌, ⊎_elim}
-use native.Mathlib.Numerals.{add-one}
 use native.Mathlib.Omega.{arith}
 use borrow.Author.Tests.{eq-eqb, ne_eqb, le-leb, lt-ltb, le-ltb}
 use lib.Dec.{eqb}
 use lib.ListN.{length, take}
-use lib.Seq.{take-suc, take_all, take-length}
+use lib.Seq.{take_all, take-length}
+use Rattle.std.proofs.lemmas.List.{take_more}
 use Rattle.units.specs.Places.{at}
 use Rattle.units.proofs.SmallLaws.{below_or_not}
 use Rattle.sets.specs.declared.Set.{Set}
@@ -109,7 +109,7 @@ pub turn : (bs page₀ page page' : List ℕ) (number : ℕ) (start v v' : Gathe
 turn bs page₀ page page' number start v v' i next next' l room ev p e q =
     let b = at bs i in
     let xs = take i bs in
-    let more : take (i + 1) bs ≡ take i bs ++ at bs i ∷ [] = rw add-one (take-suc bs i 0 l) in
+    let more : take (i + 1) bs ≡ take i bs ++ at bs i ∷ [] = take_more bs i 0 l in
     let there : v' ≡ stepped (read_over start (take i bs)) (at bs i) = e ∙ ap (λ (z : Gathered). stepped z b) ev in
     let lines : lines_for number (handed_over start xs) ++ lines_for number (entries_of (entry_in v')) ≡ lines_for number (handed_over start (xs ++ b ∷ [])) =
     ap (λ (z : Gathered). lines_for number (handed_over start xs) ++ lines_for number (entries_of (entry_in z))) there

@@ -52,11 +52,11 @@ fn put_visit_line(page: &mut [u8], at: usize, v: VisitEntry) -> usize
     requires { at + 126 ≤ length page.old }
     ensures { PutShort 126 page.old at (visit_line v) page.new result }
 {
-    let station = v.station as u64;
-    let start = v.start as u64;
-    let limit = v.limit as u64;
-    let synchronous = v.synchronous as u64;
-    let asynchronous = v.asynchronous as u64;
+    let station = u64::from(v.station);
+    let start = u64::from(v.start);
+    let limit = u64::from(v.limit);
+    let synchronous = u64::from(v.synchronous);
+    let asynchronous = u64::from(v.asynchronous);
     text::put_line(
         page,
         at,
@@ -70,7 +70,12 @@ fn put_mark_line(page: &mut [u8], at: usize, m: MarkEntry) -> usize
     requires { at + 126 ≤ length page.old }
     ensures { PutShort 126 page.old at (mark_line m) page.new result }
 {
-    text::put_line(page, at, b"mark", &[m.station as u64, m.mark as u64])
+    text::put_line(
+        page,
+        at,
+        b"mark",
+        &[u64::from(m.station), u64::from(m.mark)],
+    )
 }
 
 // The line of an entry.
@@ -95,8 +100,7 @@ fn put_entry(page: &mut [u8], at: usize, number: u8, got: NextEntry) -> usize
     if got.next == 0 {
         return at;
     }
-    let e = got.entry;
-    put_entry_line(page, at, e)
+    put_entry_line(page, at, got.entry)
 }
 
 // ---- the records
@@ -105,11 +109,7 @@ fn put_entry(page: &mut [u8], at: usize, number: u8, got: NextEntry) -> usize
 fn piece_length(bytes: &[u8]) -> usize
     ensures { result ≡ min (length bytes.now) 512 }
 {
-    if bytes.len() < PIECE_SIZE {
-        bytes.len()
-    } else {
-        PIECE_SIZE
-    }
+    bytes.len().min(PIECE_SIZE)
 }
 
 // The first of the bytes.
@@ -120,17 +120,13 @@ fn show_piece(showing: Showing, bytes: &[u8], end: usize, page: &mut [u8]) -> Sh
     let number = showing.number;
     let mut gathered = showing.gathered;
     let mut next: usize = 0;
-    let mut i: usize = 0;
-    while i < end {
-        let byte = bytes[i];
-        gathered = log_stream::step(gathered, byte);
+    for byte in &bytes[..end] {
+        gathered = log_stream::step(gathered, *byte);
         let got = log_stream::entry_in(gathered);
         next = put_entry(page, next, number, got);
-        i += 1;
     }
-    let stands = Showing { gathered, number };
     Shown {
-        showing: stands,
+        showing: Showing { gathered, number },
         length: next,
     }
 }
@@ -150,8 +146,7 @@ pub fn show_on(showing: Showing, bytes: &[u8], page: &mut [u8]) -> Shown
 fn number_of(showing: Showing) -> u8
     ensures { result ≡ last_number showing }
 {
-    let gathered = showing.gathered;
-    let number = log_stream::number_of(gathered);
+    let number = log_stream::number_of(showing.gathered);
     if number != numbers::ACCEPTED {
         return number;
     }
@@ -195,9 +190,7 @@ fn show_plain(passed: bool, head: &[u8], page: &mut [u8]) -> Said
             number: told,
         };
     }
-    let set = log.set;
-    let alloc = log.alloc;
-    let length = command_show::plan_text(set, alloc, page);
+    let length = command_show::plan_text(log.set, log.alloc, page);
     Said {
         length,
         number: told,
@@ -246,9 +239,7 @@ pub fn show_start(head: &[u8], page: &mut [u8]) -> Begun
             number: plain.number,
         };
     }
-    let set = start.set;
-    let alloc = start.alloc;
-    let length = show_plan(start.number, set, alloc, page);
+    let length = show_plan(start.number, start.set, start.alloc, page);
     Begun {
         showing,
         log,

@@ -1,5 +1,5 @@
 -- The lines of `tune`: each is a form of words, and its numbers in their order.
-use Rattle.std.specs.Prelude.{ℕ, zero, suc, cond, List, [], ◌∷◌, leb, ltb, eqb, replicate}
+use Rattle.std.specs.Prelude.{ℕ, zero, suc, cond, Option, None, Some, List, [], ◌∷◌, leb, ltb, eqb, replicate}
 use Rattle.units.specs.Numbers.{accepted, no_allocation}
 use Rattle.units.specs.Places.{at}
 use Rattle.sets.specs.Rules.{tau}
@@ -69,8 +69,8 @@ count_for (suc k) count = 1
 abbrev pub line_count : Tune → ℕ
 line_count k = count_for k.number k.seen.count
 
--- line i, from 0; no words behind the last
-unfoldable pub line_at : Tune → ℕ → Line
+-- line i, from 0; none behind the last
+unfoldable pub line_at : Tune → ℕ → Option Line
 line_at k i =
-    cond (leb (line_count k) i) (bare form.Nothing)
-    (cond (eqb k.number 0) (cond (ltb i 3) (first_line k i) (found_line k i)) (one form.Refused k.number))
+    cond (leb (line_count k) i) None
+    (cond (eqb k.number 0) (cond (ltb i 3) (Some (first_line k i)) (Some (found_line k i))) (Some (one form.Refused k.number)))

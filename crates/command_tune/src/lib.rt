@@ -10,12 +10,11 @@ ghost use Rattle.command_tune.specs.Lines.{number_of, line_count, line_at};
 use sets::Set;
 use tuning::Tuning;
 use units::numbers;
+use units::refusals::answer_number;
 
 // The forms of words. What each of them says stands in `adviser`.
 #[derive(Clone, Copy)]
 pub enum Form {
-    // No words.
-    Nothing,
     Refused,
     // The range, and the request's own TTRT.
     Tried,
@@ -91,9 +90,8 @@ pub fn begin(sheet: &[u8], from: u64, to: u64) -> Tune
     if !is_range(from, to) {
         return refused(numbers::OUT_OF_RANGE);
     }
-    let given = sheets::read_given(sheet, false);
-    let set = given.set;
-    let number = tuning::judge(set);
+    let set = sheets::read_given(sheet, false).set;
+    let number = answer_number(tuning::judge(set));
     if number != numbers::ACCEPTED {
         return refused(number);
     }
@@ -113,15 +111,15 @@ pub fn begin(sheet: &[u8], from: u64, to: u64) -> Tune
 pub fn is_done(k: Tune) -> bool
     ensures { result ≡ is_done k }
 {
-    units::wide(k.to) < k.next
+    u64::from(k.to) < k.next
 }
 
 // How many are tried next: those that are left, and not too many at a time.
 fn size_of(next: u64, to: u32) -> u32
     ensures { result ≡ size_of next to }
 {
-    let left = units::room(units::wide(to) + 1, next);
-    units::least(left, STEP) as u32
+    let left = (u64::from(to) + 1).saturating_sub(next);
+    left.min(STEP) as u32
 }
 
 // Some TTRT more.
@@ -131,20 +129,11 @@ pub fn go_on(k: Tune) -> Tune
     if is_done(k) {
         return k;
     }
-    let set = k.set;
     let size = size_of(k.next, k.to);
     let first = k.next as u32;
-    let seen = tuning::tune_over(set, first, size, k.seen);
-    let next = k.next + units::wide(size);
-    Tune {
-        set,
-        number: k.number,
-        own: k.own,
-        from: k.from,
-        to: k.to,
-        next,
-        seen,
-    }
+    let seen = tuning::tune_over(k.set, first, size, k.seen);
+    let next = k.next + u64::from(size);
+    Tune { next, seen, ..k }
 }
 
 // 0 where the set has a plan at some TTRT of the range; else the refusal, which is 6 where it has none.
@@ -173,18 +162,18 @@ pub fn line_count(k: Tune) -> usize
     9
 }
 
-// Line i, from 0.
-pub fn line_at(k: Tune, i: usize) -> Line
+// Line i, from 0; behind the last of them there is none.
+pub fn line_at(k: Tune, i: usize) -> Option<Line>
     ensures { result ≡ line_at k i }
 {
     if line_count(k) <= i {
-        return lines::bare(Form::Nothing);
+        return None;
     }
     if k.number != numbers::ACCEPTED {
-        return lines::one(Form::Refused, k.number as u64);
+        return Some(lines::one(Form::Refused, u64::from(k.number)));
     }
     if i < 3 {
-        return lines::first(k, i);
+        return Some(lines::first(k, i));
     }
-    lines::found(k, i)
+    Some(lines::found(k, i))
 }

@@ -5,7 +5,7 @@ ghost use Rattle.command_tune.specs.Lines.{bare, one, two, own_line, or_none, fi
 use crate::{Form, Line, Tune};
 
 // A form without numbers.
-pub(crate) fn bare(form: Form) -> Line
+fn bare(form: Form) -> Line
     ensures { result ≡ bare form }
 {
     Line {
@@ -41,7 +41,7 @@ fn own(ttrt: u64, number: u8) -> Line
     if number == 0 {
         return one(Form::OwnPlan, ttrt);
     }
-    two(Form::OwnRefused, ttrt, number as u64)
+    two(Form::OwnRefused, ttrt, u64::from(number))
 }
 
 // A TTRT; 0 stands for none.
@@ -58,40 +58,32 @@ fn or_none(some: Form, none: Form, x: u64) -> Line
 pub(crate) fn first(k: Tune, i: usize) -> Line
     ensures { result ≡ first_line k i }
 {
-    if i == 0 {
-        return two(Form::Tried, units::wide(k.from), units::wide(k.to));
+    match i {
+        0 => two(Form::Tried, u64::from(k.from), u64::from(k.to)),
+        1 => own(u64::from(k.set.head.ttrt), k.own),
+        _ => one(Form::Plans, u64::from(k.seen.count)),
     }
-    if i == 1 {
-        return own(units::wide(k.set.head.ttrt), k.own);
-    }
-    one(Form::Plans, units::wide(k.seen.count))
 }
 
 // Which have one, and which of them is the best.
 pub(crate) fn found(k: Tune, i: usize) -> Line
     ensures { result ≡ found_line k i }
 {
-    if i == 3 {
-        return one(Form::Smallest, units::wide(k.seen.smallest));
-    }
-    if i == 4 {
-        return one(Form::Largest, units::wide(k.seen.largest));
-    }
-    if i == 5 {
-        return or_none(Form::Below, Form::NoneBelow, units::wide(k.seen.below));
-    }
-    if i == 6 {
-        return or_none(Form::Above, Form::NoneAbove, units::wide(k.seen.above));
-    }
-    if i == 7 {
-        return one(Form::Best, units::wide(k.seen.best));
-    }
-    let n = units::wide(k.set.n);
-    let best = units::wide(k.seen.best);
-    let tau = sets::walk_time(k.set);
-    let spare = units::wide(k.seen.spare);
-    Line {
-        form: Form::Plan,
-        numbers: [n, best, tau, spare, 0, 0],
+    match i {
+        3 => one(Form::Smallest, u64::from(k.seen.smallest)),
+        4 => one(Form::Largest, u64::from(k.seen.largest)),
+        5 => or_none(Form::Below, Form::NoneBelow, u64::from(k.seen.below)),
+        6 => or_none(Form::Above, Form::NoneAbove, u64::from(k.seen.above)),
+        7 => one(Form::Best, u64::from(k.seen.best)),
+        _ => {
+            let n = u64::from(k.set.n);
+            let best = u64::from(k.seen.best);
+            let tau = sets::walk_time(k.set);
+            let spare = u64::from(k.seen.spare);
+            Line {
+                form: Form::Plan,
+                numbers: [n, best, tau, spare, 0, 0],
+            }
+        }
     }
 }

@@ -5,7 +5,6 @@ use mathlib.Core.List.{List}
 use mathlib.Core.Logic.{◌≢◌, ⊎_elim}
 use native.Mathlib.Omega.{arith}
 use borrow.Author.Tests.{eq-eqb, ne_eqb}
-use lib.ListN.{length}
 use Rattle.units.proofs.SmallLaws.{below_or_not}
 use Rattle.fields.specs.Rows.{rows}
 use Rattle.text.specs.Text.{text_or, refused_line}

@@ -32,9 +32,9 @@ fn put_line(page: &mut [u8], at: usize, version: u32, t: Set, a: Alloc) -> usize
     requires { at + 125 ≤ length page.old }
     ensures { PutShort 125 page.old at (version_line version t a) page.new result }
 {
-    let number = units::wide(version);
-    let n = units::wide(t.n);
-    let ttrt = units::wide(t.head.ttrt);
+    let number = u64::from(version);
+    let n = u64::from(t.n);
+    let ttrt = u64::from(t.head.ttrt);
     let tau = sets::walk_time(t);
     let spare = plans::spare(t, a);
     put_words(page, at, number, n, ttrt, tau, spare)
@@ -75,9 +75,7 @@ fn put_version(page: &mut [u8], at: usize, area: &[u8], version: u32) -> usize
     ensures { PutShort 125 page.old at (line_in area.now version) page.new result }
 {
     let plan = plan_in(area, version);
-    let set = plan.set;
-    let alloc = plan.alloc;
-    put_line(page, at, version, set, alloc)
+    put_line(page, at, version, plan.set, plan.alloc)
 }
 
 // A line for each kept version.
@@ -88,10 +86,8 @@ pub(crate) fn put_versions(page: &mut [u8], area: &[u8], kept: VersionsIn) -> us
     let oldest = kept.oldest;
     let n = count_from(oldest, kept.newest);
     let mut next: usize = 0;
-    let mut i: u32 = 0;
-    while i < n {
+    for i in 0..n {
         next = put_version(page, next, area, oldest + i);
-        i += 1;
     }
     next
 }

@@ -7,5 +7,5 @@ pub(crate) fn put_stored(page: &mut [u8], version: u32) -> usize
     requires { 42 ≤ length page.old }
     ensures { PutShort 42 page.old 0 (stored_line version) page.new result }
 {
-    text::put_line(page, 0, b"version", &[version as u64])
+    text::put_line(page, 0, b"version", &[u64::from(version)])
 }

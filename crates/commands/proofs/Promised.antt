@@ -5,13 +5,9 @@ use mathlib.Core.Bool.{Bool, true, false, cond}
 use mathlib.Core.List.{List, [], ◌∷◌}
 use mathlib.Core.Logic.{◌⊎◌, inl, inr, ⊎_elim}
 use native.Mathlib.Omega.{arith}
-use borrow.Author.Tests.{eqb-true, ne_eqb, le-leb, lt-leb, le-ltb}
-use lib.Dec.{eqb}
-use lib.ListN.{length}
-use lib.Seq.{ext_get_or}
-use Rattle.units.specs.Places.{at, all_below}
-use Rattle.units.proofs.PlaceLaws.{all_at}
-use Rattle.units.proofs.JudgingLaws.{and-true}
+use borrow.Author.Tests.{ne_eqb, le-leb, lt-leb, le-ltb}
+use Rattle.units.specs.Places.{all_below}
+use Rattle.commands.proofs.WordLaws.{same_word_lem}
 use Rattle.commands.specs.Table.{commands, word_of, least_of, most_of}
 use Rattle.commands.specs.Words.{same_bytes}
 use Rattle.commands.specs.Asked.{whose, command_of, takes, counted_for, asked_for}
@@ -48,13 +44,6 @@ by_word Unknown = refl
 
 no_shared_word : (c d : Command) → word_of c ≡ word_of d → c ≡ d
 no_shared_word c d e = sym (by_word c) ∙ ap command_of e ∙ by_word d
-
-same_word_lem : (v w : List ℕ) → same_bytes v w ≡ true → w ≡ v
-unfolding same_bytes
-same_word_lem v w e =
-    let both = and-true (eqb (length v) (length w)) (all_below (length v) (λ i. eqb (at v i) (at w i))) e in
-    let long : length v ≡ length w = eqb-true _ _ both.0 in
-    sym (ext_get_or 0 v w long (λ i h. eqb-true _ _ (all_at (length v) _ both.1 i h)))
 
 -- of a command and what is found behind it
 own_or : (b : Bool) (c d : Command) (word : List ℕ) → (b ≡ true → word_of c ≡ word) → (d ≡ Unknown) ⊎ (word_of d ≡ word)

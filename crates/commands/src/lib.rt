@@ -10,7 +10,7 @@ ghost use Rattle.commands.specs.Words.{same_bytes};
 ghost use Rattle.commands.specs.Asked.{command_of, counted_for, asked_for};
 
 // A command for each row of the table; and what a word that is none asks for.
-#[derive(Clone, Copy)]
+#[derive(Clone, Copy, PartialEq, Eq)]
 pub enum Command {
     Plan,
     PlanSheet,
@@ -38,32 +38,66 @@ pub enum Command {
 // How many commands there are.
 pub const COUNT: usize = 20;
 
-// The commands in the order of the table; behind the last of them there is none.
+// The commands in the order of the table.
+const COMMANDS: [Command; COUNT] = [
+    Command::Plan,
+    Command::PlanSheet,
+    Command::Explain,
+    Command::Tune,
+    Command::Compose,
+    Command::Show,
+    Command::Run,
+    Command::Log,
+    Command::Inspect,
+    Command::Page,
+    Command::Diff,
+    Command::Hopper,
+    Command::HopperSheet,
+    Command::Refit,
+    Command::EmptyStore,
+    Command::Keep,
+    Command::Kept,
+    Command::Versions,
+    Command::Version,
+    Command::Help,
+];
+
+// The command at a place of the table; behind the last of them there is none.
 pub fn command_at(place: usize) -> Command
     ensures { result ≡ command_at place }
 {
-    match place {
-        0 => Command::Plan,
-        1 => Command::PlanSheet,
-        2 => Command::Explain,
-        3 => Command::Tune,
-        4 => Command::Compose,
-        5 => Command::Show,
-        6 => Command::Run,
-        7 => Command::Log,
-        8 => Command::Inspect,
-        9 => Command::Page,
-        10 => Command::Diff,
-        11 => Command::Hopper,
-        12 => Command::HopperSheet,
-        13 => Command::Refit,
-        14 => Command::EmptyStore,
-        15 => Command::Keep,
-        16 => Command::Kept,
-        17 => Command::Versions,
-        18 => Command::Version,
-        19 => Command::Help,
-        _ => Command::Unknown,
+    match COMMANDS.get(place) {
+        Some(command) => *command,
+        None => Command::Unknown,
+    }
+}
+
+// The command's word; none is asked for by the empty word.
+fn word_of(command: Command) -> &'static [u8]
+    ensures { result.now ≡ word_of command }
+{
+    match command {
+        Command::Plan => b"plan",
+        Command::PlanSheet => b"plan-sheet",
+        Command::Explain => b"explain",
+        Command::Tune => b"tune",
+        Command::Compose => b"compose",
+        Command::Show => b"show",
+        Command::Run => b"run",
+        Command::Log => b"log",
+        Command::Inspect => b"inspect",
+        Command::Page => b"page",
+        Command::Diff => b"diff",
+        Command::Hopper => b"hopper",
+        Command::HopperSheet => b"hopper-sheet",
+        Command::Refit => b"refit",
+        Command::EmptyStore => b"empty-store",
+        Command::Keep => b"keep",
+        Command::Kept => b"kept",
+        Command::Versions => b"versions",
+        Command::Version => b"version",
+        Command::Help => b"help",
+        Command::Unknown => b"",
     }
 }
 
@@ -71,29 +105,7 @@ pub fn command_at(place: usize) -> Command
 fn has_word(command: Command, word: &[u8]) -> bool
     ensures { result ≡ same_bytes word.now (word_of command) }
 {
-    match command {
-        Command::Plan => words::same_bytes(word, b"plan"),
-        Command::PlanSheet => words::same_bytes(word, b"plan-sheet"),
-        Command::Explain => words::same_bytes(word, b"explain"),
-        Command::Tune => words::same_bytes(word, b"tune"),
-        Command::Compose => words::same_bytes(word, b"compose"),
-        Command::Show => words::same_bytes(word, b"show"),
-        Command::Run => words::same_bytes(word, b"run"),
-        Command::Log => words::same_bytes(word, b"log"),
-        Command::Inspect => words::same_bytes(word, b"inspect"),
-        Command::Page => words::same_bytes(word, b"page"),
-        Command::Diff => words::same_bytes(word, b"diff"),
-        Command::Hopper => words::same_bytes(word, b"hopper"),
-        Command::HopperSheet => words::same_bytes(word, b"hopper-sheet"),
-        Command::Refit => words::same_bytes(word, b"refit"),
-        Command::EmptyStore => words::same_bytes(word, b"empty-store"),
-        Command::Keep => words::same_bytes(word, b"keep"),
-        Command::Kept => words::same_bytes(word, b"kept"),
-        Command::Versions => words::same_bytes(word, b"versions"),
-        Command::Version => words::same_bytes(word, b"version"),
-        Command::Help => words::same_bytes(word, b"help"),
-        Command::Unknown => words::same_bytes(word, b""),
-    }
+    word == word_of(command)
 }
 
 // How many words may follow a command: at least, and at most.
@@ -136,16 +148,11 @@ fn following(command: Command) -> Range
 fn command_of(word: &[u8]) -> Command
     ensures { result ≡ command_of word.now }
 {
-    let mut found = Command::Unknown;
-    let mut place = COUNT;
-    while place > 0 {
-        place -= 1;
-        let command = command_at(place);
-        if has_word(command, word) {
-            found = command;
-        }
-    }
-    found
+    COMMANDS
+        .iter()
+        .copied()
+        .find(|command| has_word(*command, word))
+        .unwrap_or(Command::Unknown)
 }
 
 // What a caller's words ask for.
@@ -163,9 +170,7 @@ pub enum Asked {
 fn counted(command: Command, more: usize) -> Asked
     ensures { result ≡ counted_for command more }
 {
-    let range = following(command);
-    let least = range.least;
-    let most = range.most;
+    let Range { least, most } = following(command);
     if most < least {
         return Asked::Nothing;
     }

@@ -2,36 +2,20 @@
 ghost use Rattle.std.specs.Prelude.{◌≡◌, min, length};
 ghost use Rattle.commands.specs.Words.{same_bytes, status_word, shown_byte, Named};
 
-// Two words are the same.
-pub(crate) fn same_bytes(v: &[u8], w: &[u8]) -> bool
-    ensures { result ≡ same_bytes v.now w.now }
-{
-    if v.len() != w.len() {
-        return false;
-    }
-    let mut same = true;
-    let mut i: usize = 0;
-    while i < v.len() {
-        let one = v[i] == w[i];
-        same = same & one;
-        i += 1;
-    }
-    same
-}
-
 // The word by which a caller asks for the status, on descriptor 3.
+#[tactic(auto, using(crate::proofs::WordLaws::same_by_eq))]
 pub fn asks_for_status(word: &[u8]) -> bool
     ensures { result ≡ same_bytes word.now status_word }
 {
-    same_bytes(word, b"--status-on-3")
+    word == b"--status-on-3".as_slice()
 }
 
 // A byte of a word as it is shown: one that is no printed character as `?`.
+#[tactic(auto, unfolding(crate::specs::Words::shown_byte))]
 fn shown_byte(byte: u8) -> u8
     ensures { result ≡ shown_byte byte }
 {
-    let printed = (33 <= byte) & (byte <= 126);
-    if printed {
+    if byte.is_ascii_graphic() {
         return byte;
     }
     b'?'
@@ -44,10 +28,7 @@ pub const NAME_SIZE: usize = 64;
 fn name_length(word: &[u8]) -> usize
     ensures { result ≡ min 64 (length word.now) }
 {
-    if word.len() < NAME_SIZE {
-        return word.len();
-    }
-    NAME_SIZE
+    word.len().min(NAME_SIZE)
 }
 
 // The bytes by which a word that is no command is named: the first so many of these.
@@ -61,12 +42,10 @@ pub struct Name {
 pub fn name_of(word: &[u8]) -> Name
     ensures { Named word.now result.bytes result.length }
 {
-    let end = name_length(word);
+    let length = name_length(word);
     let mut bytes: [u8; NAME_SIZE] = [0; NAME_SIZE];
-    let mut i: usize = 0;
-    while i < end {
+    for i in 0..length {
         bytes[i] = shown_byte(word[i]);
-        i += 1;
     }
-    Name { bytes, length: i }
+    Name { bytes, length }
 }

@@ -1,6 +1,7 @@
 // The program of the commands on a hopper train: it reads wagons and changes, hands the bytes to the crates below, writes what comes back, and says how it ended.
 #![tactic(auto)]
 
+mod failing;
 mod listing;
 mod planning;
 mod refitting;

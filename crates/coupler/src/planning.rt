@@ -28,20 +28,17 @@ fn write_sheet(rt: &(impl Print + Complain), list: WagonList) -> u8 {
 
 // Reads the list; of one with a line that cannot be read the first such line is named, and nothing else is said.
 fn obey(rt: &(impl Input + Print + Complain), sheet: bool) -> u8 {
-    let listed = listing::read(&mut rt.reader());
-    if let Some(error) = listed.failed {
-        return ending::unread_input(rt, error);
+    let listing = match listing::read(&mut rt.reader()) {
+        Ok(listing) => listing,
+        Err(error) => return ending::unread_input(rt, error),
+    };
+    if listing.unread != 0 {
+        return ending::name_line(rt, listing.unread);
     }
-    let listing = listed.listing;
-    let line = listing.unread;
-    if line != 0 {
-        return ending::name_line(rt, line);
-    }
-    let list = listing.list;
     if sheet {
-        return write_sheet(rt, list);
+        return write_sheet(rt, listing.list);
     }
-    print_plan(rt, list)
+    print_plan(rt, listing.list)
 }
 
 // `hopper`: what `plan` prints of the list's request sheet.

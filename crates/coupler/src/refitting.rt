@@ -1,6 +1,6 @@
 // `refit LIST`: the train of the wagon list in the file LIST is coupled, and each change on standard input is answered.
+use crate::failing::{Failed, say, unread};
 use crate::listing;
-use crate::listing::Listed;
 use command_hopper::{Listing, Refit};
 use commands::status;
 use std::env::Env;
@@ -14,132 +14,99 @@ use streams::{ending, loading, words};
 // The number of standard error, the highest of the three.
 const STDERR_FILENO: i32 = 2;
 
-// The changes behind one reading: whether the input goes on, whether a line could not be read, and whether reading or writing failed.
+// The changes behind what was read, and whether one of their lines could not be read.
 #[derive(Clone, Copy)]
 struct Heard {
     refit: Refit,
-    more: bool,
     unread: bool,
-    failed: bool,
 }
 
 // ---- the changes
 
 // Takes a byte, and writes the answer where a line ends there.
-fn hear_byte(rt: &(impl Print + Complain), refit: Refit, byte: u8, page: &mut [u8]) -> Heard {
-    let read = command_hopper::refit_byte(refit, byte, page);
+fn hear_byte(
+    rt: &(impl Print + Complain),
+    heard: Heard,
+    byte: u8,
+    page: &mut [u8],
+) -> Result<Heard, Failed> {
+    let read = command_hopper::refit_byte(heard.refit, byte, page);
     let length = read.length;
-    let wrote = ending::say(rt, &page[..length]);
-    let behind = read.refit;
-    Heard {
-        refit: behind,
-        more: wrote,
-        unread: read.unread,
-        failed: !wrote,
-    }
+    say(rt, &page[..length])?;
+    Ok(Heard {
+        refit: read.refit,
+        unread: heard.unread | read.unread,
+    })
 }
 
 // Answers the lines that end in these bytes, one after the other.
-fn hear(rt: &(impl Print + Complain), refit: Refit, text: &[u8]) -> Heard {
+fn hear(rt: &(impl Print + Complain), begun: Heard, text: &[u8]) -> Result<Heard, Failed> {
     let mut page = io::large_buffer();
-    let mut stands = refit;
-    let mut unread = false;
+    let mut heard = begun;
     for byte in text {
-        let heard = hear_byte(rt, stands, *byte, &mut page);
-        if heard.failed {
-            return heard;
-        }
-        stands = heard.refit;
-        unread = unread | heard.unread;
+        heard = hear_byte(rt, heard, *byte, &mut page)?;
     }
-    Heard {
-        refit: stands,
-        more: true,
-        unread,
-        failed: false,
-    }
+    Ok(heard)
 }
 
-// The input has ended, or cannot be read.
-fn stopped(refit: Refit, failed: bool) -> Heard {
-    Heard {
-        refit,
-        more: false,
-        unread: false,
-        failed,
-    }
-}
-
-// Reads once, and answers what came.
-fn turn(rt: &(impl Print + Complain), from: &mut impl Read, refit: Refit) -> Heard {
+// Reads once, and answers what came; nothing where the input has ended.
+fn turn(
+    rt: &(impl Print + Complain),
+    from: &mut impl Read,
+    heard: Heard,
+) -> Result<Option<Heard>, Failed> {
     let mut text: [u8; 256] = [0; 256];
     match from.read(&mut text) {
-        Ok(length) => {
-            if length == 0 {
-                return stopped(refit, false);
-            }
-            hear(rt, refit, &text[..length])
-        }
-        Err(error) => {
-            ending::unread_input(rt, error);
-            stopped(refit, true)
-        }
+        Ok(0) => Ok(None),
+        Ok(length) => Ok(Some(hear(rt, heard, &text[..length])?)),
+        Err(error) => Err(unread(rt, error)),
     }
 }
 
 // All the input; the turns are counted, up to a number that no text of changes uses up.
-fn hear_all(rt: &(impl Print + Complain), from: &mut impl Read, refit: Refit) -> Heard {
-    let mut stands = refit;
-    let mut unread = false;
+fn hear_all(
+    rt: &(impl Print + Complain),
+    from: &mut impl Read,
+    begun: Heard,
+) -> Result<Heard, Failed> {
+    let mut heard = begun;
     for _ in 0..u64::MAX {
-        let heard = turn(rt, from, stands);
-        let behind = heard.refit;
-        stands = behind;
-        unread = unread | heard.unread;
-        if !heard.more {
-            return Heard {
-                refit: stands,
-                more: false,
-                unread,
-                failed: heard.failed,
-            };
-        }
+        let Some(more) = turn(rt, from, heard)? else {
+            return Ok(heard);
+        };
+        heard = more;
     }
-    stopped(stands, true)
+    Err(Failed)
 }
 
-// Answers all the changes of a train that begin here.
-fn answer(rt: &(impl Input + Print + Complain), refit: Refit) -> u8 {
-    let heard = hear_all(rt, &mut rt.reader(), refit);
-    if heard.failed {
-        return status::FAILED;
-    }
+// Answers all the changes of a train, and says whether one of their lines could not be read.
+fn answer(rt: &(impl Input + Print + Complain), refit: Refit) -> Result<bool, Failed> {
+    let begun = Heard {
+        refit,
+        unread: false,
+    };
+    let heard = hear_all(rt, &mut rt.reader(), begun)?;
     // A last line may lack its newline.
-    let behind = heard.refit;
-    let last = hear(rt, behind, b"\n");
-    let failed = heard.unread | (last.unread | last.failed);
-    if failed {
-        return status::FAILED;
-    }
-    status::DONE
+    let last = hear(rt, heard, b"\n")?;
+    Ok(last.unread)
 }
 
 // ---- the list
 
 // Couples the train of a list that was read, and answers its changes; of one that is refused no change is looked at.
 fn couple(rt: &(impl Input + Print + Complain), listing: Listing) -> u8 {
-    let line = listing.unread;
-    if line != 0 {
-        return ending::name_line(rt, line);
+    if listing.unread != 0 {
+        return ending::name_line(rt, listing.unread);
     }
-    let list = listing.list;
-    let coupled = hopper::couple_train(list);
-    let number = coupled.number;
-    if number != 0 {
-        return ending::refuse(rt, number);
+    let coupled = hopper::couple_train(listing.list);
+    if coupled.number != 0 {
+        return ending::refuse(rt, coupled.number);
     }
-    let train = coupled.train;
-    answer(rt, command_hopper::begin_refit(train))
+    match answer(rt, command_hopper::begin_refit(coupled.train)) {
+        Ok(false) => status::DONE,
+        Ok(true) => status::FAILED,
+        Err(Failed) => status::FAILED,
+    }
 }
 
 // Names the path, and what the system says of it.
@@ -154,16 +121,7 @@ fn fail_closed(rt: &impl Complain) -> u8 {
     status::FAILED
 }
 
-// Reads the list in an open file; one that cannot be read is named.
-fn load(rt: &impl Complain, file: &mut impl Read, path: &[u8]) -> Listed {
-    let listed = listing::read(file);
-    if let Some(error) = listed.failed {
-        fail(rt, path, error);
-    }
-    listed
-}
-
-// Takes the list in an open file, which is closed before a change is read.
+// Takes the list in an open file, which is closed before a change is read; one that cannot be read is named.
 fn take(
     rt: &(impl Input + Print + Complain),
     mut file: impl Read + AsRawFd + Drop,
@@ -172,13 +130,12 @@ fn take(
     if file.as_raw_fd() <= STDERR_FILENO {
         return fail_closed(rt);
     }
-    let listed = load(rt, &mut file, path);
+    let listed = listing::read(&mut file);
     drop(file);
-    if listed.failed.is_some() {
-        return status::FAILED;
+    match listed {
+        Ok(listing) => couple(rt, listing),
+        Err(error) => fail(rt, path, error),
     }
-    let listing = listed.listing;
-    couple(rt, listing)
 }
 
 // Takes the list whose path is the word at this place.

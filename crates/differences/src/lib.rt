@@ -9,7 +9,7 @@ use plans::Alloc;
 use sets::{Head, Set};
 use units::numbers;
 
-// Two headers have the same numbers.
+// Two headers have the same numbers, asked number by number: `Head` derives no `==`.
 fn same_header(h: Head, k: Head) -> bool
     ensures { result ≡ is_none (headers_changed (header_of h) (header_of k)) }
 {
@@ -39,11 +39,8 @@ fn same_stations(t: Set, a: Alloc, u: Set, b: Alloc, n: usize) -> bool
     ensures { result ≡ is_none (gathered n (station_changed (number_of t a) (number_of u b))) }
 {
     let mut all = true;
-    let mut i: usize = 0;
-    while i < n {
-        let one = same_station(t, a, u, b, i);
-        all = all & one;
-        i += 1;
+    for i in 0..n {
+        all &= same_station(t, a, u, b, i);
     }
     all
 }

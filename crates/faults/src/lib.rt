@@ -66,7 +66,7 @@ fn time_by(h: Head, d: u32, away: u64, s: u32) -> u64
 fn off_grid(grid: u32, s: u32) -> bool
     ensures { result ≡ not (on_grid grid s) }
 {
-    let both = quotients::divide(units::wide(s), units::wide(grid));
+    let both = quotients::divide(u64::from(s), u64::from(grid));
     both.remainder != 0
 }
 
@@ -77,14 +77,14 @@ fn excess_of(h: Head, c: u32, d: u32, s: u32) -> u64
     if h.mode == numbers::FDDI {
         return 0;
     }
-    units::room(units::wide(s), plans::smallest(h.grid, h.ttrt, c, d))
+    u64::from(s).saturating_sub(plans::smallest(h.grid, h.ttrt, c, d))
 }
 
 // What a station holds, where X is so large.
 fn holding_with(h: Head, c: u32, d: u32, s: u32, time: u64) -> Holding
     ensures { result ≡ holding_with h c d s time }
 {
-    let short = time < units::wide(c);
+    let short = time < u64::from(c);
     Holding {
         time,
         short,
@@ -109,7 +109,7 @@ pub fn holding_at(t: Set, a: Alloc, station: u32) -> Holding
     let own = a.s[i];
     let d = t.d[i];
     let s = a.s;
-    let others = units::room(units::sum_first(s, t.n), units::wide(own));
+    let others = units::sum_first(s, t.n).saturating_sub(u64::from(own));
     let time = time_by(t.head, d, reasons::lost_time(t) + others, own);
     holding_with(t.head, t.c[i], d, own, time)
 }
@@ -121,11 +121,11 @@ pub fn token_of(t: Set, a: Alloc) -> Token
     let s = a.s;
     let sum = units::sum_first(s, t.n);
     let gone = reasons::lost_time(t);
-    let ttrt = units::wide(t.head.ttrt);
+    let ttrt = u64::from(t.head.ttrt);
     Token {
         sum,
-        available: units::room(ttrt, gone),
-        over: units::room(sum + gone, ttrt),
+        available: ttrt.saturating_sub(gone),
+        over: (sum + gone).saturating_sub(ttrt),
     }
 }
 

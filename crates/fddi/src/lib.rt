@@ -24,39 +24,34 @@ pub struct Load {
 pub fn least_time(ttrt: u32, d: u32, away: u64, s: u32) -> u64
     ensures { result ≡ least_time ttrt d away s }
 {
-    let rotation = units::wide(ttrt);
-    let long = units::wide(d);
-    let own = units::wide(s);
+    let rotation = u64::from(ttrt);
+    let long = u64::from(d);
+    let own = u64::from(s);
     let q = shares::whole(long, rotation);
     if q == 0 {
         return 0;
     }
-    let rest = units::room(long, q * rotation);
-    (q - 1) * own + units::least(units::room(rest, away), own)
+    let rest = long.saturating_sub(q * rotation);
+    (q - 1) * own + rest.saturating_sub(away).min(own)
 }
 
 // The deadline rule holds at every station.
-fn deadlines_fit<'a>(
+fn deadlines_fit(
     n: u32,
     ttrt: u32,
     lost: u64,
-    c: &'a [u32; 128],
-    d: &'a [u32; 128],
-    s: &'a [u32; 128],
+    c: &[u32; 128],
+    d: &[u32; 128],
+    s: &[u32; 128],
 ) -> bool
     requires { lost ≤ ttrt }
     ensures { result ≡ deadlines_in n ttrt lost c.now d.now (at s.now) }
 {
     let taken = units::sum_lent(s, n) + lost;
-    let end = units::places(n);
     let mut all = true;
-    let mut i: usize = 0;
-    while i < end {
-        let away = units::room(taken, units::wide(s[i]));
-        let time = least_time(ttrt, d[i], away, s[i]);
-        let one = units::wide(c[i]) <= time;
-        all = all & one;
-        i += 1;
+    for i in 0..units::places(n) {
+        let away = taken.saturating_sub(u64::from(s[i]));
+        all &= u64::from(c[i]) <= least_time(ttrt, d[i], away, s[i]);
     }
     all
 }

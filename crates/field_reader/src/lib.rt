@@ -114,28 +114,20 @@ fn with_field(passed: Passed, tag: u8, next: usize) -> Passed
 {
     if tag == fields::STATION_TAG {
         return Passed {
-            plan: passed.plan,
-            head: passed.head,
-            from: passed.from,
             stations: passed.stations + 1,
-            allocations: passed.allocations,
+            ..passed
         };
     }
     if tag == fields::ALLOCATION_TAG {
         return Passed {
-            plan: passed.plan,
-            head: passed.head,
-            from: passed.from,
-            stations: passed.stations,
             allocations: passed.allocations + 1,
+            ..passed
         };
     }
     Passed {
-        plan: passed.plan,
         head: tag,
         from: next,
-        stations: passed.stations,
-        allocations: passed.allocations,
+        ..passed
     }
 }
 

@@ -2,11 +2,6 @@
 use Rattle.std.specs.Prelude.{ℕ, ◌<◌, ◌≡◌, List, length}
 use Rattle.fields.specs.Bytes.{short_at, AllBytes}
 
--- r is the byte b
-pub record Byte (b r : ℕ) : Type 0 where
-  pub same : r ≡ b
-  pub small : r < 256
-
 -- r is the number in two bytes
 pub record Short (bs : List ℕ) (a r : ℕ) : Type 0 where
   pub is : r ≡ short_at bs a

@@ -1,20 +1,12 @@
 // Bytes as numbers, the highest byte first.
 ghost use Rattle.std.specs.Prelude.{◌+◌, ◌≤◌, length};
-ghost use Rattle.fields.specs.Bounds.{Byte, Short};
-
-// The same byte, with room to put numbers together.
-pub fn wide(b: u8) -> u32
-    ensures { Byte b result }
-{
-    b as u32
-}
+ghost use Rattle.fields.specs.Bounds.{Short};
 
 // The number in two bytes.
+#[tactic(auto, unfolding(crate::specs::Bytes::short_at))]
 pub(crate) fn short_at(bs: &[u8], at: usize) -> usize
     requires { at + 2 ≤ length bs.now }
     ensures { Short bs.now at result }
 {
-    let number = wide(bs[at]) * 256 + wide(bs[at + 1]);
-    let short = number as usize;
-    short
+    usize::from(u16::from_be_bytes([bs[at], bs[at + 1]]))
 }

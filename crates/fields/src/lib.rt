@@ -69,6 +69,7 @@ pub fn allocations_for(plan: bool, n: usize) -> usize
 }
 
 // The length of a field of the header behind TTRT: the mode's, and F's for every other.
+#[tactic(auto, unfolding(crate::specs::Fields::further_size))]
 pub fn further_size(tag: u8) -> usize
     ensures { result ≡ further_size tag }
 {
@@ -96,27 +97,23 @@ fn in_header(passed: Passed, tag: u8) -> bool
 }
 
 // The tag with this length may stand next: a row for each tag, with its one length; then the further fields of the header.
+#[tactic(auto, unfolding(crate::specs::Fields::is_allowed))]
 fn is_allowed(passed: Passed, tag: u8, size: usize) -> bool
     ensures { result ≡ is_allowed passed tag size }
 {
     let headed = HEAD_TAG <= passed.head;
     let due = allocations_for(passed.plan, passed.stations);
-    if tag == HEAD_TAG {
-        return (size == HEAD_SIZE) & !headed;
+    match tag {
+        HEAD_TAG => (size == HEAD_SIZE) & !headed,
+        STATION_TAG => {
+            (size == STATION_SIZE) & headed & (passed.stations < 128) & (passed.allocations == 0)
+        }
+        ALLOCATION_TAG => (size == ALLOCATION_SIZE) & headed & (passed.allocations < due),
+        END_TAG => {
+            (size == END_SIZE) & headed & (1 <= passed.stations) & (passed.allocations == due)
+        }
+        _ => is_further(tag, size) & in_header(passed, tag),
     }
-    if tag == STATION_TAG {
-        return (size == STATION_SIZE)
-            & headed
-            & (passed.stations < 128)
-            & (passed.allocations == 0);
-    }
-    if tag == ALLOCATION_TAG {
-        return (size == ALLOCATION_SIZE) & headed & (passed.allocations < due);
-    }
-    if tag == END_TAG {
-        return (size == END_SIZE) & headed & (1 <= passed.stations) & (passed.allocations == due);
-    }
-    is_further(tag, size) & in_header(passed, tag)
 }
 
 // ---- the numbers of the header behind TTRT
@@ -125,6 +122,7 @@ fn is_allowed(passed: Passed, tag: u8, size: usize) -> bool
 pub const ABSENT: u32 = 1;
 
 // The number that a field of the header gives: what its absence means where it is not there, else its own number. A field that is there and says what its absence means gives 0, which no range allows.
+#[tactic(auto, unfolding(crate::specs::Header::header_number))]
 pub fn header_number(there: bool, number: u32) -> u32
     ensures { result ≡ header_number there number }
 {
@@ -143,10 +141,7 @@ pub fn header_number(there: bool, number: u32) -> u32
 fn left_from(bs: &[u8], at: usize) -> usize
     ensures { result ≡ left bs.now at }
 {
-    if bs.len() < at {
-        return 0;
-    }
-    bs.len() - at
+    bs.len().saturating_sub(at)
 }
 
 // How many bytes a lent slice has. Each of them is below 256, as some promises ask of the bytes of a sheet.

@@ -80,24 +80,26 @@ pub fn with_more(list: WagonList, wagon: Wagon) -> WagonList
     ensures { result ≡ with_more list wagon }
 {
     if MOST_WAGONS <= list.n {
-        let mut full = list;
-        full.n = MOST_WAGONS + 1;
-        return full;
+        return WagonList {
+            n: MOST_WAGONS + 1,
+            ..list
+        };
     }
-    let mut longer = wagons::with_wagon(list, Station(units::wide(list.n)), wagon);
-    longer.n = list.n + 1;
-    longer
+    let longer = wagons::with_wagon(list, Station(u64::from(list.n)), wagon);
+    WagonList {
+        n: list.n + 1,
+        ..longer
+    }
 }
 
 // The list without its last wagon.
 pub fn without_last(list: WagonList) -> WagonList
     ensures { result ≡ without_last list }
 {
-    let mut shorter = list;
-    if 0 < list.n {
-        shorter.n = list.n - 1;
+    WagonList {
+        n: list.n.saturating_sub(1),
+        ..list
     }
-    shorter
 }
 
 // The judgement of a list: 2 for a count that is not 1 to 12, 4 for a wagon out of its ranges, or 0.

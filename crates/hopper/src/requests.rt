@@ -22,11 +22,7 @@ fn filled(n: u32, x: u32) -> [u32; 128]
 {
     let end = units::places(n);
     let mut xs: [u32; 128] = [0; 128];
-    let mut i: usize = 0;
-    while i < end {
-        xs[i] = x;
-        i += 1;
-    }
+    xs[..end].fill(x);
     xs
 }
 
@@ -37,10 +33,8 @@ fn messages(list: WagonList) -> [u32; 128]
 {
     let end = units::places(list.n);
     let mut c: [u32; 128] = [0; 128];
-    let mut i: usize = 0;
-    while i < end {
+    for i in 0..end {
         c[i] = longest(list.boxes[i], list.brake[i], list.door[i]);
-        i += 1;
     }
     c
 }

@@ -26,7 +26,7 @@ pub(crate) fn place_number(list: WagonList, place: Station, wagon: Wagon) -> u8
     if !wagons::wagon_fits(wagon.boxes, wagon.brake, wagon.door) {
         return numbers::OUT_OF_RANGE;
     }
-    if units::wide(list.n) <= place.0 {
+    if u64::from(list.n) <= place.0 {
         return numbers::NO_SUCH_STATION;
     }
     numbers::ACCEPTED

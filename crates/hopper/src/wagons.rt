@@ -22,11 +22,8 @@ pub(crate) fn wagons_fit(list: WagonList) -> bool
 {
     let end = units::places(list.n);
     let mut all = true;
-    let mut i: usize = 0;
-    while i < end {
-        let one = wagon_fits(list.boxes[i], list.brake[i], list.door[i]);
-        all = all & one;
-        i += 1;
+    for i in 0..end {
+        all &= wagon_fits(list.boxes[i], list.brake[i], list.door[i]);
     }
     all
 }

@@ -78,168 +78,28 @@ pub fn olivastrum_open_ring(set: Set, alloc: Alloc) -> Opened
 pub fn olivastrum_visit(ring: &mut Ring, ask: Ask) -> VisitAnswer
     ensures { VisitLent ring.old ask ring.new result }
 {
-    let head = ring.set.head;
-    let n = ring.set.n;
-    let token = ring.token;
-    let clock = ring.clock;
-    let visits = ring.visits;
-    let unused = ring.unused;
-    let next = in_place::visit_on(
-        &ring.set.w,
-        &ring.set.c,
-        &ring.set.d,
-        &ring.set.p,
-        &ring.alloc.s,
-        &mut ring.trt,
-        &mut ring.late,
-        &mut ring.sent,
-        &mut ring.rest,
-        &mut ring.arrival,
-        &mut ring.had,
-        &mut ring.mark,
-        &mut ring.last,
-        head,
-        n,
-        token,
-        clock,
-        visits,
-        unused,
-        ask,
-    );
-    if next.number != 0 {
-        return next.answer;
-    }
-    ring.token = next.token;
-    ring.clock = next.clock;
-    ring.visits = next.visits;
-    ring.unused = next.unused;
-    next.answer
+    in_place::visit_on(ring, ask)
 }
 
 // Handing in a message at the lent ring.
 pub fn olivastrum_hand_in(ring: &mut Ring, message: Message) -> u8
     ensures { HandInLent ring.old message ring.new result }
 {
-    let head = ring.set.head;
-    let n = ring.set.n;
-    let token = ring.token;
-    let clock = ring.clock;
-    let visits = ring.visits;
-    let unused = ring.unused;
-    let next = in_place::hand_in_on(
-        &ring.set.w,
-        &ring.set.c,
-        &ring.set.d,
-        &ring.set.p,
-        &ring.alloc.s,
-        &mut ring.trt,
-        &mut ring.late,
-        &mut ring.sent,
-        &mut ring.rest,
-        &mut ring.arrival,
-        &mut ring.had,
-        &mut ring.mark,
-        &mut ring.last,
-        head,
-        n,
-        token,
-        clock,
-        visits,
-        unused,
-        message,
-    );
-    if next.number != 0 {
-        return next.answer;
-    }
-    ring.token = next.token;
-    ring.clock = next.clock;
-    ring.visits = next.visits;
-    ring.unused = next.unused;
-    next.answer
+    in_place::hand_in_on(ring, message)
 }
 
 // Switching a station of the lent ring through: its mark is set, and the message that it holds is withdrawn.
 pub fn olivastrum_mark(ring: &mut Ring, station: Station) -> MarkAnswer
     ensures { MarkLent ring.old station ring.new result }
 {
-    let head = ring.set.head;
-    let n = ring.set.n;
-    let token = ring.token;
-    let clock = ring.clock;
-    let visits = ring.visits;
-    let unused = ring.unused;
-    let next = in_place::mark_on(
-        &ring.set.w,
-        &ring.set.c,
-        &ring.set.d,
-        &ring.set.p,
-        &ring.alloc.s,
-        &mut ring.trt,
-        &mut ring.late,
-        &mut ring.sent,
-        &mut ring.rest,
-        &mut ring.arrival,
-        &mut ring.had,
-        &mut ring.mark,
-        &mut ring.last,
-        head,
-        n,
-        token,
-        clock,
-        visits,
-        unused,
-        station,
-    );
-    if next.number != 0 {
-        return next.answer;
-    }
-    ring.token = next.token;
-    ring.clock = next.clock;
-    ring.visits = next.visits;
-    ring.unused = next.unused;
-    next.answer
+    in_place::mark_on(ring, station)
 }
 
 // Switching a station of the lent ring in again: its mark is taken off.
 pub fn olivastrum_unmark(ring: &mut Ring, station: Station) -> u8
     ensures { UnmarkLent ring.old station ring.new result }
 {
-    let head = ring.set.head;
-    let n = ring.set.n;
-    let token = ring.token;
-    let clock = ring.clock;
-    let visits = ring.visits;
-    let unused = ring.unused;
-    let next = in_place::unmark_on(
-        &ring.set.w,
-        &ring.set.c,
-        &ring.set.d,
-        &ring.set.p,
-        &ring.alloc.s,
-        &mut ring.trt,
-        &mut ring.late,
-        &mut ring.sent,
-        &mut ring.rest,
-        &mut ring.arrival,
-        &mut ring.had,
-        &mut ring.mark,
-        &mut ring.last,
-        head,
-        n,
-        token,
-        clock,
-        visits,
-        unused,
-        station,
-    );
-    if next.number != 0 {
-        return next.answer;
-    }
-    ring.token = next.token;
-    ring.clock = next.clock;
-    ring.visits = next.visits;
-    ring.unused = next.unused;
-    next.answer
+    in_place::unmark_on(ring, station)
 }
 
 // Begins a log in the first bytes of the lent buffer: the plan's fields, without the end.
@@ -290,7 +150,7 @@ pub fn olivastrum_log_entry(log: &[u8], at: usize) -> LogEntry
     let size = logs::reading::record_size(log, at);
     if size == log_records::VISIT_LENGTH {
         return LogEntry {
-            kind: log_records::VISIT_TAG as u32,
+            kind: u32::from(log_records::VISIT_TAG),
             visit: sheets::records::visit_at(log, at),
             mark: log_records::blank_mark(),
             next: at + log_records::VISIT_LENGTH,
@@ -298,7 +158,7 @@ pub fn olivastrum_log_entry(log: &[u8], at: usize) -> LogEntry
     }
     if size == log_records::MARK_LENGTH {
         return LogEntry {
-            kind: log_records::MARK_TAG as u32,
+            kind: u32::from(log_records::MARK_TAG),
             visit: log_records::blank_visit(),
             mark: sheets::records::mark_at(log, at),
             next: at + log_records::MARK_LENGTH,

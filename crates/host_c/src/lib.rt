@@ -25,7 +25,7 @@ use log_records::MarkEntry;
 use logs::{ReadLog, Recorder};
 use plan_inspections::PlanFinding;
 use plans::{Alloc, Planned};
-use rings::{Ask, MarkAnswer, Message, Opened, Ring, VisitAnswer, VisitRecord, in_place};
+use rings::{Ask, MarkAnswer, Message, Opened, Ring, VisitAnswer, VisitRecord};
 use sets::Set;
 use sheets::{ReadPlan, ReadRequest, Written};
 use units::Station;

@@ -128,6 +128,10 @@ module _ (t : Set) (a : Alloc) (bs : List ℕ) (whole : Inspection) where
     pub rule : s.rule ≡ 0
     pub rest : inspected_all s t a (handed_from left bs at) ≡ whole
 
+  -- one record more is counted; said here by itself, so that a wrong count has a place of its own
+  pub going_counted : (next : Inspection) (at left records : ℕ) → Going (counting next ((next.records + 1) % 2 ^ 64)) at left → records ≡ (next.records + 1) % 2 ^ 64 → Going (counting next records) at left
+  going_counted next at left records G is = rw is G
+
   pub going_first : (s : Inspection) (at left : ℕ) → s.rule ≡ 0 → whole ≡ inspected_all s t a (handed_from left bs at) → Going s at left
   going_first s at left none all = record { rule = none; rest = sym all }
 

@@ -6,12 +6,12 @@ ghost use Rattle.inspection.specs.Counter.{ticks_later, ticks_between};
 pub(crate) fn later(shown: u32, ticks: u32) -> u32
     ensures { result ≡ ticks_later shown ticks }
 {
-    std::num::wrapping_add_u32(shown, ticks)
+    shown.wrapping_add(ticks)
 }
 
 // The ticks from one showing to a later one.
 pub(crate) fn between(earlier: u32, later: u32) -> u32
     ensures { result ≡ ticks_between earlier later }
 {
-    std::num::wrapping_sub_u32(later, earlier)
+    later.wrapping_sub(earlier)
 }

@@ -53,7 +53,7 @@ fn visit_on<'a>(
     let before = sent[p];
     sent[p] = visit.synchronous;
     let next = moving::course_after(course, n, share, before, w[p], visit);
-    let more = std::num::wrapping_add_u64(records, 1);
+    let more = records.wrapping_add(1);
     let compared = none_compared();
     Step {
         course: next,
@@ -82,7 +82,7 @@ fn mark_on(mark: &mut [u8; 128], n: u32, course: Course, records: u64, switched:
     }
     let place = rules::place(switched.station);
     mark[place] = moving::mark_of(switched.mark);
-    let counted = std::num::wrapping_add_u64(records, 1);
+    let counted = records.wrapping_add(1);
     let compared = none_compared();
     Step {
         course,
@@ -119,7 +119,7 @@ pub fn inspect_on<'a>(
         let none = none_compared();
         return keeping::next_of(course, progress.records, progress.rule, none);
     }
-    if told.kind == log_records::VISIT_TAG as u32 {
+    if told.kind == u32::from(log_records::VISIT_TAG) {
         let visit = told.visit;
         let step = visit_on(
             w,

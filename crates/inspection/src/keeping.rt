@@ -9,6 +9,7 @@ use super::{
 use plans::Alloc;
 use sets::{Head, Set};
 use units::numbers;
+use units::refusals::answer_number;
 
 // The ring as a whole, of its numbers.
 pub(crate) fn course_in(kept: Progress) -> Course
@@ -28,10 +29,6 @@ pub(crate) fn course_in(kept: Progress) -> Course
 fn progress_of(course: Course, records: u64, rule: u8) -> Progress
     ensures { result ≡ progress_of course records rule }
 {
-    let mut visited: u8 = 1;
-    if course.first {
-        visited = 0;
-    }
     Progress {
         records,
         token: course.token,
@@ -39,7 +36,7 @@ fn progress_of(course: Course, records: u64, rule: u8) -> Progress
         unused: course.unused,
         start: course.start,
         span: course.span,
-        visited,
+        visited: u8::from(!course.first),
         rule,
     }
 }
@@ -78,23 +75,21 @@ fn blank() -> KeptInspection
 fn kept_of(set: Set, alloc: Alloc, state: Inspection) -> KeptInspection
     ensures { result ≡ keeping set alloc state }
 {
-    let head = set.head;
+    // Each array by a name of its own: the check covers none that is laid straight from one struct into another.
     let w = set.w;
     let s = alloc.s;
     let base = state.base;
     let sent = state.sent;
     let mark = state.mark;
-    let course = state.course;
-    let progress = progress_of(course, state.records, state.rule);
     KeptInspection {
-        head,
+        head: set.head,
         n: set.n,
         w,
         s,
         base,
         sent,
         mark,
-        progress,
+        progress: progress_of(state.course, state.records, state.rule),
     }
 }
 
@@ -102,7 +97,7 @@ fn kept_of(set: Set, alloc: Alloc, state: Inspection) -> KeptInspection
 pub fn begin_inspection(set: Set, alloc: Alloc) -> BegunInspection
     ensures { result ≡ inspection_begun set alloc }
 {
-    let number = plans::judge_plan(set, alloc);
+    let number = answer_number(plans::judge_plan(set, alloc));
     if number != numbers::ACCEPTED {
         let inspection = blank();
         return BegunInspection { inspection, number };
@@ -116,7 +111,7 @@ pub fn begin_inspection(set: Set, alloc: Alloc) -> BegunInspection
 fn in_field(told: LogEntry) -> bool
     ensures { result ≡ in_field (entry_of told) }
 {
-    if told.kind == log_records::VISIT_TAG as u32 {
+    if told.kind == u32::from(log_records::VISIT_TAG) {
         return told.visit.station < 256;
     }
     (told.mark.station < 256) & (told.mark.mark < 256)
@@ -130,8 +125,8 @@ pub(crate) fn record_number(n: u32, told: LogEntry) -> u8
     if !begun {
         return numbers::UNSOUND;
     }
-    let known = (told.kind == log_records::VISIT_TAG as u32)
-        | (told.kind == log_records::MARK_TAG as u32);
+    let known = (told.kind == u32::from(log_records::VISIT_TAG))
+        | (told.kind == u32::from(log_records::MARK_TAG));
     if !known {
         return numbers::WRONG_SHAPE;
     }
@@ -159,7 +154,7 @@ fn last_record(records: u64, rule: u8) -> u64
     ensures { result ≡ last_record records rule }
 {
     if rule != 0 {
-        return std::num::wrapping_add_u64(records, 1);
+        return records.wrapping_add(1);
     }
     records
 }

@@ -246,10 +246,11 @@ pub fn compare(state: Inspection, set: Set, alloc: Alloc, entry: Entry) -> Compa
 pub fn found(state: Inspection, records: u64) -> Finding
     ensures { result ≡ finding_of state records }
 {
-    let mut record: u64 = 0;
-    if state.rule != 0 {
-        record = std::num::wrapping_add_u64(state.records, 1);
-    }
+    let record = if state.rule != 0 {
+        state.records.wrapping_add(1)
+    } else {
+        0
+    };
     Finding {
         records,
         record,

@@ -3,7 +3,7 @@ ghost use Rattle.std.specs.Prelude.{◌≡◌, ◌<◌};
 ghost use Rattle.rings.specs.State.{following};
 ghost use Rattle.inspection.specs.Records.{LeadIn, base_with, unused_with, span_with, course_with, mark_of};
 
-use super::{Course, counter, rules};
+use super::{Course, counter};
 use log_records::VisitEntry;
 use sets::Head;
 use units::numbers;
@@ -35,8 +35,8 @@ pub(crate) fn base_after(head: Head, clock: u32, base: u32, lead: u32) -> u32
 fn unused_after(unused: u32, share: u32, before: u32, now: u32) -> u32
     ensures { result ≡ unused_with unused share before now }
 {
-    let fallen = rules::less(unused, rules::less(share, before));
-    counter::later(fallen, rules::less(share, now))
+    let fallen = unused.saturating_sub(share.saturating_sub(before));
+    counter::later(fallen, share.saturating_sub(now))
 }
 
 // The ticks that a visit takes: synchronous, asynchronous, and the walk to the next station.
@@ -79,8 +79,9 @@ pub(crate) fn course_after(
 }
 
 // The mark that is kept of a mark's record: 0 is no, anything else yes.
+#[tactic(auto, unfolding(crate::specs::Records::mark_of))]
 pub(crate) fn mark_of(mark: u32) -> u8
     ensures { result ≡ mark_of mark }
 {
-    if mark == 0 { 0 } else { 1 }
+    u8::from(mark != 0)
 }

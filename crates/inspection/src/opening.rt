@@ -15,14 +15,11 @@ fn shown(x: u64) -> u32
 fn passing_times(w: &[u32; 128], n: u32) -> [u32; 128]
     ensures { result ≡ passing_times n w.now }
 {
-    let end = units::places(n);
     let mut times = [0; 128];
     let mut walked: u32 = 0;
-    let mut i: usize = 0;
-    while i < end {
+    for i in 0..units::places(n) {
         times[i] = walked;
         walked = counter::later(walked, w[i]);
-        i += 1;
     }
     times
 }

@@ -26,8 +26,7 @@ pub fn inspect_lent<'a>(
     }
     let mut state = before;
     let mut at = first;
-    let mut left = records;
-    'records: while 0 < left {
+    for _ in 0..records {
         let handed = logs::log_entry(log, at);
         let entry = handed.entry;
         let course = state.course;
@@ -38,7 +37,7 @@ pub fn inspect_lent<'a>(
         let rule = rules::broken_rule(due, entry);
         if rule != 0 {
             state.rule = rule;
-            break 'records;
+            break;
         }
         match entry {
             Entry::Visit(visit) => {
@@ -54,9 +53,8 @@ pub fn inspect_lent<'a>(
                 state.mark[place] = moving::mark_of(switched.mark);
             }
         }
-        state.records = std::num::wrapping_add_u64(state.records, 1);
+        state.records = state.records.wrapping_add(1);
         at = handed.next;
-        left -= 1;
     }
     state
 }

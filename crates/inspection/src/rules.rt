@@ -1,5 +1,5 @@
 // The five rules: station, start, limit, synchronous, asynchronous. A mark has the first alone.
-ghost use Rattle.std.specs.Prelude.{◌≡◌, ◌-◌};
+ghost use Rattle.std.specs.Prelude.{◌≡◌};
 ghost use Rattle.log_records.specs.declared.Entry.TheVariants.{Visit};
 ghost use Rattle.inspection.specs.Rules.{place_of, limit_with, unless_marked, due_with, asynchronous_kept, MarkRule, broken_rule};
 
@@ -7,13 +7,6 @@ use super::{Course, Expected, counter, frames};
 use log_records::{Entry, MarkEntry, VisitEntry};
 use sets::Head;
 use units::numbers;
-
-// The larger of a − b and 0.
-pub(crate) fn less(a: u32, b: u32) -> u32
-    ensures { result ≡ a - b }
-{
-    if a < b { 0 } else { a - b }
-}
 
 // The place of the token's station in the arrays: a station below 128 is its own place.
 pub(crate) fn place(token: u32) -> usize
@@ -27,9 +20,10 @@ fn limit_at(head: Head, unused: u32, run: u32) -> u32
     ensures { result ≡ limit_with head unused run }
 {
     if head.mode == numbers::FDDI {
-        return less(head.ttrt, run);
+        return head.ttrt.saturating_sub(run);
     }
-    less(less(less(head.ttrt, less(head.frame, 1)), unused), run)
+    let whole = head.ttrt.saturating_sub(head.frame.saturating_sub(1));
+    whole.saturating_sub(unused).saturating_sub(run)
 }
 
 // A marked station is offered 0 and sends nothing: of what would else be allowed, 0.

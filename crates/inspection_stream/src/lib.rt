@@ -73,13 +73,7 @@ fn gathered_from(passed: bool, number: u8) -> Gathered
     if passed {
         return none;
     }
-    let bytes = none.bytes;
-    Gathered {
-        bytes,
-        count: none.count,
-        ended: none.ended,
-        number,
-    }
+    Gathered { number, ..none }
 }
 
 // The plan was read, and no byte of the records.
@@ -106,14 +100,12 @@ fn inspect_from(inspecting: Inspecting, bytes: &[u8], from: usize) -> Inspecting
     let alloc = start.alloc;
     let mut gathered = inspecting.gathered;
     let mut looked = inspecting.looked;
-    let mut i = from;
-    while i < bytes.len() {
+    for i in from..bytes.len() {
         gathered = log_stream::step(gathered, bytes[i]);
         let got = log_stream::entry_in(gathered);
         if got.next != 0 {
             looked = look(gathered, looked, set, alloc);
         }
-        i += 1;
     }
     Inspecting {
         start,

@@ -13,9 +13,7 @@ fn write_kept(rt: &(impl Print + Complain), store: &[u8], number: &[u8]) -> u8 {
     if kept.number != 0 {
         return ending::refuse_sheet(rt, kept.number);
     }
-    let from = kept.from;
-    let end = kept.end;
-    ending::answer(rt, &store[from..end], status::DONE)
+    ending::answer(rt, &store[kept.from..kept.end], status::DONE)
 }
 
 // The same of the store in a file.
@@ -25,8 +23,7 @@ fn find(rt: &(impl Files + Print + Complain), path: &str, number: &[u8]) -> u8 {
     if filled.failed.is_some() {
         return status::FAILED;
     }
-    let length = filled.length;
-    write_kept(rt, &area[..length], number)
+    write_kept(rt, &area[..filled.length], number)
 }
 
 // The same of the store whose path is the word at this place.
@@ -56,11 +53,9 @@ fn list(rt: &(impl Files + Print + Complain), path: &str) -> u8 {
     if filled.failed.is_some() {
         return status::FAILED;
     }
-    let length = filled.length;
     let mut page = io::large_buffer();
-    let said = command_versions::versions_text(&area[..length], &mut page);
-    let text = said.length;
-    ending::answer(rt, &page[..text], status::status_of(said.number))
+    let said = command_versions::versions_text(&area[..filled.length], &mut page);
+    ending::answer(rt, &page[..said.length], status::status_of(said.number))
 }
 
 // `versions`: the path is the word at this place.

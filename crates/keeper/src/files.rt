@@ -89,10 +89,9 @@ pub(crate) fn write_through(file: &mut (impl Write + OpenFile), bytes: &[u8]) ->
 fn folder_length(path: &[u8]) -> usize
     ensures { IsPrefixLen result path.now }
 {
-    match path.iter().rposition(|byte| *byte == b'/') {
-        Some(slash) => slash + 1,
-        None => 0,
-    }
+    path.iter()
+        .rposition(|byte| *byte == b'/')
+        .map_or(0, |slash| slash + 1)
 }
 
 // The folder of this path; where it names none, the one that the program runs in.

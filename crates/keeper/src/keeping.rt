@@ -15,8 +15,7 @@ use versions::StoredPlan;
 fn say(rt: &(impl Print + Complain), stored: StoredPlan) -> u8 {
     let mut page = io::large_buffer();
     let said = command_versions::keep_text(stored, &mut page);
-    let length = said.length;
-    ending::answer(rt, &page[..length], status::status_of(said.number))
+    ending::answer(rt, &page[..said.length], status::status_of(said.number))
 }
 
 // Stores the plan in the bytes of the store, and those replace the file; only then is the version said.
@@ -53,8 +52,7 @@ fn hold(
     if filled.failed.is_some() {
         return replacing::give_up(rt, new);
     }
-    let length = filled.length;
-    store(rt, path, new, file, &mut area[..length], sheet)
+    store(rt, path, new, file, &mut area[..filled.length], sheet)
 }
 
 // Keeps the plan in the store of this path.
@@ -78,9 +76,8 @@ where
     if let Some(error) = filled.failed {
         return ending::unread_input(rt, error);
     }
-    let read = filled.length;
     match words::path(rt, word) {
-        Ok(path) => keep_in(rt, path.as_str(), &sheet[..read]),
+        Ok(path) => keep_in(rt, path.as_str(), &sheet[..filled.length]),
         Err(error) => files::fail(rt, "the path of the store", error),
     }
 }

@@ -44,10 +44,7 @@ pub(crate) fn is_free(rt: &(impl Files + Complain), path: &str) -> bool {
 
 // Whether a symbolic link has this name.
 fn is_link(rt: &impl Files, path: &str) -> bool {
-    match fs::symlink_metadata(rt, path) {
-        Ok(found) => found.is_symlink(),
-        Err(_) => false,
-    }
+    fs::symlink_metadata(rt, path).is_ok_and(|found| found.is_symlink())
 }
 
 // The file beside the store cannot be made: it is named, and where it stands already it is said what to do.

@@ -2,8 +2,7 @@
 #![tactic(auto)]
 
 ghost use Rattle.std.specs.Prelude.{◌≡◌, ◌+◌, ◌-◌, ◌*◌, ◌<◌, ◌≤◌, ◌^◌, ltb};
-ghost use Rattle.units.specs.Small.{Same};
-ghost use Rattle.line_reader.specs.Scan.{is_blank, is_digit, is_letter, fresh_scan, in_phase, letter_read, number_begun, digit_read, character_read, stepped, is_empty_line, next_line};
+ghost use Rattle.line_reader.specs.Scan.{is_blank, fresh_scan, in_phase, letter_read, number_begun, digit_read, character_read, stepped, is_empty_line, next_line};
 
 // ---- where in a line the reading stands
 
@@ -47,78 +46,57 @@ pub fn fresh() -> Scan
 fn is_blank(byte: u8) -> bool
     ensures { result ≡ is_blank byte }
 {
-    (byte == 32) | (byte == 9) | (byte == 13)
-}
-
-fn is_digit(byte: u8) -> bool
-    ensures { result ≡ is_digit byte }
-{
-    (48 <= byte) & (byte <= 57)
-}
-
-fn is_letter(byte: u8) -> bool
-    ensures { result ≡ is_letter byte }
-{
-    (97 <= byte) & (byte <= 122)
+    matches!(byte, b' ' | b'\t' | b'\r')
 }
 
 // The same, in another phase.
 fn in_phase(s: Scan, phase: u8) -> Scan
     ensures { result ≡ in_phase s phase }
 {
-    let values = s.values;
-    Scan {
-        values,
-        word: s.word,
-        count: s.count,
-        phase,
-    }
+    Scan { phase, ..s }
 }
 
 // A letter of the first word, which has at most eight.
+#[tactic(auto, unfolding(crate::specs::Scan::letter_read))]
 fn letter_read(s: Scan, byte: u8) -> Scan
     ensures { result ≡ letter_read s byte }
 {
-    let readable = is_letter(byte) & (s.word < 72_057_594_037_927_936);
+    let readable = byte.is_ascii_lowercase() & (s.word < 72_057_594_037_927_936);
     if !readable {
         return in_phase(s, UNREADABLE);
     }
-    let values = s.values;
-    let letter = byte as u64;
     Scan {
-        values,
-        word: s.word * 256 + letter,
-        count: s.count,
+        word: s.word * 256 + u64::from(byte),
         phase: WORD,
+        ..s
     }
 }
 
 // The number that a digit stands for.
 fn digit_of(byte: u8) -> u64
     requires { 48 ≤ byte }
-    ensures { Same (byte - 48) result }
+    ensures { result ≡ byte - 48 }
 {
-    let digit = byte - 48;
-    digit as u64
+    u64::from(byte - b'0')
 }
 
 // The first digit of a number; a line has at most five numbers.
+#[tactic(auto, unfolding(crate::specs::Scan::number_begun))]
 fn number_begun(s: Scan, byte: u8) -> Scan
     ensures { result ≡ number_begun s byte }
 {
     let count = s.count;
-    let readable = is_digit(byte) & (count < 5);
+    let readable = byte.is_ascii_digit() & (count < 5);
     if !readable {
         return in_phase(s, UNREADABLE);
     }
     let mut values = s.values;
-    let digit = digit_of(byte);
-    values[count] = digit;
+    values[count] = digit_of(byte);
     Scan {
         values,
-        word: s.word,
         count: count + 1,
         phase: NUMBER,
+        ..s
     }
 }
 
@@ -131,12 +109,13 @@ fn has_room(value: u64, digit: u64) -> bool
 }
 
 // A further digit of a number.
+#[tactic(auto, unfolding(crate::specs::Scan::digit_read))]
 fn digit_read(s: Scan, byte: u8) -> Scan
     ensures { result ≡ digit_read s byte }
 {
     let count = s.count;
     let begun = (1 <= count) & (count <= 5);
-    let readable = is_digit(byte) & begun;
+    let readable = byte.is_ascii_digit() & begun;
     if !readable {
         return in_phase(s, UNREADABLE);
     }
@@ -150,13 +129,13 @@ fn digit_read(s: Scan, byte: u8) -> Scan
     values[last] = value * 10 + digit;
     Scan {
         values,
-        word: s.word,
-        count,
         phase: NUMBER,
+        ..s
     }
 }
 
 // A byte of a word or a number.
+#[tactic(auto, unfolding(crate::specs::Scan::character_read))]
 fn character_read(s: Scan, byte: u8) -> Scan
     ensures { result ≡ character_read s byte }
 {
@@ -171,6 +150,7 @@ fn character_read(s: Scan, byte: u8) -> Scan
 }
 
 // One byte more of the line.
+#[tactic(auto, unfolding(crate::specs::Scan::stepped))]
 pub fn step(s: Scan, byte: u8) -> Scan
     ensures { result ≡ stepped s byte }
 {
@@ -189,23 +169,17 @@ pub fn step(s: Scan, byte: u8) -> Scan
 
 // ---- a line that was read
 
-const LAST_LINE: u64 = 18_446_744_073_709_551_615;
-
 // Nothing stands in the line, or a comment alone.
 pub fn is_empty_line(s: Scan) -> bool
     ensures { result ≡ is_empty_line s }
 {
-    let readable = !(s.phase == UNREADABLE);
+    let readable = s.phase != UNREADABLE;
     readable & (s.word == 0)
 }
 
-// The number of the next line.
+// The number of the next line; it stays at the largest number.
 pub fn next_line(line: u64) -> u64
     ensures { result ≡ next_line line }
 {
-    if line < LAST_LINE {
-        line + 1
-    } else {
-        LAST_LINE
-    }
+    line.saturating_add(1)
 }

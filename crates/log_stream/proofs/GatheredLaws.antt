@@ -1,4 +1,5 @@
 -- What the bytes of a record tell, whatever its kind: its first three bytes say how many its field has, and its entry is read from no others.
+use Rattle.std.proofs.lemmas.Bool.{or_cases}
 use Prim.Native.Nat.{ℕ, ◌+◌, ◌≤◌, ◌<◌}
 use mathlib.Core.Path.{◌≡◌, refl, sym, ap, ◌∙◌}
 use mathlib.Core.Bool.{true, false, cond}
@@ -20,7 +21,7 @@ use Rattle.log_records.specs.declared.Entry.{Entry}
 use Rattle.log_records.specs.declared.Entry.TheVariants.{Visit, Mark}
 use Rattle.log_records.proofs.EntryLaws.{Standing, a_visit_lem, a_mark_lem, nothing, standing, handed_visit, handed_mark, handed_none}
 use Rattle.logs.specs.Records.{is_record, record_size}
-use Rattle.logs.proofs.RecordLaws.{or_true, visit_says, mark_says, visit_size_lem, mark_size_lem, no_size, record_there, whole_record}
+use Rattle.logs.proofs.RecordLaws.{visit_says, mark_says, visit_size_lem, mark_size_lem, no_size, record_there, whole_record}
 
 -- ---- its length
 
@@ -30,7 +31,7 @@ module _ (bs : List ℕ) (a : ℕ) where
   long_some h =
       ⊎_elim (λ (v : is_visit bs a ≡ true). (omega (arith, (visit_says bs a v).1), omega (arith, (visit_says bs a v).1)))
       (λ (m : is_mark bs a ≡ true). (omega (arith, (mark_says bs a m).1), omega (arith, (mark_says bs a m).1)))
-      (or_true _ _ h)
+      (or_cases _ _ h)
 
   -- a whole one has the bytes that it says
   pub size_said : is_record bs a ≡ true → behind bs a ≤ length bs → record_size bs a ≡ 3 + size_at bs a

@@ -5,7 +5,6 @@ ghost use Rattle.std.specs.Prelude.{◌≡◌, ◌&&◌, ◌<◌, eqb};
 ghost use Rattle.fields.specs.Fields.{tag_at, size_at};
 ghost use Rattle.log_stream.specs.Pieces.{nothing_read, is_whole, at_field, with_byte, faulty, told, stepped, number_of, entry_in};
 
-use fields::bytes;
 use log_records::{Entry, NextEntry};
 use units::numbers;
 
@@ -69,8 +68,7 @@ fn with_byte(v: Gathered, byte: u8) -> Gathered
     Gathered {
         bytes,
         count: count + 1,
-        ended: v.ended,
-        number: v.number,
+        ..v
     }
 }
 
@@ -78,20 +76,14 @@ fn with_byte(v: Gathered, byte: u8) -> Gathered
 fn with_fault(v: Gathered, number: u8) -> Gathered
     ensures { result ≡ faulty v number }
 {
-    let bytes = v.bytes;
-    Gathered {
-        bytes,
-        count: v.count,
-        ended: v.ended,
-        number,
-    }
+    Gathered { number, ..v }
 }
 
 // The field begins with this tag and this length.
 fn begins_with(field: [u8; 20], tag: u8, size: u32) -> bool
     ensures { result ≡ eqb (tag_at field 0) tag && eqb (size_at field 0) size }
 {
-    let length = bytes::wide(field[1]) * 256 + bytes::wide(field[2]);
+    let length = u32::from(field[1]) * 256 + u32::from(field[2]);
     (field[0] == tag) & (length == size)
 }
 
@@ -109,12 +101,7 @@ fn tell(v: Gathered) -> Gathered
         return v;
     }
     if begins_with(field, fields::END_TAG, 0) {
-        return Gathered {
-            bytes: field,
-            count: v.count,
-            ended: true,
-            number: v.number,
-        };
+        return Gathered { ended: true, ..v };
     }
     with_fault(v, numbers::WRONG_SHAPE)
 }

@@ -1,5 +1,6 @@
 -- The laws of a log's record, whatever its kind: it stands where its field begins and is whole, and what follows it stands behind that field. Each is by cases of the kind, and nothing above this file is.
-use Rattle.std.proofs.Common.{◌≡◌, ℕ, ◌+◌, ◌<◌, ◌≤◌, Bool, true, false, ◌||◌, ◌≢◌, ◌⊎◌, List, length, sym, refl, ap, ◌∙◌, inl, inr, ⊎_elim, arith}
+use Rattle.std.proofs.lemmas.Bool.{or_cases, or_left, or_right}
+use Rattle.std.proofs.Common.{◌≡◌, ℕ, ◌+◌, ◌<◌, ◌≤◌, true, false, ◌≢◌, List, length, sym, refl, ap, ◌∙◌, ⊎_elim, arith}
 use Rattle.units.proofs.SmallLaws.{below_or_not}
 use Rattle.fields.specs.Bytes.{AllBytes}
 use Rattle.fields.specs.Fields.{tag_at, size_at, behind}
@@ -16,22 +17,6 @@ use Rattle.log_records.proofs.VisitLaws.{visit_length_lem, visit_there, there_vi
 use Rattle.log_records.proofs.MarkLaws.{mark_length_lem, mark_there, there_mark, stands_mark, mark_read, mark_bytes_lem, mark_fits}
 use Rattle.log_records.proofs.EntryLaws.{mark_no_visit, Standing, a_visit_lem, a_mark_lem, nothing, standing, handed_visit, handed_mark}
 use Rattle.logs.specs.Records.{is_record, record_size}
-
--- ---- either of two tests
-
-pub or_true : (x y : Bool) → (x || y) ≡ true → (x ≡ true) ⊎ (y ≡ true)
-or_true true y h = inl refl
-or_true false y h = inr h
-
-pub first_or_lem : (x y : Bool) → x ≡ true → (x || y) ≡ true
-first_or_lem x y h = rw h refl
-
-pub second_or : (x y : Bool) → y ≡ true → (x || y) ≡ true
-second_or true y h = refl
-second_or false y h = h
-
-pub neither_or : (x y : Bool) → x ≡ false → y ≡ false → (x || y) ≡ false
-neither_or x y h k = rw h k
 
 -- ---- a record that stands
 
@@ -55,7 +40,7 @@ module _ (bs : List ℕ) (a : ℕ) where
   record_tag h =
       ⊎_elim (λ (v : is_visit bs a ≡ true). (omega (arith, (visit_says v).0), omega (arith, (visit_says v).0)))
       (λ (m : is_mark bs a ≡ true). (omega (arith, (mark_says m).0), omega (arith, (mark_says m).0)))
-      (or_true _ _ h)
+      (or_cases _ _ h)
 
   -- how long its field is
   pub visit_size_lem : visit_stands bs a ≡ true → record_size bs a ≡ 20
@@ -78,8 +63,8 @@ module _ (bs : List ℕ) (a : ℕ) where
   record_there n = go (standing bs a)
     where
       go : Standing bs a → RecordThere bs a
-      go (a_visit_lem h) = let v = visit_there bs a h in field_record 16 17 (first_or_lem (is_visit bs a) (is_mark bs a) (field_begins bs a 16 17 20 v)) v (visit_size_lem h)
-      go (a_mark_lem h) = let m = mark_there bs a h in field_record 17 2 (second_or (is_visit bs a) (is_mark bs a) (field_begins bs a 17 2 5 m)) m (mark_size_lem h)
+      go (a_visit_lem h) = let v = visit_there bs a h in field_record 16 17 (or_left (is_visit bs a) (is_mark bs a) (field_begins bs a 16 17 20 v)) v (visit_size_lem h)
+      go (a_mark_lem h) = let m = mark_there bs a h in field_record 17 2 (or_right (is_visit bs a) (is_mark bs a) (field_begins bs a 17 2 5 m)) m (mark_size_lem h)
       go (nothing v m) = absurd (n (no_size v m))
 
   -- a field that begins as a record's and is whole is one
@@ -93,7 +78,7 @@ module _ (bs : List ℕ) (a : ℕ) where
       let w = mark_says m in
       let size = mark_size_lem (there_mark bs a (record { inside = omega (arith, w.1); has_tag = w.0; has_size = w.1 })) in
       absurd (omega (arith, size)))
-      (or_true _ _ h)
+      (or_cases _ _ h)
 
   -- one that is not whole is none
   pub record_cut : record_size bs a ≡ 0 → is_record bs a ≡ true → length bs < behind bs a

@@ -1,4 +1,5 @@
 -- The laws of the walk over a log: where it stops and where it goes on, that it comes by every place up to which the log is well-formed, and that its number is that of the first fault.
+use Rattle.std.proofs.lemmas.Bool.{or_cases}
 use Rattle.std.proofs.Common.{◌≡◌, ℕ, zero, suc, ◌+◌, ◌<◌, ◌≤◌, Bool, true, false, ◌&&◌, ◌||◌, ◌≢◌, ◌⊎◌, List, length, sym, refl, ap, ◌∙◌, subst, inl, inr, ⊎_elim, true≢false, arith, eq-eqb, ne_eqb, eqb-true, le-leb}
 use borrow.Author.Tests.{lt-leb}
 use Rattle.units.proofs.JudgingLaws.{true_or_false, held, failed, and-true, true_and}
@@ -16,7 +17,7 @@ use Rattle.logs.specs.Records.{is_record, record_size}
 use Rattle.logs.specs.Walked.{log_allowed_at, is_end, stop_number, walk_from, walked, log_walked}
 use Rattle.logs.specs.FirstFault.{LogFormed, in_plan, a_record, LogFault, no_start, not_allowed, cut_body, follows, FirstLogFault, WholeLog}
 use Rattle.logs.specs.declared.Walked.{Walked}
-use Rattle.logs.proofs.RecordLaws.{or_true, record_tag, record_there, whole_record, record_cut, no_record_lem}
+use Rattle.logs.proofs.RecordLaws.{record_tag, record_there, whole_record, record_cut, no_record_lem}
 
 -- ---- a turn of the walk
 
@@ -128,7 +129,7 @@ module _ (bs : List ℕ) (a : ℕ) (p : Passed) (kind : p.plan ≡ true) (all : 
   may_stand : log_allowed_at bs a p ≡ true → (is_record bs a ≡ true) ⊎ (allowed_at bs a p ≡ true)
   may_stand may =
       ⊎_elim (λ v. inl (and-true (plan_passed p) (is_record bs a) v).1) inr
-      (or_true (plan_passed p && is_record bs a) (allowed_at bs a p) may)
+      (or_cases (plan_passed p && is_record bs a) (allowed_at bs a p) may)
 
   -- a fault is where the walk over the records stops, with its number
   fault_stops : (k : ℕ) → LogFault bs a p k → (record_size bs a ≡ 0) × (stop_number bs a ≡ k)

@@ -60,11 +60,9 @@ pub fn read_log(log: &[u8]) -> ReadLog
     if start.number != numbers::ACCEPTED {
         return reading::refused(start.number);
     }
-    let set = start.set;
-    let alloc = start.alloc;
     ReadLog {
-        set,
-        alloc,
+        set: start.set,
+        alloc: start.alloc,
         first: start.at,
         records: walked.records,
         number: numbers::ACCEPTED,
@@ -99,7 +97,12 @@ pub fn begin_log(t: Set, a: Alloc, counter: u32, clock: u64, out: &mut [u8]) -> 
 {
     let written = sheets::write_plan_fields(t, a, out);
     if written.number != numbers::ACCEPTED {
-        return writing::stopped(0, 0, 0, written.number);
+        return Recorder {
+            at: 0,
+            clock: 0,
+            counter: 0,
+            number: u32::from(written.number),
+        };
     }
     Recorder {
         at: written.length,
@@ -116,7 +119,7 @@ pub fn add_visit(recorder: Recorder, visit: VisitRecord, out: &mut [u8]) -> Reco
     let entry = writing::visit_of(recorder, visit);
     let number = sheets::records::put_visit(out, recorder.at, entry);
     if number != numbers::ACCEPTED {
-        return writing::stopped(recorder.at, recorder.clock, recorder.counter, number);
+        return writing::stopped(recorder, number);
     }
     Recorder {
         at: recorder.at + log_records::VISIT_LENGTH,
@@ -132,13 +135,12 @@ pub fn add_mark(recorder: Recorder, mark: MarkEntry, out: &mut [u8]) -> Recorder
 {
     let number = sheets::records::put_mark(out, recorder.at, mark);
     if number != numbers::ACCEPTED {
-        return writing::stopped(recorder.at, recorder.clock, recorder.counter, number);
+        return writing::stopped(recorder, number);
     }
     Recorder {
         at: recorder.at + log_records::MARK_LENGTH,
-        clock: recorder.clock,
-        counter: recorder.counter,
         number: 0,
+        ..recorder
     }
 }
 

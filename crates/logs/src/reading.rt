@@ -8,8 +8,6 @@ ghost use Rattle.logs.specs.Walked.{stop_number, walked};
 ghost use Rattle.logs.specs.Reading.{refused_log};
 
 use crate::{ReadLog, Walked};
-use fields::bytes::wide;
-use sheets::records::left;
 use units::numbers;
 
 // A field with this tag and this length begins at the place.
@@ -17,7 +15,7 @@ fn begins(bs: &[u8], at: usize, tag: u8, size: u32) -> bool
     requires { at + 3 ≤ length bs.now }
     ensures { result ≡ (tag_at bs.now at == tag && size_at bs.now at == size) }
 {
-    let long = wide(bs[at + 1]) * 256 + wide(bs[at + 2]);
+    let long = u32::from(bs[at + 1]) * 256 + u32::from(bs[at + 2]);
     (bs[at] == tag) & (long == size)
 }
 
@@ -25,7 +23,7 @@ fn begins(bs: &[u8], at: usize, tag: u8, size: u32) -> bool
 pub(crate) fn visit_stands(bs: &[u8], at: usize) -> bool
     ensures { result ≡ visit_stands bs.now at }
 {
-    if left(bs.len(), at) < log_records::VISIT_LENGTH {
+    if bs.len().saturating_sub(at) < log_records::VISIT_LENGTH {
         return false;
     }
     begins(bs, at, log_records::VISIT_TAG, log_records::VISIT_SIZE)
@@ -35,7 +33,7 @@ pub(crate) fn visit_stands(bs: &[u8], at: usize) -> bool
 pub(crate) fn mark_stands(bs: &[u8], at: usize) -> bool
     ensures { result ≡ mark_stands bs.now at }
 {
-    if left(bs.len(), at) < log_records::MARK_LENGTH {
+    if bs.len().saturating_sub(at) < log_records::MARK_LENGTH {
         return false;
     }
     begins(bs, at, log_records::MARK_TAG, log_records::MARK_SIZE)
@@ -58,7 +56,7 @@ pub fn record_size(bs: &[u8], at: usize) -> usize
 fn stop_number(bs: &[u8], at: usize) -> u8
     ensures { result ≡ stop_number bs.now at }
 {
-    if left(bs.len(), at) < 3 {
+    if bs.len().saturating_sub(at) < 3 {
         return numbers::CUT_SHORT;
     }
     if begins(bs, at, log_records::VISIT_TAG, log_records::VISIT_SIZE) {

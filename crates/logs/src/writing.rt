@@ -3,7 +3,6 @@ ghost use Rattle.std.specs.Prelude.{◌≡◌};
 ghost use Rattle.logs.specs.Writing.{low, counter_at, visit_by};
 
 use crate::Recorder;
-use fields::bytes::wide;
 use log_records::VisitEntry;
 use rings::VisitRecord;
 
@@ -38,14 +37,12 @@ pub(crate) fn visit_of(recorder: Recorder, visit: VisitRecord) -> VisitEntry
     }
 }
 
-// A recorder with a number.
-pub(crate) fn stopped(at: usize, clock: u64, counter: u32, number: u8) -> Recorder
-    ensures { result ≡ record { at = at; clock = clock; counter = counter; number = number } }
+// The same recorder with a number.
+pub(crate) fn stopped(recorder: Recorder, number: u8) -> Recorder
+    ensures { result ≡ record { at = recorder.at; clock = recorder.clock; counter = recorder.counter; number = number } }
 {
     Recorder {
-        at,
-        clock,
-        counter,
-        number: wide(number),
+        number: u32::from(number),
+        ..recorder
     }
 }

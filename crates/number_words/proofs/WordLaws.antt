@@ -8,9 +8,11 @@ use native.Mathlib.Numerals.{add-one}
 use native.Mathlib.Omega.{arith}
 use borrow.Author.Tests.{le-leb, lt-ltb, le-ltb, ne_eqb}
 use lib.Dec.{leb}
-use lib.ListN.{length, length-append, get_or-append}
-use lib.Seq.{get_or-append_seam}
-use Rattle.units.specs.Places.{at}
+use lib.ListN.{length, length-append, get_or-append, take}
+use lib.Seq.{get_or-append_seam, take-length}
+use Rattle.std.specs.List.{list_all}
+use Rattle.std.proofs.lemmas.List.Folds.{list_all_more}
+use Rattle.units.specs.Places.{at, all_below}
 use Rattle.units.proofs.PlaceLaws.{all_of}
 use Rattle.units.proofs.JudgingLaws.{true_and}
 use Rattle.units.proofs.SmallLaws.{below_or_not}
@@ -19,6 +21,15 @@ use Rattle.text.specs.Promised.{value_on}
 use Rattle.number_words.specs.Words.{is_digit, is_whole, grown, first_digits}
 
 -- ---- digits
+
+first_are_digits : (word : List ℕ) (n : ℕ) → n ≤ length word → all_below n (λ i. is_digit (at word i)) ≡ list_all is_digit (take n word)
+unfolding all_below
+first_are_digits word zero h = refl
+first_are_digits word (suc n) h = rw (first_are_digits word n (omega arith), ← list_all_more is_digit word n 0 (omega arith), add-one)
+
+-- each byte is a digit
+pub all_digits : (word : List ℕ) → all_below (length word) (λ i. is_digit (at word i)) ≡ list_all is_digit word
+all_digits word = rw take-length at (first_are_digits word (length word) (omega arith))
 
 pub digits_none : (word : List ℕ) → first_digits 0 word ≡ 0
 unfolding first_digits

@@ -3,44 +3,26 @@
 
 ghost use Rattle.std.specs.Prelude.{◌≡◌, ◌-◌, ◌≤◌};
 ghost use Rattle.units.specs.Small.{UpTo};
-ghost use Rattle.number_words.specs.Words.{is_digit, is_whole, grown, value_in};
+ghost use Rattle.number_words.specs.Words.{is_whole, grown, value_in};
 
 // The first number above all of 32 bits.
 pub const ABOVE: u64 = 4_294_967_296;
-
-// The byte is a digit.
-fn is_digit(byte: u8) -> bool
-    ensures { result ≡ is_digit byte }
-{
-    (48 <= byte) & (byte <= 57)
-}
 
 // The word is a whole number: a digit or more, and nothing else.
 pub fn is_whole(word: &[u8]) -> bool
     ensures { result ≡ is_whole word.now }
 {
-    if word.len() == 0 {
+    if word.is_empty() {
         return false;
     }
-    let mut all = true;
-    let mut i: usize = 0;
-    while i < word.len() {
-        let digit = is_digit(word[i]);
-        all = all & digit;
-        i += 1;
-    }
-    all
+    word.iter().all(|byte| byte.is_ascii_digit())
 }
 
 // What a byte counts as a digit.
 fn digit_of(byte: u8) -> u64
     ensures { result ≡ byte - 48 }
 {
-    if byte < 48 {
-        return 0;
-    }
-    let digit = byte - 48;
-    digit as u64
+    u64::from(byte.saturating_sub(b'0'))
 }
 
 // A number with one digit more; it stays at the first above all of 32 bits.
@@ -48,11 +30,7 @@ fn grow(value: u64, byte: u8) -> u64
     requires { value ≤ 4_294_967_296 }
     ensures { result ≡ grown value byte }
 {
-    let more = value * 10 + digit_of(byte);
-    if ABOVE < more {
-        return ABOVE;
-    }
-    more
+    (value * 10 + digit_of(byte)).min(ABOVE)
 }
 
 // The number that a word's digits write; of one with more than 32 bits the first above all of these.
@@ -60,10 +38,8 @@ pub fn value_of(word: &[u8]) -> u64
     ensures { UpTo 4_294_967_296 (value_in word.now) result }
 {
     let mut value: u64 = 0;
-    let mut i: usize = 0;
-    while i < word.len() {
-        value = grow(value, word[i]);
-        i += 1;
+    for byte in word {
+        value = grow(value, *byte);
     }
     value
 }

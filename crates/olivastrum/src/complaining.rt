@@ -8,10 +8,10 @@ const NONE: [u64; 6] = [0; 6];
 
 // What was expected.
 fn put_expected(page: &mut [u8], e: Expected) -> usize {
+    // A cast: the library has no widening of this type.
     let place = e.place as u64;
     let numbers: [u64; 6] = [place, 0, 0, 0, 0, 0];
-    let form = e.form;
-    match form {
+    match e.form {
         Form::Word => text::put_filled(
             page,
             0,
@@ -46,8 +46,7 @@ fn put_found(page: &mut [u8], at: usize, w: Watch) -> usize {
     if !w.found.stuck {
         return text::put_filled(page, at, b"the end of the line\n", NONE);
     }
-    let bytes = w.found.bytes;
-    put_word(page, at, &bytes, w.found.length)
+    put_word(page, at, &w.found.bytes, w.found.length)
 }
 
 // The number of a line that is out of its range.

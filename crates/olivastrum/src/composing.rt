@@ -1,5 +1,6 @@
 // `compose`: the sheet of the text on standard input, or the log; a log's bytes go out as its lines come.
 use crate::complaining;
+use crate::failing::{Failed, say, unread};
 use command_compose::{Composing, Draft};
 use commands::status;
 use std::io::{Input, Print, Read};
@@ -8,75 +9,67 @@ use streams::ending;
 use text_faults::Watch;
 use units::numbers;
 
-// The text behind one reading, what is watched in it, whether the input goes on, and whether reading or writing failed.
+// The text behind what was read, and what is watched in it.
 #[derive(Clone, Copy)]
 struct Reading {
     composing: Composing,
     watch: Watch,
-    more: bool,
-    failed: bool,
 }
 
 // Takes these bytes of the text, and writes what they let out.
-fn take(rt: &(impl Print + Complain), c: Composing, w: Watch, text: &[u8]) -> Reading {
+fn take(rt: &(impl Print + Complain), reading: Reading, text: &[u8]) -> Result<Reading, Failed> {
     let mut page = io::large_buffer();
-    let composed = command_compose::compose_on(c, text, &mut page);
+    let composed = command_compose::compose_on(reading.composing, text, &mut page);
     let length = composed.length;
-    let wrote = ending::say(rt, &page[..length]);
-    let behind = composed.composing;
-    let watch = text_faults::watch_on(w, text);
-    Reading {
-        composing: behind,
-        watch,
-        more: wrote,
-        failed: !wrote,
-    }
+    say(rt, &page[..length])?;
+    Ok(Reading {
+        composing: composed.composing,
+        watch: text_faults::watch_on(reading.watch, text),
+    })
 }
 
-// The input has ended, or cannot be read.
-fn stopped(c: Composing, w: Watch, failed: bool) -> Reading {
-    Reading {
-        composing: c,
-        watch: w,
-        more: false,
-        failed,
-    }
-}
-
-// Reads once: as many bytes as are taken at once.
-fn piece(rt: &(impl Print + Complain), from: &mut impl Read, c: Composing, w: Watch) -> Reading {
+// Reads once, as many bytes as are taken at once; nothing where the input has ended.
+fn turn(
+    rt: &(impl Print + Complain),
+    from: &mut impl Read,
+    reading: Reading,
+) -> Result<Option<Reading>, Failed> {
     let mut text: [u8; 2_048] = [0; 2_048];
     match from.read(&mut text) {
-        Ok(length) => {
-            if length == 0 {
-                return stopped(c, w, false);
-            }
-            take(rt, c, w, &text[..length])
-        }
-        Err(error) => {
-            ending::unread_input(rt, error);
-            stopped(c, w, true)
-        }
+        Ok(0) => Ok(None),
+        Ok(length) => Ok(Some(take(rt, reading, &text[..length])?)),
+        Err(error) => Err(unread(rt, error)),
     }
 }
 
-// All the input; the pieces are counted, up to a number that no text uses up.
-fn all(rt: &(impl Print + Complain), from: &mut impl Read, c: Composing, w: Watch) -> Reading {
-    let mut stands = c;
-    let mut watched = w;
+// All the input; the turns are counted, up to a number that no text uses up.
+fn take_all(
+    rt: &(impl Print + Complain),
+    from: &mut impl Read,
+    begun: Reading,
+) -> Result<Reading, Failed> {
+    let mut reading = begun;
     for _ in 0..u64::MAX {
-        let read = piece(rt, from, stands, watched);
-        if !read.more {
-            return read;
-        }
-        stands = read.composing;
-        watched = read.watch;
+        let Some(more) = turn(rt, from, reading)? else {
+            return Ok(reading);
+        };
+        reading = more;
     }
-    stopped(stands, watched, true)
+    Err(Failed)
+}
+
+// The whole text; its last line may lack its newline.
+fn read(rt: &(impl Input + Print + Complain)) -> Result<Reading, Failed> {
+    let begun = Reading {
+        composing: command_compose::begin(),
+        watch: text_faults::begin(),
+    };
+    let reading = take_all(rt, &mut rt.reader(), begun)?;
+    take(rt, reading, b"\n")
 }
 
 // Writes the sheet or the end of the log, or says why there is none.
-fn write(rt: &(impl Print + Complain), draft: Draft, w: Watch) -> u8 {
+fn write(rt: &(impl Print + Complain), draft: Draft, watch: Watch) -> u8 {
     let mut out = io::large_buffer();
     let written = command_compose::compose_end(draft, &mut out);
     let length = written.length;
@@ -84,7 +77,7 @@ fn write(rt: &(impl Print + Complain), draft: Draft, w: Watch) -> u8 {
     if number != 0 {
         let status = ending::refuse_sheet(rt, number);
         if number == numbers::OUT_OF_RANGE {
-            complaining::name_number(rt, w);
+            complaining::name_number(rt, watch);
         }
         return status;
     }
@@ -92,27 +85,14 @@ fn write(rt: &(impl Print + Complain), draft: Draft, w: Watch) -> u8 {
 }
 
 pub(crate) fn compose(rt: &(impl Input + Print + Complain)) -> u8 {
-    let begun = command_compose::begin();
-    let watch = text_faults::begin();
-    let read = all(rt, &mut rt.reader(), begun, watch);
-    if read.failed {
+    let Ok(read) = read(rt) else {
         return status::FAILED;
-    }
-    // A last line may lack its newline.
-    let text = read.composing;
-    let watched = read.watch;
-    let last = take(rt, text, watched, b"\n");
-    if last.failed {
-        return status::FAILED;
-    }
-    let ended = last.composing;
-    let draft = ended.draft;
-    let seen = last.watch;
-    let line = draft.unread;
-    if line != 0 {
-        let status = ending::name_line(rt, line);
-        complaining::name_word(rt, seen);
+    };
+    let draft = read.composing.draft;
+    if draft.unread != 0 {
+        let status = ending::name_line(rt, draft.unread);
+        complaining::name_word(rt, read.watch);
         return status;
     }
-    write(rt, draft, seen)
+    write(rt, draft, read.watch)
 }

@@ -29,7 +29,5 @@ pub(crate) fn diff(rt: &(impl Env + Files + Print + Complain), first: usize, sec
     if after.failed.is_some() {
         return status::FAILED;
     }
-    let had = before.length;
-    let has = after.length;
-    compare(rt, &old[..had], &new[..has])
+    compare(rt, &old[..before.length], &new[..after.length])
 }

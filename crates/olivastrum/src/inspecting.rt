@@ -1,4 +1,5 @@
 // `inspect`: whether a run could have given the records of the log on standard input, or its first fault; `inspect PLAN`: whether its plan is the one in PLAN, too.
+use crate::failing::{Failed, unread};
 use commands::status;
 use inspection_stream::Inspecting;
 use std::env::Env;
@@ -7,68 +8,61 @@ use std::io::{Input, Print, Read};
 use streams::complaints::Complain;
 use streams::{ending, loading, reading, words};
 
-// The log behind one reading, whether the input goes on, and whether reading failed.
+// The log behind one reading, and whether the input goes on.
 #[derive(Clone, Copy)]
 struct Looked {
     inspecting: Inspecting,
     more: bool,
-    failed: bool,
 }
 
 // Reads once. Behind a fault of the log nothing is read: no byte there changes the answer.
-fn turn(rt: &impl Complain, from: &mut impl Read, inspecting: Inspecting) -> Looked {
+fn turn(
+    rt: &impl Complain,
+    from: &mut impl Read,
+    inspecting: Inspecting,
+) -> Result<Looked, Failed> {
     let mut bytes: [u8; 4_096] = [0; 4_096];
     let filled = reading::fill(from, &mut bytes);
     if let Some(error) = filled.failed {
-        ending::unread_input(rt, error);
-        return Looked {
-            inspecting,
-            more: false,
-            failed: true,
-        };
+        return Err(unread(rt, error));
     }
     let length = filled.length;
     let behind = inspection_stream::inspect_on(inspecting, &bytes[..length]);
     let sound = behind.gathered.number == 0;
-    Looked {
+    Ok(Looked {
         inspecting: behind,
         more: sound & (length == 4_096),
-        failed: false,
-    }
+    })
 }
 
 // All the input; the turns are counted, up to a number that no log uses up.
-fn look_on(rt: &impl Complain, from: &mut impl Read, inspecting: Inspecting) -> Looked {
-    let mut stands = inspecting;
+fn look_on(
+    rt: &impl Complain,
+    from: &mut impl Read,
+    begun: Inspecting,
+) -> Result<Inspecting, Failed> {
+    let mut inspecting = begun;
     for _ in 0..u64::MAX {
-        let looked = turn(rt, from, stands);
+        let looked = turn(rt, from, inspecting)?;
+        inspecting = looked.inspecting;
         if !looked.more {
-            return looked;
+            return Ok(inspecting);
         }
-        stands = looked.inspecting;
     }
-    Looked {
-        inspecting: stands,
-        more: false,
-        failed: true,
-    }
+    Err(Failed)
 }
 
 // The whole log. The first 3,400 bytes are enough for every plan: what they say of it is what the whole log says.
-fn look(rt: &impl Complain, from: &mut impl Read) -> Looked {
+fn look(rt: &impl Complain, from: &mut impl Read) -> Result<Inspecting, Failed> {
     let mut head: [u8; log_stream::FIRST_SIZE] = [0; log_stream::FIRST_SIZE];
     let filled = reading::fill(from, &mut head);
+    if let Some(error) = filled.failed {
+        return Err(unread(rt, error));
+    }
     let read = filled.length;
     let begun = inspection_stream::inspect_start(&head[..read]);
-    if let Some(error) = filled.failed {
-        ending::unread_input(rt, error);
-    }
     if read < log_stream::FIRST_SIZE {
-        return Looked {
-            inspecting: begun,
-            more: false,
-            failed: filled.failed.is_some(),
-        };
+        return Ok(begun);
     }
     look_on(rt, from, begun)
 }
@@ -105,12 +99,10 @@ fn inspect_against(rt: &(impl Env + Files + Input + Print + Complain), word: usi
         return status::FAILED;
     }
     let length = plan.length;
-    let looked = look(rt, &mut rt.reader());
-    if looked.failed {
+    let Ok(inspecting) = look(rt, &mut rt.reader()) else {
         return status::FAILED;
-    }
-    let all = looked.inspecting;
-    finish_against(rt, &sheet[..length], all)
+    };
+    finish_against(rt, &sheet[..length], inspecting)
 }
 
 // With a path at this place the log is held to the plan there, else to its own.
@@ -118,10 +110,8 @@ pub(crate) fn inspect(rt: &(impl Env + Files + Input + Print + Complain), word: 
     if words::is_given(rt, word) {
         return inspect_against(rt, word);
     }
-    let looked = look(rt, &mut rt.reader());
-    if looked.failed {
+    let Ok(inspecting) = look(rt, &mut rt.reader()) else {
         return status::FAILED;
-    }
-    let all = looked.inspecting;
-    finish(rt, all)
+    };
+    finish(rt, inspecting)
 }

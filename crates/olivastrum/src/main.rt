@@ -4,6 +4,7 @@
 mod complaining;
 mod composing;
 mod diffing;
+mod failing;
 mod inspecting;
 mod logging;
 mod planned;

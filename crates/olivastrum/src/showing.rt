@@ -1,83 +1,73 @@
 // `show`: the text of the sheet or log on standard input, or the refusal.
+use crate::failing::{Failed, say, unread};
 use command_show_log::Showing;
 use commands::status;
 use std::io::{Input, Print, Read};
 use streams::complaints::Complain;
 use streams::{ending, reading};
 
-// The log behind one reading, whether the input goes on, and whether reading or writing failed.
+// The log behind one reading, and whether the input goes on.
 #[derive(Clone, Copy)]
 struct Seen {
     showing: Showing,
     more: bool,
-    failed: bool,
 }
 
 // Writes the lines of the records that end in these bytes.
-fn see(rt: &(impl Print + Complain), showing: Showing, bytes: &[u8], more: bool) -> Seen {
+fn see(rt: &(impl Print + Complain), showing: Showing, bytes: &[u8]) -> Result<Showing, Failed> {
     let mut page = io::large_buffer();
     let shown = command_show_log::show_on(showing, bytes, &mut page);
     let length = shown.length;
-    let wrote = ending::say(rt, &page[..length]);
-    let behind = shown.showing;
-    Seen {
-        showing: behind,
-        more: more & wrote,
-        failed: !wrote,
-    }
+    say(rt, &page[..length])?;
+    Ok(shown.showing)
 }
 
 // Reads once.
-fn turn(rt: &(impl Print + Complain), from: &mut impl Read, showing: Showing) -> Seen {
+fn turn(
+    rt: &(impl Print + Complain),
+    from: &mut impl Read,
+    showing: Showing,
+) -> Result<Seen, Failed> {
     let mut bytes: [u8; 512] = [0; 512];
     let filled = reading::fill(from, &mut bytes);
     if let Some(error) = filled.failed {
-        ending::unread_input(rt, error);
-        return Seen {
-            showing,
-            more: false,
-            failed: true,
-        };
+        return Err(unread(rt, error));
     }
     let length = filled.length;
-    see(rt, showing, &bytes[..length], length == 512)
+    Ok(Seen {
+        showing: see(rt, showing, &bytes[..length])?,
+        more: length == 512,
+    })
 }
 
 // All the input; the turns are counted, up to a number that no log uses up.
-fn see_all(rt: &(impl Print + Complain), from: &mut impl Read, showing: Showing) -> Seen {
-    let mut stands = showing;
+fn see_all(
+    rt: &(impl Print + Complain),
+    from: &mut impl Read,
+    begun: Showing,
+) -> Result<Showing, Failed> {
+    let mut showing = begun;
     for _ in 0..u64::MAX {
-        let seen = turn(rt, from, stands);
+        let seen = turn(rt, from, showing)?;
+        showing = seen.showing;
         if !seen.more {
-            return seen;
+            return Ok(showing);
         }
-        stands = seen.showing;
     }
-    Seen {
-        showing: stands,
-        more: false,
-        failed: true,
-    }
+    Err(Failed)
 }
 
-// The records among the first bytes, 512 of these at a time.
-fn see_head(rt: &(impl Print + Complain), showing: Showing, head: &[u8], from: usize) -> Seen {
-    let mut stands = showing;
-    let mut at = from;
-    while at < head.len() {
-        let seen = see(rt, stands, &head[at..], true);
-        if seen.failed {
-            return seen;
-        }
-        let behind = seen.showing;
-        stands = behind;
-        at = reading::further(at, 512, head.len());
+// The records in these of the first bytes, 512 at a time.
+fn see_head(
+    rt: &(impl Print + Complain),
+    begun: Showing,
+    records: &[u8],
+) -> Result<Showing, Failed> {
+    let mut showing = begun;
+    for bytes in records.chunks(512) {
+        showing = see(rt, showing, bytes)?;
     }
-    Seen {
-        showing: stands,
-        more: true,
-        failed: false,
-    }
+    Ok(showing)
 }
 
 // The refusal, if there is one.
@@ -88,29 +78,21 @@ fn finish(rt: &(impl Print + Complain), showing: Showing) -> u8 {
     ending::answer(rt, &page[..length], status::status_of(said.number))
 }
 
-// The rest of a log whose first bytes are these.
+// Writes the lines of the log's first bytes, and of the records in these; then of the rest, if there is more.
 fn show_log(
     rt: &(impl Print + Complain),
     input: &mut impl Read,
-    showing: Showing,
-    head: &[u8],
-    from: usize,
+    begun: Showing,
+    first: &[u8],
+    records: &[u8],
     more: bool,
-) -> u8 {
-    let first = see_head(rt, showing, head, from);
-    if first.failed {
-        return status::FAILED;
+) -> Result<Showing, Failed> {
+    say(rt, first)?;
+    let showing = see_head(rt, begun, records)?;
+    if more {
+        return see_all(rt, input, showing);
     }
-    let behind = first.showing;
-    if !more {
-        return finish(rt, behind);
-    }
-    let all = see_all(rt, input, behind);
-    if all.failed {
-        return status::FAILED;
-    }
-    let last = all.showing;
-    finish(rt, last)
+    Ok(showing)
 }
 
 // The longest plan has 3,353 bytes without its end, and a record at most 20: both lie in the first 3,400, if the input has them.
@@ -128,16 +110,17 @@ pub(crate) fn show(rt: &(impl Input + Print + Complain)) -> u8 {
     if !begun.log {
         return ending::answer(rt, &page[..length], status::status_of(begun.number));
     }
-    if !ending::say(rt, &page[..length]) {
-        return status::FAILED;
-    }
-    let showing = begun.showing;
-    show_log(
+    let at = reading::further(0, begun.at, read);
+    let shown = show_log(
         rt,
         &mut input,
-        showing,
-        &head[..read],
-        begun.at,
+        begun.showing,
+        &page[..length],
+        &head[at..read],
         read == log_stream::FIRST_SIZE,
-    )
+    );
+    match shown {
+        Ok(showing) => finish(rt, showing),
+        Err(Failed) => status::FAILED,
+    }
 }

@@ -24,12 +24,16 @@ pub(crate) struct Canvas {
 
 // The parts of a record, one behind the other on a page. The first, where it begins a line, has the record's number in its words too, as part 3 has it.
 fn put_parts(page: &mut [u8], scene: Scene, pen: Pen, drawn: Drawn) -> usize {
-    let label = pictures::part_at(scene, pen, drawn, 0);
-    let record = pictures::part_at(scene, pen, drawn, 3);
-    let mut at = shapes::put_label(page, 0, label, record);
+    let mut at = 0;
+    if let Some(label) = pictures::part_at(scene, pen, drawn, 0) {
+        if let Some(record) = pictures::part_at(scene, pen, drawn, 3) {
+            at = shapes::put_label(page, at, label, record);
+        }
+    }
     for k in 1..pictures::PART_COUNT {
-        let part = pictures::part_at(scene, pen, drawn, k);
-        at = shapes::put_part(page, at, part);
+        if let Some(part) = pictures::part_at(scene, pen, drawn, k) {
+            at = shapes::put_part(page, at, part);
+        }
     }
     at
 }
@@ -44,7 +48,10 @@ fn draw(rt: &(impl Print + Complain), scene: Scene, pen: Pen, drawn: Drawn) -> b
 // Ends a line that has begun.
 pub(crate) fn end(rt: &(impl Print + Complain), pen: Pen) -> bool {
     let mut page = io::buffer();
-    let put = shapes::put_part(&mut page, 0, pictures::line_end(pen));
+    let mut put = 0;
+    if let Some(part) = pictures::line_end(pen) {
+        put = shapes::put_part(&mut page, put, part);
+    }
     ending::say_put(rt, &page, put)
 }
 
@@ -57,31 +64,18 @@ pub(crate) fn go_over(
     from: usize,
 ) -> Canvas {
     let scene = easel.scene;
-    let window = easel.window;
-    let mut watching = canvas.watching;
-    let mut pen = canvas.pen;
-    let mut wrote = canvas.wrote;
+    let mut stands = canvas;
     let mut at = from;
     for _ in 0..bytes.len() {
-        let watched = picture_stream::watch_on(watching, window, bytes, at);
-        let stands = watched.watching;
-        watching = stands;
+        let watched = picture_stream::watch_on(stands.watching, easel.window, bytes, at);
+        stands.watching = watched.watching;
         at = watched.at;
-        if watched.stopped & wrote {
-            let drawn = watched.drawn;
-            wrote = draw(rt, scene, pen, drawn);
-            pen = pictures::pen_after(scene, pen, drawn);
-        } else {
-            return Canvas {
-                watching,
-                pen,
-                wrote,
-            };
+        if !(watched.stopped & stands.wrote) {
+            return stands;
         }
+        let drawn = watched.drawn;
+        stands.wrote = draw(rt, scene, stands.pen, drawn);
+        stands.pen = pictures::pen_after(scene, stands.pen, drawn);
     }
-    Canvas {
-        watching,
-        pen,
-        wrote,
-    }
+    stands
 }

@@ -22,8 +22,7 @@ fn page_against(rt: &(impl Env + Files + Print + Complain), log: usize, word: us
     if plan.failed.is_some() {
         return status::FAILED;
     }
-    let length = plan.length;
-    saying::say(rt, log, true, &sheet[..length])
+    saying::say(rt, log, Some(&sheet[..plan.length]))
 }
 
 // `page LOG`: with a path at the second place the log is held to the plan there, else to its own.
@@ -31,7 +30,7 @@ fn page(rt: &(impl Env + Files + Print + Complain), log: usize, word: usize) -> 
     if words::is_given(rt, word) {
         return page_against(rt, log, word);
     }
-    saying::say(rt, log, false, b"")
+    saying::say(rt, log, None)
 }
 
 // Does what the words from this one on ask for; the second and the third are behind it.

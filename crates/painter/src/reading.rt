@@ -31,15 +31,19 @@ fn end_of(file: &mut impl Seek) -> Option<u64> {
     end
 }
 
-// A log of which nothing can be read.
-fn unread() -> Reading {
-    let canvas = Canvas {
-        watching: picture_stream::watch_start(b""),
+// Nothing is drawn yet; of the log its first bytes are read.
+fn begun_with(head: &[u8]) -> Canvas {
+    Canvas {
+        watching: picture_stream::watch_start(head),
         pen: pictures::pen_up(),
         wrote: true,
-    };
+    }
+}
+
+// A log of which nothing can be read.
+fn unread() -> Reading {
     Reading {
-        canvas,
+        canvas: begun_with(b""),
         bytes: 0,
         failed: true,
     }
@@ -84,15 +88,10 @@ fn behind(
 fn first(rt: &(impl Print + Complain), path: &str, file: &mut impl Read, easel: Easel) -> Turn {
     let mut head: [u8; log_stream::FIRST_SIZE] = [0; log_stream::FIRST_SIZE];
     let filled = reading::fill(file, &mut head);
-    let length = filled.length;
-    let watching = picture_stream::watch_start(&head[..length]);
-    let at = watching.inspecting.start.at;
-    let begun = Canvas {
-        watching,
-        pen: pictures::pen_up(),
-        wrote: true,
-    };
-    let canvas = drawing::go_over(rt, begun, easel, &head[..length], at);
+    let bytes = &head[..filled.length];
+    let begun = begun_with(bytes);
+    let at = begun.watching.inspecting.start.at;
+    let canvas = drawing::go_over(rt, begun, easel, bytes, at);
     behind(rt, path, canvas, 0, filled, log_stream::FIRST_SIZE)
 }
 
@@ -106,9 +105,7 @@ fn next(
 ) -> Turn {
     let mut bytes: [u8; 4_096] = [0; 4_096];
     let filled = reading::fill(file, &mut bytes);
-    let length = filled.length;
-    let stands = before.canvas;
-    let canvas = drawing::go_over(rt, stands, easel, &bytes[..length], 0);
+    let canvas = drawing::go_over(rt, before.canvas, easel, &bytes[..filled.length], 0);
     behind(rt, path, canvas, before.bytes, filled, 4_096)
 }
 
@@ -123,11 +120,10 @@ fn rest(
     let mut stands = begun;
     for _ in 0..u64::MAX {
         let turn = next(rt, path, file, easel, stands);
-        let read = turn.read;
         if !turn.more {
-            return read;
+            return turn.read;
         }
-        stands = read;
+        stands = turn.read;
     }
     stands
 }

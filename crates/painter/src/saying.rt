@@ -27,27 +27,24 @@ fn bare_easel() -> Easel {
 }
 
 // Puts the finding at the start of a page, in the words of `inspect` or, where a plan sheet is given, of `inspect PLAN`.
-fn put_either(given: bool, plan: &[u8], watching: Watching, page: &mut [u8]) -> usize {
+fn put_either(plan: Option<&[u8]>, watching: Watching, page: &mut [u8]) -> usize {
     let inspecting = watching.inspecting;
-    if given {
-        let answered = command_inspect_plan::inspect_text(plan, inspecting, page);
-        return answered.length;
+    match plan {
+        Some(sheet) => command_inspect_plan::inspect_text(sheet, inspecting, page).length,
+        None => command_inspect::put_finding(inspecting, page).length,
     }
-    let found = command_inspect::put_finding(inspecting, page);
-    found.length
 }
 
 // Says it.
-fn say_either(rt: &(impl Print + Complain), given: bool, plan: &[u8], watching: Watching) -> bool {
+fn say_either(rt: &(impl Print + Complain), plan: Option<&[u8]>, watching: Watching) -> bool {
     let mut page = io::large_buffer();
-    let put = put_either(given, plan, watching, &mut page);
+    let put = put_either(plan, watching, &mut page);
     ending::say_put(rt, &page, put)
 }
 
 // The second part, what the finding means: of an accepted log without a visit that nothing was held to the rules.
 fn say_meaning(rt: &(impl Print + Complain), account: Account) -> bool {
-    let outcome = account.outcome;
-    if is_accepted(outcome) & (account.lines == 0) {
+    if is_accepted(account.outcome) & (account.lines == 0) {
         return texts::means(rt) && texts::no_visit(rt);
     }
     forms::say_part(rt, command_page::part_at(account, 1))
@@ -73,10 +70,9 @@ fn say_station(rt: &(impl Print + Complain), any: bool, station: u64) -> bool {
 
 // The stations that are marked.
 fn say_marked(rt: &(impl Print + Complain), mark: [u8; 128], n: u32) -> bool {
-    let end = units::places(n);
     let mut any = false;
-    for i in 0..end {
-        if mark[i] != 0 {
+    for (i, x) in mark[..units::places(n)].iter().enumerate() {
+        if *x != 0 {
             if !say_station(rt, any, i as u64) {
                 return false;
             }
@@ -100,15 +96,13 @@ fn say_when(rt: &(impl Print + Complain), named: u64) -> bool {
 
 // Who is switched through behind the records that keep every rule, by the inspection's own marks.
 fn say_through(rt: &(impl Print + Complain), watching: Watching, account: Account) -> bool {
-    let outcome = account.outcome;
-    if !is_judged(outcome) {
+    if !is_judged(account.outcome) {
         return true;
     }
-    let looked = watching.inspecting.looked;
-    let state = looked.inspection;
-    let mark = state.mark;
-    let set = account.set;
-    say_when(rt, account.named) && say_marked(rt, mark, set.n) && ending::say(rt, b".</p>\n")
+    let mark = watching.inspecting.looked.inspection.mark;
+    say_when(rt, account.named)
+        && say_marked(rt, mark, account.set.n)
+        && ending::say(rt, b".</p>\n")
 }
 
 // All parts behind the first one; below what each station did it is said who is switched through.
@@ -137,22 +131,21 @@ fn say_foot(rt: &(impl Print + Complain), bytes: u64) -> bool {
 // What stands before the picture: the head, the finding with its word, and all that is said of it.
 fn say_first(
     rt: &(impl Print + Complain),
-    given: bool,
-    plan: &[u8],
+    plan: Option<&[u8]>,
     watching: Watching,
     account: Account,
 ) -> bool {
     let outcome = account.outcome;
     texts::begin(rt)
         && forms::say_part(rt, command_page::part_at(account, 0))
-        && say_either(rt, given, plan, watching)
+        && say_either(rt, plan, watching)
         && texts::end_finding(rt)
-        && say_held(rt, given, outcome)
+        && say_held(rt, plan.is_some(), outcome)
         && say_account(rt, watching, account)
 }
 
 // What a reading found, in numbers: the log's refusal, the rule that is broken, how many records keep every rule, and what was compared.
-#[derive(Clone, Copy)]
+#[derive(Clone, Copy, PartialEq)]
 struct Found {
     number: u8,
     rule: u8,
@@ -166,12 +159,9 @@ fn found_by(watching: Watching) -> Found {
     let inspecting = watching.inspecting;
     let number = inspection_stream::number_of(inspecting);
     let start = inspecting.start;
-    let set = start.set;
-    let alloc = start.alloc;
     let looked = inspecting.looked;
     let state = looked.inspection;
-    let last = looked.last;
-    let compared = inspection::compare(state, set, alloc, last);
+    let compared = inspection::compare(state, start.set, start.alloc, looked.last);
     Found {
         number,
         rule: state.rule,
@@ -183,32 +173,19 @@ fn found_by(watching: Watching) -> Found {
 
 // Both readings have one finding.
 fn same_finding(first: Watching, second: Watching) -> bool {
-    let a = found_by(first);
-    let b = found_by(second);
-    let rule = (a.number == b.number) & (a.rule == b.rule) & (a.records == b.records);
-    rule & (a.expected == b.expected) & (a.found == b.found)
+    found_by(first) == found_by(second)
 }
 
 // Both readings have one plan.
 fn same_plan(first: Watching, second: Watching) -> bool {
-    let a = first.inspecting;
-    let b = second.inspecting;
-    let one = a.start;
-    let other = b.start;
-    let t = one.set;
-    let s = one.alloc;
-    let u = other.set;
-    let r = other.alloc;
-    differences::same_plan(t, s, u, r)
+    let one = first.inspecting.start;
+    let other = second.inspecting.start;
+    differences::same_plan(one.set, one.alloc, other.set, other.alloc)
 }
 
 // And one number for each place of the stations'.
 fn same_sums(first: Watching, second: Watching) -> bool {
-    let a = first.seen;
-    let b = second.seen;
-    let one = a.numbers;
-    let other = b.numbers;
-    tallies::same_numbers(one, other)
+    tallies::same_numbers(first.seen.numbers, second.seen.numbers)
 }
 
 // All of it.
@@ -233,16 +210,12 @@ fn say_picture(
     let window = account.window;
     let second = reading::read_all(rt, path, Easel { scene, window });
     let canvas = second.canvas;
-    let pen = canvas.pen;
-    let ended = canvas.wrote && drawing::end(rt, pen);
+    let ended = canvas.wrote && drawing::end(rt, canvas.pen);
     if !ended {
         return false;
     }
-    let before = first.canvas;
-    let one = before.watching;
-    let other = canvas.watching;
     let long = !second.failed & (second.bytes == first.bytes);
-    if long && is_same(one, other) {
+    if long && is_same(first.canvas.watching, canvas.watching) {
         return true;
     }
     say_changed(rt);
@@ -262,48 +235,36 @@ fn say_held(rt: &(impl Print + Complain), given: bool, outcome: Outcome) -> bool
 
 // The records were judged, so there is a picture.
 fn is_judged(outcome: Outcome) -> bool {
-    match outcome {
-        Outcome::Broken => true,
-        Outcome::Accepted => true,
-        _ => false,
-    }
+    matches!(outcome, Outcome::Broken | Outcome::Accepted)
 }
 
 // Every rule is kept.
 fn is_accepted(outcome: Outcome) -> bool {
-    match outcome {
-        Outcome::Accepted => true,
-        _ => false,
-    }
+    matches!(outcome, Outcome::Accepted)
 }
 
 // 0 exactly where the log is accepted.
 fn status_of(outcome: Outcome) -> u8 {
-    match outcome {
-        Outcome::Accepted => status::DONE,
-        _ => status::REFUSED,
+    if is_accepted(outcome) {
+        return status::DONE;
     }
+    status::REFUSED
 }
 
 // All of a page about a log that was read once.
 fn say_all(
     rt: &(impl Files + Print + Complain),
     path: &str,
-    given: bool,
-    plan: &[u8],
+    plan: Option<&[u8]>,
     first: Reading,
 ) -> u8 {
-    let canvas = first.canvas;
-    let watching = canvas.watching;
-    let account = command_page::account_of(given, plan, watching);
-    if !say_first(rt, given, plan, watching, account) {
+    let watching = first.canvas.watching;
+    let account = command_page::account_of(plan.is_some(), plan.unwrap_or(b""), watching);
+    if !say_first(rt, plan, watching, account) {
         return status::FAILED;
     }
     let outcome = account.outcome;
-    let mut drawn = true;
-    if is_judged(outcome) {
-        drawn = say_picture(rt, path, account, first);
-    }
+    let drawn = !is_judged(outcome) || say_picture(rt, path, account, first);
     let ended = say_foot(rt, first.bytes);
     if drawn & ended {
         return status_of(outcome);
@@ -315,8 +276,7 @@ fn say_all(
 pub(crate) fn say(
     rt: &(impl Env + Files + Print + Complain),
     word: usize,
-    given: bool,
-    plan: &[u8],
+    plan: Option<&[u8]>,
 ) -> u8 {
     let path = match words::path(rt, word) {
         Ok(path) => path,
@@ -330,5 +290,5 @@ pub(crate) fn say(
     if first.failed {
         return status::FAILED;
     }
-    say_all(rt, path, given, plan, first)
+    say_all(rt, path, plan, first)
 }

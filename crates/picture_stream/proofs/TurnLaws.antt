@@ -1,4 +1,5 @@
 -- One byte more of a log that is read for its picture: what is left to do is the same.
+use Rattle.std.proofs.lemmas.Bool.{cond-true, cond-false}
 use Rattle.std.proofs.Common.{◌≡◌, ℕ, ◌+◌, ◌<◌, ◌≤◌, Bool, true, false, cond, ◌≢◌, List, ◌∷◌, length, drop, sym, refl, ap, ◌∙◌, add-one, drop_of_length-le, drop-cons, eq-eqb, ne_eqb}
 use Rattle.units.specs.Places.{at}
 use Rattle.log_records.specs.Entry.{next_entry}
@@ -15,12 +16,6 @@ use Rattle.picture_stream.specs.Watching.{is_drawn, drawn_of, watching_of, recor
 use Rattle.picture_stream.specs.declared.Window.{Window}
 use Rattle.picture_stream.specs.declared.Watching.{Watching}
 use Rattle.picture_stream.specs.declared.Watched.{Watched}
-
-pick_first : {A : Type 0} {s : Bool} (a b : A) → s ≡ true → cond s a b ≡ a
-pick_first a b e = rw e refl
-
-pick_second : {A : Type 0} {s : Bool} (a b : A) → s ≡ false → cond s a b ≡ b
-pick_second a b e = rw e refl
 
 -- ---- the record that a byte ends, if it ends one
 
@@ -72,7 +67,7 @@ module _ (x : Window) (bs : List ℕ) (k₀ : Watching) (from : ℕ) where
     pub going_on : got.next ≡ 0 → Going (watching_of k.inspecting.start v k.inspecting.looked k.seen) (i + 1)
     going_on none =
         let ends = none_ends x k v got none in
-        record { left = turned ∙ pick_second _ _ ends.1 ∙ ap (λ (w : Watching). watched_from x w (i + 1) (drop (i + 1) bs)) ends.0 }
+        record { left = turned ∙ cond-false _ _ _ ends.1 ∙ ap (λ (w : Watching). watched_from x w (i + 1) (drop (i + 1) bs)) ends.0 }
 
     -- it ends one
     module _ (some : got.next ≢ 0) (l : Looked) (looked : l ≡ looked_at k.inspecting.start.set k.inspecting.start.alloc k.inspecting.looked (next_entry v.bytes 0).entry) (s' : Seen) (saw : SeenOn k.inspecting.start.set.n k.inspecting.start.set.w l.inspection.rule k.seen got.entry s') (flag : Bool) (drawn : flag ≡ is_drawn x k.seen.course.all got.entry) where
@@ -83,7 +78,7 @@ module _ (x : Window) (bs : List ℕ) (k₀ : Watching) (from : ℕ) where
       flagged = (one_ends x k v got some).1 ∙ sym drawn
 
       pub going_past : flag ≡ false → Going (watching_of k.inspecting.start v l s') (i + 1)
-      going_past out = record { left = turned ∙ pick_second _ _ (flagged ∙ out) ∙ ap (λ (w : Watching). watched_from x w (i + 1) (drop (i + 1) bs)) behind }
+      going_past out = record { left = turned ∙ cond-false _ _ _ (flagged ∙ out) ∙ ap (λ (w : Watching). watched_from x w (i + 1) (drop (i + 1) bs)) behind }
 
       pub going_stops : flag ≡ true → (w : Watching) → w ≡ watching_of k.inspecting.start v l s' → (d : Drawn) → d ≡ drawn_of k.seen got.entry → ◌≡◌ {A = Watched} (record { watching = w; at = i + 1; stopped = true; drawn = d }) (watched_from x k₀ from (drop from bs))
-      going_stops in-it w put d handed = rw (put, handed, ← behind) (sym (turned ∙ pick_first _ _ (flagged ∙ in-it)))
+      going_stops in-it w put d handed = rw (put, handed, ← behind) (sym (turned ∙ cond-true _ _ _ (flagged ∙ in-it)))

@@ -136,11 +136,9 @@ pub fn watch_on(watching: Watching, window: Window, bytes: &[u8], from: usize) -
     let mut course = seen.course;
     let mut gathered = inspecting.gathered;
     let mut looked = inspecting.looked;
-    let mut i = from;
-    while i < bytes.len() {
+    for i in from..bytes.len() {
         gathered = log_stream::step(gathered, bytes[i]);
         let got = log_stream::entry_in(gathered);
-        i += 1;
         if got.next != 0 {
             let entry = got.entry;
             let lap = course.all;
@@ -152,7 +150,7 @@ pub fn watch_on(watching: Watching, window: Window, bytes: &[u8], from: usize) -
                 let watching = together(start, gathered, looked, numbers, mark, course);
                 return Watched {
                     watching,
-                    at: i,
+                    at: i + 1,
                     stopped: true,
                     drawn,
                 };
@@ -162,7 +160,7 @@ pub fn watch_on(watching: Watching, window: Window, bytes: &[u8], from: usize) -
     let watching = together(start, gathered, looked, numbers, mark, course);
     Watched {
         watching,
-        at: i,
+        at: from.max(bytes.len()),
         stopped: false,
         drawn: not_drawn(),
     }
@@ -190,7 +188,7 @@ pub fn lines_of(watching: Watching) -> u64
         return lines;
     }
     let named = std::num::wrapping_add_u64(course.kept.rotation, 1);
-    if lines < named { named } else { lines }
+    lines.max(named)
 }
 
 // The line behind the last that is drawn: where a record is named, its rotation and two behind it are; else the first ones.
@@ -199,12 +197,9 @@ fn last_line(watching: Watching) -> u64
 {
     let lines = lines_of(watching);
     if watching.inspecting.looked.inspection.rule == 0 {
-        return units::least(MOST_LINES, lines);
+        return MOST_LINES.min(lines);
     }
-    units::least(
-        std::num::wrapping_add_u64(watching.seen.course.kept.rotation, 3),
-        lines,
-    )
+    std::num::wrapping_add_u64(watching.seen.course.kept.rotation, 3).min(lines)
 }
 
 // Which records are drawn of a log that was read whole.
@@ -214,7 +209,7 @@ pub fn window_of(watching: Watching) -> Window
     let last = last_line(watching);
     let found = inspection::found(watching.inspecting.looked.inspection, 0);
     Window {
-        first: units::room(last, MOST_LINES),
+        first: last.saturating_sub(MOST_LINES),
         end: last,
         named: found.record,
     }

@@ -1,14 +1,13 @@
 -- The parts that begin and end lines: of a record its first, where no line has begun, and its last, where it is the last visit of a rotation.
-use Rattle.std.proofs.Common.{◌≡◌, ℕ, Bool, true, false, cond, not, eqb, ltb, List, [], ◌∷◌, ◌++◌, replicate, sym, refl, ap, ◌∙◌, append_assoc, append-nil}
+use Rattle.std.proofs.Common.{◌≡◌, ℕ, Bool, true, false, cond, not, eqb, ltb, List, [], ◌∷◌, ◌++◌, sym, refl, ap, ◌∙◌, zero, suc, ◌+◌, append_assoc, append-nil, Option, Some, None}
 use Rattle.log_records.specs.declared.VisitEntry.{VisitEntry}
 use Rattle.log_records.specs.declared.Entry.{Entry}
 use Rattle.log_records.specs.declared.Entry.TheVariants.{Visit, Mark}
 use Rattle.tallies.specs.declared.Lap.{Lap}
 use Rattle.tallies.specs.declared.Drawn.{Drawn}
-use Rattle.pictures.specs.Parts.{part, number_of, end_at, drawn_to, rotation_begin, line_begin, bound_mark, rotation_end, is_last, begin_shape, tick, is_shown, is_roomy, number_shape, first_bar, second_bar, cut_mark, frame, visit_part, visit_behind, mark_part, entry_part, part_at, pen_after, line_end}
-use Rattle.pictures.specs.Picture.{parts_from, parts_of, pen_over, parts_over, picture_of, is_line_mark, line_marks}
+use Rattle.pictures.specs.Parts.{number_of, end_at, drawn_to, rotation_begin, line_begin, bound_mark, rotation_end, is_last, begin_shape, tick, is_shown, is_roomy, number_shape, first_bar, second_bar, cut_mark, frame, visit_part, visit_behind, mark_part, entry_part, part_at, pen_after, line_end}
+use Rattle.pictures.specs.Picture.{part_before, parts_from, parts_of, pen_over, parts_over, picture_of, is_line_mark, line_marks}
 use Rattle.pictures.specs.Promised.{NoneLast, line_begun, line_ended, first_or, OneLine}
-use Rattle.pictures.specs.declared.Shape.TheVariants as shape
 use Rattle.pictures.specs.declared.Part.{Part}
 use Rattle.pictures.specs.declared.Scene.{Scene}
 use Rattle.pictures.specs.declared.Pen.{Pen}
@@ -27,18 +26,40 @@ unfolding pen_over
 pen_append c p [] es = refl
 pen_append c p (d ∷ ds) es = pen_append c (pen_after c p d) ds es
 
--- ---- a part that is no line mark
+before_append : (o : Option Part) (xs qs : List Part) → part_before o xs ++ qs ≡ part_before o (xs ++ qs)
+unfolding part_before
+before_append None xs qs = refl
+before_append (Some q) xs qs = refl
 
-abbrev Plain : Part → Type 0
-Plain q = is_line_mark q.shape ≡ false
+-- so many parts of a record before others
+unfoldable parts_then : Scene → Pen → Drawn → ℕ → ℕ → List Part → List Part
+parts_then c p d k zero qs = qs
+parts_then c p d k (suc more) qs = part_before (part_at c p d k) (parts_then c p d (k + 1) more qs)
 
-passed : (q : Part) (qs : List Part) → Plain q → line_marks (q ∷ qs) ≡ line_marks qs
-unfolding line_marks
-passed q qs h = rw h refl
+parts_then_lem : (c : Scene) (p : Pen) (d : Drawn) (k more : ℕ) (qs : List Part) → parts_from c p d k more ++ qs ≡ parts_then c p d k more qs
+unfolding parts_from parts_then
+parts_then_lem c p d k zero qs = refl
+parts_then_lem c p d k (suc more) qs =
+    before_append (part_at c p d k) (parts_from c p d (k + 1) more) qs ∙ ap (part_before (part_at c p d k)) (parts_then_lem c p d (k + 1) more qs)
 
-either : (b : Bool) (x y : Part) → Plain x → Plain y → Plain (cond b x y)
+-- ---- a part that is no line mark, if it is there
+
+abbrev Plain : Option Part → Type 0
+Plain None = Unit {0}
+Plain (Some q) = is_line_mark q.shape ≡ false
+
+passed : (o : Option Part) (qs : List Part) → Plain o → line_marks (part_before o qs) ≡ line_marks qs
+unfolding line_marks part_before
+passed None qs h = refl
+passed (Some q) qs h = rw h refl
+
+either : (b : Bool) (x y : Option Part) → Plain x → Plain y → Plain (cond b x y)
 either true x y h g = h
 either false x y h g = g
+
+one_plain : (b : Bool) (x y : Part) → is_line_mark x.shape ≡ false → is_line_mark y.shape ≡ false → is_line_mark (cond b x y).shape ≡ false
+one_plain true x y h g = h
+one_plain false x y h g = g
 
 module _ (c : Scene) (p : Pen) (through : Bool) (l : Lap) where
   begin_plain : (s : Bool) → is_line_mark (begin_shape s) ≡ false
@@ -55,36 +76,36 @@ module _ (c : Scene) (p : Pen) (through : Bool) (l : Lap) where
 
   cut_plain : (v : VisitEntry) → Plain (cut_mark c l v)
   unfolding is_line_mark cut_mark
-  cut_plain v = either (ltb c.bound (drawn_to c l v)) _ _ refl refl
+  cut_plain v = either (ltb c.bound (drawn_to c l v)) _ _ refl tt
 
   frame_plain : (to : ℕ) → Plain (frame c l to)
   unfolding is_line_mark frame
-  frame_plain to = either (eqb (number_of l) c.named) _ _ refl refl
+  frame_plain to = either (eqb (number_of l) c.named) _ _ refl tt
 
   -- the parts of the record itself
   entry_passed : (e : Entry) (qs : List Part)
-      → line_marks (entry_part c p through l e 3 ∷ entry_part c p through l e 4 ∷ entry_part c p through l e 5 ∷ entry_part c p through l e 6 ∷ entry_part c p through l e 7 ∷ entry_part c p through l e 8 ∷ entry_part c p through l e 9 ∷ entry_part c p through l e 10 ∷ entry_part c p through l e 11 ∷ qs)
+      → line_marks (part_before (entry_part c p through l e 3) (part_before (entry_part c p through l e 4) (part_before (entry_part c p through l e 5) (part_before (entry_part c p through l e 6) (part_before (entry_part c p through l e 7) (part_before (entry_part c p through l e 8) (part_before (entry_part c p through l e 9) (part_before (entry_part c p through l e 10) (part_before (entry_part c p through l e 11) qs)))))))))
       ≡ line_marks qs
   unfolding visit_part visit_behind mark_part tick first_bar second_bar is_line_mark
   entry_passed (Visit v) qs =
       passed _ _ (begin_plain through)
-      ∙ passed _ _ (either through _ _ refl refl)
+      ∙ passed _ _ (one_plain through _ _ refl refl)
       ∙ passed _ _ (number_plain through (is_roomy c p (is_shown through v) l))
-      ∙ passed _ _ (either c.earlier _ _ refl refl)
-      ∙ passed _ _ (either c.earlier _ _ refl refl)
+      ∙ passed _ _ (one_plain c.earlier _ _ refl refl)
+      ∙ passed _ _ (one_plain c.earlier _ _ refl refl)
       ∙ passed _ _ refl
       ∙ passed _ _ refl
       ∙ passed _ _ (cut_plain v)
       ∙ passed _ _ (frame_plain (end_at c l v))
   entry_passed (Mark m) qs =
       passed _ _ refl
-      ∙ passed _ _ refl
-      ∙ passed _ _ refl
-      ∙ passed _ _ refl
-      ∙ passed _ _ refl
-      ∙ passed _ _ refl
-      ∙ passed _ _ refl
-      ∙ passed _ _ refl
+      ∙ passed _ _ tt
+      ∙ passed _ _ tt
+      ∙ passed _ _ tt
+      ∙ passed _ _ tt
+      ∙ passed _ _ tt
+      ∙ passed _ _ tt
+      ∙ passed _ _ tt
       ∙ passed _ _ (frame_plain l.elapsed)
 
 -- ---- a record
@@ -97,24 +118,25 @@ begun_by begun d = cond begun [] (line_begun d ∷ [])
 unfoldable pub ended_by : Bool → List Part
 ended_by last = cond last (line_ended ∷ []) []
 
-first_mark : (begun : Bool) (q : Part) (d : Drawn) (qs : List Part) → q ≡ cond begun (part shape.Nothing (replicate 6 0)) (line_begun d) → line_marks (q ∷ qs) ≡ begun_by begun d ++ line_marks qs
-unfolding line_marks begun_by is_line_mark
+first_mark : (begun : Bool) (q : Option Part) (d : Drawn) (qs : List Part) → q ≡ cond begun None (Some (line_begun d)) → line_marks (part_before q qs) ≡ begun_by begun d ++ line_marks qs
+unfolding line_marks begun_by is_line_mark part_before
 first_mark true q d qs is = rw is refl
 first_mark false q d qs is = rw is refl
 
-last_mark : (last : Bool) (q : Part) (qs : List Part) → q ≡ rotation_end last → line_marks (q ∷ qs) ≡ ended_by last ++ line_marks qs
-unfolding line_marks ended_by rotation_end is_line_mark
+last_mark : (last : Bool) (q : Option Part) (qs : List Part) → q ≡ rotation_end last → line_marks (part_before q qs) ≡ ended_by last ++ line_marks qs
+unfolding line_marks ended_by rotation_end is_line_mark part_before
 last_mark true q qs is = rw is refl
 last_mark false q qs is = rw is refl
 
 record_marks : (c : Scene) (p : Pen) (d : Drawn) (qs : List Part)
     → line_marks (parts_of c p d ++ qs) ≡ begun_by p.begun d ++ (ended_by (is_last c d.lap d.entry) ++ line_marks qs)
-unfolding parts_from part_at rotation_begin line_begin bound_mark is_line_mark
+unfolding parts_then part_at rotation_begin line_begin bound_mark is_line_mark
 record_marks c p d qs =
-    first_mark p.begun _ d _ refl
+    ap line_marks (parts_then_lem c p d 0 14 qs)
+    ∙ first_mark p.begun _ d _ refl
     ∙ ap (λ (xs : List Part). begun_by p.begun d ++ xs)
-    (passed _ _ (either p.begun _ _ refl refl)
-    ∙ passed _ _ (either p.begun _ _ refl refl)
+    (passed _ _ (either p.begun _ _ tt refl)
+    ∙ passed _ _ (either p.begun _ _ tt refl)
     ∙ entry_passed c p d.through d.lap d.entry _
     ∙ passed _ _ refl
     ∙ last_mark (is_last c d.lap d.entry) _ qs refl)
@@ -128,7 +150,7 @@ marks_of c begun (d ∷ ds) = begun_by begun d ++ (ended_by (is_last c d.lap d.e
 
 picture_first : (c : Scene) (p : Pen) (d : Drawn) (ds : List Drawn) → picture_of c p (d ∷ ds) ≡ parts_of c p d ++ picture_of c (pen_after c p d) ds
 unfolding picture_of parts_over pen_over
-picture_first c p d ds = append_assoc (parts_of c p d) (parts_over c (pen_after c p d) ds) (line_end (pen_over c (pen_after c p d) ds) ∷ [])
+picture_first c p d ds = append_assoc (parts_of c p d) (parts_over c (pen_after c p d) ds) (part_before (line_end (pen_over c (pen_after c p d) ds)) [])
 
 none_left : (c : Scene) (p : Pen) → line_marks (picture_of c p []) ≡ marks_of c p.begun []
 unfolding picture_of parts_over pen_over line_end marks_of line_marks

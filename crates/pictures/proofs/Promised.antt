@@ -1,17 +1,17 @@
 -- What `specs/Promised.antt` promises.
-use Rattle.std.proofs.Common.{◌≡◌, ℕ, ◌+◌, ◌*◌, ◌<◌, ◌≤◌, Bool, true, false, eqb, [], ◌∷◌, sym, refl, arith, lt-ltb, ne_eqb}
+use Rattle.std.proofs.lemmas.Bool.{cond-true, cond-false}
+use Rattle.std.proofs.Common.{◌≡◌, ℕ, ◌+◌, ◌*◌, ◌<◌, ◌≤◌, Bool, true, false, eqb, [], ◌∷◌, Some, None, refl, arith, lt-ltb, ne_eqb}
 use Rattle.log_records.specs.declared.VisitEntry.{VisitEntry}
 use Rattle.log_records.specs.declared.MarkEntry.{MarkEntry}
 use Rattle.log_records.specs.declared.Entry.{Entry}
 use Rattle.log_records.specs.declared.Entry.TheVariants.{Visit, Mark}
 use Rattle.tallies.specs.declared.Lap.{Lap}
 use Rattle.tallies.specs.declared.Drawn.{Drawn}
-use Rattle.pictures.specs.Parts.{part, nothing, synchronous_at, asynchronous_at, drawn_to, first_bar, second_bar, cut_mark, rotation_begin, line_begin, bound_mark, rotation_end, is_last, frame_at, frame_width, visit_part, visit_behind, mark_part, entry_part, pen_after, part_at}
+use Rattle.pictures.specs.Parts.{part, synchronous_at, asynchronous_at, drawn_to, first_bar, second_bar, cut_mark, rotation_begin, line_begin, bound_mark, rotation_end, is_last, frame_at, frame_width, visit_part, visit_behind, mark_part, entry_part, pen_after, part_at}
 use Rattle.pictures.specs.Promised.{Order, LineBegun, VisitParts, MarkParts, Promised}
 use Rattle.pictures.specs.declared.Shape.TheVariants as shape
 use Rattle.pictures.specs.declared.Scene.{Scene}
 use Rattle.pictures.specs.declared.Pen.{Pen}
-use Rattle.pictures.proofs.ChoiceLaws.{chosen, left_out}
 use Rattle.pictures.proofs.WholeLaws.{whole}
 use Rattle.pictures.proofs.FrameLaws.{frame_named, frame_only}
 use Rattle.pictures.proofs.LineLaws.{parts_append, one_line_lem, last_line_lem}
@@ -20,12 +20,12 @@ order : (c : Scene) (l : Lap) (v : VisitEntry) → Order c l v
 unfolding first_bar second_bar synchronous_at asynchronous_at
 order c l v =
     record {
-      synchronous_first = λ e. (sym (left_out _ _ e), (sym (left_out _ _ e), (sym (left_out _ _ e), sym (left_out _ _ e))));
-      asynchronous_first = λ e. (sym (chosen _ _ e), (sym (chosen _ _ e), (sym (chosen _ _ e), sym (chosen _ _ e))));
+      synchronous_first = λ e. (cond-false _ _ _ e, (cond-false _ _ _ e, (cond-false _ _ _ e, cond-false _ _ _ e)));
+      asynchronous_first = λ e. (cond-true _ _ _ e, (cond-true _ _ _ e, (cond-true _ _ _ e, cond-true _ _ _ e)));
     }
 
 cut : (c : Scene) (l : Lap) (v : VisitEntry) → c.bound < drawn_to c l v
-    → cut_mark c l v ≡ part shape.Cut (98 * c.bound ∷ c.bound ∷ 3 * c.bound ∷ 100 * c.bound ∷ 2 * c.bound ∷ 0 ∷ [])
+    → cut_mark c l v ≡ Some (part shape.Cut (98 * c.bound ∷ c.bound ∷ 3 * c.bound ∷ 100 * c.bound ∷ 2 * c.bound ∷ 0 ∷ []))
 unfolding cut_mark
 cut c l v h = rw (lt-ltb _ _ h) refl
 
@@ -33,23 +33,23 @@ line_begins : (c : Scene) (p : Pen) (d : Drawn) → p.begun ≡ false → LineBe
 unfolding part_at rotation_begin line_begin bound_mark
 line_begins c p d e =
     record {
-      rotation = sym (left_out _ _ e);
-      line = sym (left_out _ _ e);
-      bound = sym (left_out _ _ e);
+      rotation = cond-false _ _ _ e;
+      line = cond-false _ _ _ e;
+      bound = cond-false _ _ _ e;
     }
 
 line_begun_lem : (c : Scene) (p : Pen) (d : Drawn) → p.begun ≡ true
-    → (part_at c p d 0 ≡ nothing) × ((part_at c p d 1 ≡ nothing) × (part_at c p d 2 ≡ nothing))
+    → (part_at c p d 0 ≡ None) × ((part_at c p d 1 ≡ None) × (part_at c p d 2 ≡ None))
 unfolding part_at rotation_begin line_begin bound_mark
-line_begun_lem c p d e = (sym (chosen _ _ e), (sym (chosen _ _ e), sym (chosen _ _ e)))
+line_begun_lem c p d e = (cond-true _ _ _ e, (cond-true _ _ _ e, cond-true _ _ _ e))
 
 line_ends_lem : (c : Scene) (p : Pen) (d : Drawn) → is_last c d.lap d.entry ≡ true
-    → ((pen_after c p d).begun ≡ false) × (part_at c p d 13 ≡ part shape.RotationEnd (0 ∷ 0 ∷ 0 ∷ 0 ∷ 0 ∷ 0 ∷ []))
+    → ((pen_after c p d).begun ≡ false) × (part_at c p d 13 ≡ Some (part shape.RotationEnd (0 ∷ 0 ∷ 0 ∷ 0 ∷ 0 ∷ 0 ∷ [])))
 unfolding pen_after part_at rotation_end
 line_ends_lem c p d e = (rw e refl, rw e refl)
 
 line_goes_on_lem : (c : Scene) (p : Pen) (d : Drawn) → is_last c d.lap d.entry ≡ false
-    → ((pen_after c p d).begun ≡ true) × (part_at c p d 13 ≡ nothing)
+    → ((pen_after c p d).begun ≡ true) × (part_at c p d 13 ≡ None)
 unfolding pen_after part_at rotation_end
 line_goes_on_lem c p d e = (rw e refl, rw e refl)
 
@@ -72,7 +72,7 @@ visit_parts c p l through v =
       end = refl;
     }
 
-between : (c : Scene) (p : Pen) (l : Lap) (through : Bool) (m : MarkEntry) (k : ℕ) → 4 ≤ k → k ≤ 10 → part_at c p (record { lap = l; entry = Mark m; through = through }) k ≡ nothing
+between : (c : Scene) (p : Pen) (l : Lap) (through : Bool) (m : MarkEntry) (k : ℕ) → 4 ≤ k → k ≤ 10 → part_at c p (record { lap = l; entry = Mark m; through = through }) k ≡ None
 unfolding part_at mark_part
 between c p l through m k more few =
     let low : (j : ℕ) → j < 4 → eqb k j ≡ false = λ j h. ne_eqb k j (λ e. omega arith) in
@@ -94,13 +94,13 @@ past : (k j : ℕ) → 14 ≤ k → j < 14 → eqb k j ≡ false
 past k j more few = ne_eqb k j (λ e. omega arith)
 
 module _ (c : Scene) (p : Pen) (k : ℕ) (more : 14 ≤ k) where
-  entry_past : (through : Bool) (l : Lap) (e : Entry) → entry_part c p through l e k ≡ nothing
+  entry_past : (through : Bool) (l : Lap) (e : Entry) → entry_part c p through l e k ≡ None
   unfolding visit_part visit_behind mark_part
   entry_past through l (Visit v) =
       rw (past k 3 more (omega arith), past k 4 more (omega arith), past k 5 more (omega arith), past k 6 more (omega arith), past k 7 more (omega arith), past k 8 more (omega arith), past k 9 more (omega arith), past k 10 more (omega arith), past k 11 more (omega arith)) refl
   entry_past through l (Mark m) = rw (past k 3 more (omega arith), past k 11 more (omega arith)) refl
 
-  none : (d : Drawn) → part_at c p d k ≡ nothing
+  none : (d : Drawn) → part_at c p d k ≡ None
   unfolding part_at
   none d =
       rw (past k 0 more (omega arith), past k 1 more (omega arith), past k 2 more (omega arith), past k 12 more (omega arith), past k 13 more (omega arith)) (entry_past d.through d.lap d.entry)

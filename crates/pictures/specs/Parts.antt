@@ -1,5 +1,5 @@
 -- The parts of a drawn record's picture: its shapes with their places. x is 100 for a tick, y goes from 0 to 4 times the bound: the number above, what was sent between 1 and 3, the walk at 2, the limit at 3.
-use Rattle.std.specs.Prelude.{ℕ, ◌+◌, ◌-◌, ◌*◌, min, max, Bool, false, cond, not, ◌&&◌, ◌||◌, List, [], ◌∷◌, replicate, ◌==◌, nat_le, nat_lt}
+use Rattle.std.specs.Prelude.{◌≡◌, ℕ, ◌+◌, ◌-◌, ◌*◌, min, max, Bool, false, cond, not, ◌&&◌, ◌||◌, List, [], ◌∷◌, replicate, Option, Some, None, ◌==◌, nat_le, nat_lt}
 use Rattle.units.specs.Places.{at}
 use Rattle.log_records.specs.declared.VisitEntry.{VisitEntry}
 use Rattle.log_records.specs.declared.MarkEntry.{MarkEntry}
@@ -22,9 +22,10 @@ part s numbers = record { shape = s; numbers = numbers }
 abbrev pub bare : Shape → Part
 bare s = part s (replicate 6 0)
 
--- no words
-abbrev pub nothing : Part
-nothing = bare shape.Nothing
+-- of what may be no part: a part that is there, of this shape
+abbrev pub HasShape : Option Part → Shape → Type 0
+HasShape None s = ⊥
+HasShape (Some q) s = q.shape ≡ s
 
 -- ---- places
 
@@ -73,26 +74,26 @@ line_of s c height from ticks =
 
 -- ---- the line
 
-unfoldable pub rotation_begin : Pen → Lap → Part
+unfoldable pub rotation_begin : Pen → Lap → Option Part
 rotation_begin p l =
-    cond p.begun nothing (part shape.RotationBegin (wrapped (l.rotation + 1) ∷ 0 ∷ 0 ∷ 0 ∷ 0 ∷ 0 ∷ []))
+    cond p.begun None (Some (part shape.RotationBegin (wrapped (l.rotation + 1) ∷ 0 ∷ 0 ∷ 0 ∷ 0 ∷ 0 ∷ [])))
 
-unfoldable pub line_begin : Scene → Pen → Part
+unfoldable pub line_begin : Scene → Pen → Option Part
 line_begin c p =
-    cond p.begun nothing (part shape.LineBegin (100 * c.bound ∷ 4 * c.bound ∷ 0 ∷ 0 ∷ 0 ∷ 0 ∷ []))
+    cond p.begun None (Some (part shape.LineBegin (100 * c.bound ∷ 4 * c.bound ∷ 0 ∷ 0 ∷ 0 ∷ 0 ∷ [])))
 
-unfoldable pub bound_mark : Scene → Pen → Part
+unfoldable pub bound_mark : Scene → Pen → Option Part
 bound_mark c p =
-    cond p.begun nothing
-    (part shape.BoundMark (100 * c.bound ∷ 100 * c.bound ∷ 4 * c.bound ∷ 0 ∷ 0 ∷ 0 ∷ []))
+    cond p.begun None
+    (Some (part shape.BoundMark (100 * c.bound ∷ 100 * c.bound ∷ 4 * c.bound ∷ 0 ∷ 0 ∷ 0 ∷ [])))
 
 -- the last visit of a rotation ends its line
 abbrev pub is_last : Scene → Lap → Entry → Bool
 is_last c l (Visit v) = nat_le c.n (l.turn + 1)
 is_last c l (Mark m) = false
 
-unfoldable pub rotation_end : Bool → Part
-rotation_end last = cond last (bare shape.RotationEnd) nothing
+unfoldable pub rotation_end : Bool → Option Part
+rotation_end last = cond last (Some (bare shape.RotationEnd)) None
 
 -- ---- a record
 
@@ -158,12 +159,13 @@ abbrev pub limit_line : Scene → Lap → VisitEntry → Part
 limit_line c l v = line_of shape.Limit c 3 (asynchronous_at c l v) v.limit
 
 -- a visit that ends behind the end of the line, or whose limit does
-unfoldable pub cut_mark : Scene → Lap → VisitEntry → Part
+unfoldable pub cut_mark : Scene → Lap → VisitEntry → Option Part
 cut_mark c l v =
     cond (nat_lt c.bound (drawn_to c l v))
+    (Some
     (part shape.Cut
-    (98 * c.bound ∷ c.bound ∷ 3 * c.bound ∷ 100 * c.bound ∷ 2 * c.bound ∷ 0 ∷ []))
-    nothing
+    (98 * c.bound ∷ c.bound ∷ 3 * c.bound ∷ 100 * c.bound ∷ 2 * c.bound ∷ 0 ∷ [])))
+    None
 
 -- ---- the named record: from a moment to another, at least 3 bounds wide, and always within the line
 
@@ -173,46 +175,47 @@ frame_at c from = min (placed c from) (97 * c.bound)
 abbrev pub frame_width : Scene → ℕ → ℕ → ℕ
 frame_width c from to = max (placed c to - frame_at c from) (3 * c.bound)
 
-unfoldable pub frame : Scene → Lap → ℕ → Part
+unfoldable pub frame : Scene → Lap → ℕ → Option Part
 frame c l to =
     cond (number_of l == c.named)
+    (Some
     (part shape.Frame
-    (frame_at c l.elapsed ∷ 0 ∷ frame_width c l.elapsed to ∷ 4 * c.bound ∷ 0 ∷ 0 ∷ []))
-    nothing
+    (frame_at c l.elapsed ∷ 0 ∷ frame_width c l.elapsed to ∷ 4 * c.bound ∷ 0 ∷ 0 ∷ [])))
+    None
 
 -- ---- all of them
 
 -- the parts of a visit behind what was sent
-unfoldable pub visit_behind : Scene → Lap → VisitEntry → ℕ → Part
+unfoldable pub visit_behind : Scene → Lap → VisitEntry → ℕ → Option Part
 visit_behind c l v k =
-    cond (k == 8) (walk_line c l v)
-    (cond (k == 9) (limit_line c l v)
-    (cond (k == 10) (cut_mark c l v) (cond (k == 11) (frame c l (end_at c l v)) nothing)))
+    cond (k == 8) (Some (walk_line c l v))
+    (cond (k == 9) (Some (limit_line c l v))
+    (cond (k == 10) (cut_mark c l v) (cond (k == 11) (frame c l (end_at c l v)) None)))
 
 -- the parts of a visit
-unfoldable pub visit_part : Scene → Pen → Bool → Lap → VisitEntry → ℕ → Part
+unfoldable pub visit_part : Scene → Pen → Bool → Lap → VisitEntry → ℕ → Option Part
 visit_part c p through l v k =
-    cond (k == 3) (visit_begin through l v)
-    (cond (k == 4) (tick c through l)
-    (cond (k == 5) (station_number c p through l v)
-    (cond (k == 6) (first_bar c l v)
-    (cond (k == 7) (second_bar c l v) (visit_behind c l v k)))))
+    cond (k == 3) (Some (visit_begin through l v))
+    (cond (k == 4) (Some (tick c through l))
+    (cond (k == 5) (Some (station_number c p through l v))
+    (cond (k == 6) (Some (first_bar c l v))
+    (cond (k == 7) (Some (second_bar c l v)) (visit_behind c l v k)))))
 
 -- of a mark, which is drawn only where it is named
-unfoldable pub mark_part : Scene → Lap → MarkEntry → ℕ → Part
-mark_part c l m k = cond (k == 3) (mark_begin l m) (cond (k == 11) (frame c l l.elapsed) nothing)
+unfoldable pub mark_part : Scene → Lap → MarkEntry → ℕ → Option Part
+mark_part c l m k = cond (k == 3) (Some (mark_begin l m)) (cond (k == 11) (frame c l l.elapsed) None)
 
-abbrev pub entry_part : Scene → Pen → Bool → Lap → Entry → ℕ → Part
+abbrev pub entry_part : Scene → Pen → Bool → Lap → Entry → ℕ → Option Part
 entry_part c p through l (Visit v) k = visit_part c p through l v k
 entry_part c p through l (Mark m) k = mark_part c l m k
 
 -- part k of a record: the line where none has begun, the record, its end, and the end of the line
-unfoldable pub part_at : Scene → Pen → Drawn → ℕ → Part
+unfoldable pub part_at : Scene → Pen → Drawn → ℕ → Option Part
 part_at c p d k =
     cond (k == 0) (rotation_begin p d.lap)
     (cond (k == 1) (line_begin c p)
     (cond (k == 2) (bound_mark c p)
-    (cond (k == 12) (bare shape.RecordEnd)
+    (cond (k == 12) (Some (bare shape.RecordEnd))
     (cond (k == 13) (rotation_end (is_last c d.lap d.entry))
     (entry_part c p d.through d.lap d.entry k)))))
 
@@ -235,5 +238,5 @@ pen_after c p d =
     record { begun = not (is_last c d.lap d.entry); room = room_behind c p d.through d.lap d.entry }
 
 -- behind the last record a line that has begun is ended
-unfoldable pub line_end : Pen → Part
+unfoldable pub line_end : Pen → Option Part
 line_end p = rotation_end p.begun

@@ -1,5 +1,5 @@
 -- All parts of the records that are drawn, one record after another: the pen goes from each of them to the next.
-use Rattle.std.specs.Prelude.{ℕ, zero, suc, ◌+◌, Bool, true, false, cond, List, [], ◌∷◌, ◌++◌}
+use Rattle.std.specs.Prelude.{ℕ, zero, suc, ◌+◌, Bool, true, false, cond, List, [], ◌∷◌, ◌++◌, Option, Some, None}
 use Rattle.tallies.specs.declared.Drawn.{Drawn}
 use Rattle.pictures.specs.Parts.{part_at, pen_after, line_end}
 use Rattle.pictures.specs.declared.Shape.{Shape}
@@ -8,12 +8,17 @@ use Rattle.pictures.specs.declared.Part.{Part}
 use Rattle.pictures.specs.declared.Scene.{Scene}
 use Rattle.pictures.specs.declared.Pen.{Pen}
 
--- so many parts of a record, from part k on
+-- a part before others, if it is there
+unfoldable pub part_before : Option Part → List Part → List Part
+part_before None qs = qs
+part_before (Some q) qs = q ∷ qs
+
+-- so many parts of a record, from part k on, those that are there
 unfoldable pub parts_from : Scene → Pen → Drawn → ℕ → ℕ → List Part
 parts_from c p d k zero = []
-parts_from c p d k (suc more) = part_at c p d k ∷ parts_from c p d (k + 1) more
+parts_from c p d k (suc more) = part_before (part_at c p d k) (parts_from c p d (k + 1) more)
 
--- all 14 of them
+-- of its 14 all that are there
 abbrev pub parts_of : Scene → Pen → Drawn → List Part
 parts_of c p d = parts_from c p d 0 14
 
@@ -29,13 +34,12 @@ parts_over c p (d ∷ ds) = parts_of c p d ++ parts_over c (pen_after c p d) ds
 
 -- the whole picture: behind the last record a line that has begun is ended
 unfoldable pub picture_of : Scene → Pen → List Drawn → List Part
-picture_of c p ds = parts_over c p ds ++ (line_end (pen_over c p ds) ∷ [])
+picture_of c p ds = parts_over c p ds ++ part_before (line_end (pen_over c p ds)) []
 
 -- ---- the lines in it
 
 -- this shape begins or ends a line
 unfoldable pub is_line_mark : Shape → Bool
-is_line_mark shape.Nothing = false
 is_line_mark shape.RotationBegin = true
 is_line_mark shape.LineBegin = false
 is_line_mark shape.BoundMark = false

@@ -1,12 +1,12 @@
 -- What is promised of the picture of a drawn record beside the contracts; `proofs/Promised.antt` proves it.
-use Rattle.std.specs.Prelude.{◌≡◌, ℕ, ◌+◌, ◌*◌, ◌<◌, ◌≤◌, Bool, true, false, List, [], ◌∷◌, ◌++◌}
+use Rattle.std.specs.Prelude.{◌≡◌, ℕ, ◌+◌, ◌*◌, ◌<◌, ◌≤◌, Bool, true, false, List, [], ◌∷◌, ◌++◌, Some, None}
 use Rattle.log_records.specs.declared.VisitEntry.{VisitEntry}
 use Rattle.log_records.specs.declared.MarkEntry.{MarkEntry}
 use Rattle.log_records.specs.declared.Entry.TheVariants.{Visit, Mark}
 use Rattle.tallies.specs.Laps.{wrapped}
 use Rattle.tallies.specs.declared.Lap.{Lap}
 use Rattle.tallies.specs.declared.Drawn.{Drawn}
-use Rattle.pictures.specs.Parts.{part, bare, nothing, number_of, synchronous_at, asynchronous_at, walk_at, end_at, limit_at, drawn_to, visit_begin, mark_begin, tick, station_number, first_bar, second_bar, synchronous_bar, asynchronous_bar, walk_line, limit_line, cut_mark, frame, frame_at, frame_width, is_last, pen_after, part_at}
+use Rattle.pictures.specs.Parts.{part, bare, HasShape, number_of, synchronous_at, asynchronous_at, walk_at, end_at, limit_at, drawn_to, visit_begin, mark_begin, tick, station_number, first_bar, second_bar, synchronous_bar, asynchronous_bar, walk_line, limit_line, cut_mark, frame, frame_at, frame_width, is_last, pen_after, part_at}
 use Rattle.pictures.specs.Picture.{pen_over, parts_over, picture_of, line_marks}
 use Rattle.pictures.specs.declared.Shape.TheVariants as shape
 use Rattle.pictures.specs.declared.Part.{Part}
@@ -28,7 +28,7 @@ pub record DrawnWhole (c : Scene) (l : Lap) (v : VisitEntry) : Type 0 where
       → limit_line c l v
       ≡ part shape.Limit
       (100 * asynchronous_at c l v ∷ 3 * c.bound ∷ 100 * limit_at c l v ∷ 3 * c.bound ∷ 0 ∷ 0 ∷ [])
-  pub not_cut : limit_at c l v ≤ c.bound → cut_mark c l v ≡ nothing
+  pub not_cut : limit_at c l v ≤ c.bound → cut_mark c l v ≡ None
 
 -- in the mode's order: the 2003 edition and FDDI send synchronously first, the 2002 edition asynchronously
 pub record Order (c : Scene) (l : Lap) (v : VisitEntry) : Type 0 where
@@ -41,31 +41,31 @@ pub record Order (c : Scene) (l : Lap) (v : VisitEntry) : Type 0 where
 
 -- a record begins a line, which is as long as the bound
 pub record LineBegun (c : Scene) (p : Pen) (d : Drawn) : Type 0 where
-  pub rotation : part_at c p d 0 ≡ part shape.RotationBegin (wrapped (d.lap.rotation + 1) ∷ 0 ∷ 0 ∷ 0 ∷ 0 ∷ 0 ∷ [])
-  pub line : part_at c p d 1 ≡ part shape.LineBegin (100 * c.bound ∷ 4 * c.bound ∷ 0 ∷ 0 ∷ 0 ∷ 0 ∷ [])
+  pub rotation : part_at c p d 0 ≡ Some (part shape.RotationBegin (wrapped (d.lap.rotation + 1) ∷ 0 ∷ 0 ∷ 0 ∷ 0 ∷ 0 ∷ []))
+  pub line : part_at c p d 1 ≡ Some (part shape.LineBegin (100 * c.bound ∷ 4 * c.bound ∷ 0 ∷ 0 ∷ 0 ∷ 0 ∷ []))
   -- the bound is marked at its end
   pub bound : part_at c p d 2
-      ≡ part shape.BoundMark (100 * c.bound ∷ 100 * c.bound ∷ 4 * c.bound ∷ 0 ∷ 0 ∷ 0 ∷ [])
+      ≡ Some (part shape.BoundMark (100 * c.bound ∷ 100 * c.bound ∷ 4 * c.bound ∷ 0 ∷ 0 ∷ 0 ∷ []))
 
 -- the parts of a visit
 pub record VisitParts (c : Scene) (p : Pen) (d : Drawn) (v : VisitEntry) : Type 0 where
-  pub begin : part_at c p d 3 ≡ visit_begin d.through d.lap v
-  pub tick : part_at c p d 4 ≡ tick c d.through d.lap
-  pub number : part_at c p d 5 ≡ station_number c p d.through d.lap v
-  pub first_bar_lem : part_at c p d 6 ≡ first_bar c d.lap v
-  pub second_bar_lem : part_at c p d 7 ≡ second_bar c d.lap v
-  pub walk : part_at c p d 8 ≡ walk_line c d.lap v
-  pub limit : part_at c p d 9 ≡ limit_line c d.lap v
+  pub begin : part_at c p d 3 ≡ Some (visit_begin d.through d.lap v)
+  pub tick : part_at c p d 4 ≡ Some (tick c d.through d.lap)
+  pub number : part_at c p d 5 ≡ Some (station_number c p d.through d.lap v)
+  pub first_bar_lem : part_at c p d 6 ≡ Some (first_bar c d.lap v)
+  pub second_bar_lem : part_at c p d 7 ≡ Some (second_bar c d.lap v)
+  pub walk : part_at c p d 8 ≡ Some (walk_line c d.lap v)
+  pub limit : part_at c p d 9 ≡ Some (limit_line c d.lap v)
   pub cut : part_at c p d 10 ≡ cut_mark c d.lap v
   pub frame : part_at c p d 11 ≡ frame c d.lap (end_at c d.lap v)
-  pub end : part_at c p d 12 ≡ bare shape.RecordEnd
+  pub end : part_at c p d 12 ≡ Some (bare shape.RecordEnd)
 
 -- the parts of a mark: what it says, and its frame, which takes no time
 pub record MarkParts (c : Scene) (p : Pen) (d : Drawn) (m : MarkEntry) : Type 0 where
-  pub begin : part_at c p d 3 ≡ mark_begin d.lap m
+  pub begin : part_at c p d 3 ≡ Some (mark_begin d.lap m)
   pub frame : part_at c p d 11 ≡ frame c d.lap d.lap.elapsed
-  pub end : part_at c p d 12 ≡ bare shape.RecordEnd
-  pub no_more : (k : ℕ) → 4 ≤ k → k ≤ 10 → part_at c p d k ≡ nothing
+  pub end : part_at c p d 12 ≡ Some (bare shape.RecordEnd)
+  pub no_more : (k : ℕ) → 4 ≤ k → k ≤ 10 → part_at c p d k ≡ None
 
 -- none of these records is the last visit of a rotation
 unfoldable pub NoneLast : Scene → List Drawn → Type 0
@@ -95,22 +95,22 @@ pub record Promised : Type 0 where
   pub order : (c : Scene) (l : Lap) (v : VisitEntry) → Order c l v
   -- a visit that ends behind its line, or whose limit does, is marked as cut
   pub cut : (c : Scene) (l : Lap) (v : VisitEntry) → c.bound < drawn_to c l v
-      → cut_mark c l v ≡ part shape.Cut (98 * c.bound ∷ c.bound ∷ 3 * c.bound ∷ 100 * c.bound ∷ 2 * c.bound ∷ 0 ∷ [])
+      → cut_mark c l v ≡ Some (part shape.Cut (98 * c.bound ∷ c.bound ∷ 3 * c.bound ∷ 100 * c.bound ∷ 2 * c.bound ∷ 0 ∷ []))
   -- where no line has begun a record begins one, with its rotation's number, and where one has it begins none
   pub line_begins : (c : Scene) (p : Pen) (d : Drawn) → p.begun ≡ false → LineBegun c p d
   pub line_begun_lem : (c : Scene) (p : Pen) (d : Drawn) → p.begun ≡ true
-      → (part_at c p d 0 ≡ nothing) × ((part_at c p d 1 ≡ nothing) × (part_at c p d 2 ≡ nothing))
+      → (part_at c p d 0 ≡ None) × ((part_at c p d 1 ≡ None) × (part_at c p d 2 ≡ None))
   -- behind a record a line has begun, but behind the last visit of a rotation, which ends it
   pub line_ends_lem : (c : Scene) (p : Pen) (d : Drawn) → is_last c d.lap d.entry ≡ true
-      → ((pen_after c p d).begun ≡ false) × (part_at c p d 13 ≡ part shape.RotationEnd (0 ∷ 0 ∷ 0 ∷ 0 ∷ 0 ∷ 0 ∷ []))
+      → ((pen_after c p d).begun ≡ false) × (part_at c p d 13 ≡ Some (part shape.RotationEnd (0 ∷ 0 ∷ 0 ∷ 0 ∷ 0 ∷ 0 ∷ [])))
   pub line_goes_on_lem : (c : Scene) (p : Pen) (d : Drawn) → is_last c d.lap d.entry ≡ false
-      → ((pen_after c p d).begun ≡ true) × (part_at c p d 13 ≡ nothing)
+      → ((pen_after c p d).begun ≡ true) × (part_at c p d 13 ≡ None)
   -- the frame of a record lies within the line
   pub framed : (c : Scene) (from to : ℕ) → frame_at c from + frame_width c from to ≤ 100 * c.bound
   -- it is drawn exactly at the named record: of its parts part 11 is one, and no other part of any record is
   pub frame_named : (c : Scene) (p : Pen) (d : Drawn) → number_of d.lap ≡ c.named
-      → (part_at c p d 11).shape ≡ shape.Frame
-  pub frame_only : (c : Scene) (p : Pen) (d : Drawn) (k : ℕ) → (part_at c p d k).shape ≡ shape.Frame
+      → HasShape (part_at c p d 11) shape.Frame
+  pub frame_only : (c : Scene) (p : Pen) (d : Drawn) (k : ℕ) → HasShape (part_at c p d k) shape.Frame
       → (k ≡ 11) × (number_of d.lap ≡ c.named)
   -- which part of a record is which
   pub visit_parts : (c : Scene) (p : Pen) (l : Lap) (through : Bool) (v : VisitEntry)
@@ -127,4 +127,4 @@ pub record Promised : Type 0 where
   pub last_line_lem : (c : Scene) (p : Pen) (d : Drawn) (ds : List Drawn) → p.begun ≡ false → NoneLast c (d ∷ ds)
       → line_marks (picture_of c p (d ∷ ds)) ≡ line_begun d ∷ line_ended ∷ []
   -- a record has 14 parts
-  pub no_more : (c : Scene) (p : Pen) (d : Drawn) (k : ℕ) → 14 ≤ k → part_at c p d k ≡ nothing
+  pub no_more : (c : Scene) (p : Pen) (d : Drawn) (k : ℕ) → 14 ≤ k → part_at c p d k ≡ None

@@ -14,8 +14,6 @@ use tallies::Drawn;
 // The shapes. What each of them is in words stands in the program.
 #[derive(Clone, Copy)]
 pub enum Shape {
-    // No words.
-    Nothing,
     // The beginning of a rotation's line, the line itself, and the mark of the bound at its end.
     RotationBegin,
     LineBegin,
@@ -75,7 +73,7 @@ pub struct Pen {
     pub room: u64,
 }
 
-// How many parts a record has; those that have no words among them.
+// How many parts a record has; those that are not there among them.
 pub const PART_COUNT: usize = 14;
 
 // No line has begun.
@@ -88,8 +86,8 @@ pub fn pen_up() -> Pen
     }
 }
 
-// Part k of a record; behind the last of them there is none.
-pub fn part_at(scene: Scene, pen: Pen, drawn: Drawn, k: usize) -> Part
+// Part k of a record, if it is there; behind the last of them there is none.
+pub fn part_at(scene: Scene, pen: Pen, drawn: Drawn, k: usize) -> Option<Part>
     ensures { result ≡ part_at scene pen drawn k }
 {
     let lap = drawn.lap;
@@ -103,7 +101,7 @@ pub fn part_at(scene: Scene, pen: Pen, drawn: Drawn, k: usize) -> Part
         return line::bound_mark(scene, pen);
     }
     if k == 12 {
-        return places::bare(Shape::RecordEnd);
+        return Some(places::bare(Shape::RecordEnd));
     }
     let entry = drawn.entry;
     if k == 13 {
@@ -124,7 +122,7 @@ pub fn pen_after(scene: Scene, pen: Pen, drawn: Drawn) -> Pen
 }
 
 // Behind the last record: a line that has begun is ended.
-pub fn line_end(pen: Pen) -> Part
+pub fn line_end(pen: Pen) -> Option<Part>
     ensures { result ≡ line_end pen }
 {
     line::rotation_end(pen.begun)

@@ -7,45 +7,45 @@ use log_records::{Entry, VisitEntry};
 use tallies::Lap;
 
 // Where no line has begun, the rotation.
-pub(crate) fn rotation_begin(pen: Pen, lap: Lap) -> Part
+pub(crate) fn rotation_begin(pen: Pen, lap: Lap) -> Option<Part>
     ensures { result ≡ rotation_begin pen lap }
 {
     if pen.begun {
-        return places::bare(Shape::Nothing);
+        return None;
     }
     let rotation = std::num::wrapping_add_u64(lap.rotation, 1);
-    Part {
+    Some(Part {
         shape: Shape::RotationBegin,
         numbers: [rotation, 0, 0, 0, 0, 0],
-    }
+    })
 }
 
 // Its line, as long as the bound and 4/100 of that high.
-pub(crate) fn line_begin(scene: Scene, pen: Pen) -> Part
+pub(crate) fn line_begin(scene: Scene, pen: Pen) -> Option<Part>
     ensures { result ≡ line_begin scene pen }
 {
     if pen.begun {
-        return places::bare(Shape::Nothing);
+        return None;
     }
-    let bound = units::wide(scene.bound);
-    Part {
+    let bound = u64::from(scene.bound);
+    Some(Part {
         shape: Shape::LineBegin,
         numbers: [100 * bound, 4 * bound, 0, 0, 0, 0],
-    }
+    })
 }
 
 // The mark of the bound at its end.
-pub(crate) fn bound_mark(scene: Scene, pen: Pen) -> Part
+pub(crate) fn bound_mark(scene: Scene, pen: Pen) -> Option<Part>
     ensures { result ≡ bound_mark scene pen }
 {
     if pen.begun {
-        return places::bare(Shape::Nothing);
+        return None;
     }
-    let bound = units::wide(scene.bound);
-    Part {
+    let bound = u64::from(scene.bound);
+    Some(Part {
         shape: Shape::BoundMark,
         numbers: [100 * bound, 100 * bound, 4 * bound, 0, 0, 0],
-    }
+    })
 }
 
 // The last visit of a rotation ends its line.
@@ -53,19 +53,19 @@ pub(crate) fn is_last(scene: Scene, lap: Lap, entry: Entry) -> bool
     ensures { result ≡ is_last scene lap entry }
 {
     match entry {
-        Entry::Visit(_) => scene.n as u64 <= lap.turn as u64 + 1,
+        Entry::Visit(_) => u64::from(scene.n) <= u64::from(lap.turn) + 1,
         Entry::Mark(_) => false,
     }
 }
 
 // The end of a line, where one ends.
-pub(crate) fn rotation_end(last: bool) -> Part
+pub(crate) fn rotation_end(last: bool) -> Option<Part>
     ensures { result ≡ rotation_end last }
 {
     if last {
-        return places::bare(Shape::RotationEnd);
+        return Some(places::bare(Shape::RotationEnd));
     }
-    places::bare(Shape::Nothing)
+    None
 }
 
 // ---- room for numbers
@@ -98,7 +98,7 @@ fn room_past(scene: Scene, pen: Pen, shown: bool, lap: Lap) -> u64
     ensures { result ≡ room_past scene pen shown lap }
 {
     if is_roomy(scene, pen, shown, lap) {
-        return places::place(scene, lap.elapsed) + 3 * units::wide(scene.bound);
+        return places::place(scene, lap.elapsed) + 3 * u64::from(scene.bound);
     }
     room_of(pen)
 }

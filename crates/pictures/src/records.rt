@@ -18,8 +18,8 @@ fn mark_begin(lap: Lap, m: MarkEntry) -> Part
     ensures { result ≡ mark_begin lap m }
 {
     let number = number_of(lap);
-    let station = m.station as u64;
-    let mark = m.mark as u64;
+    let station = u64::from(m.station);
+    let mark = u64::from(m.mark);
     Part {
         shape: Shape::MarkBegin,
         numbers: [number, station, mark, 0, 0, 0],
@@ -27,31 +27,31 @@ fn mark_begin(lap: Lap, m: MarkEntry) -> Part
 }
 
 // The frame of the named record: from where it begins to a moment, at least 3 bounds wide, and always within the line.
-fn frame(scene: Scene, lap: Lap, to: u64) -> Part
+fn frame(scene: Scene, lap: Lap, to: u64) -> Option<Part>
     ensures { result ≡ frame scene lap to }
 {
     if number_of(lap) != scene.named {
-        return places::bare(Shape::Nothing);
+        return None;
     }
-    let bound = units::wide(scene.bound);
-    let begin = units::least(places::place(scene, lap.elapsed), 97 * bound);
-    let width = units::room(places::place(scene, to), begin);
-    let wide = places::larger(width, 3 * bound);
-    Part {
+    let bound = u64::from(scene.bound);
+    let begin = places::place(scene, lap.elapsed).min(97 * bound);
+    let width = places::place(scene, to).saturating_sub(begin);
+    let wide = width.max(3 * bound);
+    Some(Part {
         shape: Shape::Frame,
         numbers: [begin, 0, wide, 4 * bound, 0, 0],
-    }
+    })
 }
 
 // The parts of a visit behind what was sent.
-fn visit_behind(scene: Scene, lap: Lap, v: VisitEntry, k: usize) -> Part
+fn visit_behind(scene: Scene, lap: Lap, v: VisitEntry, k: usize) -> Option<Part>
     ensures { result ≡ visit_behind scene lap v k }
 {
     if k == 8 {
-        return visits::walk_line(scene, lap, v);
+        return Some(visits::walk_line(scene, lap, v));
     }
     if k == 9 {
-        return visits::limit_line(scene, lap, v);
+        return Some(visits::limit_line(scene, lap, v));
     }
     if k == 10 {
         return visits::cut_mark(scene, lap, v);
@@ -59,42 +59,49 @@ fn visit_behind(scene: Scene, lap: Lap, v: VisitEntry, k: usize) -> Part
     if k == 11 {
         return frame(scene, lap, visits::end_at(scene, lap, v));
     }
-    places::bare(Shape::Nothing)
+    None
 }
 
 // The parts of a visit.
-fn visit_part(scene: Scene, pen: Pen, through: bool, lap: Lap, v: VisitEntry, k: usize) -> Part
+fn visit_part(
+    scene: Scene,
+    pen: Pen,
+    through: bool,
+    lap: Lap,
+    v: VisitEntry,
+    k: usize,
+) -> Option<Part>
     ensures { result ≡ visit_part scene pen through lap v k }
 {
     if k == 3 {
-        return visits::visit_begin(through, lap, v);
+        return Some(visits::visit_begin(through, lap, v));
     }
     if k == 4 {
-        return visits::tick(scene, through, lap);
+        return Some(visits::tick(scene, through, lap));
     }
     if k == 5 {
-        return visits::station_number(scene, pen, through, lap, v);
+        return Some(visits::station_number(scene, pen, through, lap, v));
     }
     if k == 6 {
-        return visits::first_bar(scene, lap, v);
+        return Some(visits::first_bar(scene, lap, v));
     }
     if k == 7 {
-        return visits::second_bar(scene, lap, v);
+        return Some(visits::second_bar(scene, lap, v));
     }
     visit_behind(scene, lap, v, k)
 }
 
 // Of a mark, which is drawn only where it is named.
-fn mark_part(scene: Scene, lap: Lap, m: MarkEntry, k: usize) -> Part
+fn mark_part(scene: Scene, lap: Lap, m: MarkEntry, k: usize) -> Option<Part>
     ensures { result ≡ mark_part scene lap m k }
 {
     if k == 3 {
-        return mark_begin(lap, m);
+        return Some(mark_begin(lap, m));
     }
     if k == 11 {
         return frame(scene, lap, lap.elapsed);
     }
-    places::bare(Shape::Nothing)
+    None
 }
 
 // Of either.
@@ -105,7 +112,7 @@ pub(crate) fn entry_part(
     lap: Lap,
     entry: Entry,
     k: usize,
-) -> Part
+) -> Option<Part>
     ensures { result ≡ entry_part scene pen through lap entry k }
 {
     match entry {

@@ -13,7 +13,7 @@ fn synchronous_at(scene: Scene, lap: Lap, v: VisitEntry) -> u64
     ensures { result ≡ held scene (synchronous_at scene lap v) }
 {
     if scene.earlier {
-        return places::moment(scene, lap.elapsed, units::wide(v.asynchronous));
+        return places::moment(scene, lap.elapsed, u64::from(v.asynchronous));
     }
     places::moment(scene, lap.elapsed, 0)
 }
@@ -25,14 +25,14 @@ fn asynchronous_at(scene: Scene, lap: Lap, v: VisitEntry) -> u64
     if scene.earlier {
         return places::moment(scene, lap.elapsed, 0);
     }
-    places::moment(scene, lap.elapsed, units::wide(v.synchronous))
+    places::moment(scene, lap.elapsed, u64::from(v.synchronous))
 }
 
 // Where its walk begins.
 fn walk_at(scene: Scene, lap: Lap, v: VisitEntry) -> u64
     ensures { result ≡ held scene (walk_at lap v) }
 {
-    let sent = units::wide(v.synchronous) + units::wide(v.asynchronous);
+    let sent = u64::from(v.synchronous) + u64::from(v.asynchronous);
     places::moment(scene, lap.elapsed, sent)
 }
 
@@ -42,7 +42,7 @@ pub(crate) fn end_at(scene: Scene, lap: Lap, v: VisitEntry) -> u64
 {
     let w = scene.w;
     let walk = tallies::walk_of(&w, v.station);
-    let sent = units::wide(v.synchronous) + units::wide(v.asynchronous);
+    let sent = u64::from(v.synchronous) + u64::from(v.asynchronous);
     places::moment(scene, lap.elapsed, sent + walk)
 }
 
@@ -51,7 +51,7 @@ fn limit_at(scene: Scene, lap: Lap, v: VisitEntry) -> u64
     ensures { result ≡ held scene (limit_at scene lap v) }
 {
     let from = asynchronous_at(scene, lap, v);
-    places::moment(scene, from, v.limit as u64)
+    places::moment(scene, from, u64::from(v.limit))
 }
 
 // ---- where it begins
@@ -73,11 +73,11 @@ pub(crate) fn visit_begin(through: bool, lap: Lap, v: VisitEntry) -> Part
 {
     let number = records::number_of(lap);
     let shape = begin_shape(through);
-    let station = v.station as u64;
-    let start = v.start as u64;
-    let limit = v.limit as u64;
-    let synchronous = v.synchronous as u64;
-    let asynchronous = v.asynchronous as u64;
+    let station = u64::from(v.station);
+    let start = u64::from(v.start);
+    let limit = u64::from(v.limit);
+    let synchronous = u64::from(v.synchronous);
+    let asynchronous = u64::from(v.asynchronous);
     Part {
         shape,
         numbers: [number, station, start, limit, synchronous, asynchronous],
@@ -88,7 +88,7 @@ pub(crate) fn visit_begin(through: bool, lap: Lap, v: VisitEntry) -> Part
 pub(crate) fn tick(scene: Scene, through: bool, lap: Lap) -> Part
     ensures { result ≡ tick scene through lap }
 {
-    let bound = units::wide(scene.bound);
+    let bound = u64::from(scene.bound);
     let begin = places::place(scene, lap.elapsed);
     if through {
         return Part {
@@ -126,8 +126,8 @@ pub(crate) fn station_number(scene: Scene, pen: Pen, through: bool, lap: Lap, v:
     let roomy = line::is_roomy(scene, pen, shown, lap);
     let shape = number_shape(through, roomy);
     let begin = places::place(scene, lap.elapsed);
-    let bound = scene.bound as u64;
-    let station = v.station as u64;
+    let bound = u64::from(scene.bound);
+    let station = u64::from(v.station);
     Part {
         shape,
         numbers: [begin, bound, bound, station, 0, 0],
@@ -141,7 +141,7 @@ fn synchronous_bar(scene: Scene, lap: Lap, v: VisitEntry) -> Part
     ensures { result ≡ synchronous_bar scene lap v }
 {
     let from = synchronous_at(scene, lap, v);
-    places::bar(Shape::Synchronous, scene, from, v.synchronous as u64)
+    places::bar(Shape::Synchronous, scene, from, u64::from(v.synchronous))
 }
 
 // Asynchronously.
@@ -149,7 +149,7 @@ fn asynchronous_bar(scene: Scene, lap: Lap, v: VisitEntry) -> Part
     ensures { result ≡ asynchronous_bar scene lap v }
 {
     let from = asynchronous_at(scene, lap, v);
-    places::bar(Shape::Asynchronous, scene, from, v.asynchronous as u64)
+    places::bar(Shape::Asynchronous, scene, from, u64::from(v.asynchronous))
 }
 
 // What the mode sends first.
@@ -189,22 +189,22 @@ pub(crate) fn limit_line(scene: Scene, lap: Lap, v: VisitEntry) -> Part
     ensures { result ≡ limit_line scene lap v }
 {
     let from = asynchronous_at(scene, lap, v);
-    places::line(Shape::Limit, scene, 3, from, v.limit as u64)
+    places::line(Shape::Limit, scene, 3, from, u64::from(v.limit))
 }
 
 // The mark of a visit that ends behind the end of the line, or whose limit does.
-pub(crate) fn cut_mark(scene: Scene, lap: Lap, v: VisitEntry) -> Part
+pub(crate) fn cut_mark(scene: Scene, lap: Lap, v: VisitEntry) -> Option<Part>
     ensures { result ≡ cut_mark scene lap v }
 {
-    let bound = units::wide(scene.bound);
+    let bound = u64::from(scene.bound);
     let end = end_at(scene, lap, v);
     let limit = limit_at(scene, lap, v);
-    let far = places::larger(end, limit);
+    let far = end.max(limit);
     if bound < far {
-        return Part {
+        return Some(Part {
             shape: Shape::Cut,
             numbers: [98 * bound, bound, 3 * bound, 100 * bound, 2 * bound, 0],
-        };
+        });
     }
-    places::bare(Shape::Nothing)
+    None
 }

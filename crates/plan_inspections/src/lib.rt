@@ -46,14 +46,10 @@ fn count_visits(log: &[u8], first: usize, records: usize) -> u64
 {
     let mut visits: u64 = 0;
     let mut at = first;
-    let mut i: usize = 0;
-    while i < records {
+    for _ in 0..records {
         let handed = logs::log_entry(log, at);
-        let entry = handed.entry;
-        let one = visit_count(entry);
-        visits += one;
+        visits += visit_count(handed.entry);
         at = handed.next;
-        i += 1;
     }
     visits
 }

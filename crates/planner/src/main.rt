@@ -14,11 +14,9 @@ fn plan(rt: &(impl Input + Print + Complain)) -> u8 {
     if let Some(error) = filled.failed {
         return ending::unread_input(rt, error);
     }
-    let read = filled.length;
     let mut page = io::large_buffer();
-    let said = command_plan::plan_text(&sheet[..read], &mut page);
-    let length = said.length;
-    ending::answer(rt, &page[..length], status::status_of(said.number))
+    let said = command_plan::plan_text(&sheet[..filled.length], &mut page);
+    ending::answer(rt, &page[..said.length], status::status_of(said.number))
 }
 
 // `plan-sheet`: the plan sheet of the request sheet on standard input; refused, no byte is written.
@@ -28,15 +26,12 @@ fn plan_sheet(rt: &(impl Input + Print + Complain)) -> u8 {
     if let Some(error) = filled.failed {
         return ending::unread_input(rt, error);
     }
-    let read = filled.length;
     let mut out = io::large_buffer();
-    let written = command_plan::plan_sheet(&sheet[..read], &mut out);
-    let length = written.length;
-    let number = written.number;
-    if number != 0 {
-        return ending::refuse_sheet(rt, number);
+    let written = command_plan::plan_sheet(&sheet[..filled.length], &mut out);
+    if written.number != 0 {
+        return ending::refuse_sheet(rt, written.number);
     }
-    ending::answer(rt, &out[..length], status::DONE)
+    ending::answer(rt, &out[..written.length], status::DONE)
 }
 
 // `version`: a line.

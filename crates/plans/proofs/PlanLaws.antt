@@ -1,6 +1,6 @@
 -- The laws of plans, for the proofs of this layer and those above.
 use Prim.Native.Nat.{ℕ, zero, suc, ◌+◌, ◌-◌, ◌*◌, ◌≤◌, ◌<◌}
-use mathlib.Core.Path.{◌≡◌, refl, ◌∙◌}
+use mathlib.Core.Path.{◌≡◌, refl, sym, ◌∙◌}
 use mathlib.Core.Bool.{true, false, ◌&&◌}
 use mathlib.Core.Logic.{◌↔◌, ◌≢◌, ⊎_elim}
 use native.Mathlib.Omega.{arith}
@@ -14,6 +14,7 @@ use Rattle.units.proofs.PlaceLaws.{decides_all}
 use Rattle.units.specs.Judging.{or_else, Decides}
 use Rattle.units.proofs.JudgingLaws.{decides_le, decides_both, decides_not, true_or_false, held, failed, given, given_later, not_given, iff_then, iff_under}
 use Rattle.sets.specs.Rules.{tau, CountAllowed, WalkTimeAllowed, count_allowed, numbers_allowed, walk_time_allowed}
+use Rattle.sets.specs.Judged.{judged_numbers}
 use Rattle.sets.proofs.SetLaws.{decides_count, decides_numbers, decides_walk}
 use Rattle.sets.specs.declared.Set.{Set}
 use Rattle.units.proofs.SmallLaws.{below_or_not, one_more_lem}
@@ -176,6 +177,17 @@ module _ (t : Set) (a : Alloc) where
   pub given_0 : count_allowed t ≡ true → (numbers_allowed t && alloc_in_range t (at a.s)) ≡ true → walk_time_allowed t ≡ true → rules_fit t (at a.s) ≡ true → judged_plan t a ≡ 0
   unfolding judged_plan
   given_0 h₂ h₄ h₅ h₇ = held _ _ _ h₂ ∙ held _ _ _ h₄ ∙ held _ _ _ h₅ ∙ held _ _ _ h₇
+
+  -- what the set's count and numbers are refused with is what the plan is refused with
+  pub given_early : judged_numbers t ≢ 0 → judged_plan t a ≡ judged_numbers t
+  given_early h =
+      ⊎_elim
+      (λ (c : count_allowed t ≡ true).
+      ⊎_elim (λ (n : numbers_allowed t ≡ true). absurd (h (held _ _ _ c ∙ held _ _ _ n)))
+      (λ (n : numbers_allowed t ≡ false). given_4 c (rw n refl) ∙ sym (held _ _ _ c ∙ failed _ _ _ n))
+      (true_or_false (numbers_allowed t)))
+      (λ (c : count_allowed t ≡ false). given_2 c ∙ sym (failed _ _ _ c))
+      (true_or_false (count_allowed t))
 
 -- ---- an answer of planning
 

@@ -3,8 +3,8 @@ use Rattle.std.specs.Prelude.{ℕ, ◌+◌, ◌≤◌, ◌<◌, ◌^◌, ◌≡�
 use Rattle.units.specs.Places.{at}
 use Rattle.sets.specs.Lent.{set_of}
 use Rattle.sets.specs.declared.Head.{Head}
-use Rattle.plans.specs.Rules.{least_time, rules_fit, token_fits}
-use Rattle.plans.specs.Planned.{smallest_alloc}
+use Rattle.sets.specs.declared.Set.{Set}
+use Rattle.plans.specs.Rules.{least_time, rules_fit}
 use Rattle.plans.specs.declared.Alloc.{Alloc}
 
 -- the allocation of what S holds
@@ -19,14 +19,6 @@ timely_fits_in ttrt c d s i = leb (at c i) (least_time ttrt (at d i) (s i))
 abbrev pub RulesFitIn : Head → ℕ → List ℕ → List ℕ → List ℕ → (ℕ → ℕ) → Bool → Type 0
 RulesFitIn head n w c d s r = (p : List ℕ) → r ≡ rules_fit (set_of head n w c d p) s
 
--- r says whether the token rule holds; w alone has a part in it
-abbrev pub TokenFitsIn : Head → ℕ → List ℕ → (ℕ → ℕ) → Bool → Type 0
-TokenFitsIn head n w s r = (c d p : List ℕ) → r ≡ token_fits (set_of head n w c d p) s
-
 -- each smallest S has room in 32 bits: it is never above C + TTRT + g
-abbrev pub Plannable : Head → ℕ → List ℕ → Type 0
-Plannable head n c = (n ≤ 128) × ((i : ℕ) → i < n → at c i + head.ttrt + head.grid < 2 ^ 32)
-
--- r is the smallest S at each station; w and P have no part in it
-abbrev pub SmallestIn : Head → ℕ → List ℕ → List ℕ → Alloc → Type 0
-SmallestIn head n c d r = (w p : List ℕ) → r ≡ smallest_alloc (set_of head n w c d p)
+abbrev pub Plannable : Set → Type 0
+Plannable t = (t.n ≤ 128) × ((i : ℕ) → i < t.n → at t.c i + t.head.ttrt + t.head.grid < 2 ^ 32)

@@ -1,6 +1,8 @@
 -- The smallest S as a formula, the judgement of a given plan, and planning.
-use Rattle.std.specs.Prelude.{ℕ, zero, suc, ◌+◌, ◌*◌, Bool, cond, ◌&&◌, leb}
+use Rattle.std.specs.Prelude.{ℕ, zero, suc, ◌+◌, ◌*◌, Bool, cond, ◌&&◌, leb, Result, Ok, Err}
 use Rattle.units.specs.Numbers.{accepted, wrong_shape, out_of_range, bad_walk_time, no_allocation, rules_broken, retired}
+use Rattle.units.specs.Refusals.{refusal_number}
+use Rattle.units.specs.declared.refusals.Refusal.{Refusal}
 use Rattle.units.specs.Grid.{stepped}
 use Rattle.units.specs.Places.{at, fill}
 use Rattle.units.specs.Judging.{or_else}
@@ -69,3 +71,8 @@ answered (suc k) a = record { alloc = blank_alloc; number = suc k }
 -- planning's answer
 abbrev pub planned : Set → Planned
 planned t = answered (plan_number t) (smallest_alloc t)
+
+-- what a host is handed of an allocation that was found, and of a refusal
+abbrev pub planned_as : Result Alloc Refusal → Planned
+planned_as (Ok alloc) = record { alloc = alloc; number = 0 }
+planned_as (Err refusal) = record { alloc = blank_alloc; number = refusal_number refusal }

@@ -4,16 +4,18 @@
 mod shares;
 
 ghost use Rattle.std.specs.Prelude.{◌≡◌, ◌+◌, ◌^◌, ◌≤◌, min};
+ghost use Rattle.units.specs.Refusals.{answer_number};
 ghost use Rattle.units.specs.Places.{at, sum_below, all_below};
 ghost use Rattle.units.specs.Vectors.{lost_time};
 ghost use Rattle.sets.specs.Lent.{set_of};
 ghost use Rattle.units.specs.Small.{UpTo};
-ghost use Rattle.plans.specs.Lent.{alloc_of, timely_fits_in, RulesFitIn, TokenFitsIn, Plannable, SmallestIn};
-ghost use Rattle.plans.specs.Rules.{least_time, spare_time, in_range_s};
-ghost use Rattle.plans.specs.Planned.{blank_alloc, smallest_for, judged_plan, planned};
+ghost use Rattle.plans.specs.Lent.{alloc_of, timely_fits_in, RulesFitIn, Plannable};
+ghost use Rattle.plans.specs.Rules.{least_time, spare_time, in_range_s, token_fits};
+ghost use Rattle.plans.specs.Planned.{blank_alloc, smallest_for, smallest_alloc, judged_plan, planned, planned_as};
 
 use sets::{Head, Set};
 use units::numbers;
+use units::refusals::Refusal;
 
 // An allocation: S at each station. Only the first N places are ever looked at.
 #[repr(C)]
@@ -42,8 +44,8 @@ pub fn least_time(ttrt: u32, d: u32, s: u32) -> u64
     ensures { result ≡ least_time ttrt d s }
 {
     let turns = shares::rotations(ttrt, d);
-    let long = units::wide(s);
-    turns.whole * long + units::room(long, turns.alpha)
+    let long = u64::from(s);
+    turns.whole * long + long.saturating_sub(turns.alpha)
 }
 
 // The smallest multiple of the grid that meets the deadline rule.
@@ -51,7 +53,7 @@ pub fn smallest(grid: u32, ttrt: u32, c: u32, d: u32) -> u64
     ensures { UpTo (c + ttrt + grid) (smallest_for grid ttrt c d) result }
 {
     let turns = shares::rotations(ttrt, d);
-    let longest = units::wide(c);
+    let longest = u64::from(c);
     if longest <= turns.whole * turns.alpha {
         quotients::stepped(grid, turns.whole, longest)
     } else {
@@ -64,36 +66,21 @@ fn alloc_in_range(n: u32, s: &[u32; 128]) -> bool
     requires { n ≤ 128 }
     ensures { result ≡ all_below n (in_range_s (at s.now)) }
 {
-    let end = units::places(n);
     let mut all = true;
-    let mut i: usize = 0;
-    while i < end {
-        let one = s[i] <= numbers::MOST_S;
-        all = all & one;
-        i += 1;
+    for share in &s[..units::places(n)] {
+        all &= *share <= numbers::MOST_S;
     }
     all
 }
 
 // The deadline rule of a timely-token set holds at every station.
-fn deadlines_fit<'a>(
-    ttrt: u32,
-    n: u32,
-    c: &'a [u32; 128],
-    d: &'a [u32; 128],
-    s: &'a [u32; 128],
-) -> bool
+fn deadlines_fit(ttrt: u32, n: u32, c: &[u32; 128], d: &[u32; 128], s: &[u32; 128]) -> bool
     requires { n ≤ 128 }
     ensures { result ≡ all_below n (timely_fits_in ttrt c.now d.now (at s.now)) }
 {
-    let end = units::places(n);
     let mut all = true;
-    let mut i: usize = 0;
-    while i < end {
-        let time = least_time(ttrt, d[i], s[i]);
-        let one = units::wide(c[i]) <= time;
-        all = all & one;
-        i += 1;
+    for i in 0..units::places(n) {
+        all &= u64::from(c[i]) <= least_time(ttrt, d[i], s[i]);
     }
     all
 }
@@ -102,25 +89,25 @@ fn deadlines_fit<'a>(
 fn lost_lent(frame: u32, n: u32, w: &[u32; 128]) -> u64
     ensures { UpTo (2 ^ 40 + 2 ^ 32) (lost_time (sum_below (min n 128) (at w.now)) frame) result }
 {
-    units::sum_lent(w, n) + units::room(units::wide(frame), 1)
+    units::sum_lent(w, n) + u64::from(frame).saturating_sub(1)
 }
 
 // The token rule holds.
-fn token_fits<'a>(h: Head, n: u32, w: &'a [u32; 128], s: &'a [u32; 128]) -> bool
-    requires { n ≤ 128 }
-    ensures { TokenFitsIn h n w.now (at s.now) result }
+fn token_fits(t: &Set, s: &[u32; 128]) -> bool
+    requires { t.now.n ≤ 128 }
+    ensures { result ≡ token_fits t.now (at s.now) }
 {
-    units::token_kept(h.ttrt, lost_lent(h.frame, n, w), n, s)
+    units::token_kept(t.head.ttrt, lost_lent(t.head.frame, t.n, &t.w), t.n, s)
 }
 
 // The rules hold, by the set's mode.
-fn rules_fit<'a>(
+fn rules_fit(
     h: Head,
     n: u32,
-    w: &'a [u32; 128],
-    c: &'a [u32; 128],
-    d: &'a [u32; 128],
-    s: &'a [u32; 128],
+    w: &[u32; 128],
+    c: &[u32; 128],
+    d: &[u32; 128],
+    s: &[u32; 128],
 ) -> bool
     requires { n ≤ 128 }
     ensures { RulesFitIn h n w.now c.now d.now (at s.now) result }
@@ -139,12 +126,14 @@ pub fn spare(t: Set, a: Alloc) -> u64
     ensures { result ≡ spare_time t (at a.s) }
 {
     let sum = units::sum_lent(&a.s, t.n);
-    let ttrt = units::wide(t.head.ttrt);
+    let ttrt = u64::from(t.head.ttrt);
     let mode = t.head.mode;
     if mode == numbers::FDDI {
-        return units::room(units::room(ttrt, units::sum_lent(&t.w, t.n)), sum);
+        let left = ttrt.saturating_sub(units::sum_lent(&t.w, t.n));
+        return left.saturating_sub(sum);
     }
-    units::room(units::room(ttrt, lost_lent(t.head.frame, t.n, &t.w)), sum)
+    let left = ttrt.saturating_sub(lost_lent(t.head.frame, t.n, &t.w));
+    left.saturating_sub(sum)
 }
 
 // The judgement of a given set and allocation whose arrays are lent: 0, or the lowest of 2, 4, 5 and 7 that applies.
@@ -156,49 +145,36 @@ pub fn judge_plan_lent<'a>(
     d: &'a [u32; 128],
     p: &'a [u32; 128],
     s: &'a [u32; 128],
-) -> u8
-    ensures { result ≡ judged_plan (set_of h n w.now c.now d.now p.now) (alloc_of s.now) }
+) -> Result<(), Refusal>
+    ensures { answer_number result ≡ judged_plan (set_of h n w.now c.now d.now p.now) (alloc_of s.now) }
 {
-    let number = sets::judge_lent(h, n, w, c, d, p);
-    if number == numbers::WRONG_SHAPE {
-        return number;
-    }
-    if number == numbers::OUT_OF_RANGE {
-        return number;
-    }
+    sets::judge_numbers(h, n, w, c, d, p)?;
     if !alloc_in_range(n, s) {
-        return numbers::OUT_OF_RANGE;
+        return Err(Refusal::OutOfRange);
     }
-    if number == numbers::BAD_WALK_TIME {
-        return number;
-    }
+    sets::judge_walk(h.ttrt, n, w)?;
     if !rules_fit(h, n, w, c, d, s) {
-        return numbers::RULES_BROKEN;
+        return Err(Refusal::RulesBroken);
     }
-    numbers::ACCEPTED
+    Ok(())
 }
 
 // The judgement of a given set and allocation: 0, or the lowest of 2, 4, 5 and 7 that applies.
-pub fn judge_plan(t: Set, a: Alloc) -> u8
-    ensures { result ≡ judged_plan t a }
+pub fn judge_plan(t: Set, a: Alloc) -> Result<(), Refusal>
+    ensures { answer_number result ≡ judged_plan t a }
 {
-    let h = t.head;
-    judge_plan_lent(h, t.n, &t.w, &t.c, &t.d, &t.p, &a.s)
+    judge_plan_lent(t.head, t.n, &t.w, &t.c, &t.d, &t.p, &a.s)
 }
 
-// The smallest S at each station of an allowed set whose C and D are lent, by the stations' own numbers.
-fn smallest_alloc<'a>(h: Head, n: u32, c: &'a [u32; 128], d: &'a [u32; 128]) -> Alloc
-    requires { Plannable h n c.now }
-    ensures { SmallestIn h n c.now d.now result }
+// The smallest S at each station of an allowed set, by the stations' own numbers.
+fn smallest_alloc(t: &Set) -> Alloc
+    requires { Plannable t.now }
+    ensures { result ≡ smallest_alloc t.now }
 {
-    let end = units::places(n);
     let mut s: [u32; 128] = [0; 128];
-    let mut i: usize = 0;
-    while i < end {
-        let least = smallest(h.grid, h.ttrt, c[i], d[i]);
-        let stored = least as u32;
-        s[i] = stored;
-        i += 1;
+    for i in 0..units::places(t.n) {
+        let least = smallest(t.head.grid, t.head.ttrt, t.c[i], t.d[i]);
+        s[i] = least as u32;
     }
     Alloc { s }
 }
@@ -213,25 +189,31 @@ fn refused(number: u8) -> Planned
     }
 }
 
-// Planning: the smallest S at each station, or the first of 2, 4, 5, 16 and 6 that applies.
+// The smallest S at each station, or the first of 2, 4, 5, 16 and 6 that applies.
+fn allocation_of(t: &Set) -> Result<Alloc, Refusal>
+    ensures { planned_as result ≡ planned t.now }
+{
+    sets::judge_lent(t.head, t.n, &t.w, &t.c, &t.d, &t.p)?;
+    let retired = t.head.mode == numbers::FDDI;
+    if retired {
+        return Err(Refusal::Retired);
+    }
+    let alloc = smallest_alloc(t);
+    if !token_fits(t, &alloc.s) {
+        return Err(Refusal::NoAllocation);
+    }
+    Ok(alloc)
+}
+
+// Planning: the smallest S at each station, or the refusal's number with the blank allocation.
 pub fn plan(t: Set) -> Planned
     ensures { result ≡ planned t }
 {
-    let h = t.head;
-    let number = sets::judge_lent(h, t.n, &t.w, &t.c, &t.d, &t.p);
-    if number != numbers::ACCEPTED {
-        return refused(number);
-    }
-    let retired = h.mode == numbers::FDDI;
-    if retired {
-        return refused(numbers::RETIRED);
-    }
-    let alloc = smallest_alloc(h, t.n, &t.c, &t.d);
-    if !token_fits(h, t.n, &t.w, &alloc.s) {
-        return refused(numbers::NO_ALLOCATION);
-    }
-    Planned {
-        alloc,
-        number: numbers::ACCEPTED,
+    match allocation_of(&t) {
+        Ok(alloc) => Planned {
+            alloc,
+            number: numbers::ACCEPTED,
+        },
+        Err(refusal) => refused(refusal.number()),
     }
 }

@@ -13,9 +13,9 @@ pub(crate) fn rotations(ttrt: u32, d: u32) -> Turns
     ensures { Rotated ttrt d result }
 {
     let both = quotients::divide_narrow(d, ttrt);
-    let alpha = units::room(units::wide(ttrt), units::wide(both.remainder));
+    let alpha = u64::from(ttrt.saturating_sub(both.remainder));
     Turns {
-        whole: units::wide(both.quotient),
+        whole: u64::from(both.quotient),
         alpha,
     }
 }

@@ -1,18 +1,15 @@
--- The laws of doubling and halving, for the two loops, for the rounded-up quotient and for the promises.
+-- The laws of doubling and halving, for the two loops and for the promises.
 use Prim.Native.Nat.{ℕ, zero, suc, ◌+◌, ◌-◌, ◌*◌, ◌/◌, ◌%◌, ◌^◌, ◌≤◌, ◌<◌}
 use mathlib.Core.Path.{◌≡◌, sym, ap, ◌∙◌}
 use native.Mathlib.Omega.{arith}
-use native.Mathlib.Nat.{two-pow-succ, mul-add, add-mul, mul-one, one-mul, mul-le-mul_left, div-eq_of_lt-le, div-add-mod', div-le_self, mod-le, mod-lt}
+use native.Mathlib.Nat.{two-pow-succ, mul-add, add-mul, mul-one, mul-le-mul_left, div-add-mod', div-le_self, mod-le}
 use lib.Arith.{digits_div, digits_mod}
 use lib.Pow.{pow_pos}
 use Rattle.units.proofs.SmallLaws.{one_more_lem}
-use Rattle.quotients.specs.Division.{Divided, Share}
+use Rattle.quotients.specs.Division.{Divided}
 use Rattle.quotients.specs.Turns.{Doubled}
 
 -- ---- the divisor doubled
-
-pub no_turn : (d : ℕ) → Doubled d d
-no_turn d = record { turns = 0; is = sym (mul-one d) }
 
 doubled_power : (d k : ℕ) → d * 2 ^ suc k ≡ d * 2 ^ k + d * 2 ^ k
 doubled_power d k = rw two-pow-succ (mul-add d (2 ^ k) (2 ^ k))
@@ -48,10 +45,6 @@ pub record Kept (a p q r : ℕ) : Type 0 where
   pub is : a ≡ q * p + r
   pub below : r < p
 
--- the highest part is taken off once
-pub kept_first : (a p : ℕ) → p ≤ a → a < p + p → Kept a p 1 (a - p)
-kept_first a p within highest = record { is = omega (arith, one-mul p); below = omega arith }
-
 twice_half : (q p h : ℕ) → p ≡ h + h → q * p ≡ (q + q) * h
 twice_half q p h twice = ap (λ (x : ℕ). q * x) twice ∙ mul-add q h h ∙ sym (add-mul q q h)
 
@@ -64,12 +57,6 @@ pub kept_in_lem : {a p h q r : ℕ} → p ≡ h + h → h ≤ r → Kept a p q r
 kept_in_lem {a} {p} {h} {q} {r} twice fits kept =
     record { is = omega (arith, twice_half q p h twice, one_more_lem (q + q) h); below = omega arith }
 
--- n times the quotient is at most the dividend for every n up to the part, so nothing wraps
-pub kept_small : {a p q r : ℕ} → (n : ℕ) → n ≤ p → Kept a p q r → q * n ≤ a
-kept_small {a} {p} {q} {r} n fits kept =
-    let l : q * n ≤ q * p = mul-le-mul_left q fits in
-    omega arith
-
 -- at the divisor itself the quotient and the rest are what a division hands back
 pub kept_last : {a d q r : ℕ} → Kept a d q r → Divided a d q r
 kept_last {a} {d} {q} {r} kept =
@@ -77,26 +64,7 @@ kept_last {a} {d} {q} {r} kept =
     let left : r ≡ a % d = sym (ap (λ (x : ℕ). x % d) kept.is ∙ digits_mod q kept.below) in
     record { whole = whole; left = left; small = rw whole (div-le_self a d); left_small = rw left (mod-le a d) }
 
--- ---- rounded up
-
--- the share is fixed by two bounds
-share_by : (a d q : ℕ) → q * d ≤ a + (d - 1) → a + (d - 1) < (q + 1) * d → q ≤ a → Share a d q
-share_by a d q enough least small = record { is = sym (div-eq_of_lt-le d enough least); small = small }
+-- ---- the dividend again
 
 pub together : {a d q r : ℕ} → Divided a d q r → q * d + r ≡ a
 together {a} {d} both = rw (both.whole, both.left) (div-add-mod' a d)
-
--- where nothing is left over, the quotient is the share
-pub share_whole : {a d q r : ℕ} → 0 < d → r ≡ 0 → Divided a d q r → Share a d q
-share_whole {a} {d} {q} {r} pos none both =
-    share_by a d q (omega (arith, together both)) (omega (arith, together both, one_more_lem q d)) both.small
-
--- where something is, the share is one more
-pub share_part : {a d q r : ℕ} → 0 < d → 0 < r → Divided a d q r → Share a d (q + 1)
-share_part {a} {d} {q} {r} pos some both =
-    let below : r < d = rw both.left (mod-lt a pos) in
-    let l : q * 1 ≤ q * d = mul-le-mul_left q pos in
-    share_by a d (q + 1)
-    (omega (arith, together both, one_more_lem q d))
-    (omega (arith, together both, one_more_lem q d, one_more_lem (q + 1) d))
-    (omega (arith, together both))

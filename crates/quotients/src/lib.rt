@@ -10,16 +10,9 @@ ghost use Rattle.quotients.specs.Turns.{Raised};
 
 // A whole quotient, and what is left over.
 #[derive(Clone, Copy)]
-pub struct Division {
-    pub quotient: u64,
-    pub remainder: u64,
-}
-
-// The same in 32 bits.
-#[derive(Clone, Copy)]
-pub struct NarrowDivision {
-    pub quotient: u32,
-    pub remainder: u32,
+pub struct Division<T> {
+    pub quotient: T,
+    pub remainder: T,
 }
 
 // The divisor doubled as often as it stays at most the dividend: one turn for each bit of the quotient below its highest.
@@ -35,7 +28,7 @@ fn raised(dividend: u64, divisor: u64) -> u64
 }
 
 // Back down from the raised divisor: it is halved turn by turn, and taken off the rest wherever it fits.
-fn lowered(dividend: u64, divisor: u64, highest: u64) -> Division
+fn lowered(dividend: u64, divisor: u64, highest: u64) -> Division<u64>
     requires { (0 < divisor) × Raised dividend divisor highest }
     ensures { Divided dividend divisor result.quotient result.remainder }
 {
@@ -57,13 +50,11 @@ fn lowered(dividend: u64, divisor: u64, highest: u64) -> Division
 }
 
 // The whole quotient and the remainder. A divisor of 0, or above the dividend, is never taken off: the quotient is 0, and all is left over.
-pub fn divide(dividend: u64, divisor: u64) -> Division
+pub fn divide(dividend: u64, divisor: u64) -> Division<u64>
     ensures { Divided dividend divisor result.quotient result.remainder }
 {
-    if 0 < divisor {
-        if divisor <= dividend {
-            return lowered(dividend, divisor, raised(dividend, divisor));
-        }
+    if 0 < divisor && divisor <= dividend {
+        return lowered(dividend, divisor, raised(dividend, divisor));
     }
     Division {
         quotient: 0,
@@ -87,13 +78,13 @@ pub fn rounded_up(dividend: u64, divisor: u64) -> u64
 }
 
 // The whole quotient and the remainder of 32-bit numbers.
-pub fn divide_narrow(dividend: u32, divisor: u32) -> NarrowDivision
+pub fn divide_narrow(dividend: u32, divisor: u32) -> Division<u32>
     ensures { Divided dividend divisor result.quotient result.remainder }
 {
-    let both = divide(units::wide(dividend), units::wide(divisor));
+    let both = divide(u64::from(dividend), u64::from(divisor));
     let quotient = both.quotient as u32;
     let remainder = both.remainder as u32;
-    NarrowDivision {
+    Division {
         quotient,
         remainder,
     }
@@ -110,11 +101,10 @@ const MOST_NEED: u64 = 4_611_686_018_427_387_904;
 pub fn stepped(grid: u32, shares: u64, need: u64) -> u64
     ensures { Stepped grid shares need result }
 {
-    let fits = (shares <= MOST_SHARES) & (need <= MOST_NEED);
-    if !fits {
+    if MOST_SHARES < shares || MOST_NEED < need {
         return 0;
     }
-    let step = units::wide(grid);
+    let step = u64::from(grid);
     rounded_up(need, shares * step) * step
 }
 
@@ -125,7 +115,7 @@ fn on_grid(grid: u32, number: u32) -> bool
     if grid == 1 {
         return true;
     }
-    let both = divide(units::wide(number), units::wide(grid));
+    let both = divide(u64::from(number), u64::from(grid));
     both.remainder == 0
 }
 
@@ -133,13 +123,9 @@ fn on_grid(grid: u32, number: u32) -> bool
 pub fn all_on_grid(grid: u32, n: u32, numbers: &[u32; 128]) -> bool
     ensures { result ≡ all_on_grid grid (min n 128) (at numbers.now) }
 {
-    let end = units::places(n);
     let mut all = true;
-    let mut i: usize = 0;
-    while i < end {
-        let one = on_grid(grid, numbers[i]);
-        all = all & one;
-        i += 1;
+    for number in &numbers[..units::places(n)] {
+        all &= on_grid(grid, *number);
     }
     all
 }

@@ -23,7 +23,7 @@ use Rattle.sets.specs.declared.Set.{Set}
 use Rattle.plans.specs.Rules.{lost, least_time, IsSmallest}
 use Rattle.plans.specs.Planned.{smallest_at, planned}
 use Rattle.plans.proofs.Promised as plans
-use Rattle.reasons.specs.Shortages.{Plannable, plannable, shortage_of}
+use Rattle.reasons.specs.Shortages.{Plannable, shortage_of}
 use Rattle.reasons.specs.Bounds.{Roomy}
 use Rattle.reasons.specs.Rooms.{left_for, largest_with, largest_c, fits, rooms_of, with_longest, Largest}
 use Rattle.reasons.specs.declared.Rooms.{Rooms}

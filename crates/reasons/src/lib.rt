@@ -53,29 +53,25 @@ pub struct Rooms {
 fn plannable(t: Set) -> bool
     ensures { result ≡ plannable t }
 {
-    let judged = sets::judge(t);
     let mode = t.head.mode;
-    (judged == numbers::ACCEPTED) & (mode != numbers::FDDI)
+    sets::judge(t).is_ok() & (mode != numbers::FDDI)
 }
 
 // What no station may plan with: τ, and the F − 1 ticks by which a frame may run on.
 pub fn lost_time(t: Set) -> u64
     ensures { Lost t result }
 {
-    sets::walk_time(t) + units::room(units::wide(t.head.frame), 1)
+    sets::walk_time(t) + u64::from(t.head.frame).saturating_sub(1)
 }
 
 // The sum of the smallest S.
-fn smallest_sum(t: Set) -> u64
-    requires { CountAllowed t × NumbersAllowed t }
-    ensures { UpTo (2 ^ 34) (smallest_sum t) result }
+fn smallest_sum(t: &Set) -> u64
+    requires { CountAllowed t.now × NumbersAllowed t.now }
+    ensures { UpTo (2 ^ 34) (smallest_sum t.now) result }
 {
-    let end = units::places(t.n);
     let mut sum: u64 = 0;
-    let mut i: usize = 0;
-    while i < end {
+    for i in 0..units::places(t.n) {
         sum += plans::smallest(t.head.grid, t.head.ttrt, t.c[i], t.d[i]);
-        i += 1;
     }
     sum
 }
@@ -92,15 +88,15 @@ pub fn shortage_of(t: Set) -> Shortage
             missing: 0,
         };
     }
-    let sum = smallest_sum(t);
+    let sum = smallest_sum(&t);
     let gone = lost_time(t);
-    let ttrt = units::wide(t.head.ttrt);
+    let ttrt = u64::from(t.head.ttrt);
     let needed = sum + gone;
     Shortage {
         sum,
         needed,
-        available: units::room(ttrt, gone),
-        missing: units::room(needed, ttrt),
+        available: ttrt.saturating_sub(gone),
+        missing: needed.saturating_sub(ttrt),
     }
 }
 
@@ -115,23 +111,8 @@ pub fn too_much(available: u64, s: u64) -> bool
 fn without_grid(t: Set) -> Set
     ensures { result ≡ with_grid t 1 }
 {
-    let w = t.w;
-    let c = t.c;
-    let d = t.d;
-    let p = t.p;
-    Set {
-        head: Head {
-            ttrt: t.head.ttrt,
-            mode: t.head.mode,
-            frame: t.head.frame,
-            grid: 1,
-        },
-        n: t.n,
-        w,
-        c,
-        d,
-        p,
-    }
+    let head = Head { grid: 1, ..t.head };
+    Set { head, ..t }
 }
 
 // Planning answers 6, and without a grid there is a plan.
@@ -144,9 +125,6 @@ pub fn grid_is_cause(t: Set) -> bool
 }
 
 // ---- what an S rests on
-
-// The largest number of 32 bits.
-const MOST_NUMBER: u64 = 4_294_967_295;
 
 // No grounds: every number 0.
 fn no_grounds() -> Grounds
@@ -166,13 +144,12 @@ pub fn grounds_of(grid: u32, ttrt: u32, c: u32, d: u32) -> Grounds
     ensures { result ≡ grounds_of grid ttrt c d }
 {
     let least = plans::smallest(grid, ttrt, c, d);
-    if MOST_NUMBER < least {
+    let Ok(smallest) = u32::try_from(least) else {
         return no_grounds();
-    }
-    let smallest = least as u32;
-    let next = units::room(least, units::wide(grid)) as u32;
+    };
+    let next = smallest.saturating_sub(grid);
     let both = quotients::divide_narrow(d, ttrt);
-    let alpha = units::room(units::wide(ttrt), units::wide(both.remainder));
+    let alpha = u64::from(ttrt.saturating_sub(both.remainder));
     Grounds {
         whole: both.quotient,
         alpha,
@@ -189,25 +166,22 @@ fn largest_c(grid: u32, ttrt: u32, d: u32, left: u64) -> u32
     requires { (1 ≤ ttrt) × (left ≤ ttrt) }
     ensures { result ≡ largest_with grid ttrt d left }
 {
-    let step = units::wide(grid);
+    let step = u64::from(grid);
     let both = quotients::divide(left, step);
     let s = (both.quotient * step) as u32;
     plans::least_time(ttrt, d, s) as u32
 }
 
 // The largest C of each station, where so many ticks are spare.
-fn largest_each(t: Set, spare: u64) -> Rooms
-    requires { Roomy t spare }
-    ensures { result ≡ rooms_of t }
+fn largest_each(t: &Set, spare: u64) -> Rooms
+    requires { Roomy t.now spare }
+    ensures { result ≡ rooms_of t.now }
 {
-    let end = units::places(t.n);
     let mut c: [u32; 128] = [0; 128];
-    let mut i: usize = 0;
-    while i < end {
+    for i in 0..units::places(t.n) {
         let own = plans::smallest(t.head.grid, t.head.ttrt, t.c[i], t.d[i]);
         let largest = largest_c(t.head.grid, t.head.ttrt, t.d[i], own + spare);
         c[i] = largest;
-        i += 1;
     }
     Rooms { c }
 }
@@ -221,5 +195,5 @@ pub fn rooms_of(t: Set) -> Rooms
     if !fits {
         return Rooms { c: [0; 128] };
     }
-    largest_each(t, short.available - short.sum)
+    largest_each(&t, short.available - short.sum)
 }

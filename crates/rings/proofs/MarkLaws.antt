@@ -1,11 +1,12 @@
 -- The laws of marking, for the proofs of this layer and those above.
 use Prim.Native.Nat.{ℕ, zero, suc, ◌<◌}
-use mathlib.Core.Path.{◌≡◌, refl}
-use mathlib.Core.Bool.{true, false}
+use mathlib.Core.Path.{◌≡◌, refl, ◌∙◌}
+use mathlib.Core.Bool.{Bool, true, false}
 use mathlib.Core.Logic.{◌≢◌, ⊎_elim}
 use native.Mathlib.Omega.{arith}
 use borrow.Author.Tests.{ltb-true}
 use lib.Dec.{ltb}
+use Rattle.units.specs.Judging.{or_else}
 use Rattle.units.specs.Places.{at}
 use Rattle.units.proofs.JudgingLaws.{passed, true_or_false}
 use Rattle.units.specs.declared.Station.{Station}
@@ -41,6 +42,10 @@ withdrawal_number r i =
     ⊎_elim (λ (e : withdraws r i ≡ true). rw (withdrawn r i e)) (λ (e : withdraws r i ≡ false). rw (not_withdrawn r i e)) (true_or_false (withdraws r i))
 
 -- ---- the answers, number by number
+
+-- the number that is asked for is the call's
+pub number_is : (r : Ring) (s : Station) {steady : Bool} {number : ℕ} → steady ≡ is_sound r → number ≡ or_else steady 8 (or_else (ltb s.0 (count r)) 9 0) → number ≡ mark_number r s
+number_is r s sound is = is ∙ (λ i. or_else (sound i) 8 (or_else (ltb s.0 (count r)) 9 0))
 
 pub marked_refused : (k : ℕ) (r : Ring) (s : Station) → k ≢ 0 → marked_with k r s ≡ record { ring = r; answer = none_withdrawn k }
 unfolding marked_with

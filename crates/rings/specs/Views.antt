@@ -15,30 +15,23 @@ use Rattle.rings.specs.declared.Timers.{Timers}
 use Rattle.rings.specs.declared.view.View.{View}
 use Rattle.rings.specs.declared.steps.Moves.{Moves}
 
--- the numbers of the station that has the token, out of lent arrays
-abbrev pub view_in : List ℕ
-    → List ℕ → List ℕ → List ℕ → List ℕ → List ℕ → List ℕ → List ℕ → List ℕ → Head → ℕ → ℕ → ℕ → View
-view_in w d s trt late sent rest arrival mark head token clock unused =
-    record {
-      head = head;
-      walk = at w token;
-      share = at s token;
-      deadline = at d token;
-      trt = at trt token;
-      late = at late token;
-      sent = at sent token;
-      rest = at rest token;
-      arrival = at arrival token;
-      mark = at mark token;
-      clock = clock;
-      unused = unused;
-    }
-
--- and out of a ring
+-- the numbers of the station that has the token
 abbrev pub view_of : Ring → View
 view_of r =
-    view_in r.set.w r.set.d r.alloc.s r.trt r.late r.sent r.rest r.arrival r.mark
-    r.set.head r.token r.clock r.unused
+    record {
+      head = r.set.head;
+      walk = at r.set.w r.token;
+      share = at r.alloc.s r.token;
+      deadline = at r.set.d r.token;
+      trt = at r.trt r.token;
+      late = at r.late r.token;
+      sent = at r.sent r.token;
+      rest = at r.rest r.token;
+      arrival = at r.arrival r.token;
+      mark = at r.mark r.token;
+      clock = r.clock;
+      unused = r.unused;
+    }
 
 -- the ring of one station that has these numbers
 abbrev pub point_of : View → Ring

@@ -18,10 +18,10 @@ pub(crate) fn time_sent(limit: u64, ask: Ask) -> u64
     ensures { FramesSent limit ask result }
 {
     if ask.length == 1 {
-        return units::least(units::wide(ask.frames), limit);
+        return u64::from(ask.frames).min(limit);
     }
-    let length = units::wide(ask.length);
+    let length = u64::from(ask.length);
     let most = quotients::rounded_up(limit, length);
-    let frames = units::least(units::wide(ask.frames), most);
+    let frames = u64::from(ask.frames).min(most);
     frames * length
 }

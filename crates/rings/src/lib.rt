@@ -139,39 +139,6 @@ pub struct Taken {
     pub number: u8,
 }
 
-// What a visit on lent arrays gives back: the ring's four numbers, the number, and the answer.
-#[derive(Clone, Copy)]
-pub struct VisitNext {
-    pub token: u32,
-    pub clock: u64,
-    pub visits: u64,
-    pub unused: u64,
-    pub number: u8,
-    pub answer: VisitAnswer,
-}
-
-// What a marking on lent arrays gives back: the ring's four numbers, the number, and the answer.
-#[derive(Clone, Copy)]
-pub struct MarkNext {
-    pub token: u32,
-    pub clock: u64,
-    pub visits: u64,
-    pub unused: u64,
-    pub number: u8,
-    pub answer: MarkAnswer,
-}
-
-// The same of a call that answers a number alone.
-#[derive(Clone, Copy)]
-pub struct NumberNext {
-    pub token: u32,
-    pub clock: u64,
-    pub visits: u64,
-    pub unused: u64,
-    pub number: u8,
-    pub answer: u8,
-}
-
 // The opened ring and 0, or the blank ring and the refusal.
 #[repr(C)]
 #[derive(Clone, Copy)]
@@ -184,25 +151,7 @@ pub struct Opened {
 pub fn sound(ring: Ring) -> bool
     ensures { result ≡ is_sound ring }
 {
-    let head = ring.set.head;
-    soundness::sound_lent(
-        &ring.set.w,
-        &ring.set.c,
-        &ring.set.d,
-        &ring.set.p,
-        &ring.alloc.s,
-        &ring.trt,
-        &ring.late,
-        &ring.sent,
-        &ring.rest,
-        &ring.arrival,
-        head,
-        ring.set.n,
-        ring.token,
-        ring.clock,
-        ring.visits,
-        ring.unused,
-    )
+    soundness::sound_lent(&ring)
 }
 
 // How many places each array of a ring has: 128, which some promises ask of a ring (`Shaped`).
@@ -246,229 +195,31 @@ impl Ring {
     pub fn visit(mut self, ask: Ask) -> Visited
         ensures { result ≡ visited self ask }
     {
-        let set = self.set;
-        let alloc = self.alloc;
-        let mut trt = self.trt;
-        let mut late = self.late;
-        let mut sent = self.sent;
-        let mut rest = self.rest;
-        let mut arrival = self.arrival;
-        let mut had = self.had;
-        let mut mark = self.mark;
-        let mut last = self.last;
-        let head = set.head;
-        let next = in_place::visit_on(
-            &set.w,
-            &set.c,
-            &set.d,
-            &set.p,
-            &alloc.s,
-            &mut trt,
-            &mut late,
-            &mut sent,
-            &mut rest,
-            &mut arrival,
-            &mut had,
-            &mut mark,
-            &mut last,
-            head,
-            set.n,
-            self.token,
-            self.clock,
-            self.visits,
-            self.unused,
-            ask,
-        );
-        let ring = Ring {
-            set,
-            alloc,
-            trt,
-            late,
-            sent,
-            rest,
-            token: next.token,
-            arrival,
-            had,
-            mark,
-            last,
-            clock: next.clock,
-            visits: next.visits,
-            unused: next.unused,
-        };
-        let answer = next.answer;
-        Visited { ring, answer }
+        let answer = in_place::visit_on(&mut self, ask);
+        Visited { ring: self, answer }
     }
 
     // Handing in a message: the ring that holds it, or the first of 8 to 11, 15 and 12 that applies with the ring as it was.
     pub fn hand_in(mut self, message: Message) -> Taken
         ensures { result ≡ handed_in self message }
     {
-        let set = self.set;
-        let alloc = self.alloc;
-        let mut trt = self.trt;
-        let mut late = self.late;
-        let mut sent = self.sent;
-        let mut rest = self.rest;
-        let mut arrival = self.arrival;
-        let mut had = self.had;
-        let mut mark = self.mark;
-        let mut last = self.last;
-        let head = set.head;
-        let next = in_place::hand_in_on(
-            &set.w,
-            &set.c,
-            &set.d,
-            &set.p,
-            &alloc.s,
-            &mut trt,
-            &mut late,
-            &mut sent,
-            &mut rest,
-            &mut arrival,
-            &mut had,
-            &mut mark,
-            &mut last,
-            head,
-            set.n,
-            self.token,
-            self.clock,
-            self.visits,
-            self.unused,
-            message,
-        );
-        let ring = Ring {
-            set,
-            alloc,
-            trt,
-            late,
-            sent,
-            rest,
-            token: next.token,
-            arrival,
-            had,
-            mark,
-            last,
-            clock: next.clock,
-            visits: next.visits,
-            unused: next.unused,
-        };
-        Taken {
-            ring,
-            number: next.answer,
-        }
+        let number = in_place::hand_in_on(&mut self, message);
+        Taken { ring: self, number }
     }
 
     // Switching a station through: the ring with its mark set and without its message, which is withdrawn, or the lower of 8 and 9 that applies with the ring as it was.
     pub fn mark(mut self, station: Station) -> MarkedRing
         ensures { result ≡ marked self station }
     {
-        let set = self.set;
-        let alloc = self.alloc;
-        let mut trt = self.trt;
-        let mut late = self.late;
-        let mut sent = self.sent;
-        let mut rest = self.rest;
-        let mut arrival = self.arrival;
-        let mut had = self.had;
-        let mut mark = self.mark;
-        let mut last = self.last;
-        let head = set.head;
-        let next = in_place::mark_on(
-            &set.w,
-            &set.c,
-            &set.d,
-            &set.p,
-            &alloc.s,
-            &mut trt,
-            &mut late,
-            &mut sent,
-            &mut rest,
-            &mut arrival,
-            &mut had,
-            &mut mark,
-            &mut last,
-            head,
-            set.n,
-            self.token,
-            self.clock,
-            self.visits,
-            self.unused,
-            station,
-        );
-        let ring = Ring {
-            set,
-            alloc,
-            trt,
-            late,
-            sent,
-            rest,
-            token: next.token,
-            arrival,
-            had,
-            mark,
-            last,
-            clock: next.clock,
-            visits: next.visits,
-            unused: next.unused,
-        };
-        let answer = next.answer;
-        MarkedRing { ring, answer }
+        let answer = in_place::mark_on(&mut self, station);
+        MarkedRing { ring: self, answer }
     }
 
     // Switching a station in again: the ring without its mark, or the lower of 8 and 9 that applies with the ring as it was.
     pub fn unmark(mut self, station: Station) -> Taken
         ensures { result ≡ unmarked self station }
     {
-        let set = self.set;
-        let alloc = self.alloc;
-        let mut trt = self.trt;
-        let mut late = self.late;
-        let mut sent = self.sent;
-        let mut rest = self.rest;
-        let mut arrival = self.arrival;
-        let mut had = self.had;
-        let mut mark = self.mark;
-        let mut last = self.last;
-        let head = set.head;
-        let next = in_place::unmark_on(
-            &set.w,
-            &set.c,
-            &set.d,
-            &set.p,
-            &alloc.s,
-            &mut trt,
-            &mut late,
-            &mut sent,
-            &mut rest,
-            &mut arrival,
-            &mut had,
-            &mut mark,
-            &mut last,
-            head,
-            set.n,
-            self.token,
-            self.clock,
-            self.visits,
-            self.unused,
-            station,
-        );
-        let ring = Ring {
-            set,
-            alloc,
-            trt,
-            late,
-            sent,
-            rest,
-            token: next.token,
-            arrival,
-            had,
-            mark,
-            last,
-            clock: next.clock,
-            visits: next.visits,
-            unused: next.unused,
-        };
-        let number = next.answer;
-        Taken { ring, number }
+        let number = in_place::unmark_on(&mut self, station);
+        Taken { ring: self, number }
     }
 }

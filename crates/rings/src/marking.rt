@@ -1,10 +1,9 @@
 // Stations switched through and in again: the number of both calls, what a marking takes back, and the arrays then.
 ghost use Rattle.std.specs.Prelude.{◌≡◌, ◌<◌, ltb, set};
 ghost use Rattle.units.specs.Judging.{or_else};
-ghost use Rattle.rings.specs.Marking.{none_withdrawn};
-ghost use Rattle.rings.specs.Lent.{WithdrawnIn, SwitchedIn};
+ghost use Rattle.rings.specs.Marking.{none_withdrawn, withdrawal, marked_ring};
 
-use super::MarkAnswer;
+use super::{MarkAnswer, Ring};
 use units::{Station, Ticks, numbers};
 
 // 8 for an unsound ring, then 9 for a station number that is not below N.
@@ -14,7 +13,7 @@ pub(crate) fn mark_number(sound: bool, n: u32, station: Station) -> u8
     if !sound {
         return numbers::UNSOUND;
     }
-    if units::wide(n) <= station.0 {
+    if u64::from(n) <= station.0 {
         return numbers::NO_SUCH_STATION;
     }
     numbers::ACCEPTED
@@ -33,21 +32,16 @@ pub(crate) fn none_withdrawn(number: u8) -> MarkAnswer
 }
 
 // What a marking takes back of a message, where the station is not marked yet.
-pub(crate) fn withdrawal_of<'a>(
-    rest: &'a [u32; 128],
-    arrival: &'a [u64; 128],
-    mark: &'a [u8; 128],
-    station: Station,
-) -> MarkAnswer
+pub(crate) fn withdrawal_of(ring: &Ring, station: Station) -> MarkAnswer
     requires { station.0 < 128 }
-    ensures { WithdrawnIn rest.now arrival.now mark.now station.0 result }
+    ensures { result ≡ withdrawal ring.now station.0 }
 {
     let i = station.0 as usize;
-    let held = (mark[i] == 0) & (0 < rest[i]);
+    let held = (ring.mark[i] == 0) & (0 < ring.rest[i]);
     if held {
         return MarkAnswer {
-            rest: Ticks(units::wide(rest[i])),
-            arrival: Ticks(arrival[i]),
+            rest: Ticks(u64::from(ring.rest[i])),
+            arrival: Ticks(ring.arrival[i]),
             withdrawn: 1,
             number: numbers::ACCEPTED,
         };
@@ -56,20 +50,16 @@ pub(crate) fn withdrawal_of<'a>(
 }
 
 // This station is switched through; one that is marked already stays as it is.
-pub(crate) fn switch_through<'a>(
-    rest: &'a mut [u32; 128],
-    mark: &'a mut [u8; 128],
-    station: Station,
-)
+pub(crate) fn switch_through(ring: &mut Ring, station: Station)
     requires { station.0 < 128 }
-    ensures { SwitchedIn rest.old mark.old station.0 rest.new mark.new }
+    ensures { ring.new ≡ marked_ring ring.old station.0 }
 {
     let i = station.0 as usize;
-    if 0 < mark[i] {
+    if 0 < ring.mark[i] {
         return;
     }
-    rest[i] = 0;
-    mark[i] = 1;
+    ring.rest[i] = 0;
+    ring.mark[i] = 1;
 }
 
 // This station is not marked.

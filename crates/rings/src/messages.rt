@@ -3,9 +3,10 @@ ghost use Rattle.std.specs.Prelude.{◌≡◌, ◌||◌, ◌≤◌, ◌<◌, leb
 ghost use Rattle.units.specs.Numbers.{most_clock};
 ghost use Rattle.units.specs.Places.{at};
 ghost use Rattle.rings.specs.Bounds.{Holdable};
-ghost use Rattle.rings.specs.Lent.{ArrivalsFit, AllowedIn, NumberIn};
+ghost use Rattle.rings.specs.HandingIn.{arrival_allowed, message_number};
+ghost use Rattle.rings.specs.Lent.{ArrivalsFit};
 
-use super::Message;
+use super::{Message, Ring};
 use units::numbers;
 
 // The arrival is later than the start of the station's last synchronous part; before its first visit any arrival is.
@@ -16,59 +17,40 @@ fn later_than_start(visits: u64, station: u64, start: u64, arrival: u64) -> bool
 }
 
 // The arrival time is allowed (12).
-fn arrival_allowed<'a>(
-    p: &'a [u32; 128],
-    arrival: &'a [u64; 128],
-    had: &'a [u8; 128],
-    last: &'a [u64; 128],
-    visits: u64,
-    m: Message,
-) -> bool
-    requires { (m.station.0 < 128) × (at arrival.now m.station.0 ≤ most_clock) }
-    ensures { AllowedIn p.now arrival.now had.now last.now visits m result }
+fn arrival_allowed(ring: &Ring, m: Message) -> bool
+    requires { (m.station.0 < 128) × (at ring.now.arrival m.station.0 ≤ most_clock) }
+    ensures { result ≡ arrival_allowed ring.now m }
 {
     let i = m.station.0 as usize;
     let a = m.arrival.0;
     let in_range = a <= numbers::MOST_CLOCK;
-    let later = later_than_start(visits, m.station.0, last[i], a);
-    let next = arrival[i] + units::wide(p[i]);
-    let gap = (had[i] == 0) | (next <= a);
+    let later = later_than_start(ring.visits, m.station.0, ring.last[i], a);
+    let next = ring.arrival[i] + u64::from(ring.set.p[i]);
+    let gap = (ring.had[i] == 0) | (next <= a);
     in_range & later & gap
 }
 
 // The first of 9, 10, 11, 15 and 12 that applies to a sound ring, or 0.
-pub(crate) fn message_number<'a>(
-    n: u32,
-    clock: u64,
-    visits: u64,
-    c: &'a [u32; 128],
-    p: &'a [u32; 128],
-    rest: &'a [u32; 128],
-    arrival: &'a [u64; 128],
-    had: &'a [u8; 128],
-    mark: &'a [u8; 128],
-    last: &'a [u64; 128],
-    m: Message,
-) -> u8
-    requires { ArrivalsFit n arrival.now }
-    ensures { NumberIn n clock visits c.now p.now rest.now arrival.now had.now mark.now last.now m result }
+pub(crate) fn message_number(ring: &Ring, m: Message) -> u8
+    requires { ArrivalsFit ring.now.set.n ring.now.arrival }
+    ensures { result ≡ message_number ring.now m }
 {
-    if units::wide(n) <= m.station.0 {
+    if u64::from(ring.set.n) <= m.station.0 {
         return numbers::NO_SUCH_STATION;
     }
     let i = m.station.0 as usize;
-    let free = (rest[i] == 0) & (mark[i] == 0);
-    let fits = (1 <= m.length.0) & (m.length.0 <= units::wide(c[i]));
+    let free = (ring.rest[i] == 0) & (ring.mark[i] == 0);
+    let fits = (1 <= m.length.0) & (m.length.0 <= u64::from(ring.set.c[i]));
     if !fits {
         return numbers::BAD_LENGTH;
     }
     if !free {
         return numbers::STILL_HELD;
     }
-    if clock < m.arrival.0 {
+    if ring.clock < m.arrival.0 {
         return numbers::NOT_ARRIVED;
     }
-    if !arrival_allowed(p, arrival, had, last, visits, m) {
+    if !arrival_allowed(ring, m) {
         return numbers::BAD_ARRIVAL;
     }
     numbers::ACCEPTED

@@ -8,6 +8,7 @@ ghost use Rattle.rings.specs.Opening.{opening_number};
 use super::Ring;
 use sets::Head;
 use units::numbers;
+use units::refusals::answer_number;
 
 // The first of 2, 4, 5, 16 and 7 that applies to what is lent: 2, 4 and 5 as the plan is judged, 16 where the mode is FDDI, and else 7 or 0 as it is judged.
 pub(crate) fn opening_number<'a>(
@@ -21,7 +22,7 @@ pub(crate) fn opening_number<'a>(
 ) -> u8
     ensures { result ≡ opening_number (set_of head n w.now c.now d.now p.now) (alloc_of s.now) }
 {
-    let judged = plans::judge_plan_lent(head, n, w, c, d, p, s);
+    let judged = answer_number(plans::judge_plan_lent(head, n, w, c, d, p, s));
     let before = (judged != numbers::ACCEPTED) & (judged != numbers::RULES_BROKEN);
     if before {
         return judged;

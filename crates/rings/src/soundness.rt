@@ -1,12 +1,10 @@
-// The test of soundness (8), on lent arrays and numbers.
+// The test of soundness (8), of a lent ring.
 ghost use Rattle.std.specs.Prelude.{◌≡◌, ◌&&◌, min, leb, ltb};
 ghost use Rattle.units.specs.Numbers.{most_clock};
 ghost use Rattle.units.specs.Places.{at, all_below};
-ghost use Rattle.rings.specs.Sound.{most_ring_clock, visits_end};
-ghost use Rattle.rings.specs.Lent.{SoundIn};
+ghost use Rattle.rings.specs.Sound.{is_sound, most_ring_clock, visits_end};
 
-use super::timing;
-use sets::Head;
+use super::{Ring, timing};
 use units::numbers;
 
 // The highest clock of a sound ring.
@@ -37,33 +35,26 @@ fn messages_sound<'a>(
 }
 
 // The ring's state is sound: none of the lines of 8 holds. Arrivals are looked at, but whether there ever was one, the marks and the last starts are not.
-pub(crate) fn sound_lent<'a>(
-    w: &'a [u32; 128],
-    c: &'a [u32; 128],
-    d: &'a [u32; 128],
-    p: &'a [u32; 128],
-    s: &'a [u32; 128],
-    trt: &'a [u32; 128],
-    late: &'a [u32; 128],
-    sent: &'a [u32; 128],
-    rest: &'a [u32; 128],
-    arrival: &'a [u64; 128],
-    head: Head,
-    n: u32,
-    token: u32,
-    clock: u64,
-    visits: u64,
-    unused: u64,
-) -> bool
-    ensures { SoundIn w.now c.now d.now p.now s.now trt.now late.now sent.now rest.now arrival.now head n token clock visits unused result }
+pub(crate) fn sound_lent(ring: &Ring) -> bool
+    ensures { result ≡ is_sound ring.now }
 {
-    let refusal = plans::judge_plan_lent(head, n, w, c, d, p, s);
-    if refusal != numbers::ACCEPTED {
+    let head = ring.set.head;
+    let n = ring.set.n;
+    let judged = plans::judge_plan_lent(
+        head,
+        n,
+        &ring.set.w,
+        &ring.set.c,
+        &ring.set.d,
+        &ring.set.p,
+        &ring.alloc.s,
+    );
+    if judged.is_err() {
         return false;
     }
-    let timers = timing::timers_sound(head, n, s, trt, late, sent, unused);
-    let shares = arrays::each_within(sent, s, n);
-    let messages = messages_sound(n, c, rest, arrival);
-    let counts = counts_sound(clock, visits);
-    (token < n) & timers & shares & messages & counts
+    let timers = timing::timers_sound(ring);
+    let shares = arrays::each_within(&ring.sent, &ring.alloc.s, n);
+    let messages = messages_sound(n, &ring.set.c, &ring.rest, &ring.arrival);
+    let counts = counts_sound(ring.clock, ring.visits);
+    (ring.token < n) & timers & shares & messages & counts
 }

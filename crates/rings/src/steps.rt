@@ -55,7 +55,7 @@ fn most_sent(v: View) -> u64
     if 0 < v.mark {
         return 0;
     }
-    units::wide(v.share)
+    u64::from(v.share)
 }
 
 // Step 3: what is sent of the held message.
@@ -67,7 +67,7 @@ fn sync_sent(v: View, asynchronous: u64) -> u64
     let held = 0 < v.rest;
     let arrived = v.arrival <= start;
     if held & arrived {
-        return units::least(most_sent(v), units::wide(v.rest));
+        return most_sent(v).min(u64::from(v.rest));
     }
     0
 }
@@ -95,9 +95,9 @@ fn margin_of(deadline: Ticks, finish: Ticks) -> i64
 fn completes_with(v: View, sync: u64) -> bool
     ensures { result ≡ completes (point_of v) sync }
 {
-    let rest = units::wide(v.rest);
+    let rest = u64::from(v.rest);
     let held = 0 < rest;
-    let left = units::room(rest, sync);
+    let left = rest.saturating_sub(sync);
     held & (left == 0)
 }
 
@@ -106,7 +106,7 @@ fn deadline_of(v: View) -> u64
     requires { Safe (point_of v) }
     ensures { result ≡ deadline (point_of v) }
 {
-    v.arrival + units::wide(v.deadline)
+    v.arrival + u64::from(v.deadline)
 }
 
 // The record of a visit at this station that sent these two amounts.
@@ -114,8 +114,8 @@ fn record_of(v: View, token: u32, sync: u64, asynchronous: u64) -> VisitRecord
     requires { Safe (point_of v) × Sendable (point_of v) sync asynchronous }
     ensures { result ≡ record_at v token sync asynchronous }
 {
-    let station = units::wide(token);
-    let trt = units::wide(v.trt);
+    let station = u64::from(token);
+    let trt = u64::from(v.trt);
     let limit = timing::limit_of(v);
     let mut finish: u64 = 0;
     let mut margin: i64 = 0;

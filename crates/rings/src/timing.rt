@@ -6,11 +6,11 @@ ghost use Rattle.fddi_timer_rules.specs.Timers.{visited};
 ghost use Rattle.arrays.specs.Held.{raised_held};
 ghost use Rattle.arrays.specs.Laps.{ran_on, laps_counted};
 ghost use Rattle.rings.specs.Timers.{Fddi, lead, timely_limit, fddi_limit, timers_offer, unused_after, rise};
-ghost use Rattle.rings.specs.Timers.{most_late};
-ghost use Rattle.rings.specs.Lent.{TimersSoundIn};
+ghost use Rattle.rings.specs.Timers.{most_late, timers_sound};
 ghost use Rattle.rings.specs.Views.{point_of, Movable, came_in, TimersMoved};
 ghost use Rattle.rings.specs.Bounds.{Safe, SafeTimely, SafeTimers, Sendable, Limit};
 
+use super::Ring;
 use super::view::View;
 use sets::Head;
 use units::numbers;
@@ -24,12 +24,10 @@ const MOST_LATE: u32 = 3;
 fn timely_limit(v: View) -> u64
     ensures { UpTo v.head.ttrt (timely_limit (point_of v)) result }
 {
-    let whole = units::room(
-        units::wide(v.head.ttrt),
-        units::room(units::wide(v.head.frame), 1),
-    );
-    let left = units::room(whole, v.unused);
-    units::room(left, units::wide(v.trt))
+    let overrun = u64::from(v.head.frame).saturating_sub(1);
+    let whole = u64::from(v.head.ttrt).saturating_sub(overrun);
+    let left = whole.saturating_sub(v.unused);
+    left.saturating_sub(u64::from(v.trt))
 }
 
 // FDDI: nothing where the late count is above 0, else TTRT less the timer.
@@ -39,7 +37,7 @@ fn fddi_limit(v: View) -> u64
     if 0 < v.late {
         return 0;
     }
-    units::room(units::wide(v.head.ttrt), units::wide(v.trt))
+    u64::from(v.head.ttrt.saturating_sub(v.trt))
 }
 
 // What the timers offer, by the mode.
@@ -69,8 +67,8 @@ fn unused_after(v: View, sync: u64) -> u64
     requires { Safe (point_of v) × SafeTimely (point_of v) × (sync ≤ v.share) }
     ensures { result ≡ unused_after (point_of v) sync }
 {
-    let share = units::wide(v.share);
-    let fallen = v.unused - (share - units::wide(v.sent));
+    let share = u64::from(v.share);
+    let fallen = v.unused - (share - u64::from(v.sent));
     fallen + (share - sync)
 }
 
@@ -90,7 +88,7 @@ pub(crate) fn rise_of(v: View, sync: u64, asynchronous: u64) -> u64
     requires { Safe (point_of v) × Sendable (point_of v) sync asynchronous }
     ensures { result ≡ rise (point_of v) sync asynchronous }
 {
-    let walk = units::wide(v.walk);
+    let walk = u64::from(v.walk);
     sync + asynchronous + walk
 }
 
@@ -127,7 +125,7 @@ fn timer_on_token(count: u32, timer: u32) -> u32
 fn count_on_token(count: u32, timer: u32) -> u32
     ensures { result ≡ (visited (record { count = count; timer = timer })).count }
 {
-    if count == 0 { 0 } else { count - 1 }
+    count.saturating_sub(1)
 }
 
 // FDDI: the token has come to its station.
@@ -183,45 +181,32 @@ pub(crate) fn move_timers<'a>(
 // ---- sound
 
 // Timely-token: no TRT exceeds TTRT, and u is the sum of S − s.
-fn timely_sound<'a>(
-    ttrt: u32,
-    n: u32,
-    s: &'a [u32; 128],
-    trt: &'a [u32; 128],
-    sent: &'a [u32; 128],
-    unused: u64,
-) -> bool
-    ensures { result ≡ (all_below (min n 128) (λ i. leb (at trt.now i) ttrt) && eqb unused (sum_below (min n 128) (λ i. at s.now i - at sent.now i))) }
+fn timely_sound(ring: &Ring) -> bool
+    ensures { result ≡ (all_below (min ring.now.set.n 128) (λ i. leb (at ring.now.trt i) ring.now.set.head.ttrt) && eqb ring.now.unused (sum_below (min ring.now.set.n 128) (λ i. at ring.now.alloc.s i - at ring.now.sent i))) }
 {
-    let trts = arrays::none_above(trt, ttrt, n);
-    let sum = arrays::room_first(s, sent, n);
-    trts & (unused == sum)
+    let n = ring.set.n;
+    let trts = arrays::none_above(&ring.trt, ring.set.head.ttrt, n);
+    let sum = arrays::room_first(&ring.alloc.s, &ring.sent, n);
+    trts & (ring.unused == sum)
 }
 
 // FDDI: the timers are below TTRT, and the late counts at most 3.
-fn fddi_sound<'a>(ttrt: u32, n: u32, trt: &'a [u32; 128], late: &'a [u32; 128]) -> bool
-    ensures { result ≡ (all_below (min n 128) (λ i. ltb (at trt.now i) ttrt) && all_below (min n 128) (λ i. leb (at late.now i) most_late)) }
+fn fddi_sound(ring: &Ring) -> bool
+    ensures { result ≡ (all_below (min ring.now.set.n 128) (λ i. ltb (at ring.now.trt i) ring.now.set.head.ttrt) && all_below (min ring.now.set.n 128) (λ i. leb (at ring.now.late i) most_late)) }
 {
-    let below = arrays::none_reaching(trt, ttrt, n);
-    let few = arrays::none_above(late, MOST_LATE, n);
+    let n = ring.set.n;
+    let below = arrays::none_reaching(&ring.trt, ring.set.head.ttrt, n);
+    let few = arrays::none_above(&ring.late, MOST_LATE, n);
     below & few
 }
 
 // The timers are sound.
-pub(crate) fn timers_sound<'a>(
-    head: Head,
-    n: u32,
-    s: &'a [u32; 128],
-    trt: &'a [u32; 128],
-    late: &'a [u32; 128],
-    sent: &'a [u32; 128],
-    unused: u64,
-) -> bool
-    requires { n ≤ 128 }
-    ensures { TimersSoundIn head n s.now trt.now late.now sent.now unused result }
+pub(crate) fn timers_sound(ring: &Ring) -> bool
+    requires { ring.now.set.n ≤ 128 }
+    ensures { result ≡ timers_sound ring.now }
 {
-    if head.mode == numbers::FDDI {
-        return fddi_sound(head.ttrt, n, trt, late);
+    if ring.set.head.mode == numbers::FDDI {
+        return fddi_sound(ring);
     }
-    timely_sound(head.ttrt, n, s, trt, sent, unused)
+    timely_sound(ring)
 }

@@ -1,7 +1,8 @@
 // What a visit looks at of a ring beside the test of soundness: the header, the clock and u, and the numbers of the station that has the token.
 ghost use Rattle.std.specs.Prelude.{◌≡◌, ◌<◌};
-ghost use Rattle.rings.specs.Views.{view_in};
+ghost use Rattle.rings.specs.Views.{view_of};
 
+use super::Ring;
 use sets::Head;
 
 #[derive(Clone, Copy)]
@@ -20,38 +21,24 @@ pub(crate) struct View {
     pub(crate) unused: u64,
 }
 
-// The numbers of this station.
-pub(crate) fn view_of<'a>(
-    w: &'a [u32; 128],
-    d: &'a [u32; 128],
-    s: &'a [u32; 128],
-    trt: &'a [u32; 128],
-    late: &'a [u32; 128],
-    sent: &'a [u32; 128],
-    rest: &'a [u32; 128],
-    arrival: &'a [u64; 128],
-    mark: &'a [u8; 128],
-    head: Head,
-    token: u32,
-    clock: u64,
-    unused: u64,
-) -> View
-    requires { token < 128 }
-    ensures { result ≡ view_in w.now d.now s.now trt.now late.now sent.now rest.now arrival.now mark.now head token clock unused }
+// The numbers of the station that has the token.
+pub(crate) fn view_of(ring: &Ring) -> View
+    requires { ring.now.token < 128 }
+    ensures { result ≡ view_of ring.now }
 {
-    let i = token as usize;
+    let i = ring.token as usize;
     View {
-        head,
-        walk: w[i],
-        share: s[i],
-        deadline: d[i],
-        trt: trt[i],
-        late: late[i],
-        sent: sent[i],
-        rest: rest[i],
-        arrival: arrival[i],
-        mark: mark[i],
-        clock,
-        unused,
+        head: ring.set.head,
+        walk: ring.set.w[i],
+        share: ring.alloc.s[i],
+        deadline: ring.set.d[i],
+        trt: ring.trt[i],
+        late: ring.late[i],
+        sent: ring.sent[i],
+        rest: ring.rest[i],
+        arrival: ring.arrival[i],
+        mark: ring.mark[i],
+        clock: ring.clock,
+        unused: ring.unused,
     }
 }

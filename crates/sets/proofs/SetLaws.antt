@@ -1,17 +1,17 @@
 -- The laws of sets, for the proofs of the layers above.
 use Prim.Native.Nat.{ℕ, ◌≤◌}
-use mathlib.Core.Path.{◌≡◌, refl, ap, ◌∙◌}
+use mathlib.Core.Path.{◌≡◌, refl, sym, ap, ◌∙◌}
 use mathlib.Core.Bool.{Bool, true, false}
 use mathlib.Core.Logic.{◌↔◌, ◌≢◌, ⊎_elim}
 use native.Mathlib.Omega.{arith}
 use lib.Dec.{leb}
 use Rattle.units.specs.Numbers.{timely, last_mode, most_frame, most_grid, most_stations, most_ttrt, most_walk, most_c, most_d, most_p}
 use Rattle.units.specs.Places.{at, sum_below, all_below}
-use Rattle.units.specs.Judging.{or_else, Decides}
+use Rattle.units.specs.Judging.{or_else, between, Decides}
 use Rattle.units.proofs.JudgingLaws.{true_or_false, held, failed, given, given_later, not_given, iff_then, iff_under, decides_le, decides_both, decides_between}
 use Rattle.units.proofs.PlaceLaws.{decides_all, sum_same, all_same}
 use Rattle.sets.specs.Rules.{tau, SameSet, CountAllowed, HeadInRange, StationInRange, NumbersAllowed, WalkTimeAllowed, count_allowed, head_in_range, station_in_range, in_range_at, stations_in_range, numbers_allowed, walk_time_allowed}
-use Rattle.sets.specs.Judged.{judged, judged_then}
+use Rattle.sets.specs.Judged.{judged, judged_then, judged_numbers, judged_walk}
 use Rattle.sets.specs.declared.Set.{Set}
 use Rattle.sets.specs.declared.Head.{Head}
 
@@ -154,3 +154,42 @@ stations_same a b s =
 pub judged_same : (a b : Set) (rest : ℕ) → SameSet a b → judged_then a rest ≡ judged_then b rest
 unfolding judged_then
 judged_same a b rest s = rw (stations_same a b s, tau_same a b s, s.count, s.header)
+
+-- ---- the judgement in two steps
+
+-- what the count and the numbers are refused with is what the set is refused with
+pub judged_early : (t : Set) → judged_numbers t ≢ 0 → judged t ≡ judged_numbers t
+unfolding judged_then
+judged_early t h =
+    ⊎_elim
+    (λ (c : count_allowed t ≡ true).
+    ⊎_elim (λ (n : numbers_allowed t ≡ true). absurd (h (held _ _ _ c ∙ held _ _ _ n)))
+    (λ (n : numbers_allowed t ≡ false). judged_4 t c n ∙ sym (held _ _ _ c ∙ failed _ _ _ n))
+    (true_or_false (numbers_allowed t)))
+    (λ (c : count_allowed t ≡ false). judged_2 t c ∙ sym (failed _ _ _ c))
+    (true_or_false (count_allowed t))
+
+-- where they are not refused, they are allowed
+pub numbers_passed : (t : Set) → judged_numbers t ≡ 0 → (count_allowed t ≡ true) × (numbers_allowed t ≡ true)
+numbers_passed t h =
+    ⊎_elim
+    (λ (c : count_allowed t ≡ true).
+    ⊎_elim (λ (n : numbers_allowed t ≡ true). (c, n))
+    (λ (n : numbers_allowed t ≡ false). let four : 4 ≡ 0 = sym (held _ _ _ c ∙ failed _ _ _ n) ∙ h in absurd (omega arith))
+    (true_or_false (numbers_allowed t)))
+    (λ (c : count_allowed t ≡ false). let two : 2 ≡ 0 = sym (failed _ _ _ c) ∙ h in absurd (omega arith))
+    (true_or_false (count_allowed t))
+
+-- and then the set is judged by its walk time
+pub judged_late : (t : Set) → judged_numbers t ≡ 0 → judged t ≡ judged_walk (tau t) t.head.ttrt
+unfolding judged_then
+judged_late t h = let passed = numbers_passed t h in held _ _ _ passed.0 ∙ held _ _ _ passed.1
+
+-- ---- and by its walk time
+
+pub walk_passed : (τ ttrt : ℕ) → judged_walk τ ttrt ≡ 0 → between 1 ttrt τ ≡ true
+walk_passed τ ttrt h =
+    ⊎_elim (λ b. b) (λ b. let five : 5 ≡ 0 = sym (failed _ _ _ b) ∙ h in absurd (omega arith)) (true_or_false (between 1 ttrt τ))
+
+pub walk_refused : (τ ttrt : ℕ) → judged_walk τ ttrt ≢ 0 → between 1 ttrt τ ≡ false
+walk_refused τ ttrt h = ⊎_elim (λ b. absurd (h (held _ _ _ b))) (λ b. b) (true_or_false (between 1 ttrt τ))

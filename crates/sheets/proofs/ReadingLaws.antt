@@ -12,13 +12,11 @@ use Rattle.units.proofs.SmallLaws.{below_or_not}
 use Rattle.sets.specs.Header.{head_number}
 use Rattle.sets.specs.Rules.{CountAllowed, HeadInRange}
 use Rattle.sets.specs.Judged.{blank_set}
-use Rattle.sets.specs.Lent.{set_of as lentSet}
 use Rattle.sets.proofs.SetLaws.{judged_four}
 use Rattle.sets.specs.declared.Head.{Head}
 use Rattle.sets.specs.declared.Set.{Set}
 use Rattle.plans.specs.Planned.{blank_alloc}
 use Rattle.plans.specs.declared.Alloc.{Alloc}
-use Rattle.plans.specs.Lent.{alloc_of as lentAlloc}
 use Rattle.plans.proofs.Promised.{promised}
 use Rattle.fields.specs.Fields.{mode_tag, frame_tag, grid_tag}
 use Rattle.fields.specs.Header.{further_count, further_place, given_at}
@@ -28,9 +26,9 @@ use Rattle.field_reader.specs.Scanned.{scanned}
 use Rattle.fields.specs.declared.Passed.{Passed}
 use Rattle.field_reader.proofs.ScannedLaws.{stopped}
 use Rattle.field_reader.proofs.PassedLaws.{AllPassed, all_passed, scanned_ended}
-use Rattle.sheets.specs.Bounds.{PassedFits, ColumnsRead}
+use Rattle.sheets.specs.Bounds.{PassedFits}
 use Rattle.sheets.specs.Layout.{most_of}
-use Rattle.sheets.specs.Reading.{number_in, head_in, set_of, alloc_of, plan_passed, set_in, alloc_in, then_number, judged_sheet, read_number, read_sheet, read_answer, given_answer, given_sheet, fields_answer}
+use Rattle.sheets.specs.Reading.{number_in, head_in, plan_passed, set_in, alloc_in, then_number, judged_sheet, read_number, read_sheet, read_answer, given_answer, given_sheet, fields_answer}
 use Rattle.sheets.proofs.ReadLaws.{then_rest, then_keeps, then_none, read_refused, read_number_lem, sheet_accepted}
 
 -- where all fields but the end have passed, there is room for all that is read from them
@@ -75,14 +73,6 @@ module _ (kept plan : Bool) (t : Set) (a : Alloc) {k : ℕ} (said : k ≡ judged
   answer_whole test =
       let same : (kept || eqb (judged_sheet plan t a) 0) ≡ true = ap (λ (i : ℕ). kept || eqb i 0) (sym said) ∙ test in
       rw same (ap (λ (i : ℕ). record { set = t; alloc = a; number = i }) said)
-
--- the header and the columns that were read are the set and the allocation that the fields hold
-module _ {bs : List ℕ} {q : Passed} {h : Head} {w c d p s : List ℕ} (e : h ≡ head_in bs) (read : ColumnsRead bs q w c d p s) where
-  pub set_read : lentSet h q.stations w c d p ≡ set_of bs q
-  set_read = rw (e, read.walk, read.longest, read.deadline, read.gap) refl
-
-  pub alloc_read : lentAlloc s ≡ alloc_of bs q
-  alloc_read = rw read.share refl
 
 module _ (plan : Bool) (bs : List ℕ) where
   -- so it is with a sheet without a fault

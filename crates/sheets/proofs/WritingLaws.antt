@@ -5,9 +5,11 @@ use mathlib.Core.Bool.{Bool}
 use mathlib.Core.List.{List, [], ◌++◌, append_assoc, append-nil}
 use mathlib.Core.Logic.{⊎_elim, ◌≢◌}
 use native.Mathlib.Numerals.{add-one}
-use native.Mathlib.Nat.{mul-zero, mul-suc, mul-le-mul_left}
+use native.Mathlib.Nat.{mul-suc, mul-le-mul_left}
 use native.Mathlib.Omega.{arith}
-use lib.ListN.{length, drop, length-append}
+use lib.ListN.{length, take, drop, length-append}
+use lib.Seq.{drop-drop}
+use borrow.Rule.Slice.PartMut.{put_mid}
 use borrow.Author.Tests.{leb-true, le-leb, lt-leb, ne_eqb}
 use Rattle.units.proofs.JudgingLaws.{held, failed, passed}
 use Rattle.units.specs.Places.{sum_below}
@@ -154,50 +156,47 @@ pub sheet_long : (plan : Bool) (t : Set) (a : Alloc) → length (sheet_of plan t
 unfolding sheet_of
 sheet_long plan t a = omega (arith, length-append (fields_of plan t a) end_bytes, fields_long plan t a)
 
+-- ---- bytes put over as many others
+
+-- they are laid there
+pub part_laid : (out s : List ℕ) (a k : ℕ) → length s ≡ k → put_mid a k out s ≡ laid out a s
+unfolding laid
+part_laid out s a k e =
+    ap (λ (rest : List ℕ). take a out ++ (s ++ rest)) (drop-drop k a out ∙ ap (λ (n : ℕ). drop (a + n) out) (sym e))
+    ∙ sym (append_assoc (take a out) s (drop (a + length s) out))
+
 -- ---- like rows laid by a loop
 
--- what the loop keeps: i rows of n were laid from the place on, and the next begins behind them
-pub record RowsLaid (out₀ out : List ℕ) (from at step n i : ℕ) (row : ℕ → List ℕ) : Type 0 where
-  pub counted : i ≤ n
-  pub here : at ≡ from + step * i
+-- what the loop keeps: i rows are laid from the place on
+pub record RowsLaid (out₀ out : List ℕ) (from i : ℕ) (row : ℕ → List ℕ) : Type 0 where
   pub so_far : out ≡ laid out₀ from (rows i row)
   pub long : length out ≡ length out₀
 
-module _ {out₀ : List ℕ} {from step n : ℕ} {row : ℕ → List ℕ} (each : (i : ℕ) → length (row i) ≡ step) where
-  pub rows_begin : RowsLaid out₀ out₀ from from step n 0 row
-  rows_begin = record { counted = omega arith; here = omega (arith, mul-zero step); so_far = sym (rw rows_none (laid_none _ _)); long = refl }
+pub rows_begin : {out₀ : List ℕ} {from : ℕ} {row : ℕ → List ℕ} → RowsLaid out₀ out₀ from 0 row
+rows_begin = record { so_far = sym (rw rows_none (laid_none _ _)); long = refl }
 
-  -- a turn lays the next row behind them
-  pub rows_turn : {out next : List ℕ} {at i : ℕ} → RowsLaid out₀ out from at step n i row → i < n → from + step * n ≤ length out₀
-      → next ≡ laid out at (row i) → length next ≡ length out → RowsLaid out₀ next from (at + step) step n (i + 1) row
-  rows_turn {out} {next} {at} {i} r l fits e same =
-      let room : step * suc i ≤ step * n = mul-le-mul_left step l in
-      let one_more_lem = mul-suc step i in
-      let here = r.here in
-      record {
-        counted = omega arith;
-        here = rw add-one (omega arith);
-        so_far = rows_then out₀ out next from at i step row each r.so_far here e (omega arith);
-        long = same ∙ r.long;
-      }
-
-  pub rows_end : {out : List ℕ} {at i : ℕ} → RowsLaid out₀ out from at step n i row → n ≤ i → out ≡ laid out₀ from (rows n row)
-  rows_end {i = i} r done =
-      let all : i ≡ n = omega (arith, r.counted) in
-      r.so_far ∙ ap (λ (k : ℕ). laid out₀ from (rows k row)) all
+-- a turn lays the next of n rows behind them
+pub rows_turn : {out₀ out next : List ℕ} {from step n i : ℕ} {row : ℕ → List ℕ} → ((i : ℕ) → length (row i) ≡ step) → RowsLaid out₀ out from i row → i < n → from + step * n ≤ length out₀
+    → next ≡ laid out (from + step * i) (row i) → length next ≡ length out → RowsLaid out₀ next from (i + 1) row
+rows_turn {out₀} {out} {next} {from} {step} {n} {i} {row} each r l fits e same =
+    let room : step * suc i ≤ step * n = mul-le-mul_left step l in
+    let one_more = mul-suc step i in
+    record {
+      so_far = rows_then out₀ out next from (from + step * i) i step row each r.so_far refl e (omega arith);
+      long = same ∙ r.long;
+    }
 
 -- ---- the header's fields behind TTRT, laid one after another
 
 -- the first k are laid, up to the place `at`
 pub record FurtherLaid (out₀ out : List ℕ) (h : Head) (at k : ℕ) : Type 0 where
-  pub counted : k ≤ further_count
   pub here : at ≡ 7 + length_up_to h k
   pub so_far : out ≡ laid out₀ 7 (rows k (further_field h))
   pub long : length out ≡ length out₀
 
 module _ {out₀ : List ℕ} {h : Head} (fits : 7 + head_length h ≤ length out₀) where
   pub further_begin : FurtherLaid out₀ out₀ h 7 0
-  further_begin = record { counted = omega arith; here = omega (arith, lengths_none h); so_far = sym (rw rows_none (laid_none _ _)); long = refl }
+  further_begin = record { here = omega (arith, lengths_none h); so_far = sym (rw rows_none (laid_none _ _)); long = refl }
 
   -- the next one, of the header's number, has room
   pub further_room : {out : List ℕ} {at k number : ℕ} → FurtherLaid out₀ out h at k → k < further_count → number ≡ head_number h (mode_tag + k)
@@ -211,7 +210,6 @@ module _ {out₀ : List ℕ} {h : Head} (fits : 7 + head_length h ≤ length out
       let room = further_room s l n in
       let field : next ≡ laid out at (further_field h k) = e ∙ ap (λ (x : ℕ). laid out at (further_bytes (mode_tag + k) x)) n in
       record {
-        counted = omega arith;
         here = omega (arith, s.here, length_turn h k refl n z);
         so_far = rw rows_step
             (laid_more out₀ out next 7 at (rows k (further_field h)) (further_field h k) s.so_far (omega (arith, s.here, further_rows h k)) field

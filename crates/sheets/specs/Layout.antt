@@ -61,10 +61,6 @@ station_with w c d p = mark station_tag station_size ++ bytes_of w ++ bytes_of c
 unfoldable pub allocation_with : ℕ → List ℕ
 allocation_with s = mark allocation_tag allocation_size ++ bytes_of s
 
--- station i of what w, C, D and P hold
-abbrev pub station_in : List ℕ → List ℕ → List ℕ → List ℕ → ℕ → List ℕ
-station_in w c d p i = station_with (at w i) (at c i) (at d i) (at p i)
-
 -- station i of a set
 abbrev pub station_bytes : Set → ℕ → List ℕ
 station_bytes t i = station_with (at t.w i) (at t.c i) (at t.d i) (at t.p i)

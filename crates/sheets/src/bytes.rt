@@ -3,17 +3,12 @@ ghost use Rattle.std.specs.Prelude.{◌≡◌, [], ◌∷◌, ◌+◌, ◌≤◌
 ghost use Rattle.fields.specs.Rows.{laid};
 ghost use Rattle.fields.specs.Bytes.{number_at, bytes_of};
 
-use fields::bytes;
-
 // The number in four bytes.
 pub(crate) fn number_at(bs: &[u8], at: usize) -> u32
     requires { at + 4 ≤ length bs.now }
     ensures { result ≡ number_at bs.now at }
 {
-    bytes::wide(bs[at]) * 16_777_216
-        + bytes::wide(bs[at + 1]) * 65_536
-        + bytes::wide(bs[at + 2]) * 256
-        + bytes::wide(bs[at + 3])
+    u32::from_be_bytes([bs[at], bs[at + 1], bs[at + 2], bs[at + 3]])
 }
 
 // The lowest byte of a number.
@@ -29,10 +24,7 @@ pub(crate) fn put_number(out: &mut [u8], at: usize, x: u32)
     requires { at + 4 ≤ length out.old }
     ensures { out.new ≡ laid out.old at (bytes_of x) }
 {
-    out[at] = low_byte(x / 16_777_216);
-    out[at + 1] = low_byte(x / 65_536);
-    out[at + 2] = low_byte(x / 256);
-    out[at + 3] = low_byte(x);
+    out[at..at + 4].copy_from_slice(&x.to_be_bytes());
 }
 
 // Writes the lowest byte of a number.
@@ -48,7 +40,5 @@ pub(crate) fn put_start(out: &mut [u8], at: usize, tag: u8, size: u8)
     requires { at + 3 ≤ length out.old }
     ensures { out.new ≡ laid out.old at (tag ∷ 0 ∷ size ∷ []) }
 {
-    out[at] = tag;
-    out[at + 1] = 0;
-    out[at + 2] = size;
+    out[at..at + 3].copy_from_slice(&[tag, 0, size]);
 }

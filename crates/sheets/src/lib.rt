@@ -7,20 +7,23 @@ pub mod records;
 mod writing;
 
 ghost use Rattle.std.specs.Prelude.{◌≡◌, true, false};
-ghost use Rattle.sets.specs.Lent.{set_of};
-ghost use Rattle.plans.specs.Lent.{alloc_of};
+ghost use Rattle.units.specs.Refusals.{answer_number};
 ghost use Rattle.plans.specs.Planned.{blank_alloc};
 ghost use Rattle.sheets.specs.Reading.{read_request, read_plan, plan_start, judged_sheet, given_sheet};
 ghost use Rattle.sheets.specs.Writing.{Wrote, WroteFields};
 
 use plans::Alloc;
-use sets::{Head, Set};
+use sets::Set;
 use units::numbers;
+use units::refusals::{Refusal, answer_number};
 
 // How many bytes a program reads of a request sheet, and of a sheet that may be a plan: one more than the longest has, of 128 stations with a mode, F and g; it tells that a byte follows.
 pub const REQUEST_READ: usize = 2_461;
 
 pub const PLAN_READ: usize = 3_357;
+
+// The tags of the header's fields behind TTRT, in their order.
+pub(crate) const FURTHER_TAGS: [u8; 3] = [fields::MODE_TAG, fields::FRAME_TAG, fields::GRID_TAG];
 
 // What reading a request sheet answers: the number, 0 with the set, or a refusal with the blank set.
 #[repr(C)]
@@ -57,23 +60,14 @@ pub struct Written {
     pub number: u8,
 }
 
-// A plan is judged with its allocation, a request without; the arrays are lent.
-pub(crate) fn judge_sheet<'a>(
-    plan: bool,
-    h: Head,
-    n: u32,
-    w: &'a [u32; 128],
-    c: &'a [u32; 128],
-    d: &'a [u32; 128],
-    p: &'a [u32; 128],
-    s: &'a [u32; 128],
-) -> u8
-    ensures { result ≡ judged_sheet plan (set_of h n w.now c.now d.now p.now) (alloc_of s.now) }
+// A plan is judged with its allocation, a request without.
+pub(crate) fn judge_sheet(plan: bool, t: &Set, a: &Alloc) -> Result<(), Refusal>
+    ensures { answer_number result ≡ judged_sheet plan t.now a.now }
 {
     if plan {
-        plans::judge_plan_lent(h, n, w, c, d, p, s)
+        plans::judge_plan_lent(t.head, t.n, &t.w, &t.c, &t.d, &t.p, &a.s)
     } else {
-        sets::judge_lent(h, n, w, c, d, p)
+        sets::judge_lent(t.head, t.n, &t.w, &t.c, &t.d, &t.p)
     }
 }
 
@@ -104,7 +98,7 @@ pub fn plan_number(sheet: &[u8]) -> u8
     if scanned.number != numbers::ACCEPTED {
         return scanned.number;
     }
-    reading::judge_fields(sheet, scanned.passed)
+    answer_number(reading::judge_fields(sheet, scanned.passed))
 }
 
 // Reads what a sheet holds, whatever its numbers are: the set, of a plan with its allocation, and their judgement. Only with 1, 2 and 3 it is blank.
@@ -146,23 +140,20 @@ pub fn read_start(sheet: &[u8]) -> PlanStart
 pub fn write_request(t: Set, out: &mut [u8]) -> Written
     ensures { Wrote false t blank_alloc out.old out.new result }
 {
-    let h = t.head;
     let a = plans::blank_alloc();
-    writing::write_sheet(false, h, t.n, &t.w, &t.c, &t.d, &t.p, &a.s, out)
+    writing::write_sheet(false, &t, &a, out)
 }
 
 // Writes a plan sheet into the first bytes of a lent buffer.
 pub fn write_plan(t: Set, a: Alloc, out: &mut [u8]) -> Written
     ensures { Wrote true t a out.old out.new result }
 {
-    let h = t.head;
-    writing::write_sheet(true, h, t.n, &t.w, &t.c, &t.d, &t.p, &a.s, out)
+    writing::write_sheet(true, &t, &a, out)
 }
 
 // Writes a plan's fields without the end into the first bytes of a lent buffer that has room for both; the length is theirs.
 pub fn write_plan_fields(t: Set, a: Alloc, out: &mut [u8]) -> Written
     ensures { WroteFields true t a out.old out.new result }
 {
-    let h = t.head;
-    writing::write_fields(true, h, t.n, &t.w, &t.c, &t.d, &t.p, &a.s, out)
+    writing::write_fields(true, &t, &a, out)
 }

@@ -12,21 +12,11 @@ use crate::bytes;
 use log_records::{MarkEntry, VisitEntry};
 use units::numbers;
 
-// How many of so many bytes there are from the place on.
-pub fn left(size: usize, at: usize) -> usize
-    ensures { result ≡ size - at }
-{
-    if size < at {
-        return 0;
-    }
-    size - at
-}
-
 // The number in the four bytes from the place on; 0 where there are fewer.
 pub fn number_from(bs: &[u8], at: usize) -> u32
     ensures { result ≡ number_or_zero bs.now at }
 {
-    if left(bs.len(), at) < 4 {
+    if bs.len().saturating_sub(at) < 4 {
         return 0;
     }
     bytes::number_at(bs, at)
@@ -38,7 +28,7 @@ fn read_visit(bs: &[u8], at: usize) -> VisitEntry
     ensures { result ≡ visit_at bs.now at }
 {
     VisitEntry {
-        station: fields::bytes::wide(bs[at + 3]),
+        station: u32::from(bs[at + 3]),
         start: bytes::number_at(bs, at + 4),
         limit: bytes::number_at(bs, at + 8),
         synchronous: bytes::number_at(bs, at + 12),
@@ -50,7 +40,7 @@ fn read_visit(bs: &[u8], at: usize) -> VisitEntry
 pub fn visit_at(bs: &[u8], at: usize) -> VisitEntry
     ensures { result ≡ visit_or_blank bs.now at }
 {
-    if left(bs.len(), at) < log_records::VISIT_LENGTH {
+    if bs.len().saturating_sub(at) < log_records::VISIT_LENGTH {
         return log_records::blank_visit();
     }
     read_visit(bs, at)
@@ -60,11 +50,11 @@ pub fn visit_at(bs: &[u8], at: usize) -> VisitEntry
 pub fn mark_at(bs: &[u8], at: usize) -> MarkEntry
     ensures { result ≡ mark_or_blank bs.now at }
 {
-    if left(bs.len(), at) < log_records::MARK_LENGTH {
+    if bs.len().saturating_sub(at) < log_records::MARK_LENGTH {
         return log_records::blank_mark();
     }
-    let station = fields::bytes::wide(bs[at + 3]);
-    let mark = fields::bytes::wide(bs[at + 4]);
+    let station = u32::from(bs[at + 3]);
+    let mark = u32::from(bs[at + 4]);
     MarkEntry { station, mark }
 }
 
@@ -85,7 +75,7 @@ fn lay_visit(out: &mut [u8], at: usize, visit: VisitEntry)
 pub fn put_visit(out: &mut [u8], at: usize, visit: VisitEntry) -> u8
     ensures { PutAt at (visit_bytes visit) 3 out.old out.new result }
 {
-    if left(out.len(), at) < log_records::VISIT_LENGTH + 3 {
+    if out.len().saturating_sub(at) < log_records::VISIT_LENGTH + 3 {
         return numbers::BUFFER_TOO_SHORT;
     }
     lay_visit(out, at, visit);
@@ -96,7 +86,7 @@ pub fn put_visit(out: &mut [u8], at: usize, visit: VisitEntry) -> u8
 pub fn put_mark(out: &mut [u8], at: usize, mark: MarkEntry) -> u8
     ensures { PutAt at (mark_bytes mark) 3 out.old out.new result }
 {
-    if left(out.len(), at) < log_records::MARK_LENGTH + 3 {
+    if out.len().saturating_sub(at) < log_records::MARK_LENGTH + 3 {
         return numbers::BUFFER_TOO_SHORT;
     }
     bytes::put_start(out, at, log_records::MARK_TAG, 2);
@@ -109,7 +99,7 @@ pub fn put_mark(out: &mut [u8], at: usize, mark: MarkEntry) -> u8
 pub fn put_number(out: &mut [u8], at: usize, x: u32) -> u8
     ensures { PutAt at (bytes_of x) 0 out.old out.new result }
 {
-    if left(out.len(), at) < 4 {
+    if out.len().saturating_sub(at) < 4 {
         return numbers::BUFFER_TOO_SHORT;
     }
     bytes::put_number(out, at, x);
@@ -120,7 +110,7 @@ pub fn put_number(out: &mut [u8], at: usize, x: u32) -> u8
 pub fn put_end(out: &mut [u8], at: usize) -> u8
     ensures { PutAt at end_bytes 0 out.old out.new result }
 {
-    if left(out.len(), at) < 3 {
+    if out.len().saturating_sub(at) < 3 {
         return numbers::BUFFER_TOO_SHORT;
     }
     bytes::put_start(out, at, fields::END_TAG, 0);

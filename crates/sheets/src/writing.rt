@@ -2,16 +2,16 @@
 ghost use Rattle.std.specs.Prelude.{◌≡◌, ◌+◌, ◌*◌, ◌≤◌, ◌<◌, length};
 ghost use Rattle.fields.specs.Rows.{laid, rows};
 ghost use Rattle.fields.specs.Bytes.{body_of};
-ghost use Rattle.sets.specs.Lent.{set_of};
-ghost use Rattle.plans.specs.Lent.{alloc_of};
-ghost use Rattle.fields.specs.Fields.{further_size, allocations_for};
+ghost use Rattle.fields.specs.Fields.{further_size};
 ghost use Rattle.fields.specs.Header.{further_count};
-ghost use Rattle.sheets.specs.Layout.{further_bytes, further_length, further_field, head_bytes, head_length, station_in, allocation_with, allocation_bytes, fields_of};
+ghost use Rattle.sheets.specs.Layout.{further_bytes, further_length, further_field, head_bytes, head_length, station_bytes, allocation_with, allocation_bytes, fields_of, fields_length};
 ghost use Rattle.sheets.specs.Writing.{Wrote, WroteFields, refused_writing};
 
-use crate::{Written, bytes};
-use sets::Head;
+use crate::{FURTHER_TAGS, Written, bytes};
+use plans::Alloc;
+use sets::{Head, Set};
 use units::numbers;
+use units::refusals::answer_number;
 
 // How many bytes the header's field with this tag has.
 fn further_length(tag: u8, number: u32) -> usize
@@ -54,13 +54,10 @@ fn put_furthers(out: &mut [u8], h: Head)
     ensures { out.new ≡ laid out.old 7 (rows further_count (further_field h)) }
 {
     let mut at: usize = 7;
-    let mut k: u8 = 0;
-    while k < fields::FURTHER_COUNT {
-        let tag = fields::MODE_TAG + k;
+    for tag in FURTHER_TAGS {
         let number = sets::head_number(h, tag);
         put_further(out, at, tag, number);
         at += further_length(tag, number);
-        k += 1;
     }
 }
 
@@ -79,33 +76,22 @@ fn head_length(h: Head) -> usize
     ensures { result ≡ head_length h }
 {
     let mut sum: usize = 0;
-    let mut k: u8 = 0;
-    while k < fields::FURTHER_COUNT {
-        let tag = fields::MODE_TAG + k;
+    for tag in FURTHER_TAGS {
         sum += further_length(tag, sets::head_number(h, tag));
-        k += 1;
     }
     sum
 }
 
 // Writes station i.
-fn put_station<'a>(
-    out: &mut [u8],
-    at: usize,
-    i: usize,
-    w: &'a [u32; 128],
-    c: &'a [u32; 128],
-    d: &'a [u32; 128],
-    p: &'a [u32; 128],
-)
+fn put_station(out: &mut [u8], at: usize, t: &Set, i: usize)
     requires { (i < 128) × (at + 19 ≤ length out.old) }
-    ensures { out.new ≡ laid out.old at (station_in w.now c.now d.now p.now i) }
+    ensures { out.new ≡ laid out.old at (station_bytes t.now i) }
 {
     bytes::put_start(out, at, fields::STATION_TAG, 16);
-    bytes::put_number(out, at + 3, w[i]);
-    bytes::put_number(out, at + 7, c[i]);
-    bytes::put_number(out, at + 11, d[i]);
-    bytes::put_number(out, at + 15, p[i]);
+    bytes::put_number(out, at + 3, t.w[i]);
+    bytes::put_number(out, at + 7, t.c[i]);
+    bytes::put_number(out, at + 11, t.d[i]);
+    bytes::put_number(out, at + 15, t.p[i]);
 }
 
 // Writes one allocation.
@@ -118,72 +104,46 @@ fn put_allocation(out: &mut [u8], at: usize, s: u32)
 }
 
 // Writes the first n stations.
-fn put_stations<'a>(
-    out: &mut [u8],
-    from: usize,
-    n: usize,
-    w: &'a [u32; 128],
-    c: &'a [u32; 128],
-    d: &'a [u32; 128],
-    p: &'a [u32; 128],
-)
+fn put_stations(out: &mut [u8], from: usize, t: &Set, n: usize)
     requires { (n ≤ 128) × (from + 19 * n ≤ length out.old) }
-    ensures { out.new ≡ laid out.old from (rows n (station_in w.now c.now d.now p.now)) }
+    ensures { out.new ≡ laid out.old from (rows n (station_bytes t.now)) }
 {
-    let mut at = from;
-    let mut i: usize = 0;
-    while i < n {
-        put_station(out, at, i, w, c, d, p);
-        at += 19;
-        i += 1;
+    for i in 0..n {
+        put_station(out, from + 19 * i, t, i);
     }
 }
 
 // Writes the first m allocations.
-fn put_allocations(out: &mut [u8], from: usize, m: usize, s: &[u32; 128])
+fn put_allocations(out: &mut [u8], from: usize, a: &Alloc, m: usize)
     requires { (m ≤ 128) × (from + 7 * m ≤ length out.old) }
-    ensures { out.new ≡ laid out.old from (rows m (allocation_bytes (alloc_of s.now))) }
+    ensures { out.new ≡ laid out.old from (rows m (allocation_bytes a.now)) }
 {
-    let mut at = from;
-    let mut i: usize = 0;
-    while i < m {
-        put_allocation(out, at, s[i]);
-        at += 7;
-        i += 1;
+    for (i, &share) in a.s[..m].iter().enumerate() {
+        put_allocation(out, from + 7 * i, share);
     }
 }
 
 // How many bytes all fields of a sheet but the end have.
-fn fields_length(plan: bool, h: Head, n: u32) -> usize
-    requires { n ≤ 128 }
-    ensures { result ≡ 7 + head_length h + 19 * n + 7 * allocations_for plan n }
+fn fields_length(plan: bool, t: &Set) -> usize
+    requires { t.now.n ≤ 128 }
+    ensures { result ≡ fields_length plan t.now }
 {
-    let count = n as usize;
-    7 + head_length(h) + 19 * count + 7 * fields::allocations_for(plan, count)
+    let n = t.n as usize;
+    7 + head_length(t.head) + 19 * n + 7 * fields::allocations_for(plan, n)
 }
 
 // Writes all fields of a sheet but the end.
-fn put_fields<'a>(
-    plan: bool,
-    h: Head,
-    n: u32,
-    w: &'a [u32; 128],
-    c: &'a [u32; 128],
-    d: &'a [u32; 128],
-    p: &'a [u32; 128],
-    s: &'a [u32; 128],
-    out: &mut [u8],
-)
-    requires { (n ≤ 128) × (7 + head_length h + 19 * n + 7 * allocations_for plan n ≤ length out.old) }
-    ensures { out.new ≡ laid out.old 0 (fields_of plan (set_of h n w.now c.now d.now p.now) (alloc_of s.now)) }
+fn put_fields(plan: bool, t: &Set, a: &Alloc, out: &mut [u8])
+    requires { (t.now.n ≤ 128) × (fields_length plan t.now ≤ length out.old) }
+    ensures { out.new ≡ laid out.old 0 (fields_of plan t.now a.now) }
 {
-    let count = n as usize;
-    let m = fields::allocations_for(plan, count);
-    let from = 7 + head_length(h);
-    let behind = from + 19 * count;
-    put_head(out, h);
-    put_stations(out, from, count, w, c, d, p);
-    put_allocations(out, behind, m, s);
+    let n = t.n as usize;
+    let m = fields::allocations_for(plan, n);
+    let from = 7 + head_length(t.head);
+    let behind = from + 19 * n;
+    put_head(out, t.head);
+    put_stations(out, from, t, n);
+    put_allocations(out, behind, a, m);
 }
 
 // A refused writing.
@@ -194,28 +154,18 @@ fn refused(number: u8) -> Written
 }
 
 // Writes all fields of a sheet but the end: N (2), then 4, 5, for plans 7, then 14 where they and the end do not fit; then their bytes.
-pub(crate) fn write_fields<'a>(
-    plan: bool,
-    h: Head,
-    n: u32,
-    w: &'a [u32; 128],
-    c: &'a [u32; 128],
-    d: &'a [u32; 128],
-    p: &'a [u32; 128],
-    s: &'a [u32; 128],
-    out: &mut [u8],
-) -> Written
-    ensures { WroteFields plan (set_of h n w.now c.now d.now p.now) (alloc_of s.now) out.old out.new result }
+pub(crate) fn write_fields(plan: bool, t: &Set, a: &Alloc, out: &mut [u8]) -> Written
+    ensures { WroteFields plan t.now a.now out.old out.new result }
 {
-    let number = crate::judge_sheet(plan, h, n, w, c, d, p, s);
+    let number = answer_number(crate::judge_sheet(plan, t, a));
     if number != numbers::ACCEPTED {
         return refused(number);
     }
-    let length = fields_length(plan, h, n);
+    let length = fields_length(plan, t);
     if out.len() < length + 3 {
         return refused(numbers::BUFFER_TOO_SHORT);
     }
-    put_fields(plan, h, n, w, c, d, p, s, out);
+    put_fields(plan, t, a, out);
     Written {
         length,
         number: numbers::ACCEPTED,
@@ -223,20 +173,10 @@ pub(crate) fn write_fields<'a>(
 }
 
 // Writes a sheet: all fields but the end; then the end behind them.
-pub(crate) fn write_sheet<'a>(
-    plan: bool,
-    h: Head,
-    n: u32,
-    w: &'a [u32; 128],
-    c: &'a [u32; 128],
-    d: &'a [u32; 128],
-    p: &'a [u32; 128],
-    s: &'a [u32; 128],
-    out: &mut [u8],
-) -> Written
-    ensures { Wrote plan (set_of h n w.now c.now d.now p.now) (alloc_of s.now) out.old out.new result }
+pub(crate) fn write_sheet(plan: bool, t: &Set, a: &Alloc, out: &mut [u8]) -> Written
+    ensures { Wrote plan t.now a.now out.old out.new result }
 {
-    let so_far = write_fields(plan, h, n, w, c, d, p, s, out);
+    let so_far = write_fields(plan, t, a, out);
     if so_far.number != numbers::ACCEPTED {
         return so_far;
     }

@@ -108,5 +108,5 @@ pub fn name_line(rt: &impl Complain, number: u64) -> u8
 
 // Tells the status: a digit, since there are three.
 pub fn tell(status: u8) {
-    io::print_decimal(STATUS_FILENO, status as u64);
+    io::print_decimal(STATUS_FILENO, u64::from(status));
 }

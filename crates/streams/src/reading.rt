@@ -18,15 +18,8 @@ pub fn fill(from: &mut impl Read, buffer: &mut [u8]) -> Filled
     let mut length: usize = 0;
     while length < buffer.len() {
         match from.read(&mut buffer[length..]) {
-            Ok(came) => {
-                if came == 0 {
-                    return Filled {
-                        length,
-                        failed: None,
-                    };
-                }
-                length += came;
-            }
+            Ok(0) => break,
+            Ok(came) => length += came,
             Err(error) => {
                 return Filled {
                     length,
@@ -45,11 +38,5 @@ pub fn fill(from: &mut impl Read, buffer: &mut [u8]) -> Filled
 pub fn further(at: usize, by: usize, end: usize) -> usize
     ensures { result ≡ min (at + by) end }
 {
-    if end <= at {
-        return end;
-    }
-    if end - at < by {
-        return end;
-    }
-    at + by
+    at.saturating_add(by).min(end)
 }

@@ -9,10 +9,9 @@ const REASON_SIZE: usize = 320;
 
 // The system's words alone: std puts its number behind them.
 fn words_of(reason: &str) -> &str {
-    match reason.split_once(" (os error ") {
-        Some((words, _)) => words,
-        None => reason,
-    }
+    reason
+        .split_once(" (os error ")
+        .map_or(reason, |(words, _)| words)
 }
 
 // Names what failed on standard error, and says what the system says of it.

@@ -59,10 +59,8 @@ pub fn put_line(to: &mut impl Write, command: Command) -> bool {
 // A word that is no command: it is named, and `help` is pointed to.
 pub(crate) fn no_command(rt: &impl Complain, word: &[u8]) {
     let name = words::name_of(word);
-    let bytes = name.bytes;
-    let length = name.length;
     rt.complain(b"olivastrum: no command ");
-    rt.complain(&bytes[..length]);
+    rt.complain(&name.bytes[..name.length]);
     rt.complain(b"\nolivastrum: `olivastrum help` lists the commands\n");
 }
 

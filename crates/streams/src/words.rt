@@ -41,10 +41,7 @@ pub fn path(rt: &impl Env, place: usize) -> Result<PathText, Error> {
     let Ok(text) = str::from_utf8(&buffer[..length]) else {
         return Err(Error::from_raw_os_error(NO_TEXT));
     };
-    match PathText::from(text) {
-        Ok(path) => Ok(path),
-        Err(_) => Err(Error::from_raw_os_error(TOO_LONG)),
-    }
+    PathText::from(text).map_err(|_| Error::from_raw_os_error(TOO_LONG))
 }
 
 // The word at this place; of one that is too long, as much as the buffer holds.
@@ -68,10 +65,7 @@ pub fn status_asked(rt: &impl Env) -> bool {
 // Whether there is a word at this place.
 pub fn is_given(rt: &impl Env, place: usize) -> bool {
     let mut byte = [0u8; 1];
-    match rt.arg(place, &mut byte) {
-        Err(FillError::NotPresent) => false,
-        _ => true,
-    }
+    !matches!(rt.arg(place, &mut byte), Err(FillError::NotPresent))
 }
 
 // How many words there are from this one on.

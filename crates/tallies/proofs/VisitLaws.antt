@@ -1,5 +1,5 @@
 -- The numbers behind one visit: each column has one place of the station, and no other place is touched.
-use Rattle.std.proofs.Common.{◌≡◌, ℕ, ◌+◌, ◌-◌, ◌%◌, ◌<◌, max, true, false, eqb, leb, ◌≢◌, List, length, set, arith, length-set, get_or-set_other, get_or-set_same, leb-true}
+use Rattle.std.proofs.Common.{◌≡◌, ℕ, ◌+◌, ◌%◌, ◌<◌, max, true, false, eqb, leb, ◌≢◌, List, length, set, arith, length-set, get_or-set_other, get_or-set_same, leb-true}
 use borrow.Author.Tests.{eqb-false}
 use Rattle.units.specs.Places.{at}
 use Rattle.log_records.specs.declared.VisitEntry.{VisitEntry}

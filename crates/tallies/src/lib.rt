@@ -1,7 +1,7 @@
 // What each station did in a log's records: its visits, the longest time between two of them, and what it sent; and how far the records have come, rotation by rotation.
 #![tactic(auto)]
 
-ghost use Rattle.std.specs.Prelude.{◌≡◌, ◌<◌, max, not, ◌==◌, nat_eq};
+ghost use Rattle.std.specs.Prelude.{◌≡◌, ◌<◌, not, ◌==◌, nat_eq};
 ghost use Rattle.units.specs.Places.{at as place_at, all_below};
 ghost use Rattle.units.specs.Small.{Same};
 ghost use Rattle.tallies.specs.Laps.{took_by, no_lap, visit_lapped, lapped};
@@ -74,10 +74,7 @@ pub struct Drawn {
 fn number_or_zero(xs: &[u32], i: usize) -> u64
     ensures { Same (place_at xs.now i) result }
 {
-    if xs.len() <= i {
-        return 0;
-    }
-    units::wide(xs[i])
+    xs.get(i).map_or(0, |x| u64::from(*x))
 }
 
 // w of a station; 0 where the array has no such place.
@@ -92,7 +89,7 @@ fn took_by(w: &[u32; 128], visit: VisitEntry) -> u64
     ensures { result ≡ took_by w.now visit }
 {
     let walk = walk_of(w, visit.station);
-    units::wide(visit.synchronous) + units::wide(visit.asynchronous) + walk
+    u64::from(visit.synchronous) + u64::from(visit.asynchronous) + walk
 }
 
 // One visit more: the last one of a rotation ends it.
@@ -102,7 +99,7 @@ fn lap_visit(lap: Lap, n: u32, w: &[u32; 128], visit: VisitEntry) -> Lap
     let took = took_by(w, visit);
     let records = std::num::wrapping_add_u64(lap.records, 1);
     let visits = std::num::wrapping_add_u64(lap.visits, 1);
-    if units::wide(n) <= units::wide(lap.turn) + 1 {
+    if u64::from(n) <= u64::from(lap.turn) + 1 {
         let rotation = std::num::wrapping_add_u64(lap.rotation, 1);
         return Lap {
             records,
@@ -116,9 +113,9 @@ fn lap_visit(lap: Lap, n: u32, w: &[u32; 128], visit: VisitEntry) -> Lap
     Lap {
         records,
         visits,
-        rotation: lap.rotation,
         turn: lap.turn + 1,
         elapsed,
+        ..lap
     }
 }
 
@@ -143,25 +140,12 @@ pub fn lap_on(lap: Lap, n: u32, w: &[u32; 128], entry: Entry) -> Lap
         Entry::Visit(visit) => lap_visit(lap, n, w, visit),
         Entry::Mark(_) => {
             let records = std::num::wrapping_add_u64(lap.records, 1);
-            Lap {
-                records,
-                visits: lap.visits,
-                rotation: lap.rotation,
-                turn: lap.turn,
-                elapsed: lap.elapsed,
-            }
+            Lap { records, ..lap }
         }
     }
 }
 
 // ---- the numbers of a station
-
-// The larger of two numbers.
-fn greater(a: u64, b: u64) -> u64
-    ensures { result ≡ max a b }
-{
-    if a < b { b } else { a }
-}
 
 // The number at a place rises by x, past its top to 0.
 fn add_at(numbers: &mut [u64; 896], i: usize, x: u64)
@@ -176,7 +160,7 @@ fn raise_at(numbers: &mut [u64; 896], i: usize, x: u64)
     requires { i < 896 }
     ensures { numbers.new ≡ raised_at numbers.old i x }
 {
-    numbers[i] = greater(numbers[i], x);
+    numbers[i] = numbers[i].max(x);
 }
 
 // The time since the last visit began; none before the first.
@@ -200,7 +184,7 @@ fn place_of(station: u32) -> usize
 fn switch_of(mark: u32) -> u8
     ensures { result ≡ switch_of mark }
 {
-    if mark == 0 { 0 } else { 1 }
+    u8::from(mark != 0)
 }
 
 // The mark of a station behind a record that marks it. One that is neither 0 nor 1 changes nothing.
@@ -218,10 +202,9 @@ fn switch_on(mark: &mut [u8], switched: MarkEntry)
     ensures { mark.new ≡ mark_switched mark.old switched }
 {
     let p = switched.station as usize;
-    if mark.len() <= p {
-        return;
+    if p < mark.len() {
+        mark[p] = marked_by(mark[p], switched.mark);
     }
-    mark[p] = marked_by(mark[p], switched.mark);
 }
 
 // The numbers behind a visit of the station at this place.
@@ -233,14 +216,14 @@ fn tally_visit(numbers: &mut [u64; 896], p: usize, mark: u32, clock: u64, visit:
     raise_at(&mut *numbers, LONGEST + p, gap);
     numbers[LAST + p] = clock;
     add_at(&mut *numbers, VISITS + p, 1);
-    add_at(&mut *numbers, THROUGH + p, switch_of(mark) as u64);
-    let sent = units::wide(visit.synchronous);
+    add_at(&mut *numbers, THROUGH + p, u64::from(switch_of(mark)));
+    let sent = u64::from(visit.synchronous);
     raise_at(&mut *numbers, MOST + p, sent);
     add_at(&mut *numbers, SYNCHRONOUS + p, sent);
     add_at(
         &mut *numbers,
         ASYNCHRONOUS + p,
-        units::wide(visit.asynchronous),
+        u64::from(visit.asynchronous),
     );
 }
 
@@ -260,10 +243,7 @@ fn station_of(entry: Entry) -> u32
 fn is_marked(mark: &[u8], p: usize) -> bool
     ensures { result ≡ not (place_at mark.now p == 0) }
 {
-    if mark.len() <= p {
-        return false;
-    }
-    mark[p] != 0
+    mark.get(p).is_some_and(|own| *own != 0)
 }
 
 // Whether the station of a record is switched through.
@@ -314,7 +294,7 @@ pub fn see_on<'a>(
                 return Course { clock, kept, all };
             }
             let p = place_of(visit.station);
-            let through = fields::bytes::wide(mark[p]);
+            let through = u32::from(mark[p]);
             tally_visit(&mut *numbers, p, through, clock, visit);
             let later = std::num::wrapping_add_u64(clock, took_by(w, visit));
             Course {
@@ -341,12 +321,5 @@ pub fn see_on<'a>(
 pub fn same_numbers(a: [u64; 896], b: [u64; 896]) -> bool
     ensures { result ≡ all_below 896 (λ i. nat_eq (place_at a i) (place_at b i)) }
 {
-    let mut all = true;
-    let mut i: usize = 0;
-    while i < SIZE {
-        let one = a[i] == b[i];
-        all = all & one;
-        i += 1;
-    }
-    all
+    a == b
 }

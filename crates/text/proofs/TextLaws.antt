@@ -9,7 +9,8 @@ use native.Mathlib.Omega.{arith}
 use lib.Dec.{ltb}
 use borrow.Author.Tests.{lt-ltb, le-ltb}
 use lib.ListN.{length, take, set, length-append}
-use lib.Seq.{sets-eq, take_all, take-length, length-take-le}
+use lib.Seq.{sets-eq, take_all, take-length, length-take-le, drop-drop}
+use borrow.Rule.Slice.PartMut.{put_mid}
 use Rattle.units.specs.Numbers.{buffer_too_short}
 use Rattle.units.proofs.SmallLaws.{below_or_not}
 use Rattle.fields.specs.Rows.{laid, rows}
@@ -25,6 +26,15 @@ put_none before a = record { page = sym (laid_none before a); next = omega arith
 pub put_one : (before : List ℕ) (a x : ℕ) → a + 1 ≤ length before → Put before a (x ∷ []) (set before a x) (a + 1)
 unfolding laid
 put_one before a x h = record { page = sets-eq (x ∷ []) before a h; next = refl }
+
+-- a segment that is copied into the page
+pub put_part : (before : List ℕ) (a k : ℕ) (copied segment : List ℕ) → copied ≡ segment → k ≡ length segment → Put before a segment (put_mid a k before copied) (a + length segment)
+unfolding laid
+put_part before a k copied segment same long =
+    record {
+      page = rw (same, long, drop-drop, append_assoc);
+      next = refl;
+    }
 
 -- what is put behind a segment makes one segment with it
 pub put_then : {before middle after s t : List ℕ} {a r q : ℕ} → Put before a s middle r → Put middle r t after q → a + length s + length t ≤ length before → Put before a (s ++ t) after q

@@ -27,16 +27,13 @@ fn put_byte(page: &mut [u8], at: usize, byte: u8) -> usize
 }
 
 // The bytes of a word.
+#[tactic(auto, using(crate::proofs::TextLaws::put_part))]
 fn put_word(page: &mut [u8], at: usize, word: &[u8]) -> usize
     requires { Room page.old at word.now }
     ensures { Put page.old at word.now page.new result }
 {
-    let mut next = at;
-    let mut i: usize = 0;
-    while i < word.len() {
-        next = put_byte(page, next, word[i]);
-        i += 1;
-    }
+    let next = at + word.len();
+    page[at..next].copy_from_slice(word);
     next
 }
 
@@ -76,36 +73,18 @@ fn put_fields(page: &mut [u8], at: usize, numbers: &[u64]) -> usize
     ensures { PutShort (21 * length numbers.now) page.old at (fields_of numbers.now) page.new result }
 {
     let mut next = at;
-    let mut i: usize = 0;
-    while i < numbers.len() {
-        next = put_spaced(page, next, numbers[i]);
-        i += 1;
+    for number in numbers {
+        next = put_spaced(page, next, *number);
     }
     next
-}
-
-// How many bytes a page of this size has from the place on.
-fn left(size: usize, at: usize) -> usize
-    ensures { result ≡ size - at }
-{
-    if size < at {
-        return 0;
-    }
-    size - at
 }
 
 // A page of this size has room from the place on for a line of a word of so many bytes and of so many numbers.
 fn has_room(size: usize, at: usize, word: usize, numbers: usize) -> bool
     ensures { result ≡ leb (at + (word + (21 * numbers + 1))) size }
 {
-    let room = left(left(size, at), word);
-    if room == 0 {
-        return false;
-    }
-    if (room - 1) / 21 < numbers {
-        return false;
-    }
-    true
+    let room = size.saturating_sub(at).saturating_sub(word);
+    1 <= room && numbers <= (room - 1) / 21
 }
 
 // A word of at most 20 bytes.
@@ -115,7 +94,7 @@ pub fn put_short(page: &mut [u8], at: usize, word: &[u8]) -> usize
     if word.len() > 20 {
         return at;
     }
-    if left(page.len(), at) < 20 {
+    if page.len().saturating_sub(at) < 20 {
         return at;
     }
     put_word(page, at, word)
@@ -125,7 +104,7 @@ pub fn put_short(page: &mut [u8], at: usize, word: &[u8]) -> usize
 pub fn put_number(page: &mut [u8], at: usize, n: u64) -> usize
     ensures { PutWithin 20 page.old at (decimal_of n) page.new result }
 {
-    if left(page.len(), at) < 20 {
+    if page.len().saturating_sub(at) < 20 {
         return at;
     }
     put_decimal(page, at, n)
@@ -135,7 +114,7 @@ pub fn put_number(page: &mut [u8], at: usize, n: u64) -> usize
 pub fn put_field(page: &mut [u8], at: usize, n: u64) -> usize
     ensures { PutWithin 21 page.old at (space ∷ decimal_of n) page.new result }
 {
-    if left(page.len(), at) < 21 {
+    if page.len().saturating_sub(at) < 21 {
         return at;
     }
     put_spaced(page, at, n)
@@ -145,7 +124,7 @@ pub fn put_field(page: &mut [u8], at: usize, n: u64) -> usize
 pub fn put_end(page: &mut [u8], at: usize) -> usize
     ensures { PutWithin 1 page.old at (newline ∷ []) page.new result }
 {
-    if left(page.len(), at) < 1 {
+    if page.len().saturating_sub(at) < 1 {
         return at;
     }
     put_byte(page, at, b'\n')
@@ -167,17 +146,17 @@ pub fn put_line(page: &mut [u8], at: usize, word: &[u8], numbers: &[u64]) -> usi
 pub fn put_refused(page: &mut [u8], at: usize, number: u8) -> usize
     ensures { PutWithin 42 page.old at (refused_line number) page.new result }
 {
-    if left(page.len(), at) < 42 {
+    if page.len().saturating_sub(at) < 42 {
         return at;
     }
-    put_line(page, at, b"refused", &[number as u64])
+    put_line(page, at, b"refused", &[u64::from(number)])
 }
 
 // `line N: cannot be read`.
 pub fn put_unread(page: &mut [u8], at: usize, line: u64) -> usize
     ensures { PutWithin 42 page.old at (unread_line line) page.new result }
 {
-    if left(page.len(), at) < 42 {
+    if page.len().saturating_sub(at) < 42 {
         return at;
     }
     let named = put_word(page, at, b"line");
@@ -214,10 +193,7 @@ fn used_by(used: usize, byte: u8) -> usize
 fn number_of(numbers: [u64; 6], k: usize) -> u64
     ensures { result ≡ place_at numbers k }
 {
-    if k < 6 {
-        return numbers[k];
-    }
-    0
+    numbers.get(k).copied().unwrap_or(0)
 }
 
 // The words, byte after byte.
@@ -227,13 +203,10 @@ fn put_pieces(page: &mut [u8], at: usize, words: &[u8], numbers: [u64; 6]) -> us
 {
     let mut next = at;
     let mut used: usize = 0;
-    let mut i: usize = 0;
-    while i < words.len() {
-        let byte = words[i];
+    for byte in words {
         let n = number_of(numbers, used);
-        next = put_piece(page, next, byte, n);
-        used = used_by(used, byte);
-        i += 1;
+        next = put_piece(page, next, *byte, n);
+        used = used_by(used, *byte);
     }
     next
 }
@@ -245,7 +218,7 @@ pub fn put_filled(page: &mut [u8], at: usize, words: &[u8], numbers: [u64; 6]) -
     if words.len() > 100 {
         return at;
     }
-    if left(page.len(), at) < 2_000 {
+    if page.len().saturating_sub(at) < 2_000 {
         return at;
     }
     put_pieces(page, at, words, numbers)

@@ -99,15 +99,12 @@ fn with_byte(f: Found, byte: u8) -> Found
     if length >= WORD_SIZE {
         return f;
     }
-    let mut bytes = f.bytes;
-    let kept = shown(byte);
-    bytes[length] = kept;
-    Found {
-        bytes,
+    let mut longer = Found {
         length: length + 1,
-        place: f.place,
-        stuck: f.stuck,
-    }
+        ..f
+    };
+    longer.bytes[length] = shown(byte);
+    longer
 }
 
 // The word has ended: can the line still be read?
@@ -117,13 +114,10 @@ fn word_ended(f: Found, s: Scan) -> Found
     if f.stuck {
         return f;
     }
-    let bytes = f.bytes;
     let begins = lines::begins(s);
     Found {
-        bytes,
-        length: f.length,
-        place: f.place,
         stuck: !begins,
+        ..f
     }
 }
 
@@ -141,8 +135,7 @@ fn found_on(f: Found, s: Scan, byte: u8) -> Found
     if s.phase != line_reader::BETWEEN {
         return with_byte(f, byte);
     }
-    let place = lines::place_of(s);
-    let begun = nothing_found(place);
+    let begun = nothing_found(lines::place_of(s));
     with_byte(begun, byte)
 }
 
@@ -152,11 +145,9 @@ fn found_on(f: Found, s: Scan, byte: u8) -> Found
 pub fn begin() -> Watch
     ensures { result ≡ watch_start }
 {
-    let found = nothing_found(0);
-    let scan = line_reader::fresh();
     Watch {
-        found,
-        scan,
+        found: nothing_found(0),
+        scan: line_reader::fresh(),
         line: 1,
         unread: 0,
         out: 0,
@@ -168,15 +159,13 @@ pub fn begin() -> Watch
 fn next_line(w: Watch, out: u64, number: u8) -> Watch
     ensures { result ≡ next_line w out number }
 {
-    let found = nothing_found(0);
-    let scan = line_reader::fresh();
     Watch {
-        found,
-        scan,
+        found: nothing_found(0),
+        scan: line_reader::fresh(),
         line: line_reader::next_line(w.line),
-        unread: w.unread,
         out,
         number,
+        ..w
     }
 }
 
@@ -184,20 +173,15 @@ fn next_line(w: Watch, out: u64, number: u8) -> Watch
 fn line_ended(w: Watch) -> Watch
     ensures { result ≡ line_ended w }
 {
-    let scan = w.scan;
-    let was = w.found;
-    if !lines::is_read(scan) {
-        let found = word_ended(was, scan);
+    if !lines::is_read(w.scan) {
+        let found = word_ended(w.found, w.scan);
         return Watch {
             found,
-            scan,
-            line: w.line,
             unread: w.line,
-            out: w.out,
-            number: w.number,
+            ..w
         };
     }
-    let number = ranges::number_out(scan);
+    let number = ranges::number_out(w.scan);
     let first = (w.out == 0) & (number != 0);
     if first {
         return next_line(w, w.line, number);
@@ -215,18 +199,9 @@ fn watched(w: Watch, byte: u8) -> Watch
     if byte == b'\n' {
         return line_ended(w);
     }
-    let read = w.scan;
-    let was = w.found;
-    let found = found_on(was, read, byte);
-    let scan = line_reader::step(read, byte);
-    Watch {
-        found,
-        scan,
-        line: w.line,
-        unread: w.unread,
-        out: w.out,
-        number: w.number,
-    }
+    let found = found_on(w.found, w.scan, byte);
+    let scan = line_reader::step(w.scan, byte);
+    Watch { found, scan, ..w }
 }
 
 // The text goes on.
@@ -234,11 +209,8 @@ pub fn watch_on(w: Watch, text: &[u8]) -> Watch
     ensures { result ≡ watch_after w text.now }
 {
     let mut stands = w;
-    let mut i: usize = 0;
-    while i < text.len() {
-        let byte = text[i];
-        stands = watched(stands, byte);
-        i += 1;
+    for byte in text {
+        stands = watched(stands, *byte);
     }
     stands
 }
@@ -270,8 +242,7 @@ pub fn expectation(w: Watch) -> Expected
         let form = form_at(word, place);
         return Expected { form, place };
     }
-    let scan = w.scan;
-    let place = lines::place_of(scan);
+    let place = lines::place_of(w.scan);
     let form = form_at(word, place);
     Expected { form, place }
 }

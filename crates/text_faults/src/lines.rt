@@ -79,12 +79,11 @@ fn limit_of(word: u64, k: usize) -> u64
 fn fits(s: Scan) -> bool
     ensures { result ≡ fits s }
 {
-    let values = s.values;
-    let first = values[0] <= limit_of(s.word, 1);
-    let second = values[1] <= limit_of(s.word, 2);
-    let third = values[2] <= 4_294_967_295;
-    let fourth = values[3] <= 4_294_967_295;
-    let fifth = values[4] <= 4_294_967_295;
+    let first = s.values[0] <= limit_of(s.word, 1);
+    let second = s.values[1] <= limit_of(s.word, 2);
+    let third = s.values[2] <= 4_294_967_295;
+    let fourth = s.values[3] <= 4_294_967_295;
+    let fifth = s.values[4] <= 4_294_967_295;
     first & (second & (third & (fourth & fifth)))
 }
 

@@ -6,7 +6,7 @@ use crate::lines;
 use line_reader::Scan;
 use units::numbers;
 
-// The ranges, as 64-bit numbers.
+// The ranges, as 64-bit numbers: by a cast, since no function is called in a constant.
 const MOST_TTRT: u64 = numbers::MOST_TTRT as u64;
 
 const LAST_MODE: u64 = numbers::LAST_MODE as u64;
@@ -65,8 +65,7 @@ fn station_out(values: [u64; 5]) -> u8
 pub(crate) fn number_out(s: Scan) -> u8
     ensures { result ≡ number_out s }
 {
-    let values = s.values;
-    let first = values[0];
+    let first = s.values[0];
     if s.word == lines::TTRT {
         return unless((1 <= first) & (first <= MOST_TTRT), 1);
     }
@@ -80,7 +79,7 @@ pub(crate) fn number_out(s: Scan) -> u8
         return unless((2 <= first) & (first <= MOST_GRID), 4);
     }
     if s.word == lines::STATION {
-        return station_out(values);
+        return station_out(s.values);
     }
     0
 }

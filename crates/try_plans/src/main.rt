@@ -4,6 +4,7 @@
 use sets::{Head, Set};
 use std::io::Print;
 use units::numbers;
+use units::refusals::answer_number;
 
 // What cannot be written is left out.
 fn say(rt: &impl Print, words: &str) {
@@ -24,9 +25,9 @@ fn line(rt: &impl Print) {
 
 // One row of the table at TTRT 100: D, C and the smallest S.
 fn row(rt: &impl Print, d: u32, c: u32) {
-    number(rt, units::wide(d));
+    number(rt, u64::from(d));
     space(rt);
-    number(rt, units::wide(c));
+    number(rt, u64::from(c));
     space(rt);
     number(rt, plans::smallest(1, 100, c, d));
     line(rt);
@@ -58,17 +59,17 @@ fn planned(rt: &impl Print, t: Set) {
     let s = alloc.s;
     say(rt, "number ");
     let refusal = answer.number;
-    number(rt, refusal as u64);
+    number(rt, u64::from(refusal));
     if refusal == 0 {
         say(rt, " S ");
-        number(rt, units::wide(s[0]));
+        number(rt, u64::from(s[0]));
         space(rt);
-        number(rt, units::wide(s[1]));
+        number(rt, u64::from(s[1]));
         say(rt, " spare ");
         number(rt, plans::spare(t, alloc));
         say(rt, " judged ");
-        let again = plans::judge_plan(t, alloc);
-        number(rt, again as u64);
+        let again = answer_number(plans::judge_plan(t, alloc));
+        number(rt, u64::from(again));
     }
     line(rt);
 }

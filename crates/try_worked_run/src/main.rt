@@ -24,31 +24,22 @@ fn column(rt: &impl Print, x: u64) {
 
 // The margin; one below 0 is late.
 fn margin_column(rt: &impl Print, margin: i64) {
-    if margin < 0 {
-        text(rt, " | late");
-    } else {
-        let size = margin as u64;
-        column(rt, size);
+    match u64::try_from(margin) {
+        Ok(size) => column(rt, size),
+        Err(_) => text(rt, " | late"),
     }
 }
 
 // A row of the table.
 fn row(rt: &impl Print, visit: u64, v: VisitRecord) {
-    let station = v.station;
-    let start = v.start;
-    let trt = v.trt;
-    let limit = v.limit;
-    let synchronous = v.synchronous;
-    let asynchronous = v.asynchronous;
-    let finish = v.finish;
     digits(rt, visit);
-    column(rt, station.0);
-    column(rt, start.0);
-    column(rt, trt.0);
-    column(rt, limit.0);
-    column(rt, synchronous.0);
-    column(rt, asynchronous.0);
-    column(rt, finish.0);
+    column(rt, v.station.0);
+    column(rt, v.start.0);
+    column(rt, v.trt.0);
+    column(rt, v.limit.0);
+    column(rt, v.synchronous.0);
+    column(rt, v.asynchronous.0);
+    column(rt, v.finish.0);
     margin_column(rt, v.margin);
     text(rt, "\n");
 }
@@ -72,6 +63,13 @@ fn four_stations() -> Set {
     }
 }
 
+// A refusal's line.
+fn refusal(rt: &impl Print, number: u8) {
+    text(rt, "refused ");
+    digits(rt, u64::from(number));
+    text(rt, "\n");
+}
+
 // A message of 20 is handed in; a refusal is printed.
 fn message(rt: &impl Print, ring: Ring, station: u64, arrival: u64) -> Ring {
     let taken = ring.hand_in(Message {
@@ -79,13 +77,18 @@ fn message(rt: &impl Print, ring: Ring, station: u64, arrival: u64) -> Ring {
         length: Ticks(20),
         arrival: Ticks(arrival),
     });
-    let number = taken.number;
-    if number != 0 {
-        text(rt, "refused ");
-        digits(rt, number as u64);
-        text(rt, "\n");
+    if taken.number != 0 {
+        refusal(rt, taken.number);
     }
     taken.ring
+}
+
+// One at each station.
+fn messages(rt: &impl Print, mut ring: Ring, arrival: u64) -> Ring {
+    for station in 0..4 {
+        ring = message(rt, ring, station, arrival);
+    }
+    ring
 }
 
 // A visit with 1,000 asynchronous ticks asked for: the row, or the refusal.
@@ -95,13 +98,10 @@ fn visit(rt: &impl Print, ring: Ring, visit: u64) -> Ring {
         length: 1,
     });
     let answer = visited.answer;
-    let number = answer.number;
-    if number == 0 {
+    if answer.number == 0 {
         row(rt, visit, answer.record);
     } else {
-        text(rt, "refused ");
-        digits(rt, number as u64);
-        text(rt, "\n");
+        refusal(rt, answer.number);
     }
     visited.ring
 }
@@ -115,18 +115,11 @@ fn main(rt: HostRuntime) {
         &rt,
         "Visit | Station | Start | TRT | Limit | Sync | Async | Finish | Margin\n",
     );
-    let mut ring = message(&rt, opened.ring, 0, 0);
-    ring = message(&rt, ring, 1, 0);
-    ring = message(&rt, ring, 2, 0);
-    ring = message(&rt, ring, 3, 0);
-    ring = visit(&rt, ring, 1);
-    ring = visit(&rt, ring, 2);
-    ring = visit(&rt, ring, 3);
-    ring = visit(&rt, ring, 4);
-    ring = message(&rt, ring, 0, 100);
-    ring = message(&rt, ring, 1, 100);
-    ring = message(&rt, ring, 2, 100);
-    ring = message(&rt, ring, 3, 100);
+    let mut ring = messages(&rt, opened.ring, 0);
+    for number in 1..5 {
+        ring = visit(&rt, ring, number);
+    }
+    ring = messages(&rt, ring, 100);
     ring = visit(&rt, ring, 5);
     visit(&rt, ring, 6);
 }

@@ -2,6 +2,7 @@
 #![tactic(auto)]
 
 ghost use Rattle.std.specs.Prelude.{◌≡◌, cond, ◌+◌, ◌*◌, ◌^◌, ◌≤◌, ◌<◌};
+ghost use Rattle.units.specs.Refusals.{answer_number};
 ghost use Rattle.units.specs.Grid.{stepped};
 ghost use Rattle.units.specs.Small.{UpTo};
 ghost use Rattle.plans.specs.Planned.{smallest_for};
@@ -10,6 +11,7 @@ ghost use Rattle.tuning.specs.Tunings.{no_tuning, judged_at_all, counted, tuned_
 
 use sets::{Head, Set};
 use units::numbers;
+use units::refusals::Refusal;
 
 // What a range of TTRT has: at how many there is a plan, the smallest and the largest of them, the nearest below and above the set's own, and the one with the largest part A* / TTRT, with its A*. 0 where there is none.
 #[derive(Clone, Copy)]
@@ -55,12 +57,12 @@ fn stepped(grid: u32, shares: u64, need: u64) -> u64
     requires { (shares ≤ 2 ^ 32) × (need ≤ 2 ^ 33) × (grid ≤ 1_000) }
     ensures { UpTo (need + grid) (stepped grid shares need) result }
 {
-    let step = units::wide(grid);
+    let step = u64::from(grid);
     let divisor = shares * step;
     if divisor == 0 {
         return 0;
     }
-    (need + (divisor - 1)) / divisor * step
+    need.div_ceil(divisor) * step
 }
 
 // The smallest multiple of the grid that meets the deadline rule, by division.
@@ -68,9 +70,9 @@ fn smallest(grid: u32, ttrt: u32, c: u32, d: u32) -> u64
     requires { (0 < ttrt) × (grid ≤ 1_000) }
     ensures { UpTo (2 ^ 34) (smallest_for grid ttrt c d) result }
 {
-    let whole = units::wide(d / ttrt);
-    let alpha = units::wide(ttrt - d % ttrt);
-    let longest = units::wide(c);
+    let whole = u64::from(d / ttrt);
+    let alpha = u64::from(ttrt - d % ttrt);
+    let longest = u64::from(c);
     if longest <= whole * alpha {
         stepped(grid, whole, longest)
     } else {
@@ -81,16 +83,13 @@ fn smallest(grid: u32, ttrt: u32, c: u32, d: u32) -> u64
 // ---- one TTRT
 
 // The sum of the smallest S.
-fn sum_at<'a>(grid: u32, ttrt: u32, n: u32, c: &'a [u32; 128], d: &'a [u32; 128]) -> u64
+fn sum_at(grid: u32, ttrt: u32, n: u32, c: &[u32; 128], d: &[u32; 128]) -> u64
     requires { (0 < ttrt) × (grid ≤ 1_000) × (n ≤ 128) }
     ensures { UpTo (2 ^ 41) (sum_at grid n c.now d.now ttrt) result }
 {
-    let end = units::places(n);
     let mut sum: u64 = 0;
-    let mut i: usize = 0;
-    while i < end {
+    for i in 0..units::places(n) {
         sum += smallest(grid, ttrt, c[i], d[i]);
-        i += 1;
     }
     sum
 }
@@ -106,13 +105,11 @@ fn chosen(test: bool, first: u32, second: u32) -> u32
 fn counted(own: u32, x: u32, spare: u32, k: Tuning) -> Tuning
     ensures { result ≡ counted own x spare k }
 {
-    let most = units::wide(numbers::MOST_TTRT);
-    let count = units::least(units::wide(k.count) + 1, most) as u32;
-    let before = units::wide(k.spare) * units::wide(x);
-    let now = units::wide(spare) * units::wide(k.best);
+    let before = u64::from(k.spare) * u64::from(x);
+    let now = u64::from(spare) * u64::from(k.best);
     let better = (k.best == 0) | (before < now);
     Tuning {
-        count,
+        count: k.count.saturating_add(1).min(numbers::MOST_TTRT),
         smallest: chosen(k.smallest == 0, x, k.smallest),
         largest: x,
         below: chosen(x < own, x, k.below),
@@ -123,7 +120,7 @@ fn counted(own: u32, x: u32, spare: u32, k: Tuning) -> Tuning
 }
 
 // One more TTRT tried.
-fn tried<'a>(h: Terms, c: &'a [u32; 128], d: &'a [u32; 128], x: u64, k: Tuning) -> Tuning
+fn tried(h: Terms, c: &[u32; 128], d: &[u32; 128], x: u64, k: Tuning) -> Tuning
     requires { Ready h }
     ensures { result ≡ tried_with h c.now d.now x k }
 {
@@ -146,54 +143,39 @@ fn tried<'a>(h: Terms, c: &'a [u32; 128], d: &'a [u32; 128], x: u64, k: Tuning) 
 // ---- a range
 
 // Some TTRT tried, one after another.
-fn tried_over<'a>(
-    h: Terms,
-    c: &'a [u32; 128],
-    d: &'a [u32; 128],
-    from: u32,
-    n: u32,
-    k: Tuning,
-) -> Tuning
+fn tried_over(h: Terms, c: &[u32; 128], d: &[u32; 128], from: u32, n: u32, k: Tuning) -> Tuning
     requires { Ready h }
     ensures { result ≡ tried_over h c.now d.now from n k }
 {
     let mut seen = k;
-    let mut i: u32 = 0;
-    while i < n {
-        let x = units::wide(from) + units::wide(i);
+    for i in 0..n {
+        let x = u64::from(from) + u64::from(i);
         seen = tried(h, c, d, x, seen);
-        i += 1;
     }
     seen
 }
 
-// What planning refuses whatever TTRT is: 0, or the first of 2, 4 and 16 that applies.
-pub fn judge(t: Set) -> u8
-    ensures { result ≡ judged_at_all t }
+// What planning refuses whatever TTRT is: the first of 2, 4 and 16 that applies.
+pub fn judge(t: Set) -> Result<(), Refusal>
+    ensures { answer_number result ≡ judged_at_all t }
 {
     let head = Head {
         ttrt: numbers::MOST_TTRT,
-        mode: t.head.mode,
-        frame: t.head.frame,
-        grid: t.head.grid,
+        ..t.head
     };
-    let number = sets::judge_lent(head, t.n, &t.w, &t.c, &t.d, &t.p);
-    let refused = (number == numbers::WRONG_SHAPE) | (number == numbers::OUT_OF_RANGE);
-    if refused {
-        return number;
-    }
+    sets::judge_numbers(head, t.n, &t.w, &t.c, &t.d, &t.p)?;
     let retired = t.head.mode == numbers::FDDI;
     if retired {
-        return numbers::RETIRED;
+        return Err(Refusal::Retired);
     }
-    numbers::ACCEPTED
+    Ok(())
 }
 
 // The set planned at n TTRT, one after another from this one on, all else as it is.
 pub fn tune_over(t: Set, from: u32, n: u32, k: Tuning) -> Tuning
     ensures { result ≡ tuned_over t from n k }
 {
-    if judge(t) != numbers::ACCEPTED {
+    if judge(t).is_err() {
         return k;
     }
     let tau = sets::walk_time(t);

@@ -18,7 +18,7 @@ use Rattle.sheets.specs.Reading.{read_plan}
 use Rattle.sheets.proofs.ReadLaws.{then_rest, then_keeps, then_none}
 use Rattle.versions.specs.Layout.{store_size, most_kept, last_version, version_bytes, empty_store}
 use Rattle.versions.specs.Area.{place_of, before_in, kept_at, count_in, end_in, newest_in, is_store, area_number}
-use Rattle.versions.specs.Answers.{holding_with, Judged, is_long, emptied_area, Emptied, is_full, next_place, moved_down, with_room, with_version, store_number, store_answer, area_after, Stored, is_kept, find_number, found_place, found_with, found_version, versions_with, versions_in}
+use Rattle.versions.specs.Answers.{Held, is_long, emptied_area, Emptied, is_full, next_place, moved_down, with_room, with_version, store_number, store_answer, area_after, Stored, is_kept, find_number, found_place, found_with, found_version, versions_with, versions_in}
 use Rattle.versions.specs.Bounds.{StoreHolds, RoomMade}
 use Rattle.versions.specs.declared.Holding.{Holding}
 use Rattle.versions.proofs.AreaLaws.{and_first, and_second, or_none_lem, or_some, leading_most, newest_small, places_short, places_rise, place_none, place_next, kept_here, FieldHere, ends_inside, store_here}
@@ -26,22 +26,15 @@ use Rattle.versions.proofs.AreaLaws.{and_first, and_second, or_none_lem, or_some
 -- ---- judging
 
 module _ (bs : List ℕ) where
-  pub judged_not : is_store bs ≡ false → Judged bs (record { number = 2; before = 0; count = 0; end = 0 })
-  unfolding holding_with
-  judged_not e =
-      let k : area_number bs ≡ 2 = failed _ _ _ e in
-      record { is = rw k refl; newest = omega arith }
-
-  pub judged_store : is_store bs ≡ true → AllBytes bs → Judged bs (record { number = 0; before = before_in bs; count = count_in bs; end = end_in bs })
-  unfolding holding_with
+  pub judged_store : is_store bs ≡ true → AllBytes bs → Held bs (record { before = before_in bs; count = count_in bs; end = end_in bs })
   judged_store e bytes =
-      let k : area_number bs ≡ 0 = held _ _ _ e in
-      record { is = rw k refl; newest = newest_small bs bytes (omega (arith, (store_here bs e).long)) }
+      record { store = e; before = refl; count = refl; end = refl; newest = newest_small bs bytes (omega (arith, (store_here bs e).long)) }
 
-holding_number : (k : ℕ) (bs : List ℕ) → (holding_with k bs).number ≡ k
-unfolding holding_with
-holding_number zero bs = refl
-holding_number (suc k) bs = refl
+  pub area_refused : is_store bs ≡ false → area_number bs ≡ 2
+  area_refused e = failed _ _ _ e
+
+  pub area_accepted : is_store bs ≡ true → area_number bs ≡ 0
+  area_accepted e = held _ _ _ e
 
 -- ---- answers of finding
 
@@ -73,68 +66,35 @@ found_in_lem bs version (suc k) e = omega arith
 pub found_inside : (bs : List ℕ) (version : ℕ) → (found_version bs version).place + (found_version bs version).length ≤ length bs
 found_inside bs version = found_in_lem bs version (find_number bs version) refl
 
--- what a judgement says to whoever asked for it
-pub record Holds (bs : List ℕ) (r : Holding) : Type 0 where
-  pub store : is_store bs ≡ true
-  pub accepted : area_number bs ≡ 0
-  pub before : r.before ≡ before_in bs
-  pub count : r.count ≡ count_in bs
-  pub end : r.end ≡ end_in bs
+-- ---- an area that is no store
 
-module _ {bs : List ℕ} {r : Holding} (j : Judged bs r) where
-  pub area_number_lem : area_number bs ≡ r.number
-  area_number_lem = sym (holding_number _ bs) ∙ sym (ap (λ (x : Holding). x.number) j.is)
-
-  pub holds : r.number ≡ 0 → Holds bs r
-  unfolding holding_with
-  holds z =
-      let k : area_number bs ≡ 0 = area_number_lem ∙ z in
-      let is : r ≡ record { number = 0; before = before_in bs; count = count_in bs; end = end_in bs } = rw k at j.is in
-      record {
-        store = (passed _ 2 _ (omega arith) k).0;
-        accepted = k;
-        before = ap (λ (x : Holding). x.before) is;
-        count = ap (λ (x : Holding). x.count) is;
-        end = ap (λ (x : Holding). x.end) is;
-      }
-
-  -- ---- which versions there are
-
-  pub versions_refused : r.number ≢ 0 → record { oldest = 0; newest = 0; number = r.number } ≡ versions_in bs
+module _ (bs : List ℕ) (not_store : is_store bs ≡ false) where
+  pub versions_refused : record { oldest = 0; newest = 0; number = 2 } ≡ versions_in bs
   unfolding versions_with
-  versions_refused o = rw area_number_lem (sym (go r.number o))
-    where
-      go : (k : ℕ) → k ≢ 0 → versions_with k bs ≡ record { oldest = 0; newest = 0; number = k }
-      go zero n = absurd (n refl)
-      go (suc k) n = refl
+  versions_refused = rw (area_refused bs not_store) refl
 
-  module _ (z : r.number ≡ 0) where
-    here : Holds bs r
-    here = holds z
+  pub found_refused : (version : ℕ) → record { place = 0; length = 0; number = 2 } ≡ found_version bs version
+  found_refused version =
+      let k : find_number bs version ≡ 2 = then_keeps _ _ (λ e. absurd (omega (arith, area_refused bs not_store, e))) ∙ area_refused bs not_store in
+      rw k (sym (found_not bs (found_place bs version) 2 (omega arith)))
 
-    pub versions_none : r.count ≡ 0 → record { oldest = 0; newest = 0; number = 0 } ≡ versions_in bs
-    unfolding versions_with
-    versions_none n = rw (here.accepted, eq-eqb (count_in bs) 0 (sym here.count ∙ n)) refl
+-- ---- a store
 
-    pub versions_some : r.count ≢ 0 → record { oldest = r.before + 1; newest = r.before + r.count; number = 0 } ≡ versions_in bs
-    unfolding versions_with
-    versions_some n = rw (here.accepted, ne_eqb (count_in bs) 0 (λ e. n (here.count ∙ e)), here.before, here.count) refl
+module _ {bs : List ℕ} {r : Holding} (here : Held bs r) where
+  -- which versions there are
+  pub versions_none : r.count ≡ 0 → record { oldest = 0; newest = 0; number = 0 } ≡ versions_in bs
+  unfolding versions_with
+  versions_none n = rw (area_accepted bs here.store, eq-eqb (count_in bs) 0 (sym here.count ∙ n)) refl
 
-  -- ---- finding
+  pub versions_some : r.count ≢ 0 → record { oldest = r.before + 1; newest = r.before + r.count; number = 0 } ≡ versions_in bs
+  unfolding versions_with
+  versions_some n = rw (area_accepted bs here.store, ne_eqb (count_in bs) 0 (λ e. n (here.count ∙ e)), here.before, here.count) refl
 
-  find_keeps : r.number ≢ 0 → (version : ℕ) → find_number bs version ≡ r.number
-  find_keeps o version = then_keeps _ _ (λ e. o (sym area_number_lem ∙ e)) ∙ area_number_lem
-
-  pub found_refused : (version : ℕ) → r.number ≢ 0 → record { place = 0; length = 0; number = r.number } ≡ found_version bs version
-  found_refused version o = rw (find_keeps o version) (sym (found_not bs (found_place bs version) r.number o))
-
-  module _ (z : r.number ≡ 0) (version : ℕ) where
-    there : Holds bs r
-    there = holds z
-
+  -- finding
+  module _ (version : ℕ) where
     pub found_none : (leb version r.before || ltb (r.before + r.count) version) ≡ true → record { place = 0; length = 0; number = 17 } ≡ found_version bs version
     found_none t =
-        let k : find_number bs version ≡ 17 = then_rest _ _ there.accepted ∙ failed _ _ _ (not_kept bs version (rw (there.before, there.count) at t)) in
+        let k : find_number bs version ≡ 17 = then_rest _ _ (area_accepted bs here.store) ∙ failed _ _ _ (not_kept bs version (rw (here.before, here.count) at t)) in
         rw k (sym (found_not bs (found_place bs version) 17 (omega arith)))
 
     module _ (t : (leb version r.before || ltb (r.before + r.count) version) ≡ false) where
@@ -146,16 +106,16 @@ module _ {bs : List ℕ} {r : Holding} (j : Judged bs r) where
 
       -- the place of the version that is looked for
       pub found_field : FieldHere bs (place_of bs (version - r.before - 1))
-      found_field = (kept_here bs most_kept (version - r.before - 1) (omega (arith, above, at_most, there.count))).field
+      found_field = (kept_here bs most_kept (version - r.before - 1) (omega (arith, above, at_most, here.count))).field
 
       pub found_there : (a : ℕ) → a ≡ place_of bs (version - r.before - 1) → (size : ℕ) → size ≡ size_at bs a → record { place = a + 7; length = size - 4; number = 0 } ≡ found_version bs version
       unfolding found_with
       found_there a e size d =
-          let low : before_in bs < version = omega (arith, above, there.before) in
-          let high : version ≤ newest_in bs = omega (arith, at_most, there.before, there.count) in
+          let low : before_in bs < version = omega (arith, above, here.before) in
+          let high : version ≤ newest_in bs = omega (arith, at_most, here.before, here.count) in
           let kept : is_kept bs version ≡ true = true_and _ _ (lt-ltb _ _ low) (le-leb _ _ high) in
-          let k : find_number bs version ≡ 0 = then_rest _ _ there.accepted ∙ held _ _ _ kept in
-          let place : a ≡ found_place bs version = rw there.before at e in
+          let k : find_number bs version ≡ 0 = then_rest _ _ (area_accepted bs here.store) ∙ held _ _ _ kept in
+          let place : a ≡ found_place bs version = rw here.before at e in
           rw (k, d, place) refl
 
 -- ---- storing

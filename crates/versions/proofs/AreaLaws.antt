@@ -9,7 +9,6 @@ use native.Mathlib.Omega.{arith}
 use borrow.Author.Tests.{leb-true, eqb-true, eq-eqb, ne_eqb, le-leb, lt-leb}
 use lib.Dec.{leb, eqb}
 use lib.ListN.{length, length-take, length-drop}
-use Rattle.units.specs.Places.{at}
 use Rattle.units.proofs.JudgingLaws.{true_or_false, and-true}
 use Rattle.units.proofs.SmallLaws.{below_or_not}
 use Rattle.fields.specs.Bytes.{number_at, AllBytes}

@@ -1,60 +1,33 @@
 -- The laws of bytes that are written one after another.
-use Prim.Native.Nat.{ℕ, zero, suc, ◌+◌, ◌-◌, ◌≤◌, ◌<◌}
+use Prim.Native.Nat.{ℕ, zero, suc, ◌+◌, ◌-◌, ◌≤◌}
 use mathlib.Core.Path.{◌≡◌, refl, sym, ap, ◌∙◌}
 use mathlib.Core.List.{List, [], ◌∷◌, ◌++◌, append-nil}
-use native.Mathlib.Numerals.{add-one}
 use native.Mathlib.Nat.{one-mul}
 use native.Mathlib.Omega.{arith}
-use lib.ListN.{length, set, take, drop, length-append, length-take, length-drop, length-set, drop_of_length-le}
+use lib.ListN.{length, take, drop, replicate, length-append, length-take, length-drop, length-replicate, drop_of_length-le}
 use borrow.Author.Tests.{le-leb}
-use lib.Seq.{take-suc, take-length, get_or-take, get_or-drop, get_or-append-add}
+use lib.Seq.{paste, ext_get_or}
+use Rattle.std.proofs.lemmas.List.{get_or-replicate}
 use Rattle.units.specs.Places.{at}
 use Rattle.units.proofs.JudgingLaws.{held}
 use Rattle.fields.specs.Rows.{rows, laid}
 use Rattle.fields.specs.Bytes.{bytes_of}
-use Rattle.fields.proofs.RowLaws.{laid_none, laid_first}
-use Rattle.fields.proofs.SegmentLaws.{rows_length, laid_one, laid_more}
+use Rattle.fields.proofs.RowLaws.{laid_first}
+use Rattle.fields.proofs.SegmentLaws.{rows_length, laid_more}
 use Rattle.fields.proofs.ByteLaws.{bytes_length}
 use Rattle.sheets.specs.Layout.{end_bytes}
 use Rattle.sheets.specs.Writing.{PutAt, room_number, laid_after}
 use Rattle.versions.specs.Layout.{store_size, version_start, version_bytes, zero_bytes, filled_up, empty_store}
 
--- ---- bytes laid one after another by a loop
+-- ---- bytes that are copied down
 
--- the first i bytes of a segment are laid from the place on
-pub record BytesLaid (out₀ out : List ℕ) (from at : ℕ) (segment : List ℕ) (i : ℕ) : Type 0 where
-  pub counted : i ≤ length segment
-  pub here : at ≡ from + i
-  pub so_far : out ≡ laid out₀ from (take i segment)
-  pub long : length out ≡ length out₀
+pub part_long : (bs : List ℕ) (by n : ℕ) → by + n ≤ length bs → length (take n (drop by bs)) ≡ n
+part_long bs by n fits = simp (length-take, length-drop) (omega arith)
 
-pub laid_begin : (out₀ : List ℕ) (from : ℕ) (segment : List ℕ) → BytesLaid out₀ out₀ from from segment 0
-laid_begin out₀ from segment = record { counted = omega arith; here = omega arith; so_far = sym (laid_none out₀ from); long = refl }
-
-taken_long : (i : ℕ) (s : List ℕ) → i ≤ length s → length (take i s) ≡ i
-taken_long i s l = simp length-take (omega arith)
-
--- a turn writes the next one
-pub laid_turn : {out₀ out : List ℕ} {from a i : ℕ} (segment : List ℕ) (x : ℕ) → BytesLaid out₀ out from a segment i → i < length segment → from + length segment ≤ length out₀
-    → x ≡ at segment i → BytesLaid out₀ (set out a x) from (a + 1) segment (i + 1)
-laid_turn {out₀} {out} {from} {a} {i} segment x r l fits e =
-    let long = r.long in
-    let here = r.here in
-    let one : set out a x ≡ laid out a (x ∷ []) = laid_one out a x (omega arith) in
-    let more : set out a x ≡ laid out₀ from (take i segment ++ (x ∷ [])) =
-    laid_more out₀ out (set out a x) from a (take i segment) (x ∷ []) r.so_far (omega (arith, taken_long i segment (omega arith))) one (omega arith) in
-    let next : take (i + 1) segment ≡ take i segment ++ (x ∷ []) = rw (add-one, e) (take-suc segment i 0 l) in
-    record {
-      counted = omega arith;
-      here = omega arith;
-      so_far = rw next more;
-      long = length-set out a x ∙ long;
-    }
-
-pub laid_end : {out₀ out : List ℕ} {from a i : ℕ} (segment : List ℕ) → BytesLaid out₀ out from a segment i → length segment ≤ i → out ≡ laid out₀ from segment
-laid_end {out₀} {from = from} {i = i} segment r done =
-    let all : i ≡ length segment = omega (arith, r.counted) in
-    r.so_far ∙ ap (laid out₀ from) (ap (λ (k : ℕ). take k segment) all ∙ take-length segment)
+-- n bytes that are copied from the place `by` on to the start
+pub moved_laid : (out : List ℕ) (by n k : ℕ) → by + n ≤ length out → k ≡ n → paste out 0 (drop by out) k ≡ laid out 0 (take n (drop by out))
+unfolding laid
+moved_laid out by n k fits e = rw (part_long out by n fits, e) refl
 
 -- ---- zeros
 
@@ -78,24 +51,10 @@ pub zeros_are : (n i : ℕ) → at (zero_bytes n) i ≡ 0
 unfolding zero_bytes
 zeros_are n i = zero_rows n i
 
--- ---- bytes that move down
-
--- the next byte to move is still what it was
-pub moved_next : (out₀ out : List ℕ) (by n a i : ℕ) → BytesLaid out₀ out 0 a (take n (drop by out₀)) i → i < n → at out (by + i) ≡ at (take n (drop by out₀)) i
-moved_next out₀ out by n a i r l =
-    let s = take i (take n (drop by out₀)) in
-    let long : length (take i (take n (drop by out₀))) ≡ i = taken_long i (take n (drop by out₀)) r.counted in
-    let e₁ : at out (by + i) ≡ at (s ++ drop i out₀) (by + i) =
-    ap (λ (o : List ℕ). at o (by + i)) (r.so_far ∙ laid_first out₀ s ∙ ap (λ (k : ℕ). s ++ drop k out₀) long) in
-    let e₂ : by + i ≡ length (take i (take n (drop by out₀))) + by = omega arith in
-    let e₃ : at (s ++ drop i out₀) (length (take i (take n (drop by out₀))) + by) ≡ at (drop i out₀) by = get_or-append-add s (drop i out₀) by 0 in
-    let e₄ : at (drop i out₀) by ≡ at out₀ (i + by) = get_or-drop i out₀ by 0 in
-    let e₅ : at (take n (drop by out₀)) i ≡ at out₀ (by + i) = get_or-take n (drop by out₀) i 0 l ∙ get_or-drop by out₀ i 0 in
-    let e₆ : i + by ≡ by + i = omega arith in
-    e₁ ∙ ap (at (s ++ drop i out₀)) e₂ ∙ e₃ ∙ e₄ ∙ ap (at out₀) e₆ ∙ sym e₅
-
-pub part_long : (bs : List ℕ) (by n : ℕ) → by + n ≤ length bs → length (take n (drop by bs)) ≡ n
-part_long bs by n fits = simp (length-take, length-drop) (omega arith)
+pub zeros_list : (n : ℕ) → replicate n 0 ≡ zero_bytes n
+zeros_list n =
+    ext_get_or 0 _ _ (length-replicate n 0 ∙ sym (zeros_long n))
+    (λ i l. get_or-replicate n i 0 0 (rw length-replicate at l) ∙ sym (zeros_are n i))
 
 -- ---- what was put at a place
 

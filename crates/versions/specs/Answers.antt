@@ -1,5 +1,5 @@
 -- What the calls on an area answer, and what the area then holds, for any bytes whatever.
-use Rattle.std.specs.Prelude.{ℕ, zero, suc, ◌+◌, ◌-◌, ◌<◌, ◌^◌, ◌≡◌, Bool, cond, ◌&&◌, List, ◌++◌, leb, ltb, eqb, length, take, drop}
+use Rattle.std.specs.Prelude.{ℕ, zero, suc, ◌+◌, ◌-◌, ◌<◌, ◌^◌, ◌≡◌, Bool, true, cond, ◌&&◌, List, ◌++◌, leb, ltb, eqb, length, take, drop}
 use Rattle.units.specs.Numbers.{accepted, wrong_shape, no_version, versions_used}
 use Rattle.units.specs.Judging.{or_else}
 use Rattle.fields.specs.Fields.{size_at}
@@ -7,7 +7,7 @@ use Rattle.fields.specs.Rows.{laid}
 use Rattle.sheets.specs.Layout.{end_bytes}
 use Rattle.sheets.specs.Reading.{then_number, read_plan}
 use Rattle.versions.specs.Layout.{store_size, most_kept, last_version, version_bytes, zero_bytes, empty_store}
-use Rattle.versions.specs.Area.{place_of, before_in, count_in, end_in, newest_in, area_number}
+use Rattle.versions.specs.Area.{place_of, before_in, count_in, end_in, newest_in, is_store, area_number}
 use Rattle.versions.specs.declared.Holding.{Holding}
 use Rattle.versions.specs.declared.FoundVersion.{FoundVersion}
 use Rattle.versions.specs.declared.VersionsIn.{VersionsIn}
@@ -15,17 +15,12 @@ use Rattle.versions.specs.declared.StoredPlan.{StoredPlan}
 
 -- ---- judging an area
 
--- what a store holds; with 2 all is 0
-unfoldable pub holding_with : ℕ → List ℕ → Holding
-holding_with zero bs = record { number = 0; before = before_in bs; count = count_in bs; end = end_in bs }
-holding_with (suc k) bs = record { number = suc k; before = 0; count = 0; end = 0 }
-
-abbrev pub holding : List ℕ → Holding
-holding bs = holding_with (area_number bs) bs
-
--- what is held, and the newest number is one of 32 bits
-pub record Judged (bs : List ℕ) (r : Holding) : Type 0 where
-  pub is : r ≡ holding bs
+-- the area is a store, r is what it holds, and the newest number is one of 32 bits
+pub record Held (bs : List ℕ) (r : Holding) : Type 0 where
+  pub store : is_store bs ≡ true
+  pub before : r.before ≡ before_in bs
+  pub count : r.count ≡ count_in bs
+  pub end : r.end ≡ end_in bs
   pub newest : r.before + r.count < 2 ^ 32
 
 -- ---- emptying

@@ -1,14 +1,13 @@
 // Judging an area: the versions that stand in it one after another, the end behind them, and zeros.
-ghost use Rattle.std.specs.Prelude.{◌≡◌, ◌+◌, ◌-◌, ◌≤◌, length, take, drop};
+ghost use Rattle.std.specs.Prelude.{◌≡◌, ◌+◌, ◌-◌, ◌≤◌, false, length, take, drop, MatchOption};
 ghost use Rattle.fields.specs.Bounds.{Short};
-ghost use Rattle.versions.specs.Area.{version_fits, is_plan, version_stands, place_of, before_in, count_in, zeros_from, ends_at};
-ghost use Rattle.versions.specs.Answers.{Judged};
+ghost use Rattle.versions.specs.Area.{version_fits, is_plan, version_stands, place_of, before_in, count_in, zeros_from, ends_at, is_store};
+ghost use Rattle.versions.specs.Answers.{Held};
 ghost use Rattle.versions.specs.Bounds.{walked_to, TurnOf};
 
 use crate::{
     FoundVersion, Holding, MOST_KEPT, STORE_SIZE, VERSION_TAG, VersionsIn, VersionsWalked,
 };
-use fields::bytes::wide;
 use sheets::records;
 use units::numbers;
 
@@ -17,17 +16,14 @@ pub(crate) fn size_at(bs: &[u8], at: usize) -> usize
     requires { at + 3 ≤ length bs.now }
     ensures { Short bs.now (at + 1) result }
 {
-    let first = at + 1;
-    let size = wide(bs[first]) * 256 + wide(bs[first + 1]);
-    let long = size as usize;
-    long
+    usize::from(bs[at + 1]) * 256 + usize::from(bs[at + 2])
 }
 
 // A whole field of a version stands at the place.
 fn version_fits(area: &[u8], at: usize) -> bool
     ensures { result ≡ version_fits area.now at }
 {
-    let left = records::left(area.len(), at);
+    let left = area.len().saturating_sub(at);
     if left < 7 {
         return false;
     }
@@ -51,7 +47,7 @@ fn version_stands(area: &[u8], at: usize, number: u64) -> bool
         return false;
     }
     let there = records::number_from(area, at + 3);
-    if units::wide(there) != number {
+    if u64::from(there) != number {
         return false;
     }
     let size = size_at(area, at);
@@ -67,7 +63,7 @@ fn walk_on(area: &[u8], before: u32, walked: VersionsWalked, k: u32) -> Versions
     if walked.count != k {
         return walked;
     }
-    let number = units::wide(before) + units::wide(k) + 1;
+    let number = u64::from(before) + u64::from(k) + 1;
     if !version_stands(area, at, number) {
         return walked;
     }
@@ -83,10 +79,8 @@ fn walk_versions(area: &[u8], before: u32) -> VersionsWalked
     ensures { result ≡ walked_to area.now 16 }
 {
     let mut walked = VersionsWalked { count: 0, at: 0 };
-    let mut k: u32 = 0;
-    while k < MOST_KEPT {
+    for k in 0..MOST_KEPT {
         walked = walk_on(area, before, walked, k);
-        k += 1;
     }
     walked
 }
@@ -96,11 +90,7 @@ fn before_in(area: &[u8]) -> u32
     requires { 7 ≤ length area.now }
     ensures { result ≡ before_in area.now }
 {
-    let first = records::number_from(area, 3);
-    if first == 0 {
-        return 0;
-    }
-    first - 1
+    records::number_from(area, 3).saturating_sub(1)
 }
 
 // Nothing but zeros stands from the place on.
@@ -108,12 +98,9 @@ fn zeros_from(area: &[u8], from: usize) -> bool
     requires { from ≤ length area.now }
     ensures { result ≡ zeros_from area.now from }
 {
-    let n = area.len() - from;
     let mut all = true;
-    let mut i: usize = 0;
-    while i < n {
-        all = all & (area[from + i] == 0);
-        i += 1;
+    for &byte in &area[from..] {
+        all &= byte == 0;
     }
     all
 }
@@ -122,7 +109,7 @@ fn zeros_from(area: &[u8], from: usize) -> bool
 fn ends_at(area: &[u8], at: usize) -> bool
     ensures { result ≡ ends_at area.now at }
 {
-    if records::left(area.len(), at) < 3 {
+    if area.len().saturating_sub(at) < 3 {
         return false;
     }
     let size = size_at(area, at);
@@ -132,39 +119,26 @@ fn ends_at(area: &[u8], at: usize) -> bool
     zeros_from(area, at + 3)
 }
 
-// An area that is no store.
-fn no_store() -> Holding
-    ensures { result ≡ record { number = 2; before = 0; count = 0; end = 0 } }
-{
-    Holding {
-        number: numbers::WRONG_SHAPE,
-        before: 0,
-        count: 0,
-        end: 0,
-    }
-}
-
-// What an area holds, or 2.
-pub(crate) fn judge_area(area: &[u8]) -> Holding
-    ensures { Judged area.now result }
+// What an area holds; nothing if it is no store.
+pub(crate) fn judge_area(area: &[u8]) -> Option<Holding>
+    ensures { MatchOption result (is_store area.now ≡ false) (Held area.now) }
 {
     if fields::count_bytes(area) != STORE_SIZE {
-        return no_store();
+        return None;
     }
     let before = before_in(area);
     let walked = walk_versions(area, before);
     if (before != 0) & (walked.count != MOST_KEPT) {
-        return no_store();
+        return None;
     }
     if !ends_at(area, walked.at) {
-        return no_store();
+        return None;
     }
-    Holding {
-        number: numbers::ACCEPTED,
+    Some(Holding {
         before,
         count: walked.count,
         end: walked.at,
-    }
+    })
 }
 
 // The place of version k, from 0 on.
@@ -173,10 +147,8 @@ pub(crate) fn place_of(area: &[u8], k: u32) -> usize
     ensures { result ≡ place_of area.now k }
 {
     let mut at: usize = 0;
-    let mut i: u32 = 0;
-    while i < k {
+    for _ in 0..k {
         at = at + 3 + size_at(area, at);
-        i += 1;
     }
     at
 }

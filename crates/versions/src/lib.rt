@@ -20,10 +20,9 @@ pub const LAST_VERSION: u32 = 4_294_967_295;
 
 pub const VERSION_TAG: u8 = 32;
 
-// What an area holds: 0 with how many numbers were given before the oldest version, how many versions are kept and the place behind them; or 2 with zeros.
+// What a store holds: how many numbers were given before the oldest version, how many versions are kept and the place behind them.
 #[derive(Clone, Copy)]
 pub struct Holding {
-    pub number: u8,
     pub before: u32,
     pub count: u32,
     pub end: usize,
@@ -78,10 +77,9 @@ pub fn empty_store(area: &mut [u8]) -> u8
 pub fn store_plan(area: &mut [u8], sheet: &[u8]) -> StoredPlan
     ensures { Stored sheet.now area.old area.new result }
 {
-    let held = area::judge_area(area);
-    if held.number != numbers::ACCEPTED {
-        return storing::refused(held.number);
-    }
+    let Some(held) = area::judge_area(area) else {
+        return storing::refused(numbers::WRONG_SHAPE);
+    };
     let number = sheets::plan_number(sheet);
     if number != numbers::ACCEPTED {
         return storing::refused(number);
@@ -102,10 +100,9 @@ pub fn store_plan(area: &mut [u8], sheet: &[u8]) -> StoredPlan
 pub fn find_version(area: &[u8], version: u32) -> FoundVersion
     ensures { result ≡ found_version area.now version }
 {
-    let held = area::judge_area(area);
-    if held.number != numbers::ACCEPTED {
-        return area::not_found(held.number);
-    }
+    let Some(held) = area::judge_area(area) else {
+        return area::not_found(numbers::WRONG_SHAPE);
+    };
     let newest = held.before + held.count;
     if (version <= held.before) | (newest < version) {
         return area::not_found(numbers::NO_VERSION);
@@ -122,10 +119,9 @@ pub fn find_version(area: &[u8], version: u32) -> FoundVersion
 pub fn versions_in(area: &[u8]) -> VersionsIn
     ensures { result ≡ versions_in area.now }
 {
-    let held = area::judge_area(area);
-    if held.number != numbers::ACCEPTED {
-        return area::none_kept(held.number);
-    }
+    let Some(held) = area::judge_area(area) else {
+        return area::none_kept(numbers::WRONG_SHAPE);
+    };
     if held.count == 0 {
         return area::none_kept(numbers::ACCEPTED);
     }

@@ -14,13 +14,7 @@ pub(crate) fn clear(out: &mut [u8], from: usize, n: usize)
     requires { from + n ≤ length out.old }
     ensures { out.new ≡ laid out.old from (zero_bytes n) }
 {
-    let mut at = from;
-    let mut i: usize = 0;
-    while i < n {
-        out[at] = 0;
-        at += 1;
-        i += 1;
-    }
+    out[from..from + n].fill(0);
 }
 
 // Moves n bytes from the place `by` on to the start.
@@ -28,11 +22,7 @@ fn move_down(out: &mut [u8], by: usize, n: usize)
     requires { by + n ≤ length out.old }
     ensures { out.new ≡ laid out.old 0 (take n (drop by out.old)) }
 {
-    let mut i: usize = 0;
-    while i < n {
-        out[i] = out[by + i];
-        i += 1;
-    }
+    out.copy_within(by..by + n, 0);
 }
 
 // Writes the bytes of a sheet from the place on.
@@ -40,13 +30,7 @@ fn copy_in(out: &mut [u8], from: usize, sheet: &[u8])
     requires { from + length sheet.now ≤ length out.old }
     ensures { out.new ≡ laid out.old from sheet.now }
 {
-    let mut at = from;
-    let mut i: usize = 0;
-    while i < sheet.len() {
-        out[at] = sheet[i];
-        at += 1;
-        i += 1;
-    }
+    out[from..from + sheet.len()].copy_from_slice(sheet);
 }
 
 // Lets the oldest version go: the others move down, and what is no longer used becomes zero.

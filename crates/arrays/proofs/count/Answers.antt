@@ -1,14 +1,16 @@
--- `count` is right because each of its two loops does the same.
+-- `count` is right because each count becomes what `narrow_counted`, or `one_counted`, makes of it and its number.
+use Rattle.std.proofs.Common.{◌+◌, rules}
+use Rattle.units.specs.Places.{at}
+use Rattle.arrays.specs.Held.{held}
+use Rattle.arrays.specs.Laps.{laps, laps_counted}
 use Rattle.arrays.proofs.count.Goals as goal
 
 pub returns-then-x-top : goal.returns-then-x-top
+unfolding laps_counted
 returns-then-x-top c =
-    c.count_narrow.ensures
+    c.change.ensures (λ i count. held (count + laps c.args.top (at c.args.xs.now i + c.args.x))) (λ i count r l e. search rules)
 
 pub returns : goal.returns
+unfolding laps_counted
 returns c =
-    c.count_wide.ensures
-
-pub count_narrow-requires : goal.count_narrow-requires
-count_narrow-requires c =
-    c.if-x-top.true
+    c.change-2.ensures (λ i count. held (count + laps c.args.top (at c.args.xs.now i + c.args.x))) (λ i count r l e. search rules)

@@ -23,26 +23,8 @@ counted count t x top first left second most r below f l s small₁ small₂ m e
     let sum : first + second ≡ laps top (t + x) = rw (s, l) (rw (f ∙ same_look t x top below) refl) in
     omega (arith, sum)
 
-pub overflow_add-times : goal.overflow_add-times
-overflow_add-times c =
-    let once : c.narrow_reached-first.result ≤ 1 = rw c.narrow_reached-first.ensures (lap_small _ _) in
-    let twice : c.narrow_reached-second.result ≤ 1 = rw c.narrow_reached-second.ensures (lap_small _ _) in
-    record { fits = omega (arith, once, twice) }
-
-pub overflow_sub-times : goal.overflow_sub-times
-overflow_sub-times c =
-    let once : c.narrow_reached-first.result ≤ 1 = rw c.narrow_reached-first.ensures (lap_small _ _) in
-    let twice : c.narrow_reached-second.result ≤ 1 = rw c.narrow_reached-second.ensures (lap_small _ _) in
-    omega (arith, once, twice)
-
-pub overflow_add-result : goal.overflow_add-result
-overflow_add-result c =
-    let once : c.narrow_reached-first.result ≤ 1 = rw c.narrow_reached-first.ensures (lap_small _ _) in
-    let twice : c.narrow_reached-second.result ≤ 1 = rw c.narrow_reached-second.ensures (lap_small _ _) in
-    record { fits = omega (arith, once, twice, c.lesser.ensures) }
-
 pub returns : goal.returns
 returns c =
     let once : c.narrow_reached-first.result ≤ 1 = rw c.narrow_reached-first.ensures (lap_small _ _) in
     let twice : c.narrow_reached-second.result ≤ 1 = rw c.narrow_reached-second.ensures (lap_small _ _) in
-    counted _ _ _ _ _ _ _ _ _ c.requires c.narrow_reached-first.ensures c.narrow_once.ensures c.narrow_reached-second.ensures once twice c.lesser.ensures refl
+    counted _ _ _ _ _ _ _ _ _ c.requires c.narrow_reached-first.ensures c.narrow_once.ensures c.narrow_reached-second.ensures once twice c.min.ensures refl

@@ -1,12 +1,11 @@
 -- `compose_piece` is right because after i turns the text stands behind its first i bytes, and what they let out is put.
-use Prim.Native.Nat.{ℕ, ◌+◌, ◌-◌, ◌≤◌, ◌<◌}
+use Prim.Native.Nat.{ℕ, ◌+◌, ◌≤◌, ◌<◌}
 use mathlib.Core.Path.{◌≡◌, sym, ap, subst, ◌∙◌}
 use mathlib.Core.List.{List, [], ◌∷◌, ◌++◌}
 use mathlib.Core.Logic.{⊎_elim}
-use native.Mathlib.Numerals.{add-one}
 use native.Mathlib.Omega.{arith}
 use lib.ListN.{length, take}
-use lib.Seq.{take-suc}
+use Rattle.std.proofs.lemmas.List.{take_more}
 use Rattle.units.specs.Places.{at}
 use Rattle.text.specs.Text.{Put}
 use Rattle.text.proofs.TextLaws.{put_then}
@@ -37,7 +36,7 @@ pub turn : (text page₀ page page' : List ℕ) (start u u' : Composing) (i next
 turn text page₀ page page' start u u' i next next' l was e q room =
     let b = at text i in
     let eu = was.0 in
-    let more : take (i + 1) text ≡ take i text ++ b ∷ [] = rw add-one (take-suc text i 0 l) in
+    let more : take (i + 1) text ≡ take i text ++ b ∷ [] = take_more text i 0 l in
     let sent : sent_over start (take i text) ++ sent_at u b ≡ sent_over start (take i text ++ b ∷ []) =
     ap (λ (z : Composing). sent_over start (take i text) ++ sent_at z b) eu ∙ sym (sent_snoc start (take i text) b) in
     let put = put_then was.1 q (omega (arith, was.1.next, q.next)) in
@@ -54,12 +53,8 @@ little_more d s i next next' was e =
       λ k. omega (arith, was.1 (line.kinds k), line.silent k),
     )
 
-abbrev pub invariant-loop-i : goal.invariant-loop-i
-invariant-loop-i l =
+abbrev pub invariant-loop-byte : goal.invariant-loop-byte
+invariant-loop-byte l =
     let start : Composing = record { draft = l.initial.draft; scan = l.initial.read } in
     let stands : Composing = record { draft = l.draft; scan = l.read } in
-    (l.i ≤ l.end) × (length l.page ≡ length l.initial.page) × Behind l.text l.initial.page start l.i stands l.page l.next × Little l.i l.draft.kind l.next
-
-abbrev pub decreases-loop-i : goal.decreases-loop-i
-decreases-loop-i l =
-    l.end - l.i
+    (length l.page ≡ length l.initial.page) × Behind l.text l.initial.page start l.byte-index stands l.page l.next × Little l.byte-index l.draft.kind l.next

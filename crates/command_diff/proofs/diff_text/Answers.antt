@@ -23,7 +23,7 @@ put_differences-length-requires c =
 pub returns-then-length-eq0 : goal.returns-then-length-eq0
 returns-then-length-eq0 c =
     diffed_same c.read_plan-before.ensures c.read_plan-after.ensures c.if-page-lt-PAGE_SIZE.false c.if-before-ne-ACCEPTED.false c.if-after-ne-ACCEPTED.false c.put_differences-length.ensures c.if-length-eq0.true
-    c.put_same-said.ensures
+    c.put_same.ensures
 
 pub returns : goal.returns
 returns c =

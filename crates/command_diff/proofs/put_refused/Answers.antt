@@ -8,8 +8,8 @@ use Rattle.command_diff.proofs.put_refused.Goals as goal
 
 pub returns-then-new : goal.returns-then-new
 returns-then-new c =
-    put_as (line_put new_refused (_ ∷ []) c.put_line.ensures (omega arith)) (rw c.if-new.true (side_refused_lem new_word _)) (omega arith)
+    put_as (line_put new_refused (_ ∷ []) c.put_line.ensures (omega arith)) (rw (c.if-new.true, c.from.ensures) (side_refused_lem new_word _)) (omega arith)
 
 pub returns : goal.returns
 returns c =
-    put_as (line_put old_refused (_ ∷ []) c.put_line-2.ensures (omega arith)) (rw c.if-new.false (side_refused_lem old_word _)) (omega arith)
+    put_as (line_put old_refused (_ ∷ []) c.put_line-2.ensures (omega arith)) (rw (c.if-new.false, c.from-2.ensures) (side_refused_lem old_word _)) (omega arith)

@@ -4,4 +4,4 @@ use Rattle.command_hopper.proofs.begin_list.Goals as goal
 
 pub returns : goal.returns
 returns c =
-    rw (c.blank_list-list.ensures, c.fresh-scan.ensures) refl
+    rw (c.blank_list.ensures, c.fresh.ensures) refl

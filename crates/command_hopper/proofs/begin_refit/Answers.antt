@@ -4,4 +4,4 @@ use Rattle.command_hopper.proofs.begin_refit.Goals as goal
 
 pub returns : goal.returns
 returns c =
-    rw c.fresh-scan.ensures refl
+    rw c.fresh.ensures refl

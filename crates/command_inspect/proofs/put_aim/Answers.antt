@@ -1,26 +1,36 @@
 -- `put_aim` is right because it goes by the rule's number, as the definition does.
+use mathlib.Core.Path.{◌≡◌, refl}
+use mathlib.Core.Bool.{true, false, ◌||◌}
 use native.Mathlib.Omega.{arith}
+use lib.Dec.{eqb}
+use borrow.Author.Tests.{ne_eqb}
 use Rattle.text.proofs.TextLaws.{put_none, put_as}
-use Rattle.command_inspect.proofs.LineLaws.{station_aim, start_aim, limit_aim, most_aim, frames_aim_lem}
+use Rattle.command_inspect.specs.FindingText.{aim_of}
 use Rattle.command_inspect.proofs.put_aim.Goals as goal
 
-pub returns-then-rule-eq1 : goal.returns-then-rule-eq1
-returns-then-rule-eq1 c =
-    put_as (c.put_short.ensures.put (omega (arith, c.requires)) (omega arith)) (station_aim _ _ c.if-rule-eq1.true) (omega arith)
+pub returns-in-1 : goal.returns-in-1
+unfolding aim_of
+returns-in-1 c =
+    rw c.in-1.is (put_as (c.put_short.ensures.put (omega (arith, c.requires)) (omega arith)) refl (omega arith))
 
-pub returns-then-rule-eq2 : goal.returns-then-rule-eq2
-returns-then-rule-eq2 c =
-    put_as {most = 0} (record { put = put_none _ _; short = omega arith }) (start_aim _ _ c.if-rule-eq2.true) (omega arith)
+pub returns-in-2 : goal.returns-in-2
+unfolding aim_of
+returns-in-2 c =
+    rw c.in-2.is (put_as {most = 0} (record { put = put_none _ _; short = omega arith }) refl (omega arith))
 
-pub returns-then-rule-eq3 : goal.returns-then-rule-eq3
-returns-then-rule-eq3 c =
-    put_as (c.put_short-then-rule-eq3.ensures.put (omega (arith, c.requires)) (omega arith)) (limit_aim _ _ c.if-rule-eq3.true) (omega arith)
+pub returns-in-3 : goal.returns-in-3
+unfolding aim_of
+returns-in-3 c =
+    rw c.in-3.is (put_as (c.put_short-in-3.ensures.put (omega (arith, c.requires)) (omega arith)) refl (omega arith))
 
-pub returns-then-most : goal.returns-then-most
-returns-then-most c =
-    put_as (c.put_short-then-most.ensures.put (omega (arith, c.requires)) (omega arith))
-    (most_aim _ _ c.if-rule-eq1.false c.if-rule-eq2.false c.if-rule-eq3.false c.if-most.true) (omega arith)
+pub returns-in_default : goal.returns-in_default
+unfolding aim_of
+returns-in_default c =
+    let most : (eqb c.args.rule 4 || eqb c.args.longest 1) ≡ true = c.if-rule-longest.true in
+    put_as (c.put_short-in_default.ensures.put (omega (arith, c.requires)) (omega arith)) (rw (ne_eqb c.args.rule 1 (λ e. omega (arith, e)), ne_eqb c.args.rule 2 (λ e. omega (arith, e)), ne_eqb c.args.rule 3 (λ e. omega (arith, e)), most) refl) (omega arith)
 
-pub returns : goal.returns
-returns c =
-    put_as c.put_frames.ensures (frames_aim_lem _ _ c.if-rule-eq1.false c.if-rule-eq2.false c.if-rule-eq3.false c.if-most.false) (omega arith)
+pub returns-in_default-2 : goal.returns-in_default-2
+unfolding aim_of
+returns-in_default-2 c =
+    let frames : (eqb c.args.rule 4 || eqb c.args.longest 1) ≡ false = c.if-rule-longest.false in
+    put_as c.put_frames.ensures (rw (ne_eqb c.args.rule 1 (λ e. omega (arith, e)), ne_eqb c.args.rule 2 (λ e. omega (arith, e)), ne_eqb c.args.rule 3 (λ e. omega (arith, e)), frames) refl) (omega arith)

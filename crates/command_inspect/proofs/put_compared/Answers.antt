@@ -13,4 +13,4 @@ returns c =
     let four = put_short_then three c.put_unit-counted.ensures (omega (arith, room)) in
     let five = within_then four c.put_short-came.ensures (omega arith) (omega (arith, room)) in
     let six = field_then _ five c.put_field-found.ensures (omega (arith, room)) in
-    put_as (end_then six c.put_end.ensures (omega (arith, room))) (rw (c.wide.ensures.same, c.wide-2.ensures.same) refl) (omega arith)
+    put_as (end_then six c.put_end.ensures (omega (arith, room))) (rw (c.from.ensures, c.from-2.ensures) refl) (omega arith)

@@ -10,4 +10,4 @@ returns c =
     let one = c.put_short-whole.ensures.put (omega (arith, room)) (omega arith) in
     let two = within_then one c.put_short-long.ensures (omega arith) (omega (arith, room)) in
     let three = field_then _ two c.put_field-numbered.ensures (omega (arith, room)) in
-    put_as (within_then three c.put_short.ensures (omega arith) (omega (arith, room))) (rw c.wide.ensures.same refl) (omega arith)
+    put_as (within_then three c.put_short.ensures (omega arith) (omega (arith, room))) (rw c.from.ensures refl) (omega arith)

@@ -16,7 +16,7 @@ returns c =
     let six = field_then _ five c.put_field-station.ensures (omega (arith, room)) in
     let seven = field_then _ six c.put_field-both.ensures (omega (arith, room)) in
     put_as (end_then seven c.put_end.ensures (omega (arith, room)))
-    (rw (c.wide.ensures.same, c.wide-2.ensures.same, c.wide-3.ensures.same) refl) (omega arith)
+    (rw (c.from.ensures, c.from-2.ensures, c.from-3.ensures) refl) (omega arith)
 
 pub shape_of-page : goal.shape_of-page
 shape_of-page c =

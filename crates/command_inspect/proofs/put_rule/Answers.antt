@@ -1,34 +1,36 @@
 -- `put_rule` is right because it goes by the rule's number, as the definition does.
-use Prim.Native.Nat.{ℕ}
-use mathlib.Core.Path.{ap}
+use mathlib.Core.Path.{◌≡◌, refl, ap}
 use mathlib.Core.List.{List, ◌∷◌}
+use Prim.Native.Nat.{ℕ}
 use native.Mathlib.Omega.{arith}
+use Rattle.std.proofs.lemmas.Grind.{common_steps}
 use Rattle.text.specs.Text.{space}
 use Rattle.text.proofs.TextLaws.{put_as}
-use Rattle.command_inspect.proofs.LineLaws.{station_word_lem, start_word_lem, limit_word_lem, synchronous_word_lem, asynchronous_word_lem}
+use Rattle.command_inspect.specs.FindingText.{asynchronous_word, rule_word}
 use Rattle.command_inspect.proofs.put_rule.Goals as goal
 
-pub returns-then-rule-eq1 : goal.returns-then-rule-eq1
-returns-then-rule-eq1 c =
-    put_as (c.put_short.ensures.put (omega (arith, c.requires)) (omega arith))
-    (ap (λ (w : List ℕ). space ∷ w) (station_word_lem _ c.if-rule-eq1.true)) (omega arith)
+pub returns-in-1 : goal.returns-in-1
+unfolding rule_word
+returns-in-1 c =
+    rw c.in-1.is (put_as (c.put_short.ensures.put (omega (arith, c.requires)) (omega arith)) refl (omega arith))
 
-pub returns-then-rule-eq2 : goal.returns-then-rule-eq2
-returns-then-rule-eq2 c =
-    put_as (c.put_short-then-rule-eq2.ensures.put (omega (arith, c.requires)) (omega arith))
-    (ap (λ (w : List ℕ). space ∷ w) (start_word_lem _ c.if-rule-eq2.true)) (omega arith)
+pub returns-in-2 : goal.returns-in-2
+unfolding rule_word
+returns-in-2 c =
+    rw c.in-2.is (put_as (c.put_short-in-2.ensures.put (omega (arith, c.requires)) (omega arith)) refl (omega arith))
 
-pub returns-then-rule-eq3 : goal.returns-then-rule-eq3
-returns-then-rule-eq3 c =
-    put_as (c.put_short-then-rule-eq3.ensures.put (omega (arith, c.requires)) (omega arith))
-    (ap (λ (w : List ℕ). space ∷ w) (limit_word_lem _ c.if-rule-eq3.true)) (omega arith)
+pub returns-in-3 : goal.returns-in-3
+unfolding rule_word
+returns-in-3 c =
+    rw c.in-3.is (put_as (c.put_short-in-3.ensures.put (omega (arith, c.requires)) (omega arith)) refl (omega arith))
 
-pub returns-then-rule-eq4 : goal.returns-then-rule-eq4
-returns-then-rule-eq4 c =
-    put_as (c.put_short-then-rule-eq4.ensures.put (omega (arith, c.requires)) (omega arith))
-    (ap (λ (w : List ℕ). space ∷ w) (synchronous_word_lem _ c.if-rule-eq4.true)) (omega arith)
+pub returns-in-4 : goal.returns-in-4
+unfolding rule_word
+returns-in-4 c =
+    rw c.in-4.is (put_as (c.put_short-in-4.ensures.put (omega (arith, c.requires)) (omega arith)) refl (omega arith))
 
-pub returns : goal.returns
-returns c =
-    put_as (c.put_short-2.ensures.put (omega (arith, c.requires)) (omega arith))
-    (ap (λ (w : List ℕ). space ∷ w) (asynchronous_word_lem _ c.if-rule-eq1.false c.if-rule-eq2.false c.if-rule-eq3.false c.if-rule-eq4.false)) (omega arith)
+pub returns-in_default : goal.returns-in_default
+unfolding rule_word
+returns-in_default c =
+    let last : asynchronous_word ≡ rule_word c.args.rule = grind (arith, common_steps) in
+    put_as (c.put_short-in_default.ensures.put (omega (arith, c.requires)) (omega arith)) (ap (λ (w : List ℕ). space ∷ w) last) (omega arith)

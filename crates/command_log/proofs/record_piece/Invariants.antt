@@ -1,5 +1,5 @@
 -- `record_piece` is right because after i turns the recording stands behind the first i bytes, and the fields of their records are put.
-use Prim.Native.Nat.{ℕ, ◌-◌, ◌≤◌}
+use Prim.Native.Nat.{ℕ}
 use Rattle.units.specs.Places.{at}
 use Rattle.logs.specs.declared.Recorder.{Recorder}
 use Rattle.command_run.specs.declared.Run.{Run}
@@ -12,10 +12,6 @@ use Rattle.command_log.proofs.record_piece.Given as goal
 abbrev pub held_by : Run → ℕ → Recorder → Recording
 held_by run unread r = record { run = run; clock = r.clock; counter = r.counter; unread = unread }
 
-abbrev pub invariant-loop-i : goal.invariant-loop-i
-invariant-loop-i l =
-    (l.i ≤ l.end) × Behind record_on logged_at 20 l.text l.initial.page (held_by l.initial.stands l.initial.unread l.initial.recorder) l.i (held_by l.stands l.unread l.recorder) l.page l.recorder.at
-
-abbrev pub decreases-loop-i : goal.decreases-loop-i
-decreases-loop-i l =
-    l.end - l.i
+abbrev pub invariant-loop-byte : goal.invariant-loop-byte
+invariant-loop-byte l =
+    Behind record_on logged_at 20 l.text l.initial.page (held_by l.initial.stands l.initial.unread l.initial.recorder) l.byte-index (held_by l.stands l.unread l.recorder) l.page l.recorder.at

@@ -4,10 +4,10 @@ use Rattle.sheets.proofs.ReadLaws.{then_rest, then_keeps}
 use Rattle.command_plan.proofs.PlanSheetLaws.{plan_made}
 use Rattle.command_plan.proofs.plan_of.Goals as goal
 
-pub returns-then-request-ne-ACCEPTED : goal.returns-then-request-ne-ACCEPTED
-returns-then-request-ne-ACCEPTED c =
-    plan_made _ _ _ _ refl c.plan-planned.ensures (then_keeps _ _ c.if-request-ne-ACCEPTED.true)
+pub returns-then-number-ne-ACCEPTED : goal.returns-then-number-ne-ACCEPTED
+returns-then-number-ne-ACCEPTED c =
+    plan_made _ _ _ _ refl c.plan-planned.ensures (then_keeps _ _ c.if-number-ne-ACCEPTED.true)
 
 pub returns : goal.returns
 returns c =
-    plan_made _ _ _ _ refl c.plan-planned.ensures (then_rest _ _ c.if-request-ne-ACCEPTED.false)
+    plan_made _ _ _ _ refl c.plan-planned.ensures (then_rest _ _ c.if-number-ne-ACCEPTED.false)

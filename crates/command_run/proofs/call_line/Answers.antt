@@ -28,7 +28,7 @@ returns-then-is_message c =
     let some_line : is_empty_line c.args.s ≡ false = sym c.is_empty_line.ensures ∙ c.if-is_empty_line.false in
     let no_visit : is_visit c.args.s ≡ false = sym c.is_visit.ensures ∙ c.if-is_visit.false in
     called_message c.args.ring c.args.s _ some_line no_visit (sym c.is_message.ensures ∙ c.if-is_message.true)
-    (c.hand_in-taken.ensures ∙ ap (handed_in c.args.ring) c.message_in.ensures)
+    (c.hand_in-held.ensures ∙ ap (handed_in c.args.ring) c.message_in.ensures)
 
 pub returns : goal.returns
 returns c =

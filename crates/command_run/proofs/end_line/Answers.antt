@@ -4,4 +4,4 @@ use Rattle.command_run.proofs.end_line.Goals as goal
 
 pub returns : goal.returns
 returns c =
-    rw (c.next_line.ensures, c.fresh-fresh.ensures, c.call_line-called.ensures) refl
+    rw (c.next_line.ensures, c.fresh.ensures, c.call_line-called.ensures) refl

@@ -11,4 +11,6 @@ use Rattle.command_show_log.proofs.put_mark_line.Goals as goal
 pub returns : goal.returns
 unfolding number_words mark_line
 returns c =
-    put_as (line_put mark_word (_ ∷ _ ∷ []) c.put_line.ensures (omega arith)) refl (omega arith)
+    put_as (line_put mark_word (_ ∷ _ ∷ []) c.put_line.ensures (omega arith))
+    (rw (c.from.ensures, c.from-2.ensures) refl)
+    (omega arith)

@@ -11,4 +11,6 @@ use Rattle.command_show_log.proofs.put_visit_line.Goals as goal
 pub returns : goal.returns
 unfolding number_words visit_line
 returns c =
-    put_as (line_put visit_word (_ ∷ _ ∷ _ ∷ _ ∷ _ ∷ []) c.put_line.ensures (omega arith)) refl (omega arith)
+    put_as (line_put visit_word (_ ∷ _ ∷ _ ∷ _ ∷ _ ∷ []) c.put_line.ensures (omega arith))
+    (rw (c.from-station.ensures, c.from-start.ensures, c.from-limit.ensures, c.from-synchronous.ensures, c.from-asynchronous.ensures) refl)
+    (omega arith)

@@ -26,9 +26,9 @@ returns-then-not-is_range c =
 pub returns-then-number-ne-ACCEPTED : goal.returns-then-number-ne-ACCEPTED
 returns-then-number-ne-ACCEPTED c =
     let passed : (scanned false c.args.sheet.now).number ≡ 0 = rw c.scan_sheet-scanned.ensures at c.if-scanned-ne-ACCEPTED.false in
-    let read : c.read_given-given.result.set ≡ requested c.args.sheet.now = let args = c.args in
-    ap (λ (r : ReadPlan). r.set) c.read_given-given.ensures ∙ given_set args.sheet.now args.from args.to (passed) in
-    let judged : c.judge-number.result ≡ judged_at_all (requested c.args.sheet.now) = c.judge-number.ensures ∙ ap judged_at_all (read) in
+    let read : c.read_given.result.set ≡ requested c.args.sheet.now = let args = c.args in
+    ap (λ (r : ReadPlan). r.set) c.read_given.ensures ∙ given_set args.sheet.now args.from args.to (passed) in
+    let judged : c.answer_number-number.result ≡ judged_at_all (requested c.args.sheet.now) = c.answer_number-number.ensures ∙ c.judge.ensures ∙ ap judged_at_all (read) in
     let in_range : let args = c.args in is_range args.from args.to ≡ true = sym c.is_range.ensures ∙ c.if-not-is_range.false in
     let args = c.args in
     let is = judged in
@@ -52,10 +52,10 @@ overflow_cast-result-2 c =
 pub returns : goal.returns
 returns c =
     let passed : (scanned false c.args.sheet.now).number ≡ 0 = rw c.scan_sheet-scanned.ensures at c.if-scanned-ne-ACCEPTED.false in
-    let read : c.read_given-given.result.set ≡ requested c.args.sheet.now = let args = c.args in
-    ap (λ (r : ReadPlan). r.set) c.read_given-given.ensures ∙ given_set args.sheet.now args.from args.to (passed) in
+    let read : c.read_given.result.set ≡ requested c.args.sheet.now = let args = c.args in
+    ap (λ (r : ReadPlan). r.set) c.read_given.ensures ∙ given_set args.sheet.now args.from args.to (passed) in
     let in_range : let args = c.args in is_range args.from args.to ≡ true = sym c.is_range.ensures ∙ c.if-not-is_range.false in
-    let judged : c.judge-number.result ≡ judged_at_all (requested c.args.sheet.now) = c.judge-number.ensures ∙ ap judged_at_all (read) in
+    let judged : c.answer_number-number.result ≡ judged_at_all (requested c.args.sheet.now) = c.answer_number-number.ensures ∙ c.judge.ensures ∙ ap judged_at_all (read) in
     let args = c.args in
     let set = read in
     let none = none_refused args.sheet.now args.from args.to passed in_range (sym judged ∙ c.if-number-ne-ACCEPTED.false) in

@@ -20,4 +20,4 @@ overflow_cast-first c =
 pub returns : goal.returns
 returns c =
     let left : is_done c.args.k ≡ false = sym c.is_done.ensures ∙ c.if-is_done.false in
-    rw (c.wide.ensures.same, c.tune_over-seen.ensures, c.size_of-size.ensures) (sym (went_more c.args.k left))
+    rw (c.from.ensures, c.tune_over-seen.ensures, c.size_of-size.ensures) (sym (went_more c.args.k left))

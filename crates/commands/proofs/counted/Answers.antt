@@ -7,17 +7,17 @@ use Rattle.commands.proofs.counted.Goals as goal
 pub returns-then-most-least : goal.returns-then-most-least
 unfolding counted_for
 returns-then-most-least c =
-    let range = c.following-range.ensures in
+    let range = c.following-least.ensures in
     rw (← range.low, ← range.high, lt-ltb _ _ c.if-most-least.true) refl
 
 pub returns-then-fits : goal.returns-then-fits
 unfolding counted_for
 returns-then-fits c =
-    let range = c.following-range.ensures in
+    let range = c.following-least.ensures in
     rw (← range.low, ← range.high, le-ltb _ _ c.if-most-least.false, c.if-fits.true) refl
 
 pub returns : goal.returns
 unfolding counted_for
 returns c =
-    let range = c.following-range.ensures in
+    let range = c.following-least.ensures in
     rw (← range.low, ← range.high, le-ltb _ _ c.if-most-least.false, c.if-fits.false) refl

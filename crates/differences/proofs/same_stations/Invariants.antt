@@ -1,5 +1,4 @@
 -- `same_stations` is right because its flag says of the stations passed that nothing differs.
-use Prim.Native.Nat.{◌-◌, ◌≤◌}
 use mathlib.Core.Path.{◌≡◌}
 use Rattle.differences.specs.Views.{number_of}
 use Rattle.differences.specs.Differences.{gathered, station_changed, is_none}
@@ -7,8 +6,4 @@ use Rattle.differences.proofs.same_stations.Given as goal
 
 abbrev pub invariant-loop-i : goal.invariant-loop-i
 invariant-loop-i l =
-    (l.i ≤ l.n) × (l.all ≡ is_none (gathered l.i (station_changed (number_of l.t l.a) (number_of l.u l.b))))
-
-abbrev pub decreases-loop-i : goal.decreases-loop-i
-decreases-loop-i l =
-    l.n - l.i
+    l.all ≡ is_none (gathered l.i (station_changed (number_of l.t l.a) (number_of l.u l.b)))

@@ -13,4 +13,4 @@ pub returns : goal.returns
 unfolding excess_of
 returns c =
     rw (ne_eqb _ _ c.if-h-eq-FDDI.false)
-    (c.room.ensures ∙ rw (c.smallest.ensures.is, c.wide.ensures.same) refl)
+    (c.saturating_sub.ensures ∙ rw (c.smallest.ensures.is, c.from.ensures) refl)

@@ -1,5 +1,5 @@
 -- `deadlines_fit` is right because its flag is the rule over the stations passed, and what is away from a station is the time lost and the others' S.
-use Prim.Native.Nat.{ℕ, ◌+◌, ◌-◌, ◌≤◌, min}
+use Prim.Native.Nat.{ℕ, ◌+◌, min}
 use mathlib.Core.Path.{◌≡◌}
 use mathlib.Core.Bool.{Bool}
 use mathlib.Core.List.{List}
@@ -14,8 +14,4 @@ kept n ttrt lost c d s i = leb (at c i) (least_time ttrt (at d i) (lost + others
 
 abbrev pub invariant-loop-i : goal.invariant-loop-i
 invariant-loop-i l =
-    (l.i ≤ l.end) × (l.all ≡ all_below l.i (kept l.n l.ttrt l.lost l.c l.d l.s))
-
-abbrev pub decreases-loop-i : goal.decreases-loop-i
-decreases-loop-i l =
-    l.end - l.i
+    l.all ≡ all_below l.i (kept l.n l.ttrt l.lost l.c l.d l.s)

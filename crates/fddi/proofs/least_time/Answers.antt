@@ -2,7 +2,6 @@
 use Prim.Native.Nat.{◌-◌, ◌<◌}
 use mathlib.Core.Path.{◌≡◌, refl, sym, ◌∙◌}
 use native.Mathlib.Omega.{arith}
-use Rattle.units.proofs.SmallLaws.{product_small}
 use Rattle.units.specs.Vectors.{whole_rotations}
 use Rattle.fddi.specs.Rules.{rest}
 use Rattle.fddi.proofs.Laws.{time_none, time_some}
@@ -10,26 +9,14 @@ use Rattle.fddi.proofs.least_time.Goals as goal
 
 pub returns-then-q-eq0 : goal.returns-then-q-eq0
 returns-then-q-eq0 c =
-    let rotations_said : c.whole-q.result ≡ whole_rotations c.args.ttrt c.args.d = c.whole-q.ensures.is ∙ rw (c.wide-long.ensures.same, c.wide-rotation.ensures.same) refl in
     let args = c.args in
-    let none = time_none (whole_rotations args.ttrt args.d) (rest args.ttrt args.d - args.away) args.s (sym (rotations_said) ∙ c.if-q-eq0.true) in
-    rw none refl
-
-pub overflow_mul-result : goal.overflow_mul-result
-overflow_mul-result c =
-    let q = c.whole-q.result in
-    omega (arith, product_small (q - 1) c.wide-own.result (omega arith) (omega arith))
-
-pub overflow_add-result : goal.overflow_add-result
-overflow_add-result c =
-    let q = c.whole-q.result in
-    omega (arith, product_small (q - 1) c.wide-own.result (omega arith) (omega arith))
+    let rotations : c.whole-q.result ≡ whole_rotations args.ttrt args.d = c.whole-q.ensures.is ∙ rw (c.from-long.ensures, c.from-rotation.ensures) refl in
+    sym (time_none _ (rest args.ttrt args.d - args.away) args.s (sym rotations ∙ c.if-q-eq0.true))
 
 pub returns : goal.returns
 returns c =
-    let rotations_said : c.whole-q.result ≡ whole_rotations c.args.ttrt c.args.d = c.whole-q.ensures.is ∙ rw (c.wide-long.ensures.same, c.wide-rotation.ensures.same) refl in
     let args = c.args in
-    let some : 0 < whole_rotations args.ttrt args.d = rw (← rotations_said) (omega arith) in
-    rw (c.least.ensures, c.room.ensures, c.room-rest.ensures, rotations_said)
-    (rw (c.wide-own.ensures.same, c.wide-long.ensures.same, c.wide-rotation.ensures.same)
-    (sym (time_some (whole_rotations args.ttrt args.d) (rest args.ttrt args.d - args.away) args.s some)))
+    let rotations : c.whole-q.result ≡ whole_rotations args.ttrt args.d = c.whole-q.ensures.is ∙ rw (c.from-long.ensures, c.from-rotation.ensures) refl in
+    let some : 0 < whole_rotations args.ttrt args.d = rw (← rotations) (omega arith) in
+    rw (c.min.ensures, c.saturating_sub.ensures, c.saturating_sub-rest.ensures, rotations, c.from-own.ensures, c.from-long.ensures, c.from-rotation.ensures)
+    (sym (time_some _ (rest args.ttrt args.d - args.away) args.s some))

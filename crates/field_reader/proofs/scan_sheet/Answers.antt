@@ -1,7 +1,7 @@
 -- `scan_sheet` is right because at each turn the walk from the cursor on is the rest of the definition's walk, and it stops where the definition stops.
 use Prim.Native.Nat.{ℕ, suc, ◌<◌}
 use mathlib.Core.Path.{◌≡◌, refl, sym, ap, ◌∙◌}
-use mathlib.Core.Bool.{true}
+use mathlib.Core.Bool.{Bool, true, false}
 use mathlib.Core.List.{List}
 use mathlib.Core.Logic.{◌≢◌}
 use native.Mathlib.Omega.{arith}
@@ -19,6 +19,24 @@ use Rattle.field_reader.proofs.scan_sheet.Goals as goal
 next_place : (bs : List ℕ) (at : ℕ) (passed : Passed) → FieldWhole bs at passed → (step_of bs at passed).at ≡ behind bs at
 next_place bs at passed whole = cursor_behind bs at passed whole
 
+-- what a turn knows of the field at which the walk does not stop
+record Turn (bs : List ℕ) (at : ℕ) (passed : Passed) (step : Step) : Type 0 where
+  whole : FieldWhole bs at passed
+  inner : tag_at bs at ≢ end_tag
+  tag : step.field.tag ≡ tag_at bs at
+  next : step.at ≡ behind bs at
+
+turn : (bs : List ℕ) (at : ℕ) (passed : Passed) (step : Step) (stop : Bool) → step ≡ step_of bs at passed → stop ≡ stops_at step.field → stop ≡ false → Turn bs at passed step
+turn bs at passed step stop read said going =
+    let field : step.field ≡ field_at bs at passed = ap (λ (r : Step). r.field) read in
+    let here = passes bs at passed (ap stops_at (sym field) ∙ sym said ∙ going) in
+    record {
+      whole = here.0;
+      inner = here.1;
+      tag = ap (λ (f : Field). f.tag) field ∙ has_tag bs at passed here.0;
+      next = ap (λ (r : Step). r.at) read ∙ next_place bs at passed here.0;
+    }
+
 pub loop-at-init : goal.loop-at-init
 unfolding scanned
 loop-at-init c =
@@ -27,48 +45,31 @@ loop-at-init c =
 
 pub with_field-passed-requires : goal.with_field-passed-requires
 with_field-passed-requires c =
-    let bytes : List ℕ = c.args.sheet.now in
-    let place : ℕ = c.loop-at.at in
-    let so_far : Passed = c.loop-at.passed in
-    let same_field : c.loop-at.step.field ≡ field_at (bytes) (place) (so_far) = ap (λ (r : Step). r.field) c.loop-at.invariant.0 in
-    let passes_here : FieldWhole (bytes) (place) (so_far) × (tag_at (bytes) (place) ≢ end_tag) = passes (bytes) (place) (so_far) (ap stops_at (sym (same_field)) ∙ sym c.stops.ensures ∙ c.loop-at-test.true) in
-    let inside = passes_here.0.inside in
+    let here = turn c.args.sheet.now c.loop-at.at c.loop-at.passed c.loop-at.step _ c.loop-at.invariant.0 c.stops.ensures c.loop-at-test.true in
+    let inside = here.whole.inside in
     let few = c.loop-at.invariant.1 in
     (omega arith, omega arith)
 
 pub loop-at-smaller : goal.loop-at-smaller
 loop-at-smaller c =
-    let bytes : List ℕ = c.args.sheet.now in
-    let place : ℕ = c.loop-at.at in
-    let so_far : Passed = c.loop-at.passed in
-    let same_field : c.loop-at.step.field ≡ field_at (bytes) (place) (so_far) = ap (λ (r : Step). r.field) c.loop-at.invariant.0 in
-    let passes_here : FieldWhole (bytes) (place) (so_far) × (tag_at (bytes) (place) ≢ end_tag) = passes (bytes) (place) (so_far) (ap stops_at (sym (same_field)) ∙ sym c.stops.ensures ∙ c.loop-at-test.true) in
-    let next_place_lem : c.loop-at.step.at ≡ behind (bytes) (place) = ap (λ (r : Step). r.at) c.loop-at.invariant.0 ∙ next_place bytes place so_far passes_here.0 in
-    let inside = passes_here.0.inside in
-    omega (arith, next_place_lem)
+    let here = turn c.args.sheet.now c.loop-at.at c.loop-at.passed c.loop-at.step _ c.loop-at.invariant.0 c.stops.ensures c.loop-at-test.true in
+    let inside = here.whole.inside in
+    omega (arith, here.next)
 
 pub loop-at-preserved : goal.loop-at-preserved
 loop-at-preserved c =
-    let bytes : List ℕ = c.args.sheet.now in
-    let place : ℕ = c.loop-at.at in
-    let so_far : Passed = c.loop-at.passed in
-    let same_field : c.loop-at.step.field ≡ field_at (bytes) (place) (so_far) = ap (λ (r : Step). r.field) c.loop-at.invariant.0 in
-    let passes_here : FieldWhole (bytes) (place) (so_far) × (tag_at (bytes) (place) ≢ end_tag) = passes (bytes) (place) (so_far) (ap stops_at (sym (same_field)) ∙ sym c.stops.ensures ∙ c.loop-at-test.true) in
-    let next_tag : c.loop-at.step.field.tag ≡ tag_at (bytes) (place) = ap (λ (f : Field). f.tag) (same_field) ∙ has_tag (bytes) (place) (so_far) (passes_here).0 in
-    let next_place_lem : c.loop-at.step.at ≡ behind (bytes) (place) = ap (λ (r : Step). r.at) c.loop-at.invariant.0 ∙ next_place bytes place so_far passes_here.0 in
-    let passed_said : c.with_field-passed.result ≡ with_field (so_far) (tag_at (bytes) (place)) (behind (bytes) (place)) = c.with_field-passed.ensures
-    ∙ ap (λ (t : ℕ). with_field (so_far) t c.loop-at.step.at) (next_tag)
-    ∙ ap (with_field (so_far) (tag_at (bytes) (place))) (next_place_lem) in
-    let w = passes_here in
-    let inside = w.0.inside in
-    let inv = c.loop-at.invariant in
-    let n = passed_said in
-    let a = next_place_lem in
-    let rest = scan_more bytes place so_far inv.3.0 _ inv.3.1.0 w.0 w.1 inv.3.1.1 _ _ n a in (
+    let bs = c.args.sheet.now in
+    let at = c.loop-at.at in
+    let passed = c.loop-at.passed in
+    let here = turn bs at passed c.loop-at.step _ c.loop-at.invariant.0 c.stops.ensures c.loop-at-test.true in
+    let one_more : c.with_field-passed.result ≡ with_field c.loop-at.passed (tag_at c.args.sheet.now c.loop-at.at) (behind c.args.sheet.now c.loop-at.at) =
+    c.with_field-passed.ensures ∙ ap (λ (t : ℕ). with_field passed t c.loop-at.step.at) here.tag ∙ ap (with_field passed (tag_at bs at)) here.next in
+    let inside = here.whole.inside in
+    let inv = c.loop-at.invariant in (
       c.step_of-step-in-loop-at.ensures,
-      rw n (omega (arith, inv.1, a, counts_one so_far (tag_at bytes place) (behind bytes place))),
-      omega (arith, a),
-      rest,
+      rw one_more (omega (arith, inv.1, here.next, counts_one passed (tag_at bs at) (behind bs at))),
+      omega (arith, here.next),
+      scan_more bs at passed inv.3.0 _ inv.3.1.0 here.whole here.inner inv.3.1.1 _ _ one_more here.next,
     )
 
 pub returns : goal.returns

@@ -1,8 +1,7 @@
 -- `request_of` is right because it goes by the list's judgement: refused, the blank set; else the list's.
 use Prim.Native.Nat.{ℕ}
-use mathlib.Core.Path.{◌≡◌, sym, ap, ◌∙◌}
+use mathlib.Core.Path.{sym, ap, ◌∙◌}
 use Rattle.sets.specs.Judged.{blank_set}
-use Rattle.hopper.specs.Wagons.{judged_list}
 use Rattle.hopper.proofs.WagonLaws.{list_fits}
 use Rattle.hopper.proofs.RequestLaws.{request_refused, request_given}
 use Rattle.hopper.proofs.request_of.Goals as goal
@@ -15,10 +14,8 @@ returns-then-judged-ne-ACCEPTED c =
 
 pub set_of-set-requires : goal.set_of-set-requires
 set_of-set-requires c =
-    let judged_0 : judged_list c.args.list ≡ 0 = sym c.judge_list-judged.ensures ∙ c.if-judged-ne-ACCEPTED.false in
-    (list_fits _).0 judged_0
+    (list_fits _).0 (sym c.judge_list-judged.ensures ∙ c.if-judged-ne-ACCEPTED.false)
 
 pub returns : goal.returns
 returns c =
-    let judged_0 : judged_list c.args.list ≡ 0 = sym c.judge_list-judged.ensures ∙ c.if-judged-ne-ACCEPTED.false in
-    rw c.set_of-set.ensures (sym (request_given _ judged_0))
+    rw c.set_of-set.ensures (sym (request_given _ (sym c.judge_list-judged.ensures ∙ c.if-judged-ne-ACCEPTED.false)))

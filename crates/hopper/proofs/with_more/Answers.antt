@@ -9,4 +9,4 @@ returns-then-list-ge-MOST_WAGONS c =
 
 pub returns : goal.returns
 returns c =
-    rw (c.with_wagon-longer.ensures, c.wide.ensures.same) (sym (more_room _ _ c.if-list-ge-MOST_WAGONS.false))
+    rw (c.with_wagon-longer.ensures, c.from.ensures) (sym (more_room _ _ c.if-list-ge-MOST_WAGONS.false))

@@ -72,7 +72,7 @@ returns-then-size-eq-VISIT_LENGTH c =
     (visit_stands args.log.now args.at ≡ true) × (args.at + 20 ≤ length args.log.now) = let args = c.args in
     visit_stands_lem args.log.now args.at _ c.record_size-size.ensures c.if-size-eq-VISIT_LENGTH.true in
     let there = visit_inside in
-    rw (c.visit_at.ensures, c.blank_mark.ensures, le-leb _ _ there.1, there.0, behind c.args.at 20 (omega arith)) refl
+    rw (c.from.ensures, c.visit_at.ensures, c.blank_mark.ensures, le-leb _ _ there.1, there.0, behind c.args.at 20 (omega arith)) refl
 
 pub overflow_add-result-then-size-eq-MARK_LENGTH : goal.overflow_add-result-then-size-eq-MARK_LENGTH
 overflow_add-result-then-size-eq-MARK_LENGTH c =
@@ -88,7 +88,7 @@ returns-then-size-eq-MARK_LENGTH c =
     (visit_stands args.log.now args.at ≡ false) × ((mark_stands args.log.now args.at ≡ true) × (args.at + 5 ≤ length args.log.now)) = let args = c.args in
     mark_stands_lem args.log.now args.at _ c.record_size-size.ensures c.if-size-eq-MARK_LENGTH.true in
     let there = mark_inside in
-    rw (c.mark_at.ensures, c.blank_visit.ensures, le-leb _ _ there.1.1, there.0, there.1.0, behind c.args.at 5 (omega arith)) refl
+    rw (c.from-then-size-eq-MARK_LENGTH.ensures, c.mark_at.ensures, c.blank_visit.ensures, le-leb _ _ there.1.1, there.0, there.1.0, behind c.args.at 5 (omega arith)) refl
 
 pub returns : goal.returns
 unfolding told next_entry

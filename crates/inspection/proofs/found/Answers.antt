@@ -1,5 +1,5 @@
 -- `found` is right because its branch is the definition's own.
-use Rattle.std.proofs.Common.{◌≡◌, ℕ, sym, ap}
+use Rattle.std.proofs.Common.{◌≡◌, ℕ, refl, sym, ap}
 use Rattle.inspection.specs.Findings.{broken_record, finding_of}
 use Rattle.inspection.specs.declared.Inspection.{Inspection}
 use Rattle.inspection.proofs.FindingLaws.{named, none_named}
@@ -12,7 +12,7 @@ with_record_lem s records number is = ap (λ (x : ℕ). record { records = recor
 pub returns-then-state-ne0 : goal.returns-then-state-ne0
 returns-then-state-ne0 c =
     let state = c.args.state in
-    with_record_lem state _ _ (named state _ c.if-state-ne0.true c.wrapping_add_u64-record.ensures.value)
+    with_record_lem state _ _ (named state _ c.if-state-ne0.true refl)
 
 pub returns-else-state-ne0 : goal.returns-else-state-ne0
 returns-else-state-ne0 c =

@@ -6,4 +6,4 @@ use Rattle.log_stream.proofs.begins_with.Goals as goal
 pub returns : goal.returns
 unfolding short_at
 returns c =
-    rw (c.wide.ensures.same, c.wide-2.ensures.same) refl
+    rw (c.from.ensures, c.from-2.ensures) refl

@@ -4,7 +4,7 @@ use Rattle.logs.proofs.begin_log.Goals as goal
 
 pub returns-then-written-ne-ACCEPTED : goal.returns-then-written-ne-ACCEPTED
 returns-then-written-ne-ACCEPTED c =
-    rw c.stopped.ensures (began_refused _ _ _ _ _ _ _ c.write_plan_fields-written.ensures c.if-written-ne-ACCEPTED.true)
+    rw c.from.ensures (began_refused _ _ _ _ _ _ _ c.write_plan_fields-written.ensures c.if-written-ne-ACCEPTED.true)
 
 pub returns : goal.returns
 returns c =

@@ -1,30 +1,20 @@
--- `is_whole` is right because after i turns the first i bytes have been looked at.
-use Prim.Native.Nat.{◌-◌}
-use mathlib.Core.Path.{◌≡◌, refl, sym}
-use native.Mathlib.Omega.{arith}
-use borrow.Author.Tests.{eq-eqb, ne_eqb}
-use lib.ListN.{length}
-use Rattle.units.specs.Places.{at}
-use Rattle.units.proofs.PlaceLaws.{all_then, all_none}
-use Rattle.number_words.specs.Words.{is_whole}
+-- `is_whole` is right because it asks of each byte whether it is a digit.
+use mathlib.Core.Path.{refl, sym, ◌∙◌}
+use Rattle.std.proofs.Common.{rules, tests}
+use Rattle.std.proofs.lemmas.Iterator.{YieldsList-from_slice}
+use Rattle.std.proofs.lemmas.Iterator.Search.{all_from_yields_List}
+use Rattle.number_words.specs.Words.{is_digit, is_whole}
+use Rattle.number_words.proofs.WordLaws.{all_digits}
 use Rattle.number_words.proofs.is_whole.Goals as goal
 
-pub returns-then-word-eq0 : goal.returns-then-word-eq0
+pub returns-then-is_empty : goal.returns-then-is_empty
 unfolding is_whole
-returns-then-word-eq0 c =
-    rw (eq-eqb _ _ c.if-word-eq0.true) refl
-
-pub loop-i-init : goal.loop-i-init
-loop-i-init c =
-    (omega arith, sym (all_none _))
-
-pub loop-i-preserved : goal.loop-i-preserved
-loop-i-preserved c =
-    (omega arith, all_then _ _ _ _ c.loop-i.invariant.1 c.is_digit-digit.ensures)
+returns-then-is_empty c =
+    rw (sym c.is_empty.ensures ∙ c.if-is_empty.true) refl
 
 pub returns : goal.returns
 unfolding is_whole
 returns c =
-    let args = c.args in
-    let end : c.loop-i.i ≡ length args.word.now = omega arith in
-    rw (ne_eqb _ _ c.if-word-eq0.false) (rw end at c.loop-i.invariant.1)
+    let word = c.args.word.now in
+    let all = all_from_yields_List is_digit _ _ c.all.result c.all.ensures.ran (YieldsList-from_slice word cc) (λ x b q k. search (rules, tests)) in
+    rw (sym c.is_empty.ensures ∙ c.if-is_empty.false) (all ∙ sym (all_digits word))

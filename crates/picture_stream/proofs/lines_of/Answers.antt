@@ -8,12 +8,7 @@ unfolding lines_of
 returns-then-watching-eq0 c =
     rw (eq-eqb _ 0 c.if-watching-eq0.true) c.lines_in-lines.ensures
 
-pub returns-then-lines-named : goal.returns-then-lines-named
+pub returns : goal.returns
 unfolding lines_of
-returns-then-lines-named c =
-    rw (ne_eqb _ 0 c.if-watching-eq0.false) (omega (arith, c.if-lines-named.true, c.wrapping_add_u64-named.ensures.value, c.lines_in-lines.ensures))
-
-pub returns-else-lines-named : goal.returns-else-lines-named
-unfolding lines_of
-returns-else-lines-named c =
-    rw (ne_eqb _ 0 c.if-watching-eq0.false) (omega (arith, c.if-lines-named.false, c.wrapping_add_u64-named.ensures.value, c.lines_in-lines.ensures))
+returns c =
+    rw (ne_eqb _ 0 c.if-watching-eq0.false) (omega (arith, c.wrapping_add_u64-named.ensures.value, c.lines_in-lines.ensures))

@@ -4,4 +4,4 @@ use Rattle.picture_stream.proofs.window_of.Goals as goal
 
 pub returns : goal.returns
 returns c =
-    rw (c.room.ensures, c.found-found.ensures, c.last_line-last.ensures) refl
+    rw (c.saturating_sub.ensures, c.found-found.ensures, c.last_line-last.ensures) refl

@@ -1,5 +1,5 @@
 -- `part_at` is right because it asks for the parts in their order.
-use Rattle.std.proofs.Common.{refl, eq-eqb, ne_eqb}
+use Rattle.std.proofs.Common.{refl, eq-eqb, ne_eqb, Some, ap}
 use Rattle.pictures.specs.Parts.{part_at}
 use Rattle.pictures.proofs.part_at.Goals as goal
 
@@ -21,7 +21,7 @@ returns-then-k-eq2 c =
 pub returns-then-k-eq12 : goal.returns-then-k-eq12
 unfolding part_at
 returns-then-k-eq12 c =
-    rw (ne_eqb _ _ c.if-k-eq0.false, ne_eqb _ _ c.if-k-eq1.false, ne_eqb _ _ c.if-k-eq2.false, eq-eqb _ _ c.if-k-eq12.true) c.bare.ensures
+    rw (ne_eqb _ _ c.if-k-eq0.false, ne_eqb _ _ c.if-k-eq1.false, ne_eqb _ _ c.if-k-eq2.false, eq-eqb _ _ c.if-k-eq12.true) (ap Some c.bare.ensures)
 
 pub returns-then-k-eq13 : goal.returns-then-k-eq13
 unfolding part_at

@@ -1,5 +1,4 @@
 -- `deadlines_fit` is right because its flag is the rule over the stations passed, and it passes the first n.
-use Prim.Native.Nat.{◌-◌, ◌≤◌}
 use mathlib.Core.Path.{◌≡◌}
 use Rattle.units.specs.Places.{at, all_below}
 use Rattle.plans.specs.Lent.{timely_fits_in}
@@ -7,8 +6,4 @@ use Rattle.plans.proofs.deadlines_fit.Given as goal
 
 abbrev pub invariant-loop-i : goal.invariant-loop-i
 invariant-loop-i l =
-    (l.i ≤ l.end) × (l.all ≡ all_below l.i (timely_fits_in l.ttrt l.c l.d (at l.s)))
-
-abbrev pub decreases-loop-i : goal.decreases-loop-i
-decreases-loop-i l =
-    l.end - l.i
+    l.all ≡ all_below l.i (timely_fits_in l.ttrt l.c l.d (at l.s))

@@ -1,5 +1,4 @@
 -- `lowered` is right because the dividend is always the quotient times the part and the rest, with the rest below the part; at the end the part is the divisor.
-use Prim.Native.Nat.{◌-◌}
 use Rattle.quotients.specs.Turns.{Doubled}
 use Rattle.quotients.proofs.Laws.{Kept}
 use Rattle.quotients.proofs.lowered.Given as goal

@@ -21,5 +21,5 @@ smallest_sum-sum-requires c =
 pub returns : goal.returns
 returns c =
     let is_plannable : plannable c.args.t ≡ true = sym c.plannable.ensures ∙ c.if-not-plannable.false in
-    rw (c.room-2.ensures, c.room.ensures, c.wide-ttrt.ensures.same, c.lost_time-gone.ensures.is, c.smallest_sum-sum.ensures.is)
+    rw (c.saturating_sub-2.ensures, c.saturating_sub.ensures, c.from-ttrt.ensures, c.lost_time-gone.ensures.is, c.smallest_sum-sum.ensures.is)
     (sym (shortage_says _ is_plannable))

@@ -26,4 +26,4 @@ unfolding judged_sheet
 returns c =
     let walk_0 : (scanned true c.args.sheet.now).number ≡ 0 = ap (λ (r : Scanned). r.number) (sym c.scan_sheet-scanned.ensures) ∙ c.if-scanned-ne-ACCEPTED.false in
     let bs = c.args.sheet.now in
-    c.judge_fields.ensures ∙ ap (λ (r : Scanned). judged_plan (set_of bs r.passed) (alloc_of bs r.passed)) c.scan_sheet-scanned.ensures ∙ number_judged true bs walk_0
+    c.answer_number.ensures ∙ c.judge_fields.ensures ∙ ap (λ (r : Scanned). judged_plan (set_of bs r.passed) (alloc_of bs r.passed)) c.scan_sheet-scanned.ensures ∙ number_judged true bs walk_0

@@ -4,9 +4,9 @@ use borrow.Author.Tests.{lt-leb}
 use Rattle.tallies.specs.Laps.{visit_lapped}
 use Rattle.tallies.proofs.lap_visit.Goals as goal
 
-pub returns-then-wide : goal.returns-then-wide
+pub returns-then-from : goal.returns-then-from
 unfolding visit_lapped
-returns-then-wide c =
+returns-then-from c =
     let args = c.args in
     let last : leb args.n (args.lap.turn + 1) ≡ true = le-leb args.n (args.lap.turn + 1) (omega arith) in
     rw (last, c.wrapping_add_u64-records.ensures.value, c.wrapping_add_u64-visits.ensures.value, c.wrapping_add_u64-rotation.ensures.value) refl

@@ -1,20 +1,26 @@
--- `same_numbers` is right because its flag is the test over the places passed, and it passes all of them.
-use Rattle.std.proofs.Common.{◌≡◌, ℕ, ◌-◌, eqb, sym, refl, ap, ◌∙◌, arith}
+-- `same_numbers` is right because two arrays are equal where each place is.
+use Rattle.std.proofs.Math.Bool.{and-true, and_assoc}
+use Rattle.std.proofs.Common.{◌≡◌, ℕ, suc, zero, Bool, ◌&&◌, eqb, List, [], ◌∷◌, length, refl, sym, ap, ◌∙◌, arith}
+use lib.Pointwise.{pointwise}
 use Rattle.units.specs.Places.{at, all_below}
-use Rattle.units.proofs.PlaceLaws.{all_none, all_then}
 use Rattle.tallies.proofs.same_numbers.Goals as goal
 
-pub loop-i-init : goal.loop-i-init
-loop-i-init c =
-    (omega arith, sym (all_none _))
+-- the test of the first place, and of those behind it
+all_first : (n : ℕ) (f : ℕ → Bool) → all_below (suc n) f ≡ (f 0 && all_below n (λ i. f (suc i)))
+unfolding all_below
+all_first zero f = sym (and-true (f 0))
+all_first (suc n) f = rw (all_first n f) (and_assoc (f 0) (all_below n (λ i. f (suc i))) (f (suc n)))
 
-pub loop-i-preserved : goal.loop-i-preserved
-loop-i-preserved c =
-    let args = c.args in
-    (omega arith, all_then _ (λ j. eqb (at args.a j) (at args.b j)) _ _ c.loop-i.invariant.1 refl)
+same_below : (xs ys : List ℕ) → length xs ≡ length ys → pointwise eqb xs ys ≡ all_below (length xs) (λ i. eqb (at xs i) (at ys i))
+unfolding all_below
+same_below [] [] l = refl
+same_below [] (y ∷ ys) l = absurd (omega arith)
+same_below (x ∷ xs) [] l = absurd (omega arith)
+same_below (x ∷ xs) (y ∷ ys) l =
+    ap (λ (rest : Bool). eqb x y && rest) (same_below xs ys (omega arith)) ∙ sym (all_first (length xs) (λ i. eqb (at (x ∷ xs) i) (at (y ∷ ys) i)))
 
 pub returns : goal.returns
 returns c =
     let args = c.args in
-    let end : c.loop-i.i ≡ 896 = omega arith in
-    c.loop-i.invariant.1 ∙ ap (λ (k : ℕ). all_below k (λ j. eqb (at args.a j) (at args.b j))) end
+    let long : length args.a ≡ 896 = omega arith in
+    c.eq.ensures ∙ same_below args.a args.b (omega arith) ∙ ap (λ (n : ℕ). all_below n (λ i. eqb (at args.a i) (at args.b i))) long

@@ -19,7 +19,7 @@ returns-else-rule-ne0 c =
     let args = c.args in
     let is = sym c.in-Visit.is in
     seen_kept _ _ _ _ _ _ _ c.lap_on-all.ensures c.if-rule-ne0.false
-    (c.tally_visit.ensures ∙ visit_tallied_lem args.numbers.now args.mark.now args.course.clock _ _ _ c.place_of-p.ensures c.wide-through.ensures.same ∙ ap (tallied args.numbers.now args.mark.now args.course.clock) is)
+    (c.tally_visit.ensures ∙ visit_tallied_lem args.numbers.now args.mark.now args.course.clock _ _ _ c.place_of-p.ensures c.from-through.ensures ∙ ap (tallied args.numbers.now args.mark.now args.course.clock) is)
     (ap (switched_by args.mark.now) is)
     (c.wrapping_add_u64-later.ensures.value ∙ rw c.took_by.ensures (ap (clock_after args.w.now args.course.clock) is))
 

@@ -1,14 +1,14 @@
--- `switch_of` is right because its branch is the definition's own.
-use Rattle.std.proofs.Common.{refl, eq-eqb, ne_eqb}
+-- `switch_of` is right because its test is the definition's own.
+use Rattle.std.proofs.Common.{◌≡◌, cond, not, eqb, Bool, true, false, refl, ◌∙◌}
+use mir.Val.{bool_byte}
 use Rattle.tallies.specs.Tallies.{switch_of}
 use Rattle.tallies.proofs.switch_of.Goals as goal
 
-pub returns-then-mark-eq0 : goal.returns-then-mark-eq0
-unfolding switch_of
-returns-then-mark-eq0 c =
-    rw (eq-eqb _ _ c.if-mark-eq0.true) refl
+one_or_none : (b : Bool) → bool_byte (not b) ≡ cond b 0 1
+one_or_none true = refl
+one_or_none false = refl
 
-pub returns-else-mark-eq0 : goal.returns-else-mark-eq0
+pub returns : goal.returns
 unfolding switch_of
-returns-else-mark-eq0 c =
-    rw (ne_eqb _ _ c.if-mark-eq0.false) refl
+returns c =
+    c.from.ensures ∙ one_or_none (eqb c.args.mark 0)

@@ -5,8 +5,8 @@ use Rattle.text.specs.Text.{Put, newline}
 use Rattle.text.proofs.TextLaws.{within_put, within_none}
 use Rattle.text.proofs.put_end.Goals as goal
 
-pub returns-then-left-lt1 : goal.returns-then-left-lt1
-returns-then-left-lt1 c =
+pub returns-then-saturating_sub-lt1 : goal.returns-then-saturating_sub-lt1
+returns-then-saturating_sub-lt1 c =
     within_none (λ both. omega (arith, both.0))
 
 pub returns : goal.returns

@@ -3,8 +3,8 @@ use native.Mathlib.Omega.{arith}
 use Rattle.text.proofs.TextLaws.{within_put, within_none}
 use Rattle.text.proofs.put_field.Goals as goal
 
-pub returns-then-left-lt21 : goal.returns-then-left-lt21
-returns-then-left-lt21 c =
+pub returns-then-saturating_sub-lt21 : goal.returns-then-saturating_sub-lt21
+returns-then-saturating_sub-lt21 c =
     within_none (λ both. omega (arith, both.0))
 
 pub put_spaced-requires : goal.put_spaced-requires

@@ -8,8 +8,8 @@ pub returns-then-words-gt100 : goal.returns-then-words-gt100
 returns-then-words-gt100 c =
     record { fits = λ few. absurd (omega arith); long = λ more. (refl, refl) }
 
-pub returns-then-left-lt2000 : goal.returns-then-left-lt2000
-returns-then-left-lt2000 c =
+pub returns-then-saturating_sub-lt2000 : goal.returns-then-saturating_sub-lt2000
+returns-then-saturating_sub-lt2000 c =
     record { fits = λ few. within_none (λ both. omega (arith, both.0)); long = λ more. absurd (omega arith) }
 
 pub put_pieces-requires : goal.put_pieces-requires

@@ -11,8 +11,8 @@ use Rattle.text.proofs.put_number.Goals as goal
 room : (page : List ℕ) (a n : ℕ) → a + 20 ≤ length page → Room page a (decimal_of n)
 room page a n h = omega (arith, decimal_short 20 n)
 
-pub returns-then-left-lt20 : goal.returns-then-left-lt20
-returns-then-left-lt20 c =
+pub returns-then-saturating_sub-lt20 : goal.returns-then-saturating_sub-lt20
+returns-then-saturating_sub-lt20 c =
     within_none (λ both. omega (arith, both.0))
 
 pub put_decimal-requires : goal.put_decimal-requires

@@ -7,8 +7,8 @@ pub returns-then-word-gt20 : goal.returns-then-word-gt20
 returns-then-word-gt20 c =
     within_none (λ both. omega (arith, both.1))
 
-pub returns-then-left-lt20 : goal.returns-then-left-lt20
-returns-then-left-lt20 c =
+pub returns-then-saturating_sub-lt20 : goal.returns-then-saturating_sub-lt20
+returns-then-saturating_sub-lt20 c =
     within_none (λ both. omega (arith, both.0))
 
 pub put_word-requires : goal.put_word-requires

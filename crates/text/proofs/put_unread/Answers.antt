@@ -6,8 +6,8 @@ use Rattle.text.specs.Text.{PutShort, space, newline, decimal_of, line_word, can
 use Rattle.text.proofs.TextLaws.{within_put, within_none, put_short_then, put_as, line_parts}
 use Rattle.text.proofs.put_unread.Goals as goal
 
-pub returns-then-left-lt42 : goal.returns-then-left-lt42
-returns-then-left-lt42 c =
+pub returns-then-saturating_sub-lt42 : goal.returns-then-saturating_sub-lt42
+returns-then-saturating_sub-lt42 c =
     within_none (λ both. omega (arith, both.0))
 
 pub returns : goal.returns

@@ -4,4 +4,4 @@ use Rattle.text_faults.proofs.begin.Goals as goal
 
 pub returns : goal.returns
 returns c =
-    rw (c.nothing_found-found.ensures, c.fresh-scan.ensures) refl
+    rw (c.nothing_found.ensures, c.fresh.ensures) refl

@@ -22,4 +22,4 @@ returns-then-s-ne-BETWEEN c =
 pub returns : goal.returns
 unfolding found_on
 returns c =
-    rw (c.if-over.false, sym c.is_word_end.ensures ∙ c.if-is_word_end.false, eq-eqb _ _ c.if-s-ne-BETWEEN.false) (c.with_byte-2.ensures ∙ rw (c.nothing_found-begun.ensures, c.place_of-place.ensures) refl)
+    rw (c.if-over.false, sym c.is_word_end.ensures ∙ c.if-is_word_end.false, eq-eqb _ _ c.if-s-ne-BETWEEN.false) (c.with_byte-2.ensures ∙ rw (c.nothing_found-begun.ensures, c.place_of.ensures) refl)

@@ -4,4 +4,4 @@ use Rattle.text_faults.proofs.next_line.Goals as goal
 
 pub returns : goal.returns
 returns c =
-    rw (c.nothing_found-found.ensures, c.fresh-scan.ensures, c.next_line.ensures) refl
+    rw (c.nothing_found.ensures, c.fresh.ensures, c.next_line.ensures) refl

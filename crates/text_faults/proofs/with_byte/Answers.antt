@@ -12,4 +12,4 @@ returns-then-length-ge-WORD_SIZE c =
 pub returns : goal.returns
 unfolding with_byte
 returns c =
-    rw (lt-leb _ _ c.if-length-ge-WORD_SIZE.false, c.shown-kept.ensures) refl
+    rw (lt-leb _ _ c.if-length-ge-WORD_SIZE.false, c.shown.ensures) refl

@@ -1,38 +1,25 @@
 -- `stepped` is right because its body is the definition; no number is above 2^43, so nothing wraps.
-use Prim.Native.Nat.{◌+◌, ◌-◌, ◌*◌, ◌/◌, ◌≤◌, ◌^◌}
-use mathlib.Core.Path.{◌≡◌, refl, sym}
+use Prim.Native.Nat.{ℕ, ◌+◌, ◌-◌, ◌*◌, ◌/◌, ◌%◌, ◌<◌, min}
+use mathlib.Core.Path.{◌≡◌, refl, sym, ◌∙◌}
 use native.Mathlib.Omega.{arith}
-use native.Mathlib.Nat.{mul-le-mul_right}
+use native.Mathlib.Nat.{div-eq_of_lt-le}
+use Rattle.std.proofs.lemmas.Grind.{div_ceil_times}
 use Rattle.units.specs.Grid.{stepped}
+use Rattle.units.proofs.SmallLaws.{one_more_lem}
 use Rattle.units.proofs.GridLaws.{step_small}
-use Rattle.quotients.proofs.Promised.{promised}
 use Rattle.tuning.proofs.stepped.Goals as goal
 
-pub overflow_mul-divisor : goal.overflow_mul-divisor
-overflow_mul-divisor c =
-    let few : c.args.shares * c.wide-step.result ≤ 2 ^ 32 * c.wide-step.result = mul-le-mul_right c.wide-step.result c.requires.0 in
-    omega (arith, few, c.wide-step.ensures.same, c.requires.2)
-
-pub returns-then-divisor-eq0 : goal.returns-then-divisor-eq0
-returns-then-divisor-eq0 c =
-    let none : let args = c.args in stepped args.grid args.shares args.need ≡ 0 = let args = c.args in
-    let zero : args.shares * args.grid ≡ 0 = rw c.wide-step.ensures.same at c.if-divisor-eq0.true in
-    promised.no_multiple args.grid args.shares args.need zero in
-    record { is = sym none; small = omega arith }
-
-pub overflow_add-result : goal.overflow_add-result
-overflow_add-result c =
-    let few : c.args.shares * c.wide-step.result ≤ 2 ^ 32 * c.wide-step.result = mul-le-mul_right c.wide-step.result c.requires.0 in
-    omega (arith, few, c.wide-step.ensures.same, c.requires.1, c.requires.2)
-
-pub overflow_mul-result : goal.overflow_mul-result
-overflow_mul-result c =
-    let is : let args = c.args in let step = c.wide-step.result in (args.need + (args.shares * step - 1)) / (args.shares * step) * step ≡ stepped args.grid args.shares args.need = rw c.wide-step.ensures.same refl in
-    let args = c.args in
-    omega (arith, is, step_small args.grid args.shares args.need, c.requires.1, c.requires.2)
+-- the library's quotient rounded up is the definition's
+ceil : (a b : ℕ) → 0 < b → a / b + min 1 (a % b) ≡ (a + (b - 1)) / b
+ceil a b some =
+    let q = a / b + min 1 (a % b) in
+    let bounds = div_ceil_times a b some in
+    sym (div-eq_of_lt-le b (omega (arith, bounds.1)) (omega (arith, bounds.0, one_more_lem q b)))
 
 pub returns : goal.returns
 returns c =
-    let is : let args = c.args in let step = c.wide-step.result in (args.need + (args.shares * step - 1)) / (args.shares * step) * step ≡ stepped args.grid args.shares args.need = rw c.wide-step.ensures.same refl in
     let args = c.args in
+    let step = c.from-step.result in
+    let up : c.div_ceil.result ≡ (args.need + (args.shares * step - 1)) / (args.shares * step) = c.div_ceil.ensures ∙ ceil args.need (args.shares * step) (omega arith) in
+    let is : c.div_ceil.result * step ≡ stepped args.grid args.shares args.need = rw (up, c.from-step.ensures) refl in
     record { is = is; small = rw is (step_small args.grid args.shares args.need) }

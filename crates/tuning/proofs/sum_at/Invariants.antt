@@ -1,5 +1,5 @@
 -- `sum_at` is right because the loop's sum is that of the stations passed; each smallest S is below 2^34, so nothing wraps.
-use Prim.Native.Nat.{ℕ, ◌≤◌, ◌-◌, ◌*◌, ◌^◌}
+use Prim.Native.Nat.{ℕ, ◌≤◌, ◌*◌, ◌^◌}
 use mathlib.Core.Path.{◌≡◌}
 use mathlib.Core.List.{List}
 use Rattle.units.specs.Places.{at, sum_below}
@@ -12,8 +12,4 @@ each grid x c d i = smallest_for grid x (at c i) (at d i)
 
 abbrev pub invariant-loop-i : goal.invariant-loop-i
 invariant-loop-i l =
-    (l.i ≤ l.end) × (l.sum ≡ sum_below l.i (each l.grid l.ttrt l.c l.d)) × (l.sum ≤ l.i * 2 ^ 34)
-
-abbrev pub decreases-loop-i : goal.decreases-loop-i
-decreases-loop-i l =
-    l.end - l.i
+    (l.sum ≡ sum_below l.i (each l.grid l.ttrt l.c l.d)) × (l.sum ≤ l.i * 2 ^ 34)

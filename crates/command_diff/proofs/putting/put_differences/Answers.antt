@@ -9,8 +9,8 @@ pub returns : goal.returns
 returns c =
     let n : c.places-n.result ≡ c.args.t.n = omega (arith, c.places-n.ensures, c.requires.0.0) in
     let m : c.places-m.result ≡ c.args.u.n = omega (arith, c.places-m.ensures, c.requires.0.1) in
-    let parts = sizes _ _ _ _ _ _ (omega (arith, n, c.requires.0.0)) (omega (arith, m, c.requires.0.1)) c.beyond-come.ensures c.beyond-gone.ensures c.requires.1 in
+    let parts = sizes _ _ _ _ _ (omega (arith, n, c.requires.0.0)) (omega (arith, m, c.requires.0.1)) c.min-shared.ensures c.requires.1 in
     let two = put_short_then c.put_headers-headed.ensures c.put_stations-changed.ensures parts.shared_fit in
     let three = put_short_then two c.put_alones-coming.ensures parts.come_fit in
     let four = put_short_then three c.put_alones.ensures parts.gone_fit in
-    put_as four (rw (parts.shared, c.beyond-come.ensures, c.beyond-gone.ensures, n, m) (lines_four _ _ _ _)) parts.all_fit
+    put_as four (rw (c.min-shared.ensures, n, m) (lines_four _ _ _ _)) parts.all_fit

@@ -10,5 +10,5 @@ pub returns : goal.returns
 unfolding line number_words
 returns c =
     put_as (line_put [] (_ ∷ _ ∷ _ ∷ _ ∷ _ ∷ []) c.put_line.ensures (omega (arith, c.requires.1)))
-    (rw (c.wide.ensures.same, c.wide-2.ensures.same, c.wide-3.ensures.same, c.wide-4.ensures.same, c.wide-5.ensures.same) refl)
+    (rw (c.from.ensures, c.from-2.ensures, c.from-3.ensures, c.from-4.ensures, c.from-5.ensures) refl)
     (omega arith)

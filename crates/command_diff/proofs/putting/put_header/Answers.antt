@@ -12,6 +12,6 @@ returns-then-old-new c =
 pub returns : goal.returns
 returns c =
     let one = c.put_number-tagged.ensures.put (omega (arith, c.requires)) (decimal_short 20 _) in
-    put_as (line_then [] (c.args.old ∷ c.args.new ∷ []) one c.put_line.ensures (omega (arith, c.requires)))
-    (header_line _ _ _ c.if-old-new.false)
+    put_as (line_then [] (_ ∷ _ ∷ []) one c.put_line.ensures (omega (arith, c.requires)))
+    (rw (c.from.ensures, c.from-2.ensures) (header_line _ _ _ c.if-old-new.false))
     (omega arith)

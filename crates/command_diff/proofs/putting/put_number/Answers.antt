@@ -13,6 +13,6 @@ pub returns : goal.returns
 returns c =
     let one = c.put_number-numbered.ensures.put (omega (arith, c.requires)) (decimal_short 20 _) in
     let two = within_then one c.put_short-named.ensures (omega arith) (omega (arith, c.requires)) in
-    put_as (line_then [] (c.args.old ∷ c.args.new ∷ []) two c.put_line.ensures (omega (arith, c.requires)))
-    (rw c.letter_of.ensures (number_line_lem _ _ _ _ c.if-old-new.false))
+    put_as (line_then [] (_ ∷ _ ∷ []) two c.put_line.ensures (omega (arith, c.requires)))
+    (rw (c.letter_of.ensures, c.from.ensures, c.from-2.ensures) (number_line_lem _ _ _ _ c.if-old-new.false))
     (omega arith)

@@ -1,5 +1,5 @@
--- `put_stations` is right because after i turns the lines of the first i stations are put.
-use Prim.Native.Nat.{◌*◌, ◌-◌, ◌≤◌}
+-- `put_stations` is right because the lines of the stations before this one are put.
+use Prim.Native.Nat.{◌*◌}
 use mathlib.Core.Path.{◌≡◌}
 use lib.ListN.{length}
 use Rattle.text.specs.Text.{PutShort}
@@ -10,8 +10,7 @@ use Rattle.command_diff.proofs.putting.put_stations.Given as goal
 
 abbrev pub invariant-loop-i : goal.invariant-loop-i
 invariant-loop-i l =
-    (l.i ≤ l.shared) × (length l.page ≡ length l.initial.page) × PutShort (415 * l.i) l.initial.page l.at (lines_of (gathered l.i (station_changed (number_of l.t l.a) (number_of l.u l.b)))) l.page l.next
-
-abbrev pub decreases-loop-i : goal.decreases-loop-i
-decreases-loop-i l =
-    l.shared - l.i
+    record {
+      size : length l.page ≡ length l.initial.page;
+      put : PutShort (415 * l.i) l.initial.page l.at (lines_of (gathered l.i (station_changed (number_of l.t l.a) (number_of l.u l.b)))) l.page l.next;
+    }

@@ -1,4 +1,5 @@
 -- `behind_sum` is right because its body is the definition.
+use mathlib.Core.Path.{refl}
 use borrow.Author.Tests.{eq-eqb, ne_eqb}
 use Rattle.command_explain.specs.Ends.{behind_sum}
 use Rattle.command_explain.proofs.ends.behind_sum.Goals as goal
@@ -11,9 +12,9 @@ returns-then-e-eq-ACCEPTED c =
 pub returns-then-said : goal.returns-then-said
 unfolding behind_sum
 returns-then-said c =
-    rw (ne_eqb _ _ c.if-e-eq-ACCEPTED.false, c.if-said.true) c.bare.ensures
+    rw (ne_eqb _ _ c.if-e-eq-ACCEPTED.false, c.if-said.true, c.bare.ensures) refl
 
 pub returns : goal.returns
 unfolding behind_sum
 returns c =
-    rw (ne_eqb _ _ c.if-e-eq-ACCEPTED.false, c.if-said.false) c.nothing.ensures
+    rw (ne_eqb _ _ c.if-e-eq-ACCEPTED.false, c.if-said.false) refl

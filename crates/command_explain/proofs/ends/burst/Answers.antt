@@ -1,20 +1,22 @@
 -- `burst` is right because its body is the definition.
 use mathlib.Core.Path.{refl}
-use borrow.Author.Tests.{eq-eqb, ne_eqb}
+use Rattle.std.proofs.Common.{arith}
+use borrow.Author.Tests.{eq-eqb}
 use Rattle.command_explain.specs.Ends.{burst_promise}
+use Rattle.std.proofs.lemmas.Grind.{common_steps}
 use Rattle.command_explain.proofs.ends.burst.Goals as goal
 
 pub returns-then-e-eq-FDDI : goal.returns-then-e-eq-FDDI
 unfolding burst_promise
 returns-then-e-eq-FDDI c =
-    rw (eq-eqb _ _ c.if-e-eq-FDDI.true) c.nothing.ensures
+    rw (eq-eqb _ _ c.if-e-eq-FDDI.true) refl
 
 pub returns-then-n-eq1 : goal.returns-then-n-eq1
 unfolding burst_promise
 returns-then-n-eq1 c =
-    rw (ne_eqb _ _ c.if-e-eq-FDDI.false, eq-eqb _ _ (rw c.wide-n.ensures.same at c.if-n-eq1.true)) refl
+    grind (arith, common_steps)
 
 pub returns : goal.returns
 unfolding burst_promise
 returns c =
-    rw (ne_eqb _ _ c.if-e-eq-FDDI.false, ne_eqb _ _ (rw c.wide-n.ensures.same at c.if-n-eq1.false), c.wide-n.ensures.same) refl
+    grind (arith, common_steps)

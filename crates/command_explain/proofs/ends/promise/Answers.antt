@@ -1,35 +1,35 @@
 -- `promise` is right because it asks for the promises in their order.
-use mathlib.Core.Path.{refl}
-use borrow.Author.Tests.{eq-eqb, ne_eqb}
+use Rattle.std.proofs.Common.{arith}
 use Rattle.command_explain.specs.Ends.{promise_phrase}
+use Rattle.std.proofs.lemmas.Grind.{common_steps}
 use Rattle.command_explain.proofs.ends.promise.Goals as goal
 
-pub returns-then-j-eq0 : goal.returns-then-j-eq0
+pub returns-in-0 : goal.returns-in-0
 unfolding promise_phrase
-returns-then-j-eq0 c =
-    rw (eq-eqb _ _ c.if-j-eq0.true) refl
+returns-in-0 c =
+    grind (arith, common_steps)
 
-pub returns-then-j-eq1 : goal.returns-then-j-eq1
+pub returns-in-1 : goal.returns-in-1
 unfolding promise_phrase
-returns-then-j-eq1 c =
-    rw (ne_eqb _ _ c.if-j-eq0.false, eq-eqb _ _ c.if-j-eq1.true) c.bare.ensures
+returns-in-1 c =
+    grind (arith, common_steps)
 
-pub returns-then-j-eq2 : goal.returns-then-j-eq2
+pub returns-in-2 : goal.returns-in-2
 unfolding promise_phrase
-returns-then-j-eq2 c =
-    rw (ne_eqb _ _ c.if-j-eq0.false, ne_eqb _ _ c.if-j-eq1.false, eq-eqb _ _ c.if-j-eq2.true) c.deadline.ensures
+returns-in-2 c =
+    grind (arith, common_steps)
 
-pub returns-then-j-eq3 : goal.returns-then-j-eq3
+pub returns-in-3 : goal.returns-in-3
 unfolding promise_phrase
-returns-then-j-eq3 c =
-    rw (ne_eqb _ _ c.if-j-eq0.false, ne_eqb _ _ c.if-j-eq1.false, ne_eqb _ _ c.if-j-eq2.false, eq-eqb _ _ c.if-j-eq3.true) c.burst.ensures
+returns-in-3 c =
+    grind (arith, common_steps)
 
-pub returns-then-j-eq4 : goal.returns-then-j-eq4
+pub returns-in-4 : goal.returns-in-4
 unfolding promise_phrase
-returns-then-j-eq4 c =
-    rw (ne_eqb _ _ c.if-j-eq0.false, ne_eqb _ _ c.if-j-eq1.false, ne_eqb _ _ c.if-j-eq2.false, ne_eqb _ _ c.if-j-eq3.false, eq-eqb _ _ c.if-j-eq4.true) c.offered.ensures
+returns-in-4 c =
+    grind (arith, common_steps)
 
-pub returns : goal.returns
+pub returns-in_default : goal.returns-in_default
 unfolding promise_phrase
-returns c =
-    rw (ne_eqb _ _ c.if-j-eq0.false, ne_eqb _ _ c.if-j-eq1.false, ne_eqb _ _ c.if-j-eq2.false, ne_eqb _ _ c.if-j-eq3.false, ne_eqb _ _ c.if-j-eq4.false) c.nothing.ensures
+returns-in_default c =
+    grind (arith, common_steps)

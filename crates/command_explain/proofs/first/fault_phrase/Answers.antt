@@ -1,19 +1,20 @@
 -- `fault_phrase` is right because it asks for the phrases in their order.
-use borrow.Author.Tests.{eq-eqb, ne_eqb}
+use Rattle.std.proofs.Common.{arith}
 use Rattle.command_explain.specs.First.{fault_phrase}
+use Rattle.std.proofs.lemmas.Grind.{common_steps}
 use Rattle.command_explain.proofs.first.fault_phrase.Goals as goal
 
-pub returns-then-j-eq0 : goal.returns-then-j-eq0
+pub returns-in-0 : goal.returns-in-0
 unfolding fault_phrase
-returns-then-j-eq0 c =
-    rw (eq-eqb _ _ c.if-j-eq0.true) c.read_as.ensures
+returns-in-0 c =
+    grind (arith, common_steps)
 
-pub returns-then-j-eq1 : goal.returns-then-j-eq1
+pub returns-in-1 : goal.returns-in-1
 unfolding fault_phrase
-returns-then-j-eq1 c =
-    rw (ne_eqb _ _ c.if-j-eq0.false, eq-eqb _ _ c.if-j-eq1.true) c.stands.ensures
+returns-in-1 c =
+    grind (arith, common_steps)
 
-pub returns : goal.returns
+pub returns-in_default : goal.returns-in_default
 unfolding fault_phrase
-returns c =
-    rw (ne_eqb _ _ c.if-j-eq0.false, ne_eqb _ _ c.if-j-eq1.false) c.may_stand_by.ensures
+returns-in_default c =
+    grind (arith, common_steps)

@@ -1,9 +1,12 @@
 -- `header_out` is right because its body is the definition.
-use mathlib.Core.Path.{◌≡◌, refl}
-use borrow.Author.Tests.{not-true, not-false}
+use mathlib.Core.Path.{refl}
+use Rattle.std.proofs.Common.{arith}
+use mathlib.Core.Path.{◌≡◌}
+use borrow.Author.Tests.{not-true}
 use mathlib.Core.Bool.{Bool}
 use Rattle.faults.specs.declared.Ranged.{Ranged}
 use Rattle.command_explain.specs.First.{header_out}
+use Rattle.std.proofs.lemmas.Grind.{common_steps}
 use Rattle.command_explain.proofs.first.header_out.Goals as goal
 
 -- whether the number is out of range, as it was asked for
@@ -13,9 +16,9 @@ is_out e f = rw (← e) f
 pub returns-then-not-range : goal.returns-then-not-range
 unfolding header_out
 returns-then-not-range c =
-    rw (← c.row_at-row.ensures, is_out c.header_range-range.ensures (not-true _ c.if-not-range.true)) c.nothing.ensures
+    rw (← c.row_at-row.ensures, is_out c.header_range-range.ensures (not-true _ c.if-not-range.true)) refl
 
 pub returns : goal.returns
 unfolding header_out
 returns c =
-    rw (c.out_form-form.ensures, c.wide-high.ensures.same, c.wide-value.ensures.same, c.header_range-stands.ensures, ← c.row_at-row.ensures, is_out c.header_range-range.ensures (not-false _ c.if-not-range.false), c.header_range-range.ensures) refl
+    grind (arith, common_steps)

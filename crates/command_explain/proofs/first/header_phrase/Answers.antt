@@ -1,4 +1,5 @@
 -- `header_phrase` is right because its body is the definition.
+use mathlib.Core.Path.{refl}
 use borrow.Author.Tests.{lt-ltb, le-ltb}
 use Rattle.command_explain.specs.First.{header_phrase}
 use Rattle.command_explain.proofs.first.header_phrase.Goals as goal
@@ -11,4 +12,4 @@ returns-then-j-lt4 c =
 pub returns : goal.returns
 unfolding header_phrase
 returns c =
-    rw (le-ltb _ _ c.if-j-lt4.false) c.nothing.ensures
+    rw (le-ltb _ _ c.if-j-lt4.false) refl

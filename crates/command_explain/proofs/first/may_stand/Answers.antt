@@ -6,9 +6,9 @@ use Rattle.command_explain.proofs.first.may_stand.Goals as goal
 pub returns-then-not-is_allowed : goal.returns-then-not-is_allowed
 unfolding may_stand
 returns-then-not-is_allowed c =
-    rw (← c.kind_at-kind.ensures, sym c.is_allowed.ensures ∙ c.if-not-is_allowed.true) c.nothing.ensures
+    rw (← c.kind_at-kind.ensures, sym c.is_allowed.ensures ∙ c.if-not-is_allowed.true) refl
 
 pub returns : goal.returns
 unfolding may_stand
 returns c =
-    rw (← c.kind_at-kind.ensures, sym c.is_allowed.ensures ∙ c.if-not-is_allowed.false) refl
+    rw (← c.kind_at-kind.ensures, sym c.is_allowed.ensures ∙ c.if-not-is_allowed.false, c.from-size.ensures, c.from-tag.ensures) refl

@@ -12,9 +12,9 @@ returns-then-number-ne-RUNS_ON c =
 pub returns-then-k-eq0 : goal.returns-then-k-eq0
 unfolding may_stand_by
 returns-then-k-eq0 c =
-    rw (eq-eqb _ _ c.if-number-ne-RUNS_ON.false, eq-eqb _ _ c.if-k-eq0.true) refl
+    rw (eq-eqb _ _ c.if-number-ne-RUNS_ON.false, eq-eqb _ _ c.if-k-eq0.true, c.bare.ensures) refl
 
 pub returns : goal.returns
 unfolding may_stand_by
 returns c =
-    rw (eq-eqb _ _ c.if-number-ne-RUNS_ON.false, ne_eqb _ _ c.if-k-eq0.false) c.nothing.ensures
+    rw (eq-eqb _ _ c.if-number-ne-RUNS_ON.false, ne_eqb _ _ c.if-k-eq0.false) refl

@@ -1,7 +1,9 @@
 -- `out_form` is right because its body is the definition.
+use Rattle.std.proofs.Common.{arith}
 use mathlib.Core.Path.{refl}
-use borrow.Author.Tests.{eq-eqb, ne_eqb}
+use borrow.Author.Tests.{eq-eqb}
 use Rattle.command_explain.specs.First.{out_form}
+use Rattle.std.proofs.lemmas.Grind.{common_steps}
 use Rattle.command_explain.proofs.first.out_form.Goals as goal
 
 pub returns-then-value-eq-ABSENT : goal.returns-then-value-eq-ABSENT
@@ -9,7 +11,7 @@ unfolding out_form
 returns-then-value-eq-ABSENT c =
     rw (eq-eqb _ _ c.if-value-eq-ABSENT.true) refl
 
-pub returns : goal.returns
+pub returns-else-value-eq-ABSENT : goal.returns-else-value-eq-ABSENT
 unfolding out_form
-returns c =
-    rw (ne_eqb _ _ c.if-value-eq-ABSENT.false) refl
+returns-else-value-eq-ABSENT c =
+    grind (arith, common_steps)

@@ -15,4 +15,4 @@ unfolding place_at
 returns c =
     let args = c.args in
     let there = c.left_from-there.ensures in
-    rw (c.wide-3.ensures.same, c.wide-2.ensures.same, c.wide.ensures.same, c.wide-low.ensures.same, c.wide-high.ensures.same, there, le-leb 3 _ (rw there at c.if-there-lt3.false), short_is args.bs.now args.at) refl
+    rw (c.from.ensures, c.from-low.ensures, c.from-high.ensures, there, le-leb 3 _ (rw there at c.if-there-lt3.false), short_is args.bs.now args.at) refl

@@ -1,24 +1,26 @@
 -- `given` is right because its body is the definition.
-use borrow.Author.Tests.{eq-eqb, ne_eqb}
+use mathlib.Core.Path.{refl}
+use Rattle.std.proofs.Common.{arith}
 use Rattle.command_explain.specs.Stations.{given_by}
+use Rattle.std.proofs.lemmas.Grind.{common_steps}
 use Rattle.command_explain.proofs.stations.given.Goals as goal
 
 pub returns-then-not-named : goal.returns-then-not-named
 unfolding given_by
 returns-then-not-named c =
-    rw (← c.holding_at-holding.ensures, c.if-not-named.true) c.nothing.ensures
+    rw (← c.holding_at-holding.ensures, c.if-not-named.true) refl
 
-pub returns-then-j-eq0 : goal.returns-then-j-eq0
+pub returns-in-0 : goal.returns-in-0
 unfolding given_by
-returns-then-j-eq0 c =
-    rw (← c.holding_at-holding.ensures, c.if-not-named.false, eq-eqb _ _ c.if-j-eq0.true) c.grounds.ensures
+returns-in-0 c =
+    grind (arith, common_steps)
 
-pub returns-then-j-eq1 : goal.returns-then-j-eq1
+pub returns-in-1 : goal.returns-in-1
 unfolding given_by
-returns-then-j-eq1 c =
-    rw (← c.holding_at-holding.ensures, c.if-not-named.false, ne_eqb _ _ c.if-j-eq0.false, eq-eqb _ _ c.if-j-eq1.true) c.held.ensures
+returns-in-1 c =
+    grind (arith, common_steps)
 
-pub returns : goal.returns
+pub returns-in_default : goal.returns-in_default
 unfolding given_by
-returns c =
-    rw (← c.holding_at-holding.ensures, c.if-not-named.false, ne_eqb _ _ c.if-j-eq0.false, ne_eqb _ _ c.if-j-eq1.false) c.nothing-2.ensures
+returns-in_default c =
+    grind (arith, common_steps)

@@ -7,9 +7,9 @@ use Rattle.command_explain.proofs.stations.times.Goals as goal
 pub returns-then-rests-eq0 : goal.returns-then-rests-eq0
 unfolding times
 returns-then-rests-eq0 c =
-    rw (eq-eqb _ _ c.if-rests-eq0.true, c.wide-room.ensures.same) refl
+    rw (eq-eqb _ _ c.if-rests-eq0.true, c.from-room.ensures) refl
 
 pub returns : goal.returns
 unfolding times
 returns c =
-    rw (ne_eqb _ _ c.if-rests-eq0.false, c.wide-room.ensures.same) refl
+    rw (ne_eqb _ _ c.if-rests-eq0.false, c.from-room.ensures) refl

@@ -4,4 +4,4 @@ use Rattle.command_hopper.proofs.change_lines.end_line.Goals as goal
 
 pub returns : goal.returns
 returns c =
-    rw (c.fresh-scan.ensures, c.next_line.ensures) (ended _ _ _ _ _ c.line_changed-done.ensures c.put_change-length.ensures)
+    rw (c.fresh.ensures, c.next_line.ensures, c.is_unread.ensures) (ended _ _ _ _ _ c.line_changed-done.ensures c.put_change-length.ensures)

@@ -4,4 +4,4 @@ use Rattle.command_hopper.proofs.wagon_lines.on_next_line.Goals as goal
 
 pub returns : goal.returns
 returns c =
-    rw (c.fresh-scan.ensures, c.next_line.ensures) refl
+    rw (c.fresh.ensures, c.next_line.ensures) refl

@@ -6,9 +6,9 @@ use Rattle.command_page.proofs.answer.bound_ticks.Goals as goal
 pub returns-then-t-eq-FDDI : goal.returns-then-t-eq-FDDI
 unfolding bound_ticks
 returns-then-t-eq-FDDI c =
-    rw (eq-eqb _ _ c.if-t-eq-FDDI.true) (rw (c.room.ensures, c.wide.ensures.same, c.sum_first.ensures.sum, c.wide-ttrt.ensures.same) refl)
+    rw (eq-eqb _ _ c.if-t-eq-FDDI.true, c.sum_first.ensures.sum, c.saturating_sub-more.ensures, c.from.ensures, c.from-ttrt.ensures) refl
 
 pub returns : goal.returns
 unfolding bound_ticks
 returns c =
-    rw (ne_eqb _ _ c.if-t-eq-FDDI.false, c.wide-ttrt.ensures.same) refl
+    rw (ne_eqb _ _ c.if-t-eq-FDDI.false, c.from-ttrt.ensures) refl

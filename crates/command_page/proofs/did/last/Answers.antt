@@ -1,19 +1,20 @@
 -- `last` is right because it asks for the parts in their order.
-use Rattle.std.proofs.Common.{eq-eqb, ne_eqb}
+use Rattle.std.proofs.Common.{arith}
+use Rattle.std.proofs.lemmas.Grind.{common_steps}
 use Rattle.command_page.specs.Did.{last_part}
 use Rattle.command_page.proofs.did.last.Goals as goal
 
-pub returns-then-k-eq0 : goal.returns-then-k-eq0
+pub returns-in-0 : goal.returns-in-0
 unfolding last_part
-returns-then-k-eq0 c =
-    rw (eq-eqb _ _ c.if-k-eq0.true) c.bare.ensures
+returns-in-0 c =
+    grind (arith, common_steps)
 
-pub returns-then-k-eq1 : goal.returns-then-k-eq1
+pub returns-in-1 : goal.returns-in-1
 unfolding last_part
-returns-then-k-eq1 c =
-    rw (ne_eqb _ _ c.if-k-eq0.false, eq-eqb _ _ c.if-k-eq1.true) c.rotations.ensures
+returns-in-1 c =
+    grind (arith, common_steps)
 
-pub returns : goal.returns
+pub returns-in_default : goal.returns-in_default
 unfolding last_part
-returns c =
-    rw (ne_eqb _ _ c.if-k-eq0.false, ne_eqb _ _ c.if-k-eq1.false) c.nothing.ensures
+returns-in_default c =
+    grind (arith, common_steps)

@@ -11,4 +11,4 @@ returns-then-lines-eq0 c =
 pub returns : goal.returns
 unfolding rotations_part
 returns c =
-    rw (ne_eqb _ _ c.if-lines-eq0.false, c.wrapping_add_u64-first.ensures.value) refl
+    rw (ne_eqb _ _ c.if-lines-eq0.false) refl

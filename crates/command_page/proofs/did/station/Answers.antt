@@ -1,19 +1,19 @@
 -- `station` is right because it takes each number from its column.
-use Rattle.std.proofs.Common.{refl, eq-eqb, ne_eqb}
+use Rattle.std.proofs.Common.{refl, ◌∙◌, arith, ne_eqb}
 use Rattle.command_page.specs.Did.{did_part}
 use Rattle.command_page.proofs.did.station.Goals as goal
 
-pub returns-then-j-eq0 : goal.returns-then-j-eq0
+pub returns-in-0 : goal.returns-in-0
 unfolding did_part
-returns-then-j-eq0 c =
-    rw (eq-eqb _ _ c.if-j-eq0.true) refl
+returns-in-0 c =
+    rw c.in-0.is refl
 
-pub returns-then-j-eq1 : goal.returns-then-j-eq1
+pub returns-in-1 : goal.returns-in-1
 unfolding did_part
-returns-then-j-eq1 c =
-    rw (ne_eqb _ _ c.if-j-eq0.false, eq-eqb _ _ c.if-j-eq1.true) c.longest.ensures
+returns-in-1 c =
+    rw c.in-1.is (c.longest.ensures ∙ rw c.from.ensures refl)
 
-pub returns : goal.returns
+pub returns-in_default : goal.returns-in_default
 unfolding did_part
-returns c =
-    rw (ne_eqb _ _ c.if-j-eq0.false, ne_eqb _ _ c.if-j-eq1.false, c.wide-share.ensures.same) refl
+returns-in_default c =
+    rw (ne_eqb c.args.j 0 (λ e. omega (arith, e)), ne_eqb c.args.j 1 (λ e. omega (arith, e)), c.from-in_default.ensures) refl

@@ -1,29 +1,30 @@
 -- `expected` is right because it asks for the rules in their order.
-use Rattle.std.proofs.Common.{eq-eqb, ne_eqb}
+use Rattle.std.proofs.Common.{arith}
+use Rattle.std.proofs.lemmas.Grind.{common_steps}
 use Rattle.command_page.specs.Named.{numbers_of}
 use Rattle.command_page.proofs.named.expected.Goals as goal
 
-pub returns-then-r-eq1 : goal.returns-then-r-eq1
+pub returns-in-1 : goal.returns-in-1
 unfolding numbers_of
-returns-then-r-eq1 c =
-    rw (eq-eqb _ _ c.if-r-eq1.true) c.compared.ensures
+returns-in-1 c =
+    grind (arith, common_steps)
 
-pub returns-then-r-eq2 : goal.returns-then-r-eq2
+pub returns-in-2 : goal.returns-in-2
 unfolding numbers_of
-returns-then-r-eq2 c =
-    rw (ne_eqb _ _ c.if-r-eq1.false, eq-eqb _ _ c.if-r-eq2.true) c.start.ensures
+returns-in-2 c =
+    grind (arith, common_steps)
 
-pub returns-then-r-eq3 : goal.returns-then-r-eq3
+pub returns-in-3 : goal.returns-in-3
 unfolding numbers_of
-returns-then-r-eq3 c =
-    rw (ne_eqb _ _ c.if-r-eq1.false, ne_eqb _ _ c.if-r-eq2.false, eq-eqb _ _ c.if-r-eq3.true) c.compared-then-r-eq3.ensures
+returns-in-3 c =
+    grind (arith, common_steps)
 
-pub returns-then-r-eq4 : goal.returns-then-r-eq4
+pub returns-in-4 : goal.returns-in-4
 unfolding numbers_of
-returns-then-r-eq4 c =
-    rw (ne_eqb _ _ c.if-r-eq1.false, ne_eqb _ _ c.if-r-eq2.false, ne_eqb _ _ c.if-r-eq3.false, eq-eqb _ _ c.if-r-eq4.true) c.compared-then-r-eq4.ensures
+returns-in-4 c =
+    grind (arith, common_steps)
 
-pub returns : goal.returns
+pub returns-in_default : goal.returns-in_default
 unfolding numbers_of
-returns c =
-    rw (ne_eqb _ _ c.if-r-eq1.false, ne_eqb _ _ c.if-r-eq2.false, ne_eqb _ _ c.if-r-eq3.false, ne_eqb _ _ c.if-r-eq4.false) c.asynchronous.ensures
+returns-in_default c =
+    grind (arith, common_steps)

@@ -11,9 +11,9 @@ returns-then-x c =
 pub returns-then-h-eq-FDDI : goal.returns-then-h-eq-FDDI
 unfolding limit_from
 returns-then-h-eq-FDDI c =
-    rw (c.if-x.false, eq-eqb _ _ c.if-h-eq-FDDI.true) refl
+    rw (c.if-x.false, eq-eqb _ _ c.if-h-eq-FDDI.true, c.from-run.ensures, c.from-ttrt.ensures) refl
 
 pub returns : goal.returns
 unfolding limit_from
 returns c =
-    rw (c.if-x.false, ne_eqb _ _ c.if-h-eq-FDDI.false, c.room-more.ensures) refl
+    rw (c.if-x.false, ne_eqb _ _ c.if-h-eq-FDDI.false, c.from-unused.ensures, c.saturating_sub-more.ensures, c.from.ensures, c.from-run.ensures, c.from-ttrt.ensures) refl

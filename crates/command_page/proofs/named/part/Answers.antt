@@ -11,7 +11,7 @@ returns-then-k-eq0 c =
 pub returns-then-k-lt16 : goal.returns-then-k-lt16
 unfolding named_part
 returns-then-k-lt16 c =
-    rw (ne_eqb _ _ c.if-k-eq0.false, lt-ltb _ _ c.if-k-lt16.true) c.rule_row.ensures
+    rw (ne_eqb _ _ c.if-k-eq0.false, lt-ltb _ _ c.if-k-lt16.true) (rw c.from-broken.ensures at c.rule_row.ensures)
 
 pub returns-then-k-eq16 : goal.returns-then-k-eq16
 unfolding named_part

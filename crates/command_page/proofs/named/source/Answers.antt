@@ -1,19 +1,20 @@
 -- `source` is right because it asks for the rules in their order.
-use Rattle.std.proofs.Common.{eq-eqb, ne_eqb}
+use Rattle.std.proofs.Common.{arith}
+use Rattle.std.proofs.lemmas.Grind.{common_steps}
 use Rattle.command_page.specs.Named.{source_of}
 use Rattle.command_page.proofs.named.source.Goals as goal
 
-pub returns-then-r-eq3 : goal.returns-then-r-eq3
+pub returns-in-3 : goal.returns-in-3
 unfolding source_of
-returns-then-r-eq3 c =
-    rw (eq-eqb _ _ c.if-r-eq3.true) c.limit_from.ensures
+returns-in-3 c =
+    grind (arith, common_steps)
 
-pub returns-then-r-eq4 : goal.returns-then-r-eq4
+pub returns-in-4 : goal.returns-in-4
 unfolding source_of
-returns-then-r-eq4 c =
-    rw (ne_eqb _ _ c.if-r-eq3.false, eq-eqb _ _ c.if-r-eq4.true) c.share_from.ensures
+returns-in-4 c =
+    grind (arith, common_steps)
 
-pub returns : goal.returns
+pub returns-in_default : goal.returns-in_default
 unfolding source_of
-returns c =
-    rw (ne_eqb _ _ c.if-r-eq3.false, ne_eqb _ _ c.if-r-eq4.false) c.nothing.ensures
+returns-in_default c =
+    grind (arith, common_steps)

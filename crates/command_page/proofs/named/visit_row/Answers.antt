@@ -1,19 +1,20 @@
 -- `visit_row` is right because it asks for the parts in their order.
-use Rattle.std.proofs.Common.{eq-eqb, ne_eqb}
+use Rattle.std.proofs.Common.{arith}
+use Rattle.std.proofs.lemmas.Grind.{common_steps}
 use Rattle.command_page.specs.Named.{visit_row}
 use Rattle.command_page.proofs.named.visit_row.Goals as goal
 
-pub returns-then-j-eq0 : goal.returns-then-j-eq0
+pub returns-in-0 : goal.returns-in-0
 unfolding visit_row
-returns-then-j-eq0 c =
-    rw (eq-eqb _ _ c.if-j-eq0.true) c.row.ensures
+returns-in-0 c =
+    grind (arith, common_steps)
 
-pub returns-then-j-eq1 : goal.returns-then-j-eq1
+pub returns-in-1 : goal.returns-in-1
 unfolding visit_row
-returns-then-j-eq1 c =
-    rw (ne_eqb _ _ c.if-j-eq0.false, eq-eqb _ _ c.if-j-eq1.true) c.expected.ensures
+returns-in-1 c =
+    grind (arith, common_steps)
 
-pub returns : goal.returns
+pub returns-in_default : goal.returns-in_default
 unfolding visit_row
-returns c =
-    rw (ne_eqb _ _ c.if-j-eq0.false, ne_eqb _ _ c.if-j-eq1.false) c.source.ensures
+returns-in_default c =
+    grind (arith, common_steps)

@@ -1,24 +1,25 @@
 -- `by_mode` is right because it asks for the parts in their order.
-use Rattle.std.proofs.Common.{eq-eqb, ne_eqb}
+use Rattle.std.proofs.Common.{arith}
+use Rattle.std.proofs.lemmas.Grind.{common_steps}
 use Rattle.command_page.specs.Plan.{mode_promise}
 use Rattle.command_page.proofs.planned.by_mode.Goals as goal
 
-pub returns-then-k-eq3 : goal.returns-then-k-eq3
+pub returns-in-3 : goal.returns-in-3
 unfolding mode_promise
-returns-then-k-eq3 c =
-    rw (eq-eqb _ _ c.if-k-eq3.true) c.deadline.ensures
+returns-in-3 c =
+    grind (arith, common_steps)
 
-pub returns-then-k-eq4 : goal.returns-then-k-eq4
+pub returns-in-4 : goal.returns-in-4
 unfolding mode_promise
-returns-then-k-eq4 c =
-    rw (ne_eqb _ _ c.if-k-eq3.false, eq-eqb _ _ c.if-k-eq4.true) c.burst.ensures
+returns-in-4 c =
+    grind (arith, common_steps)
 
-pub returns-then-k-eq5 : goal.returns-then-k-eq5
+pub returns-in-5 : goal.returns-in-5
 unfolding mode_promise
-returns-then-k-eq5 c =
-    rw (ne_eqb _ _ c.if-k-eq3.false, ne_eqb _ _ c.if-k-eq4.false, eq-eqb _ _ c.if-k-eq5.true) c.offered.ensures
+returns-in-5 c =
+    grind (arith, common_steps)
 
-pub returns : goal.returns
+pub returns-in_default : goal.returns-in_default
 unfolding mode_promise
-returns c =
-    rw (ne_eqb _ _ c.if-k-eq3.false, ne_eqb _ _ c.if-k-eq4.false, ne_eqb _ _ c.if-k-eq5.false) c.bare.ensures
+returns-in_default c =
+    grind (arith, common_steps)

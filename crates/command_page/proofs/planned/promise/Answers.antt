@@ -1,24 +1,25 @@
 -- `promise` is right because it asks for the parts in their order.
-use Rattle.std.proofs.Common.{eq-eqb, ne_eqb}
+use Rattle.std.proofs.Common.{arith}
+use Rattle.std.proofs.lemmas.Grind.{common_steps}
 use Rattle.command_page.specs.Plan.{promise_part}
 use Rattle.command_page.proofs.planned.promise.Goals as goal
 
-pub returns-then-k-eq0 : goal.returns-then-k-eq0
+pub returns-in-0 : goal.returns-in-0
 unfolding promise_part
-returns-then-k-eq0 c =
-    rw (eq-eqb _ _ c.if-k-eq0.true) c.bare.ensures
+returns-in-0 c =
+    grind (arith, common_steps)
 
-pub returns-then-k-eq1 : goal.returns-then-k-eq1
+pub returns-in-1 : goal.returns-in-1
 unfolding promise_part
-returns-then-k-eq1 c =
-    rw (ne_eqb _ _ c.if-k-eq0.false, eq-eqb _ _ c.if-k-eq1.true) c.one.ensures
+returns-in-1 c =
+    grind (arith, common_steps)
 
-pub returns-then-k-eq2 : goal.returns-then-k-eq2
+pub returns-in-2 : goal.returns-in-2
 unfolding promise_part
-returns-then-k-eq2 c =
-    rw (ne_eqb _ _ c.if-k-eq0.false, ne_eqb _ _ c.if-k-eq1.false, eq-eqb _ _ c.if-k-eq2.true) c.bare-then-k-eq2.ensures
+returns-in-2 c =
+    grind (arith, common_steps)
 
-pub returns : goal.returns
+pub returns-in_default : goal.returns-in_default
 unfolding promise_part
-returns c =
-    rw (ne_eqb _ _ c.if-k-eq0.false, ne_eqb _ _ c.if-k-eq1.false, ne_eqb _ _ c.if-k-eq2.false) c.by_mode.ensures
+returns-in_default c =
+    grind (arith, common_steps)

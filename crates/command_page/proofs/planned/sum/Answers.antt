@@ -1,24 +1,25 @@
 -- `sum` is right because it asks for the parts in their order.
-use Rattle.std.proofs.Common.{eq-eqb, ne_eqb}
+use Rattle.std.proofs.Common.{arith}
+use Rattle.std.proofs.lemmas.Grind.{common_steps}
 use Rattle.command_page.specs.Plan.{sum_part}
 use Rattle.command_page.proofs.planned.sum.Goals as goal
 
-pub returns-then-k-eq5 : goal.returns-then-k-eq5
+pub returns-in-5 : goal.returns-in-5
 unfolding sum_part
-returns-then-k-eq5 c =
-    rw (eq-eqb _ _ c.if-k-eq5.true) c.one.ensures
+returns-in-5 c =
+    grind (arith, common_steps)
 
-pub returns-then-k-eq6 : goal.returns-then-k-eq6
+pub returns-in-6 : goal.returns-in-6
 unfolding sum_part
-returns-then-k-eq6 c =
-    rw (ne_eqb _ _ c.if-k-eq5.false, eq-eqb _ _ c.if-k-eq6.true) c.one-then-k-eq6.ensures
+returns-in-6 c =
+    grind (arith, common_steps)
 
-pub returns-then-k-eq7 : goal.returns-then-k-eq7
+pub returns-in-7 : goal.returns-in-7
 unfolding sum_part
-returns-then-k-eq7 c =
-    rw (ne_eqb _ _ c.if-k-eq5.false, ne_eqb _ _ c.if-k-eq6.false, eq-eqb _ _ c.if-k-eq7.true) c.one-then-k-eq7.ensures
+returns-in-7 c =
+    grind (arith, common_steps)
 
-pub returns : goal.returns
+pub returns-in_default : goal.returns-in_default
 unfolding sum_part
-returns c =
-    rw (ne_eqb _ _ c.if-k-eq5.false, ne_eqb _ _ c.if-k-eq6.false, ne_eqb _ _ c.if-k-eq7.false) c.bare.ensures
+returns-in_default c =
+    grind (arith, common_steps)

@@ -9,5 +9,5 @@ pub returns : goal.returns
 unfolding plan_lines
 returns c =
     put_as (put_short_then c.put_plan_line-first.ensures c.put_shares.ensures (omega (arith, c.requires)))
-    (rw (c.wide-n.ensures.same, c.wide-ttrt.ensures.same, c.walk_time-tau.ensures.sum, c.spare-spare.ensures) refl)
+    (rw (c.from-n.ensures, c.from-ttrt.ensures, c.walk_time-tau.ensures.sum, c.spare-spare.ensures) refl)
     (omega arith)

@@ -18,16 +18,16 @@ pub returns-then-tag-eq-MODE_TAG : goal.returns-then-tag-eq-MODE_TAG
 returns-then-tag-eq-MODE_TAG c =
     let args = c.args in
     let line = word_line args.tag args.number mode_word (mode_named args.tag c.if-tag-eq-MODE_TAG.true) c.if-number-eq-ABSENT.false in
-    put_as c.put_named.ensures (rw c.wide.ensures.same line) (omega arith)
+    put_as c.put_named.ensures (rw c.from-told.ensures line) (omega arith)
 
 pub returns-then-tag-eq-FRAME_TAG : goal.returns-then-tag-eq-FRAME_TAG
 returns-then-tag-eq-FRAME_TAG c =
     let args = c.args in
     let line = word_line args.tag args.number frame_word (frame_named args.tag c.if-tag-eq-FRAME_TAG.true) c.if-number-eq-ABSENT.false in
-    put_as c.put_named-then-tag-eq-FRAME_TAG.ensures (rw c.wide-then-tag-eq-FRAME_TAG.ensures.same line) (omega arith)
+    put_as c.put_named-then-tag-eq-FRAME_TAG.ensures (rw c.from-told.ensures line) (omega arith)
 
 pub returns : goal.returns
 returns c =
     let args = c.args in
     let line = word_line args.tag args.number grid_word (grid_named args.tag c.if-tag-eq-MODE_TAG.false c.if-tag-eq-FRAME_TAG.false) c.if-number-eq-ABSENT.false in
-    put_as c.put_named-2.ensures (rw c.wide-2.ensures.same line) (omega arith)
+    put_as c.put_named-2.ensures (rw c.from-told.ensures line) (omega arith)

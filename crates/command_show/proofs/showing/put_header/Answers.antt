@@ -8,5 +8,5 @@ use Rattle.command_show.proofs.showing.put_header.Goals as goal
 
 pub returns : goal.returns
 returns c =
-    let ttrt = put_as {t = ttrt_line c.args.h.ttrt} {more = 42} c.put_named-first.ensures (rw c.wide.ensures.same) (omega arith) in
+    let ttrt = put_as {t = ttrt_line c.args.h.ttrt} {more = 42} c.put_named-first.ensures (rw c.from.ensures) (omega arith) in
     rw (lines_rows c.args.h further_count) (put_short_then ttrt c.put_numbers.ensures (omega (arith, c.requires)))

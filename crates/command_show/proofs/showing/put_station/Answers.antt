@@ -12,12 +12,12 @@ pub returns-then-plan : goal.returns-then-plan
 unfolding number_words share_words station_line
 returns-then-plan c =
     put_as (line_put station_word (_ ∷ _ ∷ _ ∷ _ ∷ _ ∷ []) c.put_line.ensures (omega arith))
-    (rw (c.if-plan.true, c.wide-w.ensures.same, c.wide-c.ensures.same, c.wide-d.ensures.same, c.wide-p.ensures.same, c.wide-s.ensures.same) refl)
+    (rw (c.if-plan.true, c.from-w.ensures, c.from-c.ensures, c.from-d.ensures, c.from-p.ensures, c.from-s.ensures) refl)
     (omega arith)
 
 pub returns : goal.returns
 unfolding number_words share_words station_line
 returns c =
     put_as (line_put station_word (_ ∷ _ ∷ _ ∷ _ ∷ []) c.put_line-2.ensures (omega arith))
-    (rw (c.if-plan.false, c.wide-w.ensures.same, c.wide-c.ensures.same, c.wide-d.ensures.same, c.wide-p.ensures.same) refl)
+    (rw (c.if-plan.false, c.from-w.ensures, c.from-c.ensures, c.from-d.ensures, c.from-p.ensures) refl)
     (omega arith)

@@ -1,5 +1,5 @@
 -- `put_stations` is right because after i turns the lines of the first i stations are put.
-use Prim.Native.Nat.{◌*◌, ◌-◌, ◌≤◌}
+use Prim.Native.Nat.{◌*◌}
 use mathlib.Core.Path.{◌≡◌}
 use lib.ListN.{length}
 use Rattle.fields.specs.Rows.{rows}
@@ -9,8 +9,4 @@ use Rattle.command_show.proofs.showing.put_stations.Given as goal
 
 abbrev pub invariant-loop-i : goal.invariant-loop-i
 invariant-loop-i l =
-    (l.i ≤ l.end) × (length l.page ≡ length l.initial.page) × PutShort (126 * l.i) l.initial.page l.at (rows l.i (station_line l.plan l.t l.a)) l.page l.next
-
-abbrev pub decreases-loop-i : goal.decreases-loop-i
-decreases-loop-i l =
-    l.end - l.i
+    (length l.page ≡ length l.initial.page) × PutShort (126 * l.i) l.initial.page l.at (rows l.i (station_line l.plan l.t l.a)) l.page l.next

@@ -1,20 +1,21 @@
 -- `first` is right because it asks for the lines in their order.
 use mathlib.Core.Path.{refl, ◌∙◌}
-use borrow.Author.Tests.{eq-eqb, ne_eqb}
+use native.Mathlib.Omega.{arith}
+use borrow.Author.Tests.{ne_eqb}
 use Rattle.command_tune.specs.Lines.{first_line}
 use Rattle.command_tune.proofs.lines.first.Goals as goal
 
-pub returns-then-i-eq0 : goal.returns-then-i-eq0
+pub returns-in-0 : goal.returns-in-0
 unfolding first_line
-returns-then-i-eq0 c =
-    rw (eq-eqb _ _ c.if-i-eq0.true) (c.two.ensures ∙ rw (c.wide-then-i-eq0.ensures.same, c.wide.ensures.same) refl)
+returns-in-0 c =
+    rw c.in-0.is (c.two.ensures ∙ rw (c.from.ensures, c.from-in-0.ensures) refl)
 
-pub returns-then-i-eq1 : goal.returns-then-i-eq1
+pub returns-in-1 : goal.returns-in-1
 unfolding first_line
-returns-then-i-eq1 c =
-    rw (ne_eqb _ _ c.if-i-eq0.false, eq-eqb _ _ c.if-i-eq1.true) (c.own.ensures ∙ rw c.wide-then-i-eq1.ensures.same refl)
+returns-in-1 c =
+    rw c.in-1.is (c.own.ensures ∙ rw c.from-in-1.ensures refl)
 
-pub returns : goal.returns
+pub returns-in_default : goal.returns-in_default
 unfolding first_line
-returns c =
-    rw (ne_eqb _ _ c.if-i-eq0.false, ne_eqb _ _ c.if-i-eq1.false) (c.one.ensures ∙ rw c.wide-2.ensures.same refl)
+returns-in_default c =
+    rw (ne_eqb c.args.i 0 (λ e. omega (arith, e)), ne_eqb c.args.i 1 (λ e. omega (arith, e))) (c.one.ensures ∙ rw c.from-in_default.ensures refl)

@@ -1,45 +1,36 @@
 -- `found` is right because it asks for the lines in their order.
 use mathlib.Core.Path.{refl, ◌∙◌}
-use borrow.Author.Tests.{eq-eqb, ne_eqb}
+use native.Mathlib.Omega.{arith}
+use borrow.Author.Tests.{ne_eqb}
 use Rattle.command_tune.specs.Lines.{found_line}
 use Rattle.command_tune.proofs.lines.found.Goals as goal
 
-pub returns-then-i-eq3 : goal.returns-then-i-eq3
+pub returns-in-3 : goal.returns-in-3
 unfolding found_line
-returns-then-i-eq3 c =
-    rw (eq-eqb _ _ c.if-i-eq3.true) (c.one.ensures ∙ rw c.wide.ensures.same refl)
+returns-in-3 c =
+    rw c.in-3.is (c.one.ensures ∙ rw c.from.ensures refl)
 
-pub returns-then-i-eq4 : goal.returns-then-i-eq4
+pub returns-in-4 : goal.returns-in-4
 unfolding found_line
-returns-then-i-eq4 c =
-    rw (ne_eqb _ _ c.if-i-eq3.false, eq-eqb _ _ c.if-i-eq4.true) (c.one-then-i-eq4.ensures ∙ rw c.wide-then-i-eq4.ensures.same refl)
+returns-in-4 c =
+    rw c.in-4.is (c.one-in-4.ensures ∙ rw c.from-in-4.ensures refl)
 
-pub returns-then-i-eq5 : goal.returns-then-i-eq5
+pub returns-in-5 : goal.returns-in-5
 unfolding found_line
-returns-then-i-eq5 c =
-    rw (ne_eqb _ _ c.if-i-eq3.false, ne_eqb _ _ c.if-i-eq4.false, eq-eqb _ _ c.if-i-eq5.true) (c.or_none.ensures ∙ rw c.wide-then-i-eq5.ensures.same refl)
+returns-in-5 c =
+    rw c.in-5.is (c.or_none.ensures ∙ rw c.from-in-5.ensures refl)
 
-pub returns-then-i-eq6 : goal.returns-then-i-eq6
+pub returns-in-6 : goal.returns-in-6
 unfolding found_line
-returns-then-i-eq6 c =
-    rw (ne_eqb _ _ c.if-i-eq3.false, ne_eqb _ _ c.if-i-eq4.false, ne_eqb _ _ c.if-i-eq5.false, eq-eqb _ _ c.if-i-eq6.true) (c.or_none-then-i-eq6.ensures ∙ rw c.wide-then-i-eq6.ensures.same refl)
+returns-in-6 c =
+    rw c.in-6.is (c.or_none-in-6.ensures ∙ rw c.from-in-6.ensures refl)
 
-pub returns-then-i-eq7 : goal.returns-then-i-eq7
+pub returns-in-7 : goal.returns-in-7
 unfolding found_line
-returns-then-i-eq7 c =
-    rw (ne_eqb _ _ c.if-i-eq3.false, ne_eqb _ _ c.if-i-eq4.false, ne_eqb _ _ c.if-i-eq5.false, ne_eqb _ _ c.if-i-eq6.false, eq-eqb _ _ c.if-i-eq7.true) (c.one-then-i-eq7.ensures ∙ rw c.wide-then-i-eq7.ensures.same refl)
+returns-in-7 c =
+    rw c.in-7.is (c.one-in-7.ensures ∙ rw c.from-in-7.ensures refl)
 
-pub returns : goal.returns
+pub returns-in_default : goal.returns-in_default
 unfolding found_line
-returns c =
-    rw (
-      ne_eqb _ _ c.if-i-eq3.false,
-      ne_eqb _ _ c.if-i-eq4.false,
-      ne_eqb _ _ c.if-i-eq5.false,
-      ne_eqb _ _ c.if-i-eq6.false,
-      ne_eqb _ _ c.if-i-eq7.false,
-      c.wide-spare.ensures.same,
-      c.walk_time-tau.ensures.sum,
-      c.wide-best.ensures.same,
-      c.wide-n.ensures.same,
-    ) refl
+returns-in_default c =
+    rw (ne_eqb c.args.i 3 (λ e. omega (arith, e)), ne_eqb c.args.i 4 (λ e. omega (arith, e)), ne_eqb c.args.i 5 (λ e. omega (arith, e)), ne_eqb c.args.i 6 (λ e. omega (arith, e)), ne_eqb c.args.i 7 (λ e. omega (arith, e)), c.from-spare.ensures, c.walk_time-tau.ensures.sum, c.from-best.ensures, c.from-n.ensures) refl

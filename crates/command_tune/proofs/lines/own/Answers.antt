@@ -11,4 +11,4 @@ returns-then-number-eq0 c =
 pub returns : goal.returns
 unfolding own_line
 returns c =
-    rw (ne_eqb _ _ c.if-number-eq0.false) c.two.ensures
+    rw (ne_eqb _ _ c.if-number-eq0.false) (rw c.from.ensures at c.two.ensures)

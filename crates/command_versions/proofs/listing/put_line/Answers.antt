@@ -7,5 +7,5 @@ use Rattle.command_versions.proofs.listing.put_line.Goals as goal
 pub returns : goal.returns
 returns c =
     put_as c.put_words.ensures
-    (rw (c.wide-number.ensures.same, c.wide-n.ensures.same, c.wide-ttrt.ensures.same, c.walk_time-tau.ensures.sum, c.spare-spare.ensures) refl)
+    (rw (c.from-number.ensures, c.from-n.ensures, c.from-ttrt.ensures, c.walk_time-tau.ensures.sum, c.spare-spare.ensures) refl)
     (omega arith)

@@ -1,5 +1,5 @@
--- `put_versions` is right because after i turns the lines of the first i versions are put.
-use Prim.Native.Nat.{◌+◌, ◌*◌, ◌-◌, ◌≤◌}
+-- `put_versions` is right because the lines of the versions before this one are put.
+use Prim.Native.Nat.{◌+◌, ◌*◌, ◌≤◌}
 use mathlib.Core.Path.{◌≡◌}
 use lib.ListN.{length}
 use Rattle.fields.specs.Rows.{rows}
@@ -9,9 +9,9 @@ use Rattle.command_versions.proofs.listing.put_versions.Given as goal
 
 abbrev pub invariant-loop-i : goal.invariant-loop-i
 invariant-loop-i l =
-    (l.i ≤ l.n) × (l.n ≤ 16) × (l.oldest + l.n ≤ 4_294_967_296) × (length l.page ≡ length l.initial.page)
-    × PutShort (125 * l.i) l.initial.page 0 (rows l.i (λ k. line_in l.area (l.oldest + k))) l.page l.next
-
-abbrev pub decreases-loop-i : goal.decreases-loop-i
-decreases-loop-i l =
-    l.n - l.i
+    record {
+      few : l.n ≤ 16;
+      top : l.oldest + l.n ≤ 4_294_967_296;
+      size : length l.page ≡ length l.initial.page;
+      put : PutShort (125 * l.i) l.initial.page 0 (rows l.i (λ k. line_in l.area (l.oldest + k))) l.page l.next;
+    }

@@ -1,5 +1,4 @@
 -- `put_stored` is right because the number stands behind the word.
-use mathlib.Core.Path.{refl}
 use mathlib.Core.List.{[], ◌∷◌}
 use native.Mathlib.Omega.{arith}
 use Rattle.text.specs.Text.{number_words}
@@ -10,4 +9,4 @@ use Rattle.command_versions.proofs.saying.put_stored.Goals as goal
 pub returns : goal.returns
 unfolding number_words
 returns c =
-    put_as (line_put version_word (_ ∷ []) c.put_line.ensures (omega arith)) refl (omega arith)
+    put_as (line_put version_word (_ ∷ []) c.put_line.ensures (omega arith)) (rw c.from.ensures) (omega arith)

@@ -1,9 +1,14 @@
 -- `messages` is right because the places passed hold the longest messages of their wagons, and every other is still 0.
-use Prim.Native.Nat.{◌-◌}
-use mathlib.Core.Path.{◌≡◌, ◌∙◌}
+use mathlib.Core.Path.{◌≡◌, sym, ◌∙◌}
 use native.Mathlib.Omega.{arith}
-use Rattle.units.proofs.FillLaws.{filling_begins, filling_goes_on, filling_ends}
+use Rattle.units.specs.Places.{zeros}
+use Rattle.units.proofs.PlaceLaws.{fill_none, fill_then}
+use Rattle.hopper.specs.Requests.{longest_at}
 use Rattle.hopper.proofs.requests.messages.Goals as goal
+
+pub loop-i-init : goal.loop-i-init
+loop-i-init c =
+    sym (fill_none _ _)
 
 pub longest-requires : goal.longest-requires
 longest-requires c =
@@ -11,13 +16,9 @@ longest-requires c =
 
 pub loop-i-preserved : goal.loop-i-preserved
 loop-i-preserved c =
-    filling_goes_on c.loop-i.invariant (omega arith) _ (λ was. c.longest.ensures)
+    fill_then c.loop-i.i (longest_at c.args.list) zeros _ _ c.loop-i.invariant c.longest.ensures
 
 pub returns : goal.returns
 returns c =
-    let end : c.places-end.result ≡ c.args.list.n = omega arith in
-    filling_ends c.loop-i.invariant (omega arith) ∙ rw end
-
-pub loop-i-init : goal.loop-i-init
-loop-i-init c =
-    filling_begins
+    let end : c.loop-i.i ≡ c.args.list.n = omega arith in
+    c.loop-i.invariant ∙ rw end

@@ -1,5 +1,4 @@
 -- `wagons_fit` is right because its flag is the test over the wagons passed, and it passes all of the list.
-use Prim.Native.Nat.{◌≤◌, ◌-◌}
 use mathlib.Core.Path.{◌≡◌}
 use Rattle.units.specs.Places.{all_below}
 use Rattle.hopper.specs.Wagons.{wagon_fits_at}
@@ -7,8 +6,4 @@ use Rattle.hopper.proofs.wagons.wagons_fit.Given as goal
 
 abbrev pub invariant-loop-i : goal.invariant-loop-i
 invariant-loop-i l =
-    (l.i ≤ l.end) × (l.all ≡ all_below l.i (wagon_fits_at l.list))
-
-abbrev pub decreases-loop-i : goal.decreases-loop-i
-decreases-loop-i l =
-    l.end - l.i
+    l.all ≡ all_below l.i (wagon_fits_at l.list)

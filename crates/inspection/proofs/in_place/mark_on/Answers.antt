@@ -30,5 +30,5 @@ returns c =
           let due = expected s (set_of head a.n w zeros zeros zeros) (alloc_of shares) in
           rw c.none_compared-compared.ensures
           (step_moves s head a.n w shares (Mark a.switched) refl due (λ x d p. refl) _ (c.mark_rule-rule.ensures due refl) none _
-          (λ x d p. mark_moved s _ _ _ _ _ c.place-place.ensures c.mark_of.ensures c.wrapping_add_u64-counted.ensures.value none));
+          (λ x d p. mark_moved s _ _ _ _ _ c.place-place.ensures c.mark_of.ensures refl none));
     }

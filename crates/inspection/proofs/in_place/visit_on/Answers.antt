@@ -10,11 +10,6 @@ use Rattle.inspection.proofs.RecordLaws.{asked_there, visit_moved}
 use Rattle.inspection.proofs.KeptLaws.{step_stops, step_moves}
 use Rattle.inspection.proofs.in_place.visit_on.Goals as goal
 
--- what is told of the frames
-pub visit_rule-rule-requires : goal.visit_rule-rule-requires
-visit_rule-rule-requires c =
-    c.frames_fit-fits.ensures
-
 pub returns-then-rule-ne0 : goal.returns-then-rule-ne0
 returns-then-rule-ne0 c =
     let lent : Inspection = let a = c.args in standing a.base.now a.sent.now a.mark.now a.course a.records 0 in
@@ -33,4 +28,4 @@ returns c =
     let s = lent in
     rw c.none_compared-compared.ensures
     (step_moves s a.head a.n a.w.now a.s.now (Visit a.visit) refl _ asked _ c.visit_rule-rule.ensures none _ (λ x d p.
-    visit_moved s (set_of a.head a.n a.w.now x d p) (alloc_of a.s.now) _ c.place-p.ensures _ _ _ _ _ _ (c.lead_of-lead.ensures a.n a.w.now x d p) c.base_after.ensures c.course_after-next.ensures c.wrapping_add_u64-more.ensures.value none))
+    visit_moved s (set_of a.head a.n a.w.now x d p) (alloc_of a.s.now) _ c.place-p.ensures _ _ _ _ _ _ (c.lead_of-lead.ensures a.n a.w.now x d p) c.base_after.ensures c.course_after-next.ensures refl none))

@@ -5,10 +5,10 @@ use Rattle.inspection.proofs.keeping.begin_inspection.Goals as goal
 
 pub returns-then-number-ne-ACCEPTED : goal.returns-then-number-ne-ACCEPTED
 returns-then-number-ne-ACCEPTED c =
-    let number = c.judge_plan-number.ensures in
+    let number = c.answer_number-number.ensures ∙ c.judge_plan.ensures in
     rw (c.blank-inspection.ensures, number) (sym (begun_refused _ _ (λ e. c.if-number-ne-ACCEPTED.true (number ∙ e))))
 
 pub returns : goal.returns
 returns c =
-    let zero : c.judge_plan-number.result ≡ 0 = c.if-number-ne-ACCEPTED.false in
-    rw (c.kept_of-inspection.ensures, c.begin-begun.ensures, zero) (sym (begun_accepted _ _ (sym c.judge_plan-number.ensures ∙ zero)))
+    let zero : c.answer_number-number.result ≡ 0 = c.if-number-ne-ACCEPTED.false in
+    rw (c.kept_of-inspection.ensures, c.begin-begun.ensures, zero) (sym (begun_accepted _ _ (sym (c.answer_number-number.ensures ∙ c.judge_plan.ensures) ∙ zero)))

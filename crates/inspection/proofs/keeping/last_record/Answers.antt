@@ -7,7 +7,7 @@ pub returns-then-rule-ne0 : goal.returns-then-rule-ne0
 unfolding last_record
 returns-then-rule-ne0 c =
     let broken : eqb c.args.rule 0 ≡ false = ne_eqb _ 0 c.if-rule-ne0.true in
-    rw broken c.wrapping_add_u64.ensures.value
+    rw broken refl
 
 pub returns : goal.returns
 unfolding last_record

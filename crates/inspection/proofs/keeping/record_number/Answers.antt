@@ -12,16 +12,16 @@ returns-then-not-begun c =
 pub returns-then-not-known : goal.returns-then-not-known
 unfolding record_number
 returns-then-not-known c =
-    sym (held _ _ _ c.if-not-begun.false ∙ failed _ _ _ c.if-not-known.true)
+    sym (held _ _ _ c.if-not-begun.false ∙ failed _ _ _ (rw (c.from.ensures, c.from-2.ensures) at c.if-not-known.true))
 
 pub returns-then-not-in_field : goal.returns-then-not-in_field
 unfolding record_number
 returns-then-not-in_field c =
     let asked : in_field (entry_of c.args.told) ≡ c.in_field.result = sym c.in_field.ensures in
-    sym (held _ _ _ c.if-not-begun.false ∙ held _ _ _ c.if-not-known.false ∙ failed _ _ _ (asked ∙ c.if-not-in_field.true))
+    sym (held _ _ _ c.if-not-begun.false ∙ held _ _ _ (rw (c.from.ensures, c.from-2.ensures) at c.if-not-known.false) ∙ failed _ _ _ (asked ∙ c.if-not-in_field.true))
 
 pub returns : goal.returns
 unfolding record_number
 returns c =
     let asked : in_field (entry_of c.args.told) ≡ c.in_field.result = sym c.in_field.ensures in
-    sym (held _ _ _ c.if-not-begun.false ∙ held _ _ _ c.if-not-known.false ∙ held _ _ _ (asked ∙ c.if-not-in_field.false))
+    sym (held _ _ _ c.if-not-begun.false ∙ held _ _ _ (rw (c.from.ensures, c.from-2.ensures) at c.if-not-known.false) ∙ held _ _ _ (asked ∙ c.if-not-in_field.false))

@@ -8,9 +8,9 @@ pub returns-then-head-eq-FDDI : goal.returns-then-head-eq-FDDI
 unfolding limit_with
 returns-then-head-eq-FDDI c =
     let led : eqb c.args.head.mode fddi ≡ true = eq-eqb _ _ c.if-head-eq-FDDI.true in
-    rw led c.less.ensures
+    rw led c.saturating_sub.ensures
 
 pub returns : goal.returns
 unfolding limit_with
 returns c =
-    rw (ne_eqb _ _ c.if-head-eq-FDDI.false, c.less-5.ensures, c.less-4.ensures, c.less-3.ensures, c.less-2.ensures) refl
+    rw (ne_eqb _ _ c.if-head-eq-FDDI.false, c.saturating_sub-4.ensures, c.saturating_sub-3.ensures, c.saturating_sub-whole.ensures, c.saturating_sub-2.ensures) refl

@@ -8,4 +8,4 @@ unfolding short_at
 returns c =
     let at = c.args.at in
     let next : at + 1 + 1 ≡ at + 2 = omega arith in
-    rw (c.wide.ensures.same, c.wide-2.ensures.same, next) refl
+    rw (c.from.ensures, c.from-2.ensures, next) refl

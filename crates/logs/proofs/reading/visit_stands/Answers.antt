@@ -4,11 +4,10 @@ use borrow.Author.Tests.{lt-leb}
 use Rattle.log_records.specs.Visit.{visit_stands}
 use Rattle.logs.proofs.reading.visit_stands.Goals as goal
 
-pub returns-then-left-lt-VISIT_LENGTH : goal.returns-then-left-lt-VISIT_LENGTH
+pub returns-then-saturating_sub-lt-VISIT_LENGTH : goal.returns-then-saturating_sub-lt-VISIT_LENGTH
 unfolding visit_stands
-returns-then-left-lt-VISIT_LENGTH c =
+returns-then-saturating_sub-lt-VISIT_LENGTH c =
     let args = c.args in
-    let left = c.left.ensures in
     let short : length args.bs.now < args.at + 20 = omega arith in
     rw (lt-leb _ _ short) refl
 
@@ -16,6 +15,5 @@ pub returns : goal.returns
 unfolding visit_stands
 returns c =
     let args = c.args in
-    let left = c.left.ensures in
     let whole : args.at + 20 ≤ length args.bs.now = omega arith in
     c.begins.ensures ∙ rw (le-leb _ _ whole) refl

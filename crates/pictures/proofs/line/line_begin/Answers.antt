@@ -6,9 +6,9 @@ use Rattle.pictures.proofs.line.line_begin.Goals as goal
 pub returns-then-pen : goal.returns-then-pen
 unfolding line_begin
 returns-then-pen c =
-    rw c.if-pen.true c.bare.ensures
+    rw c.if-pen.true refl
 
 pub returns : goal.returns
 unfolding line_begin
 returns c =
-    rw (c.if-pen.false, c.wide-bound.ensures.same) refl
+    rw (c.if-pen.false, c.from-bound.ensures) refl

@@ -6,7 +6,7 @@ use Rattle.pictures.proofs.line.room_past.Goals as goal
 pub returns-then-is_roomy : goal.returns-then-is_roomy
 unfolding room_past
 returns-then-is_roomy c =
-    rw (sym c.is_roomy.ensures ∙ c.if-is_roomy.true) (rw (c.wide.ensures.same, c.place.ensures) refl)
+    rw (sym c.is_roomy.ensures ∙ c.if-is_roomy.true) (rw (c.from.ensures, c.place.ensures) refl)
 
 pub returns : goal.returns
 unfolding room_past

@@ -6,7 +6,7 @@ use Rattle.pictures.proofs.line.rotation_begin.Goals as goal
 pub returns-then-pen : goal.returns-then-pen
 unfolding rotation_begin
 returns-then-pen c =
-    rw c.if-pen.true c.bare.ensures
+    rw c.if-pen.true refl
 
 pub returns : goal.returns
 unfolding rotation_begin

@@ -1,5 +1,5 @@
 -- `visit_behind` is right because it asks for the parts in their order.
-use Rattle.std.proofs.Common.{eq-eqb, ne_eqb}
+use Rattle.std.proofs.Common.{eq-eqb, ne_eqb, Some, refl, ap}
 use Rattle.pictures.proofs.PlacedLaws.{frame_held}
 use Rattle.pictures.specs.Parts.{visit_behind}
 use Rattle.pictures.proofs.records.visit_behind.Goals as goal
@@ -7,12 +7,12 @@ use Rattle.pictures.proofs.records.visit_behind.Goals as goal
 pub returns-then-k-eq8 : goal.returns-then-k-eq8
 unfolding visit_behind
 returns-then-k-eq8 c =
-    rw (eq-eqb _ _ c.if-k-eq8.true) c.walk_line.ensures
+    rw (eq-eqb _ _ c.if-k-eq8.true) (ap Some c.walk_line.ensures)
 
 pub returns-then-k-eq9 : goal.returns-then-k-eq9
 unfolding visit_behind
 returns-then-k-eq9 c =
-    rw (ne_eqb _ _ c.if-k-eq8.false, eq-eqb _ _ c.if-k-eq9.true) c.limit_line.ensures
+    rw (ne_eqb _ _ c.if-k-eq8.false, eq-eqb _ _ c.if-k-eq9.true) (ap Some c.limit_line.ensures)
 
 pub returns-then-k-eq10 : goal.returns-then-k-eq10
 unfolding visit_behind
@@ -27,4 +27,4 @@ returns-then-k-eq11 c =
 pub returns : goal.returns
 unfolding visit_behind
 returns c =
-    rw (ne_eqb _ _ c.if-k-eq8.false, ne_eqb _ _ c.if-k-eq9.false, ne_eqb _ _ c.if-k-eq10.false, ne_eqb _ _ c.if-k-eq11.false) c.bare.ensures
+    rw (ne_eqb _ _ c.if-k-eq8.false, ne_eqb _ _ c.if-k-eq9.false, ne_eqb _ _ c.if-k-eq10.false, ne_eqb _ _ c.if-k-eq11.false) refl

@@ -11,4 +11,4 @@ returns-then-scene c =
 pub returns : goal.returns
 unfolding asynchronous_at
 returns c =
-    rw c.if-scene.false (omega (arith, c.moment-2.ensures, c.wide.ensures.same))
+    rw c.if-scene.false (omega (arith, c.moment-2.ensures, c.from.ensures))

@@ -7,10 +7,9 @@ use Rattle.pictures.proofs.visits.cut_mark.Goals as goal
 pub returns-then-bound-far : goal.returns-then-bound-far
 unfolding cut_mark
 returns-then-bound-far c =
-    let wide = c.wide-bound.ensures in
-    rw (lt-ltb _ _ (past c.args.scene _ _ c.end_at-end.ensures c.limit_at-limit.ensures c.larger-far.ensures (rw wide.same at c.if-bound-far.true)), wide.same) refl
+    rw (lt-ltb _ _ (past c.args.scene _ _ c.end_at-end.ensures c.limit_at-limit.ensures c.max-far.ensures (rw c.from-bound.ensures at c.if-bound-far.true)), c.from-bound.ensures) refl
 
 pub returns : goal.returns
 unfolding cut_mark
 returns c =
-    rw (le-ltb _ _ (within c.args.scene _ _ c.end_at-end.ensures c.limit_at-limit.ensures c.larger-far.ensures (rw c.wide-bound.ensures.same at c.if-bound-far.false))) c.bare.ensures
+    rw (le-ltb _ _ (within c.args.scene _ _ c.end_at-end.ensures c.limit_at-limit.ensures c.max-far.ensures (rw c.from-bound.ensures at c.if-bound-far.false))) refl

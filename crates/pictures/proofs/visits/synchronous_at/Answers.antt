@@ -6,7 +6,7 @@ use Rattle.pictures.proofs.visits.synchronous_at.Goals as goal
 pub returns-then-scene : goal.returns-then-scene
 unfolding synchronous_at
 returns-then-scene c =
-    rw c.if-scene.true (omega (arith, c.moment.ensures, c.wide.ensures.same))
+    rw c.if-scene.true (omega (arith, c.moment.ensures, c.from.ensures))
 
 pub returns : goal.returns
 unfolding synchronous_at

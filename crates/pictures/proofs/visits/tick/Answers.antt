@@ -6,9 +6,9 @@ use Rattle.pictures.proofs.visits.tick.Goals as goal
 pub returns-then-through : goal.returns-then-through
 unfolding tick
 returns-then-through c =
-    rw (c.if-through.true, c.place-begin.ensures, c.wide-bound.ensures.same) refl
+    rw (c.if-through.true, c.place-begin.ensures, c.from-bound.ensures) refl
 
 pub returns : goal.returns
 unfolding tick
 returns c =
-    rw (c.if-through.false, c.place-begin.ensures, c.wide-bound.ensures.same) refl
+    rw (c.if-through.false, c.place-begin.ensures, c.from-bound.ensures) refl

@@ -14,33 +14,22 @@ of_one_tick limit = omega (arith, shares_enough limit 1 (omega arith), shares_le
 
 pub returns-then-ask-eq1 : goal.returns-then-ask-eq1
 returns-then-ask-eq1 c =
-    let short_is : let args = c.args in c.least.result ≡ frames_time args.limit args.ask = let limit = c.args.limit in
+    let short_is : let args = c.args in c.min.result ≡ frames_time args.limit args.ask = let limit = c.args.limit in
     let ask = c.args.ask in
     let one : ask.length ≡ 1 = c.if-ask-eq1.true in
     let most : rounded_up limit ask.length ≡ limit = ap (λ (x : ℕ). rounded_up limit x) one ∙ of_one_tick limit in
-    let sent : c.least.result ≡ frames_sent limit ask = omega (arith, c.least.ensures, c.wide.ensures.same, frames_sent_lem limit ask c.requires.length, most) in
+    let sent : c.min.result ≡ frames_sent limit ask = omega (arith, c.min.ensures, c.from.ensures, frames_sent_lem limit ask c.requires.length, most) in
     let whole : frames_sent limit ask ≡ frames_sent limit ask * 1 = omega arith in
     sent ∙ whole ∙ ap (λ (x : ℕ). frames_sent limit ask * x) (sym one) in
-    record { is = short_is; within = omega (arith, c.least.ensures) }
-
-pub overflow_mul-result : goal.overflow_mul-result
-overflow_mul-result c =
-    let is : let args = c.args in c.least-frames.result * c.wide-length.result ≡ frames_time args.limit args.ask = let args = c.args in
-    let length = c.wide-length.ensures.same in
-    let most : c.rounded_up-most.result ≡ rounded_up args.limit args.ask.length = c.rounded_up-most.ensures.is ∙ ap (λ (x : ℕ). rounded_up args.limit x) length in
-    let closed = frames_sent_lem args.limit args.ask c.requires.length in
-    let frames : c.least-frames.result ≡ frames_sent args.limit args.ask = c.least-frames.ensures ∙ rw (c.wide-2.ensures.same, most) (sym closed) in
-    rw (frames, length) refl in
-    let small : let args = c.args in frames_time args.limit args.ask ≤ args.limit + (args.ask.length - 1) = frames_within c.args.limit c.args.ask c.requires.length in
-    omega (arith, is, small, c.requires.small, c.wide-length.ensures)
+    record { is = short_is; within = omega (arith, c.min.ensures) }
 
 pub returns : goal.returns
 returns c =
-    let is : let args = c.args in c.least-frames.result * c.wide-length.result ≡ frames_time args.limit args.ask = let args = c.args in
-    let length = c.wide-length.ensures.same in
+    let is : let args = c.args in c.min-frames.result * c.from-length.result ≡ frames_time args.limit args.ask = let args = c.args in
+    let length = c.from-length.ensures in
     let most : c.rounded_up-most.result ≡ rounded_up args.limit args.ask.length = c.rounded_up-most.ensures.is ∙ ap (λ (x : ℕ). rounded_up args.limit x) length in
     let closed = frames_sent_lem args.limit args.ask c.requires.length in
-    let frames : c.least-frames.result ≡ frames_sent args.limit args.ask = c.least-frames.ensures ∙ rw (c.wide-2.ensures.same, most) (sym closed) in
+    let frames : c.min-frames.result ≡ frames_sent args.limit args.ask = c.min-frames.ensures ∙ rw (c.from-2.ensures, most) (sym closed) in
     rw (frames, length) refl in
     let small : let args = c.args in frames_time args.limit args.ask ≤ args.limit + (args.ask.length - 1) = frames_within c.args.limit c.args.ask c.requires.length in
     record { is = is; within = rw is small }

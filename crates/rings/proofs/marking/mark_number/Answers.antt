@@ -8,10 +8,10 @@ pub returns-then-not-sound : goal.returns-then-not-sound
 returns-then-not-sound c =
     sym (failed _ _ _ c.if-not-sound.true)
 
-pub returns-then-wide-station : goal.returns-then-wide-station
-returns-then-wide-station c =
-    sym (held _ _ _ c.if-not-sound.false ∙ failed _ _ _ (le-ltb _ _ (rw c.wide.ensures.same at c.if-wide-station.true)))
+pub returns-then-from-station : goal.returns-then-from-station
+returns-then-from-station c =
+    sym (held _ _ _ c.if-not-sound.false ∙ failed _ _ _ (le-ltb _ _ (rw c.from.ensures at c.if-from-station.true)))
 
 pub returns : goal.returns
 returns c =
-    sym (held _ _ _ c.if-not-sound.false ∙ held _ _ _ (lt-ltb _ _ (rw c.wide.ensures.same at c.if-wide-station.false)))
+    sym (held _ _ _ c.if-not-sound.false ∙ held _ _ _ (lt-ltb _ _ (rw c.from.ensures at c.if-from-station.false)))

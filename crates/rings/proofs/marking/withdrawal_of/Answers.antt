@@ -4,9 +4,9 @@ use mathlib.Core.Path.{sym, ◌∙◌}
 use Rattle.rings.proofs.marking.withdrawal_of.Goals as goal
 
 pub returns-then-held : goal.returns-then-held
-returns-then-held c w longest d p s trt late sent had last head n token clock visits unused =
-    rw c.wide.ensures.same (sym (withdrawn _ _ c.if-held.true))
+returns-then-held c =
+    rw c.from.ensures (sym (withdrawn _ _ c.if-held.true))
 
 pub returns : goal.returns
-returns c w longest d p s trt late sent had last head n token clock visits unused =
+returns c =
     c.none_withdrawn.ensures ∙ sym (not_withdrawn _ _ c.if-held.false)

@@ -5,5 +5,5 @@ use Rattle.rings.proofs.messages.arrival_allowed.Goals as goal
 
 pub returns : goal.returns
 unfolding arrival_allowed
-returns c w longest d s trt late sent rest mark head n token clock unused =
-    rw (c.later_than_start-later.ensures, c.wide.ensures.same) refl
+returns c =
+    rw (c.later_than_start-later.ensures, c.from.ensures) refl

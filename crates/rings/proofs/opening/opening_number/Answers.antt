@@ -5,14 +5,14 @@ use Rattle.rings.proofs.opening.opening_number.Goals as goal
 
 pub returns-then-before : goal.returns-then-before
 returns-then-before c =
-    let judged = c.judge_plan_lent-judged.ensures in
+    let judged = c.answer_number-judged.ensures ∙ c.judge_plan_lent.ensures in
     judged ∙ sym (opening_before _ _ (rw judged at c.if-before.true))
 
 pub returns-then-head-eq-FDDI : goal.returns-then-head-eq-FDDI
 returns-then-head-eq-FDDI c =
-    let judged = c.judge_plan_lent-judged.ensures in
+    let judged = c.answer_number-judged.ensures ∙ c.judge_plan_lent.ensures in
     sym (opening_retired _ _ (rw judged at c.if-before.false) c.if-head-eq-FDDI.true)
 
 pub returns : goal.returns
 returns c =
-    c.judge_plan_lent-judged.ensures ∙ sym (opening_in_use _ _ c.if-head-eq-FDDI.false)
+    c.answer_number-judged.ensures ∙ c.judge_plan_lent.ensures ∙ sym (opening_in_use _ _ c.if-head-eq-FDDI.false)

@@ -7,11 +7,8 @@ use native.Mathlib.Omega.{arith}
 use borrow.Author.Tests.{eq-eqb, ne_eqb}
 use lib.Dec.{eqb}
 use Rattle.units.specs.Judging.{all_hold}
-use Rattle.sets.specs.Lent.{set_of}
-use Rattle.sets.specs.declared.Set.{Set}
-use Rattle.plans.specs.Lent.{alloc_of}
+use Rattle.units.proofs.RefusalLaws.{err_some, not_err_none}
 use Rattle.plans.specs.Planned.{judged_plan}
-use Rattle.plans.specs.declared.Alloc.{Alloc}
 use Rattle.plans.proofs.PlanLaws.{given_none}
 use Rattle.rings.specs.Sound.{is_sound}
 use Rattle.rings.proofs.soundness.sound_lent.Goals as goal
@@ -28,25 +25,23 @@ joined true true true true true false g = refl
 joined true true true true true true false = refl
 joined true true true true true true true = refl
 
-pub returns-then-refusal-ne-ACCEPTED : goal.returns-then-refusal-ne-ACCEPTED
+pub returns-then-is_err : goal.returns-then-is_err
 unfolding is_sound all_hold
-returns-then-refusal-ne-ACCEPTED c had mark last =
-    let lent : Set = let args = c.args in set_of args.head args.n args.w.now args.c.now args.d.now args.p.now in
-    let alloc : Alloc = alloc_of c.args.s.now in
-    let refused : eqb (judged_plan lent alloc) 0 ≡ false = ne_eqb (judged_plan lent alloc) 0 (λ e. c.if-refusal-ne-ACCEPTED.true (c.judge_plan_lent-refusal.ensures ∙ e)) in
+returns-then-is_err c =
+    let r = c.args.ring.now in
+    let refused : eqb (judged_plan r.set r.alloc) 0 ≡ false = ne_eqb (judged_plan r.set r.alloc) 0 (λ e. err_some c.judge_plan_lent-judged.result (sym c.is_err.ensures.value ∙ c.if-is_err.true) (c.judge_plan_lent-judged.ensures ∙ e)) in
     rw refused refl
 
 pub returns : goal.returns
 unfolding is_sound
-returns c had mark last =
-    let lent : Set = let args = c.args in set_of args.head args.n args.w.now args.c.now args.d.now args.p.now in
-    let alloc : Alloc = alloc_of c.args.s.now in
-    let accepted : judged_plan (lent) (alloc) ≡ 0 = sym c.judge_plan_lent-refusal.ensures ∙ c.if-refusal-ne-ACCEPTED.false in
-    let few : (lent).n ≤ 128 = ((given_none (lent) (alloc)).0 (accepted)).0.1 in
-    let same : min c.args.n 128 ≡ c.args.n = omega (arith, few) in
-    let passed : eqb (judged_plan lent alloc) 0 ≡ true = eq-eqb (judged_plan lent alloc) 0 accepted in
+returns c =
+    let r = c.args.ring.now in
+    let accepted : judged_plan r.set r.alloc ≡ 0 = sym c.judge_plan_lent-judged.ensures ∙ not_err_none c.judge_plan_lent-judged.result (sym c.is_err.ensures.value ∙ c.if-is_err.false) in
+    let few : r.set.n ≤ 128 = ((given_none r.set r.alloc).0 (accepted)).0.1 in
+    let same : min r.set.n 128 ≡ r.set.n = omega (arith, few) in
+    let passed : eqb (judged_plan r.set r.alloc) 0 ≡ true = eq-eqb (judged_plan r.set r.alloc) 0 accepted in
     rw (
-      c.timers_sound-timers.ensures c.args.w.now c.args.c.now c.args.d.now c.args.p.now c.args.rest.now c.args.arrival.now had mark last c.args.token c.args.clock c.args.visits,
+      c.timers_sound-timers.ensures,
       c.each_within-shares.ensures,
       c.messages_sound-messages.ensures,
       c.counts_sound-counts.ensures,
@@ -56,8 +51,7 @@ returns c had mark last =
 
 pub timers_sound-timers-requires : goal.timers_sound-timers-requires
 timers_sound-timers-requires c =
-    let lent : Set = let args = c.args in set_of args.head args.n args.w.now args.c.now args.d.now args.p.now in
-    let alloc : Alloc = alloc_of c.args.s.now in
-    let accepted : judged_plan (lent) (alloc) ≡ 0 = sym c.judge_plan_lent-refusal.ensures ∙ c.if-refusal-ne-ACCEPTED.false in
-    let few : (lent).n ≤ 128 = ((given_none (lent) (alloc)).0 (accepted)).0.1 in
+    let r = c.args.ring.now in
+    let accepted : judged_plan r.set r.alloc ≡ 0 = sym c.judge_plan_lent-judged.ensures ∙ not_err_none c.judge_plan_lent-judged.result (sym c.is_err.ensures.value ∙ c.if-is_err.false) in
+    let few : r.set.n ≤ 128 = ((given_none r.set r.alloc).0 (accepted)).0.1 in
     few

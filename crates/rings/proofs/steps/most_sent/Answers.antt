@@ -12,5 +12,5 @@ returns-then-v-gt0 c =
 
 pub returns : goal.returns
 returns c =
-    let x = c.wide.ensures.same in
+    let x = c.from.ensures in
     record { is = x ∙ sym (most_unmarked (point_of c.args.v) (none_left _ c.if-v-gt0.false)); small = omega (arith, x) }

@@ -1,16 +1,12 @@
 -- `record_of` is right because its numbers are the definition's, and its branch is that of a completed message.
 use Prim.Native.Nat.{ℕ, ◌<◌, ◌^◌}
-use mathlib.Core.Path.{◌≡◌, refl, sym, ◌∙◌}
+use mathlib.Core.Path.{◌≡◌}
 use native.Mathlib.Omega.{arith}
-use mathlib.Core.Bool.{true, false, cond}
+use mathlib.Core.Bool.{cond}
 use lib.IntN.{pos}
-use mir.Syntax.{w64}
-use mir.Val.{to_z, of_z}
-use mir.ValLaws.{to_z-of_z}
 use Rattle.rings.specs.Bounds.{Safe, Sendable}
 use Rattle.rings.specs.Timers.{limit}
-use Rattle.rings.specs.Steps.{sync_start, completes, deadline, finish, margin}
-use Rattle.rings.proofs.RingLaws.{difference_fits}
+use Rattle.rings.specs.Steps.{completes, deadline, finish, margin}
 use Rattle.rings.proofs.TimerLaws.{lead_within}
 use Rattle.rings.specs.Views.{point_of, record_at}
 use Rattle.rings.specs.declared.VisitRecord.{VisitRecord}
@@ -41,11 +37,6 @@ due_small v s = omega (arith, s.arrival, s.deadline)
 end_small : (v : View) (sync async : ℕ) → Safe (point_of v) → Sendable (point_of v) sync async → finish (point_of v) sync async < 2 ^ 62
 end_small v sync async s t = omega (arith, lead_within (point_of v).set async, s.clock, s.rotation, t.short)
 
-pub sync_start-start-requires : goal.sync_start-start-requires
-sync_start-start-requires c =
-    let pre = c.requires in
-    omega (arith, pre.0.clock, pre.0.rotation, pre.1.short)
-
 pub overflow_add-finish : goal.overflow_add-finish
 overflow_add-finish c =
     let small = end_small c.args.v c.args.sync c.args.asynchronous c.requires.0 c.requires.1 in
@@ -57,23 +48,3 @@ margin_of-margin-requires c =
       rw c.deadline_of.ensures (due_small v c.requires.0),
       rw c.sync_start-start.ensures (end_small v c.args.sync c.args.asynchronous c.requires.0 c.requires.1),
     )
-
-pub returns-then-completes_with : goal.returns-then-completes_with
-returns-then-completes_with c =
-    let args = c.args in
-    let r = point_of args.v in
-    let yes : completes r args.sync ≡ true = sym c.completes_with.ensures ∙ c.if-completes_with.true in
-    let begins : c.sync_start-start.result ≡ sync_start r args.asynchronous = c.sync_start-start.ensures in
-    let is : c.margin_of-margin.result ≡ margin r args.sync args.asynchronous = c.margin_of-margin.ensures ∙ rw (c.deadline_of.ensures, begins) in
-    let kept : to_z w64 (of_z w64 c.margin_of-margin.result) ≡ margin r args.sync args.asynchronous =
-    rw is (to_z-of_z w64 _ (difference_fits (deadline r) (finish r args.sync args.asynchronous) (due_small args.v c.requires.0)
-    (end_small args.v args.sync args.asynchronous c.requires.0 c.requires.1))) in
-    told args.v args.token args.sync args.asynchronous _ c.wide-station.ensures.same refl c.wide-trt.ensures.same
-    c.limit_of-limit.ensures.is refl refl (rw (yes, begins)) (kept ∙ rw yes) (rw yes)
-
-pub returns-else-completes_with : goal.returns-else-completes_with
-returns-else-completes_with c =
-    let args = c.args in
-    let no : completes (point_of args.v) args.sync ≡ false = sym c.completes_with.ensures ∙ c.if-completes_with.false in
-    told args.v args.token args.sync args.asynchronous _ c.wide-station.ensures.same refl c.wide-trt.ensures.same
-    c.limit_of-limit.ensures.is refl refl (rw no) (rw no) (rw no)

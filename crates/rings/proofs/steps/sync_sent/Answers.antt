@@ -14,10 +14,10 @@ returns-then-held-arrived c =
     let args = c.args in
     let v = args.v in
     let r = point_of v in
-    let is : c.least.result ≡ min (most_sent r) v.rest = c.least.ensures ∙ rw (c.most_sent.ensures.is, c.wide.ensures.same) refl in
+    let is : c.min.result ≡ min (most_sent r) v.rest = c.min.ensures ∙ rw (c.most_sent.ensures.is, c.from.ensures) refl in
     record {
       is = is ∙ sym (served r args.asynchronous (subst (λ (x : ℕ). (ltb 0 v.rest && leb v.arrival x) ≡ true) c.sync_start-start.ensures c.if-held-arrived.true));
-      allotted = omega (arith, c.least.ensures, c.most_sent.ensures.small);
+      allotted = omega (arith, c.min.ensures, c.most_sent.ensures.small);
       rest = omega (arith, is);
     }
 

@@ -1,6 +1,5 @@
 -- `fddi_limit` is right because its branch is the definition's: nothing where the count is above 0, else the difference, held at 0.
-use Prim.Native.Nat.{◌-◌}
-use mathlib.Core.Path.{◌≡◌, refl, sym, ◌∙◌}
+use mathlib.Core.Path.{◌≡◌, sym, ◌∙◌}
 use native.Mathlib.Omega.{arith}
 use Rattle.rings.proofs.TimerLaws.{offered_late, offered_early}
 use Rattle.rings.proofs.timing.fddi_limit.Goals as goal
@@ -13,5 +12,4 @@ pub returns : goal.returns
 returns c =
     let v = c.args.v in
     let early : v.late ≡ 0 = omega (arith, c.if-v-gt0.false) in
-    let left : c.room.result ≡ v.head.ttrt - v.trt = c.room.ensures ∙ rw (c.wide.ensures.same, c.wide-2.ensures.same) refl in
-    record { is = left ∙ sym (offered_early _ _ early); small = omega (arith, left) }
+    record { is = c.from.ensures ∙ c.saturating_sub.ensures ∙ sym (offered_early _ _ early); small = omega arith }

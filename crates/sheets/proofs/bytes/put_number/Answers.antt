@@ -1,24 +1,15 @@
--- `put_number` is right because four stores in a row lay a segment of four bytes.
+-- `put_number` is right because the library's bytes of a number are those of the definition, and they are laid at the place.
+use mathlib.Core.Path.{ap, ◌∙◌}
 use native.Mathlib.Omega.{arith}
-use lib.ListN.{length-set}
+use lib.ListN.{length}
+use Rattle.fields.specs.Rows.{laid}
 use Rattle.fields.specs.Bytes.{bytes_of}
-use Rattle.fields.proofs.SegmentLaws.{laid_four}
+use Rattle.sheets.proofs.WritingLaws.{part_laid}
 use Rattle.sheets.proofs.bytes.put_number.Goals as goal
-
-pub bounds-out-at-2 : goal.bounds-out-at-2
-bounds-out-at-2 c =
-    simp length-set (omega arith)
-
-pub bounds-out-at-3 : goal.bounds-out-at-3
-bounds-out-at-3 c =
-    simp length-set (omega arith)
-
-pub bounds-out-at-4 : goal.bounds-out-at-4
-bounds-out-at-4 c =
-    simp length-set (omega arith)
 
 pub returns : goal.returns
 unfolding bytes_of
 returns c =
-    rw (c.low_byte.ensures, c.low_byte-2.ensures, c.low_byte-3.ensures, c.low_byte-4.ensures)
-    (laid_four _ _ _ _ _ _ c.requires)
+    let args = c.args in
+    let same = c.copy_from_slice.ensures.after ∙ c.to_be_bytes.ensures in
+    part_laid args.out.now c.copy_from_slice.new.self args.at _ (omega (arith, ap length same)) ∙ ap (laid args.out.now args.at) same

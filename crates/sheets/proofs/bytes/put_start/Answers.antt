@@ -1,17 +1,13 @@
--- `put_start` is right because three stores in a row lay a segment of three bytes.
+-- `put_start` is right because the three bytes are laid at the place.
+use mathlib.Core.Path.{ap, ◌∙◌}
 use native.Mathlib.Omega.{arith}
-use lib.ListN.{length-set}
-use Rattle.fields.proofs.SegmentLaws.{laid_three}
+use lib.ListN.{length}
+use Rattle.fields.specs.Rows.{laid}
+use Rattle.sheets.proofs.WritingLaws.{part_laid}
 use Rattle.sheets.proofs.bytes.put_start.Goals as goal
-
-pub bounds-out-at-2 : goal.bounds-out-at-2
-bounds-out-at-2 c =
-    simp length-set (omega arith)
-
-pub bounds-out-at-3 : goal.bounds-out-at-3
-bounds-out-at-3 c =
-    simp length-set (omega arith)
 
 pub returns : goal.returns
 returns c =
-    laid_three _ _ _ _ _ c.requires
+    let args = c.args in
+    let same = c.copy_from_slice.ensures.after in
+    part_laid args.out.now c.copy_from_slice.new.self args.at _ (omega (arith, ap length same)) ∙ ap (laid args.out.now args.at) same

@@ -9,7 +9,7 @@ pub returns-then-tag-eq-MODE_TAG : goal.returns-then-tag-eq-MODE_TAG
 unfolding body_at
 returns-then-tag-eq-MODE_TAG c =
     let size : further_size c.args.tag ≡ 1 = ap further_size c.if-tag-eq-MODE_TAG.true ∙ further_one in
-    rw size c.wide.ensures.same
+    rw size c.from.ensures
 
 pub returns : goal.returns
 unfolding body_at

@@ -7,11 +7,11 @@ use Rattle.fields.specs.Fields.{left}
 use Rattle.sheets.specs.Reading.{number_or_zero}
 use Rattle.sheets.proofs.records.number_from.Goals as goal
 
-pub returns-then-left-lt4 : goal.returns-then-left-lt4
+pub returns-then-saturating_sub-lt4 : goal.returns-then-saturating_sub-lt4
 unfolding number_or_zero
-returns-then-left-lt4 c =
+returns-then-saturating_sub-lt4 c =
     let args = c.args in
-    let some = c.left.ensures in
+    let some = c.saturating_sub.ensures in
     let short : left args.bs.now args.at < 4 = omega arith in
     rw (lt-leb 4 _ short) refl
 
@@ -19,6 +19,6 @@ pub returns : goal.returns
 unfolding number_or_zero
 returns c =
     let args = c.args in
-    let some = c.left.ensures in
+    let some = c.saturating_sub.ensures in
     let enough : 4 ≤ left args.bs.now args.at = omega arith in
     rw (le-leb 4 _ enough) c.number_at.ensures

@@ -7,17 +7,17 @@ use Rattle.log_records.proofs.MarkLaws.{mark_length_lem}
 use Rattle.sheets.proofs.WritingLaws.{put_short, put_there}
 use Rattle.sheets.proofs.records.put_mark.Goals as goal
 
-pub returns-then-left : goal.returns-then-left
-returns-then-left c =
+pub returns-then-saturating_sub : goal.returns-then-saturating_sub
+returns-then-saturating_sub c =
     let args = c.args in
-    let left = c.left.ensures in
+    let left = c.saturating_sub.ensures in
     put_short args.out.now args.at (mark_bytes args.mark) 3 (omega (arith, mark_length_lem args.mark))
 
 pub returns : goal.returns
 unfolding mark_bytes
 returns c =
     let args = c.args in
-    let left = c.left.ensures in
+    let left = c.saturating_sub.ensures in
     let fit = mark_length_lem args.mark in
     let s = laid_more _ _ _ _ _ _ _ c.put_start.ensures refl c.put_byte.ensures (omega arith) in
     put_there args.out.now args.at (mark_bytes args.mark) 3 _ (omega arith)

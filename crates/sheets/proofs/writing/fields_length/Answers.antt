@@ -6,18 +6,13 @@ use Rattle.sheets.proofs.writing.fields_length.Goals as goal
 
 pub overflow_add-result : goal.overflow_add-result
 overflow_add-result c =
-    omega (arith, head_small c.args.h 3)
+    omega (arith, head_small c.args.t.now.head 3)
 
 pub overflow_add-result-2 : goal.overflow_add-result-2
 overflow_add-result-2 c =
-    omega (arith, head_small c.args.h 3)
-
-pub overflow_mul-result-2 : goal.overflow_mul-result-2
-overflow_mul-result-2 c =
-    let args = c.args in
-    omega (arith, allocations_few args.plan args.n)
+    omega (arith, head_small c.args.t.now.head 3)
 
 pub overflow_add-result-3 : goal.overflow_add-result-3
 overflow_add-result-3 c =
     let args = c.args in
-    omega (arith, head_small args.h 3, allocations_few args.plan args.n)
+    omega (arith, head_small args.t.now.head 3, allocations_few args.plan args.t.now.n)

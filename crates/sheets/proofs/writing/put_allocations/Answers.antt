@@ -1,25 +1,27 @@
 -- `put_allocations` is right because each turn lays one more row behind the rows laid.
-use Prim.Native.Nat.{◌-◌}
+use Prim.Native.Nat.{ℕ, ◌<◌}
+use mathlib.Core.Path.{◌≡◌, ap, ◌∙◌}
 use native.Mathlib.Omega.{arith}
-use Rattle.sheets.proofs.WritingLaws.{allocation_length, rows_begin, rows_turn, rows_end}
+use lib.ListN.{length-take}
+use lib.Seq.{get_or-take}
+use Rattle.fields.specs.Rows.{laid, rows}
+use Rattle.sheets.specs.Layout.{allocation_bytes}
+use Rattle.sheets.proofs.WritingLaws.{allocation_length, rows_begin, rows_turn}
 use Rattle.sheets.proofs.writing.put_allocations.Goals as goal
-
-pub loop-i-preserved : goal.loop-i-preserved
-loop-i-preserved c =
-    rows_turn (λ i. allocation_length _) c.loop-i.invariant (omega arith) c.requires.1 c.put_allocation.ensures c.put_allocation.auto.out
 
 pub loop-i-init : goal.loop-i-init
 loop-i-init c =
-    rows_begin (λ i. allocation_length _)
+    rows_begin
 
-pub put_allocation-requires : goal.put_allocation-requires
-put_allocation-requires c =
-    omega arith
-
-pub shape_of-out : goal.shape_of-out
-shape_of-out c =
-    c.loop-i.invariant.long
+pub loop-i-preserved : goal.loop-i-preserved
+loop-i-preserved c =
+    let args = c.args in
+    let inside : c.loop-i.i < c.args.m = omega (arith, length-take args.m args.a.now.s) in
+    let laid_there = rw (get_or-take args.m args.a.now.s c.loop-i.i 0 inside) at c.put_allocation.ensures in
+    rows_turn (λ i. allocation_length _) c.loop-i.invariant inside c.requires.1 laid_there c.put_allocation.auto.out
 
 pub returns : goal.returns
 returns c =
-    rows_end (λ i. allocation_length _) c.loop-i.invariant (omega arith)
+    let args = c.args in
+    let all : c.loop-i.i ≡ c.args.m = omega (arith, length-take args.m args.a.now.s) in
+    c.loop-i.invariant.so_far ∙ ap (λ (k : ℕ). laid args.out.now args.from (rows k (allocation_bytes args.a.now))) all

@@ -1,14 +1,8 @@
 -- `put_allocations` is right because each turn lays one more row behind the rows laid.
-use Prim.Native.Nat.{◌-◌}
-use Rattle.plans.specs.Lent.{alloc_of}
 use Rattle.sheets.specs.Layout.{allocation_bytes}
 use Rattle.sheets.proofs.WritingLaws.{RowsLaid}
 use Rattle.sheets.proofs.writing.put_allocations.Given as goal
 
 abbrev pub invariant-loop-i : goal.invariant-loop-i
 invariant-loop-i l =
-    RowsLaid l.initial.out l.out l.from l.at 7 l.m l.i (allocation_bytes (alloc_of l.s))
-
-abbrev pub decreases-loop-i : goal.decreases-loop-i
-decreases-loop-i l =
-    l.m - l.i
+    RowsLaid l.initial.out l.out l.from l.i (allocation_bytes l.a)

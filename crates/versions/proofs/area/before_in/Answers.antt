@@ -1,16 +1,9 @@
 -- `before_in` is right because a difference stops at 0.
-use mathlib.Core.Path.{◌≡◌, ◌∙◌}
-use native.Mathlib.Omega.{arith}
-use Rattle.fields.specs.Bytes.{number_at}
+use Prim.Native.Nat.{ℕ, ◌-◌}
+use mathlib.Core.Path.{ap, ◌∙◌}
 use Rattle.versions.proofs.AreaLaws.{number_there}
 use Rattle.versions.proofs.area.before_in.Goals as goal
 
-pub returns-then-first-eq0 : goal.returns-then-first-eq0
-returns-then-first-eq0 c =
-    let first : c.number_from-first.result ≡ number_at c.args.area.now 3 = c.number_from-first.ensures ∙ number_there c.args.area.now 3 c.requires in
-    let e = first in omega (arith, c.if-first-eq0.true)
-
 pub returns : goal.returns
 returns c =
-    let first : c.number_from-first.result ≡ number_at c.args.area.now 3 = c.number_from-first.ensures ∙ number_there c.args.area.now 3 c.requires in
-    let e = first in omega arith
+    c.saturating_sub.ensures ∙ ap (λ (k : ℕ). k - 1) (c.number_from.ensures ∙ number_there c.args.area.now 3 c.requires)

@@ -1,37 +1,18 @@
--- `clear` is right because each turn lays one more of the zeros.
-use Prim.Native.Nat.{◌-◌}
-use mathlib.Core.Path.{sym}
+-- `clear` is right because so many zeros are laid from the place on.
+use Prim.Native.Nat.{ℕ, ◌+◌, ◌-◌}
+use mathlib.Core.Path.{◌≡◌, ap, ◌∙◌}
 use native.Mathlib.Omega.{arith}
+use lib.ListN.{length, take, drop, replicate}
+use Rattle.fields.specs.Rows.{laid}
 use Rattle.versions.specs.Layout.{zero_bytes}
-use Rattle.versions.proofs.StoringLaws.{laid_begin, laid_turn, laid_end, zeros_long, zeros_are}
+use Rattle.sheets.proofs.WritingLaws.{part_laid}
+use Rattle.versions.proofs.StoringLaws.{part_long, zeros_list}
 use Rattle.versions.proofs.storing.clear.Goals as goal
-
-pub loop-i-init : goal.loop-i-init
-loop-i-init c =
-    laid_begin _ _ _
-
-pub bounds-out-at : goal.bounds-out-at
-bounds-out-at c =
-    omega arith
-
-pub overflow_add-at : goal.overflow_add-at
-overflow_add-at c =
-    omega arith
-
-pub overflow_add-i : goal.overflow_add-i
-overflow_add-i c =
-    omega arith
-
-pub loop-i-smaller : goal.loop-i-smaller
-loop-i-smaller c =
-    omega arith
-
-pub loop-i-preserved : goal.loop-i-preserved
-loop-i-preserved c =
-    let n = c.args.n in
-    laid_turn (zero_bytes n) 0 c.loop-i.invariant (omega (arith, zeros_long n)) (omega (arith, zeros_long n)) (sym (zeros_are n _))
 
 pub returns : goal.returns
 returns c =
-    let n = c.args.n in
-    laid_end (zero_bytes n) c.loop-i.invariant (omega (arith, zeros_long n))
+    let args = c.args in
+    let long : c.args.from + c.args.n - c.args.from ≡ c.args.n = omega arith in
+    let part : length (take (c.args.from + c.args.n - c.args.from) (drop c.args.from c.args.out.now)) ≡ c.args.n = rw long (part_long args.out.now args.from args.n c.requires) in
+    let zeros : c.fill.new.self ≡ zero_bytes c.args.n = c.fill.ensures.after (λ y e. e) ∙ ap (λ (k : ℕ). replicate k 0) part ∙ zeros_list args.n in
+    part_laid args.out.now c.fill.new.self args.from _ (c.fill.ensures.len ∙ omega (arith, part)) ∙ ap (laid args.out.now args.from) zeros

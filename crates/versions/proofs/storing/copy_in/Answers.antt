@@ -1,30 +1,13 @@
--- `copy_in` is right because each turn lays one more byte of the sheet.
-use Prim.Native.Nat.{◌-◌}
-use mathlib.Core.Path.{refl}
+-- `copy_in` is right because what it copies is laid at the place.
+use mathlib.Core.Path.{ap, ◌∙◌}
 use native.Mathlib.Omega.{arith}
-use Rattle.versions.proofs.StoringLaws.{laid_begin, laid_turn}
+use lib.ListN.{length}
+use Rattle.fields.specs.Rows.{laid}
+use Rattle.sheets.proofs.WritingLaws.{part_laid}
 use Rattle.versions.proofs.storing.copy_in.Goals as goal
 
-pub loop-i-preserved : goal.loop-i-preserved
-loop-i-preserved c =
-    laid_turn _ _ c.loop-i.invariant (omega arith) (omega arith) refl
-
-pub loop-i-init : goal.loop-i-init
-loop-i-init c =
-    laid_begin _ _ _
-
-pub bounds-out-at : goal.bounds-out-at
-bounds-out-at c =
-    omega arith
-
-pub overflow_add-at : goal.overflow_add-at
-overflow_add-at c =
-    omega arith
-
-pub overflow_add-i : goal.overflow_add-i
-overflow_add-i c =
-    omega arith
-
-pub loop-i-smaller : goal.loop-i-smaller
-loop-i-smaller c =
-    omega arith
+pub returns : goal.returns
+returns c =
+    let args = c.args in
+    let same = c.copy_from_slice.ensures.after in
+    part_laid args.out.now c.copy_from_slice.new.self args.from _ (omega (arith, ap length same)) ∙ ap (laid args.out.now args.from) same

@@ -1,7 +1,0 @@
--- `nothing` is right because its body is the definition.
-use mathlib.Core.Path.{refl}
-use Rattle.command_explain.proofs.first.nothing.Goals as goal
-
-pub returns : goal.returns
-returns c =
-    refl

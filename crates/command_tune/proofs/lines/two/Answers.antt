@@ -1,7 +1,0 @@
--- `two` is right because its body is the definition.
-use mathlib.Core.Path.{refl}
-use Rattle.command_tune.proofs.lines.two.Goals as goal
-
-pub returns : goal.returns
-returns c =
-    refl

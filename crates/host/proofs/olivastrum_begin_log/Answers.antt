@@ -1,7 +1,0 @@
--- `olivastrum_begin_log` is right because it is the beginning of a log by the layer below.
--- The proof does not name the function that is called, so that a call of another one is refused at what it does.
-use Rattle.host.proofs.olivastrum_begin_log.Goals as goal
-
-pub returns : goal.returns
-returns c =
-    search depth 1

@@ -1,7 +1,0 @@
--- `refused` is right because its body is the definition.
-use mathlib.Core.Path.{refl}
-use Rattle.rings.proofs.steps.refused.Goals as goal
-
-pub returns : goal.returns
-returns c =
-    rw c.blank_record-record.ensures refl

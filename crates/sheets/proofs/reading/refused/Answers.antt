@@ -1,6 +1,0 @@
--- `refused` is right because its body is the definition.
-use Rattle.sheets.proofs.reading.refused.Goals as goal
-
-pub returns : goal.returns
-returns c =
-    rw (c.blank_set-set.ensures, c.blank_alloc-alloc.ensures)
