@@ -1,5 +1,5 @@
 // The words of each form. `#` stands for the next of its numbers.
-use command_explain::{Form, Phrase};
+use command_explain::Form;
 
 // What the mode promises.
 fn promise(form: Form) -> &'static [u8] {
@@ -101,7 +101,7 @@ fn kind(form: Form) -> &'static [u8] {
 }
 
 // The verdict, the header, and what stands at a first fault.
-fn words(form: Form) -> &'static [u8] {
+pub(crate) fn words(form: Form) -> &'static [u8] {
     match form {
         Form::Refused => b"refused #\n",
         Form::Planned => b"plan # # # #\n",
@@ -113,9 +113,4 @@ fn words(form: Form) -> &'static [u8] {
         Form::Left => b"byte # left #\n",
         _ => kind(form),
     }
-}
-
-// Puts a phrase at the start of a page.
-pub(crate) fn put_phrase(page: &mut [u8], phrase: Phrase) -> usize {
-    text::put_filled(page, 0, words(phrase.form), phrase.numbers)
 }

@@ -1,8 +1,8 @@
 // The words of each line of `tune`. `#` stands for the next of its numbers.
-use command_tune::{Form, Line};
+use command_tune::Form;
 
 // The words of a form.
-fn words(form: Form) -> &'static [u8] {
+pub(crate) fn words(form: Form) -> &'static [u8] {
     match form {
         Form::Refused => b"refused #\n",
         Form::Tried => b"tried # to #\n",
@@ -18,9 +18,4 @@ fn words(form: Form) -> &'static [u8] {
         Form::Best => b"best #\n",
         Form::Plan => b"plan # # # #\n",
     }
-}
-
-// A line in its words.
-pub(crate) fn put_line(page: &mut [u8], line: Line) -> usize {
-    text::put_filled(page, 0, words(line.form), line.numbers)
 }

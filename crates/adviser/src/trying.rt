@@ -8,7 +8,8 @@ use std::env::Env;
 use std::io::{Input, Print};
 use std::time::Clock;
 use streams::complaints::Complain;
-use streams::{ending, reading, usage, words};
+use streams::{ending, hearing, usage, words};
+use text::Page;
 
 // The second by the clock that was seen last, and how often it was another one, up to two: then more than a second has passed.
 #[derive(Clone, Copy)]
@@ -34,25 +35,16 @@ fn watched(rt: &impl Clock, watch: Watch) -> Watch {
     }
 }
 
-// Writes what was put at the start of a page on standard error.
-fn warn(rt: &impl Complain, page: &[u8], put: usize) {
-    let end = reading::further(0, put, page.len());
-    rt.complain(&page[..end]);
-}
-
 // Says how far it is.
 fn say_progress(rt: &impl Complain, k: Tune) {
-    let mut page = io::buffer();
+    let mut buffer = io::buffer();
+    let mut page = Page::new(&mut buffer);
     let from = u64::from(k.from);
     let tried = k.next.saturating_sub(from);
     let all = (u64::from(k.to) + 1).saturating_sub(from);
-    let put = text::put_filled(
-        &mut page,
-        0,
-        b"\rolivastrum: tried # of #",
-        [tried, all, 0, 0, 0, 0],
-    );
-    warn(rt, &page, put);
+    page.put_filled(b"\rolivastrum: tried # of #", [tried, all, 0, 0, 0, 0]);
+    let put = page.length();
+    ending::warn_put(rt, &buffer, put);
 }
 
 // Where it is shown how far it is, and from the second second on, says that once for each.
@@ -85,27 +77,6 @@ fn try_all(rt: &(impl Clock + Complain), first: Tune) -> Tune
     k
 }
 
-// Writes line i in its words, if there is one.
-fn say_line(rt: &(impl Print + Complain), k: Tune, i: usize) -> bool {
-    let Some(line) = command_tune::line_at(k, i) else {
-        return true;
-    };
-    let mut page = io::buffer();
-    let put = lines::put_line(&mut page, line);
-    ending::say_put(rt, &page, put)
-}
-
-// Writes all lines.
-fn say_all(rt: &(impl Print + Complain), k: Tune) -> bool {
-    let count = command_tune::line_count(k);
-    for i in 0..count {
-        if !say_line(rt, k, i) {
-            return false;
-        }
-    }
-    true
-}
-
 // The whole number that the word at this place writes, if it is one.
 fn number_at(rt: &impl Env, place: usize) -> Option<u64> {
     let mut buffer = io::buffer();
@@ -120,12 +91,14 @@ fn number_at(rt: &impl Env, place: usize) -> Option<u64> {
 // The same of the request sheet on standard input, from FROM to TO.
 fn tune_from(rt: &(impl Clock + Input + Print + Complain), from: u64, to: u64) -> u8 {
     let mut sheet: [u8; sheets::REQUEST_READ] = [0; sheets::REQUEST_READ];
-    let filled = reading::fill(&mut rt.reader(), &mut sheet);
-    if let Some(error) = filled.failed {
-        return ending::unread_input(rt, error);
-    }
-    let k = try_all(rt, command_tune::begin(&sheet[..filled.length], from, to));
-    if !say_all(rt, k) {
+    let Ok(length) = hearing::fill(rt, &mut rt.reader(), &mut sheet) else {
+        return status::FAILED;
+    };
+    let k = try_all(rt, command_tune::begin(&sheet[..length], from, to));
+    let said = (0..command_tune::line_count(k))
+        .filter_map(|i| command_tune::line_at(k, i))
+        .all(|line| ending::say_filled(rt, lines::words(line.form), line.numbers));
+    if !said {
         return status::FAILED;
     }
     status::status_of(command_tune::number_of(k))

@@ -1,5 +1,5 @@
 -- The laws of what goes out of a log while its text is read: how much a line lets out, and that nothing does before the first record.
-use Prim.Native.Nat.{ℕ, ◌+◌, ◌≤◌, ◌<◌, min}
+use Prim.Native.Nat.{ℕ, ◌+◌, ◌≤◌, ◌<◌}
 use mathlib.Core.Path.{◌≡◌, refl, sym, ap, ◌∙◌}
 use mathlib.Core.Bool.{Bool, true, false, true≢false, cond, not, ◌&&◌, ◌||◌}
 use mathlib.Core.List.{List, [], ◌∷◌, ◌++◌, append_assoc, append-nil}
@@ -9,6 +9,9 @@ use borrow.Author.Tests.{leb-true, eqb-true, eq-eqb, ne_eqb, le-leb, lt-ltb, le-
 use lib.Dec.{leb, ltb, eqb}
 use lib.ListN.{length, take, drop, length-append}
 use lib.Seq.{length-take-le}
+use Rattle.std.specs.Prelude.{Option, None, Some, is_some, is_none}
+use Rattle.std.specs.Option.{option_or}
+use Rattle.std.proofs.lemmas.List.{length-take}
 use Rattle.units.specs.Places.{at}
 use Rattle.units.proofs.JudgingLaws.{held, passed, and-true, true_or_false}
 use Rattle.units.proofs.SmallLaws.{below_or_not}
@@ -31,7 +34,7 @@ use Rattle.sheets.proofs.ReadLaws.{judged_kept}
 use Rattle.sheets.proofs.WritingLaws.{head_small, fields_long, answer_refused, answer_accepted, answer_number, number_none, fields_end, fields_there}
 use Rattle.sheets.specs.declared.Written.{Written}
 use Rattle.text.specs.Text.{newline, Put, PutShort, page_size}
-use Rattle.text.proofs.TextLaws.{put_none, take_piece, printed, not_printed}
+use Rattle.text.proofs.TextLaws.{put_none, printed, not_printed}
 use Rattle.line_reader.specs.Scan.{fresh_scan, stepped, code_of, is_readable, is_empty_line}
 use Rattle.line_reader.proofs.ScanLaws.{stepped_over, has_no_end, first_and_rest}
 use Rattle.line_reader.specs.declared.Scan.{Scan}
@@ -150,16 +153,21 @@ module _ (d : Draft) (s : Scan) (other : is_record_line s ≡ false) (before : d
 -- ---- a broken text
 
 pub broken_whole : (d : Draft) → Broken d → is_whole d ≡ false
-broken_whole d (inl u) = rw (ne_eqb d.unread 0 u) refl
-broken_whole d (inr w) = rw (ne_eqb d.wrong 0 w) (and-false (eqb d.unread 0))
+broken_whole d (inl u) = rw u refl
+broken_whole d (inr w) = rw w (and-false (is_none d.unread))
+
+-- behind a line that cannot be read one is named
+one_named : (known : Option ℕ) (line : ℕ) → is_some (option_or known (Some line)) ≡ true
+one_named None line = refl
+one_named (Some n) line = refl
 
 module _ (d : Draft) (s : Scan) (b : Broken d) where
   misplaced_too : Broken (misplaced d)
-  misplaced_too = inr (λ e. absurd (omega (arith, e)))
+  misplaced_too = inr refl
 
   unread_too : Broken (with_unread d)
   unfolding with_unread
-  unread_too = ⊎_elim (λ (u : d.unread ≢ 0). inl (rw (ne_eqb d.unread 0 u) u)) (λ (w : d.wrong ≢ 0). inr w) b
+  unread_too = inl (one_named d.unread d.line)
 
   record_too : Broken (with_record d)
   unfolding with_record
@@ -339,16 +347,18 @@ pub composed_none : (c : Composing) (text page : List ℕ) → length page < pag
 unfolding piece_of compose_after
 composed_none c text page small = record { behind = rw (lt-ltb (length page) page_size small); sent = not_printed small }
 
-pub composed_piece : (c : Composing) (text : List ℕ) (end : ℕ) (before after : List ℕ) (r : Composed)
-    → end ≡ min (length text) piece_size → page_size ≤ length before → ComposedPiece c text end before after r → ComposedOn c text before after r
+pub piece_few : (text piece : List ℕ) → piece ≡ take piece_size text → length piece ≤ piece_size
+piece_few text piece e = rw (e, length-take) (omega arith)
+
+pub composed_piece : (c : Composing) (text piece before after : List ℕ) (r : Composed)
+    → piece ≡ take piece_size text → page_size ≤ length before → ComposedPiece c piece before after r → ComposedOn c text before after r
 unfolding piece_of
-composed_piece c text end before after r e large h =
-    let piece : take end text ≡ take piece_size text = ap (λ (k : ℕ). take k text) e ∙ take_piece text piece_size in
+composed_piece c text piece before after r e large h =
     let whole = le-ltb (length before) page_size large in
-    let put : PutShort (most_sent piece_size) before 0 (sent_over c (take end text)) after r.length = record { put = h.sent; short = omega (arith, h.sent.next, h.short) } in
+    let put : PutShort (most_sent piece_size) before 0 (sent_over c piece) after r.length = record { put = h.sent; short = omega (arith, h.sent.next, h.short) } in
     record {
-      behind = rw whole (h.behind ∙ ap (compose_after c) piece);
-      sent = rw whole (printed put (ap (sent_over c) piece) large (omega arith));
+      behind = rw whole (h.behind ∙ ap (compose_after c) e);
+      sent = rw whole (printed put (ap (sent_over c) e) large (omega arith));
     }
 
 -- ---- a whole line
@@ -524,12 +534,12 @@ module _ (s : Scan) where
 
 pub early_record : (d : Draft) → d.kind < 2 → Broken (with_record d)
 unfolding with_record
-early_record d l = rw (ne_eqb d.kind 2 (omega arith), lt-ltb d.kind 3 (omega arith)) (inr (λ e. absurd (omega (arith, e))))
+early_record d l = rw (ne_eqb d.kind 2 (omega arith), lt-ltb d.kind 3 (omega arith)) (inr refl)
 
 -- behind a record
 module _ (d : Draft) (s : Scan) (logged : 3 ≤ d.kind) where
   misplaced_here : Broken (misplaced d)
-  misplaced_here = inr (λ e. absurd (omega (arith, e)))
+  misplaced_here = inr refl
 
   station_late : (kind : ℕ) → kind ≤ 2 → Broken (with_station d s kind)
   unfolding with_station
@@ -551,8 +561,7 @@ module _ (d : Draft) (s : Scan) (logged : 3 ≤ d.kind) where
 
   unread_late : d.line ≢ 0 → Broken (with_unread d)
   unfolding with_unread
-  unread_late some =
-      ⊎_elim (λ (e : d.unread ≡ 0). inl (rw (eq-eqb d.unread 0 e) some)) (λ (e : d.unread ≢ 0). inl (rw (ne_eqb d.unread 0 e) e)) (same_or_not d.unread 0)
+  unread_late some = inl (one_named d.unread d.line)
 
   other_late : d.line ≢ 0 → is_record_line s ≡ false → Broken (record_drafted d s)
   unfolding record_drafted

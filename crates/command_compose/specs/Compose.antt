@@ -1,5 +1,6 @@
 -- What `compose` makes of a text: a set, for a plan with its allocation, read line by line. `Sent` has what goes out of a log while its text is read.
-use Rattle.std.specs.Prelude.{ℕ, ◌+◌, ◌^◌, ◌≤◌, ◌<◌, ◌≡◌, Bool, true, false, cond, ◌&&◌, ◌||◌, List, [], ◌∷◌, ◌++◌, leb, ltb, eqb, length, take, set}
+use Rattle.std.specs.Prelude.{ℕ, ◌+◌, ◌^◌, ◌≤◌, ◌<◌, ◌≡◌, Bool, true, false, cond, not, None, Some, is_none, ◌&&◌, ◌||◌, List, [], ◌∷◌, ◌++◌, leb, ltb, eqb, length, take, set}
+use Rattle.std.specs.Option.{option_or}
 use Rattle.units.specs.Numbers.{accepted, wrong_shape}
 use Rattle.units.specs.Places.{at}
 use Rattle.sets.specs.Header.{with_head_number, head_of}
@@ -97,7 +98,7 @@ is_record_line s = is_visit_line s || is_mark_line s
 
 -- no line was read yet: no TTRT, no station
 abbrev pub blank_draft : Draft
-blank_draft = record { set = blank_set; alloc = blank_alloc; line = 1; unread = 0; head = 0; kind = 0; wrong = 0 }
+blank_draft = record { set = blank_set; alloc = blank_alloc; line = 1; unread = None; head = 0; kind = 0; wrong = false }
 
 -- the same, its lines out of place
 abbrev pub misplaced : Draft → Draft
@@ -109,7 +110,7 @@ misplaced d =
       unread = d.unread;
       head = d.head;
       kind = d.kind;
-      wrong = 1;
+      wrong = true;
     }
 
 -- the same, with these numbers in the header; the line's tag is the highest of the header's lines
@@ -205,7 +206,7 @@ with_unread d =
       set = d.set;
       alloc = d.alloc;
       line = d.line;
-      unread = cond (eqb d.unread 0) d.line d.unread;
+      unread = option_or d.unread (Some d.line);
       head = d.head;
       kind = d.kind;
       wrong = d.wrong;
@@ -255,7 +256,7 @@ compose_after c (b ∷ bs) = compose_after (compose_on c b) bs
 
 -- a sheet can be made: every line was read, each in its place, and TTRT is there
 abbrev pub is_whole : Draft → Bool
-is_whole d = eqb d.unread 0 && (eqb d.wrong 0 && leb head_tag d.head)
+is_whole d = is_none d.unread && (not d.wrong && leb head_tag d.head)
 
 -- 2 if none can; else what writing answers, a plan's where the stations are a plan's
 unfoldable pub composed_answer : Draft → List ℕ → Written

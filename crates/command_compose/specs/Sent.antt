@@ -1,5 +1,5 @@
 -- What goes out of a log while its text is read: at the first record its plan's fields, at each record the record's field, and the end when the text has ended.
-use Rattle.std.specs.Prelude.{ℕ, ◌+◌, ◌*◌, ◌≤◌, ◌≡◌, Bool, true, cond, not, ◌&&◌, List, [], ◌∷◌, ◌++◌, ◌⊎◌, ◌≢◌, ltb, eqb, length, take, drop}
+use Rattle.std.specs.Prelude.{ℕ, ◌+◌, ◌*◌, ◌≤◌, ◌≡◌, Bool, true, cond, not, None, is_some, ◌&&◌, List, [], ◌∷◌, ◌++◌, ◌⊎◌, ltb, eqb, length, take, drop}
 use Rattle.units.specs.Places.{at}
 use Rattle.log_records.specs.Visit.{visit_length}
 use Rattle.log_records.specs.Entry.{entry_bytes}
@@ -111,15 +111,14 @@ abbrev pub most_sent : ℕ → ℕ
 most_sent n = most_fields + visit_length * n
 
 -- a piece of the text, and a page with room for what it lets out
-pub record Piece (text : List ℕ) (end : ℕ) (page : List ℕ) : Type 0 where
-  pub inside : end ≤ length text
-  pub few : end ≤ piece_size
+pub record Piece (piece page : List ℕ) : Type 0 where
+  pub few : length piece ≤ piece_size
   pub large : page_size ≤ length page
 
--- the text goes on over its first bytes
-pub record ComposedPiece (c : Composing) (text : List ℕ) (end : ℕ) (before after : List ℕ) (r : Composed) : Type 0 where
-  pub behind : r.composing ≡ compose_after c (take end text)
-  pub sent : Put before 0 (sent_over c (take end text)) after r.length
+-- the text goes on over a piece
+pub record ComposedPiece (c : Composing) (piece before after : List ℕ) (r : Composed) : Type 0 where
+  pub behind : r.composing ≡ compose_after c piece
+  pub sent : Put before 0 (sent_over c piece) after r.length
   pub short : r.length ≤ most_sent piece_size
 
 -- the bytes that are read: the first 2,048; with a page that is too small, none
@@ -140,7 +139,7 @@ sent_of text = sent_over compose_start (text ++ (newline ∷ []))
 -- `compose` makes these bytes of the text: every line can be read, the first bytes go out while it is read, and the last are written at its end:
 -- in front of any buffer with room for them, all behind them as it was
 pub record Composes (text first last : List ℕ) : Type 0 where
-  pub readable : (draft_of text).unread ≡ 0
+  pub readable : (draft_of text).unread ≡ None
   pub sent : sent_of text ≡ first
   pub answer : (out : List ℕ)
       → length last ≤ length out → end_answer (draft_of text) out ≡ record { length = length last; number = 0 }
@@ -160,4 +159,4 @@ no_record c (b ∷ bs) = cond (eqb b newline) (not (is_record_line c.scan)) true
 
 -- a line before could not be read, or stood out of place
 abbrev pub Broken : Draft → Type 0
-Broken d = (d.unread ≢ 0) ⊎ (d.wrong ≢ 0)
+Broken d = (is_some d.unread ≡ true) ⊎ (d.wrong ≡ true)

@@ -3,7 +3,7 @@
 
 mod sending;
 
-ghost use Rattle.std.specs.Prelude.{◌≡◌, ◌<◌, ◌^◌, min, length};
+ghost use Rattle.std.specs.Prelude.{◌≡◌, ◌<◌, ◌^◌};
 ghost use Rattle.command_compose.specs.Compose.{all_fit, is_line, line_tag, misplaced, with_ttrt, with_further, NumbersFit, set_and, alloc_and, with_station, is_visit_line, is_mark_line, is_record_line, logged_kind, with_record, with_unread, record_drafted, line_drafted, on_next_line, compose_start, is_whole, WroteDraft};
 ghost use Rattle.command_compose.specs.Sent.{goes_out, WroteEnd, Piece, ComposedPiece, ComposedOn};
 
@@ -33,25 +33,23 @@ const MARK: u64 = 1_835_102_827;
 const PIECE_SIZE: usize = 2_048;
 
 // What was read of a text, line by line.
-#[repr(C)]
 #[derive(Clone, Copy)]
 pub struct Draft {
     pub set: Set,
     pub alloc: Alloc,
     // The number of the line that is being read.
     pub line: u64,
-    // The first line that cannot be read; 0: none.
-    pub unread: u64,
+    // The first line that cannot be read, if there is one.
+    pub unread: Option<u64>,
     // The highest tag of the header's lines that were read, as on a sheet: 0 none, 1 TTRT, 4 the mode, 5 F, 6 g.
     pub head: u8,
     // The stations are a request's, 1, or a plan's, 2; 0: none was read. Behind a record 3 where the plan was accepted, 4 where it was refused.
     pub kind: u8,
-    // 1: a line stood out of place.
-    pub wrong: u8,
+    // A line stood out of place.
+    pub wrong: bool,
 }
 
 // A text that is being read: the draft, and what was read of the line.
-#[repr(C)]
 #[derive(Clone, Copy)]
 pub struct Composing {
     pub draft: Draft,
@@ -59,7 +57,6 @@ pub struct Composing {
 }
 
 // The text goes on: where its reading stands, and how many bytes of the page go out.
-#[repr(C)]
 #[derive(Clone, Copy)]
 pub struct Composed {
     pub composing: Composing,
@@ -84,7 +81,7 @@ pub fn is_line(s: Scan, code: u64, count: usize) -> bool
 fn misplaced_in(d: Draft) -> Draft
     ensures { result ≡ misplaced d }
 {
-    Draft { wrong: 1, ..d }
+    Draft { wrong: true, ..d }
 }
 
 // TTRT stands on the first line, once.
@@ -219,11 +216,14 @@ pub(crate) fn with_record(d: Draft) -> Draft
 }
 
 // The first line that cannot be read is named.
+#[tactic(auto, unfolding(crate::specs::Compose::with_unread))]
 fn with_unread(d: Draft) -> Draft
     ensures { result ≡ with_unread d }
 {
-    let unread = if d.unread == 0 { d.line } else { d.unread };
-    Draft { unread, ..d }
+    Draft {
+        unread: d.unread.or(Some(d.line)),
+        ..d
+    }
 }
 
 // The tag of a line of the header behind TTRT's; 0 for any other line.
@@ -295,10 +295,10 @@ pub fn begin() -> Composing
         set: sets::blank_set(),
         alloc: plans::blank_alloc(),
         line: 1,
-        unread: 0,
+        unread: None,
         head: 0,
         kind: 0,
-        wrong: 0,
+        wrong: false,
     };
     Composing {
         draft,
@@ -306,22 +306,15 @@ pub fn begin() -> Composing
     }
 }
 
-// How many of the bytes are read at once.
-fn piece_length(text: &[u8]) -> usize
-    ensures { result ≡ min (length text.now) 2_048 }
-{
-    text.len().min(PIECE_SIZE)
-}
-
-// The first bytes of the text, read line by line; what they let out is put at the start of the page.
-fn compose_piece(c: Composing, text: &[u8], end: usize, page: &mut [u8]) -> Composed
-    requires { Piece text.now end page.old }
-    ensures { ComposedPiece c text.now end page.old page.new result }
+// A piece of the text, read line by line; what it lets out is put at the start of the page.
+fn compose_piece(c: Composing, piece: &[u8], page: &mut [u8]) -> Composed
+    requires { Piece piece.now page.old }
+    ensures { ComposedPiece c piece.now page.old page.new result }
 {
     let mut draft = c.draft;
     let mut read = c.scan;
     let mut next: usize = 0;
-    for byte in &text[..end] {
+    for byte in piece {
         if *byte == b'\n' {
             next = sending::put_line(page, next, draft, read);
             let drafted = line_drafted(draft, read);
@@ -347,8 +340,7 @@ pub fn compose_on(c: Composing, text: &[u8], page: &mut [u8]) -> Composed
             length: 0,
         };
     }
-    let end = piece_length(text);
-    compose_piece(c, text, end, page)
+    compose_piece(c, line_reader::piece(text, PIECE_SIZE), page)
 }
 
 // ---- the end of the text
@@ -357,7 +349,7 @@ pub fn compose_on(c: Composing, text: &[u8], page: &mut [u8]) -> Composed
 fn is_whole(d: Draft) -> bool
     ensures { result ≡ is_whole d }
 {
-    (d.unread == 0) & ((d.wrong == 0) & (fields::HEAD_TAG <= d.head))
+    d.unread.is_none() & (!d.wrong & (fields::HEAD_TAG <= d.head))
 }
 
 // The text is a log's so far.

@@ -1,7 +1,7 @@
--- What is handed back in each of the cases, for the proof of `diff_text`. No rule stands here.
-use Prim.Native.Nat.{ℕ, zero, suc, ◌+◌, ◌-◌, ◌≤◌, ◌<◌}
+-- What is put and handed back in each of the cases, for the proofs of this crate. No rule stands here.
+use Prim.Native.Nat.{ℕ, zero, suc, ◌≤◌, ◌<◌}
 use mathlib.Core.Path.{◌≡◌, refl, sym, ap, subst, ◌∙◌}
-use mathlib.Core.Bool.{true, false, ◌&&◌, true≢false}
+use mathlib.Core.Bool.{Bool, true, false, ◌&&◌, true≢false}
 use mathlib.Core.List.{List, [], ◌∷◌}
 use mathlib.Core.Logic.{◌≢◌}
 use native.Mathlib.Omega.{arith}
@@ -12,16 +12,16 @@ use Rattle.units.specs.Numbers.{most_stations}
 use Rattle.units.proofs.JudgingLaws.{and-true, true_and}
 use Rattle.sets.specs.declared.Set.{Set}
 use Rattle.plans.specs.declared.Alloc.{Alloc}
-use Rattle.fields.specs.Rows.{laid}
-use Rattle.fields.proofs.RowLaws.{laid_none}
 use Rattle.sheets.specs.Reading.{read_plan}
 use Rattle.sheets.proofs.ReadLaws.{read_few}
 use Rattle.sheets.specs.declared.ReadPlan.{ReadPlan}
-use Rattle.text.specs.Text.{line, page_size, PutShort}
-use Rattle.text.proofs.TextLaws.{printed, not_printed}
+use Rattle.text.specs.Text.{line, page_size}
+use Rattle.text.specs.Pages.{HasRoom, Puts}
+use Rattle.text.specs.declared.Page.{Page}
+use Rattle.text.proofs.TextLaws.{not_printed}
+use Rattle.text.proofs.PageLaws.{puts_then, puts_as, puts_short}
 use Rattle.differences.specs.Differences.{Difference, differences, is_none}
-use Rattle.command_diff.specs.declared.Diffed.{Diffed}
-use Rattle.command_diff.specs.DiffText.{old_word, new_word, same_word, lines_of, diff_text, side_refused, side_or, compared_text, lines_size, LinesPut, DiffedOn}
+use Rattle.command_diff.specs.DiffText.{old_word, new_word, same_word, lines_of, diff_text, side_refused, side_or, compared_text, lines_size, LinesPutOn, Compared, DiffedOn}
 use Rattle.command_diff.proofs.LineLaws.{none_told}
 
 -- ---- a side that is refused, or not
@@ -47,40 +47,48 @@ no_lines : lines_of [] ≡ []
 unfolding lines_of
 no_lines = refl
 
--- ---- lines from a place on
+-- ---- lines behind what was put
 
 pub lines_fit : (n m : ℕ) → (leb n most_stations && leb m most_stations) ≡ true → (n ≤ most_stations) × (m ≤ most_stations)
 lines_fit n m e =
     let few = and-true (leb n most_stations) (leb m most_stations) e in
     (leb-true n most_stations few.0, leb-true m most_stations few.1)
 
-module _ {t : Set} {a : Alloc} {u : Set} {b : Alloc} {before : List ℕ} {place : ℕ} where
+module _ {t : Set} {a : Alloc} {u : Set} {b : Alloc} {page : Page} where
   -- nothing is put where one of the three is missing
-  lines_none : ¬ ((t.n ≤ most_stations) × (u.n ≤ most_stations) × (place + lines_size ≤ length before)) → LinesPut t a u b before place before place
+  lines_none : ¬ ((t.n ≤ most_stations) × (u.n ≤ most_stations) × HasRoom lines_size page) → LinesPutOn t a u b page page
   lines_none missing =
       record {
-        put = λ few many room. absurd (missing (few, many, room));
-        old_many = λ h. (refl, refl);
-        new_many = λ h. (refl, refl);
-        full = λ h. (refl, refl);
-        reach = omega arith;
+        lines = record {
+          put = λ few many room. absurd (missing (few, many, room));
+          old_many = λ h. (refl, refl);
+          new_many = λ h. (refl, refl);
+          full = λ h. (refl, refl);
+          reach = omega arith;
+        };
+        size = refl;
+        same = refl;
       }
 
-  pub lines_many : (leb t.n most_stations && leb u.n most_stations) ≡ false → LinesPut t a u b before place before place
+  pub lines_many : (leb t.n most_stations && leb u.n most_stations) ≡ false → LinesPutOn t a u b page page
   lines_many e = lines_none (λ all. absurd (true≢false (sym (true_and _ _ (le-leb t.n most_stations all.0) (le-leb u.n most_stations all.1)) ∙ e)))
 
-  pub lines_full : length before - place < lines_size → LinesPut t a u b before place before place
-  lines_full h = lines_none (λ all. absurd (omega (arith, all.2)))
+  pub lines_full : ¬ HasRoom lines_size page → LinesPutOn t a u b page page
+  lines_full h = lines_none (λ all. absurd (h all.2))
 
-  pub lines_put : {after : List ℕ} {r : ℕ}
-      → (leb t.n most_stations && leb u.n most_stations) ≡ true → place + lines_size ≤ length before → PutShort lines_size before place (lines_of (differences t a u b)) after r → LinesPut t a u b before place after r
+  pub lines_put : {after : Page}
+      → (leb t.n most_stations && leb u.n most_stations) ≡ true → HasRoom lines_size page → Puts lines_size page (lines_of (differences t a u b)) after → LinesPutOn t a u b page after
   lines_put e room p =
       record {
-        put = λ few many room. p;
-        old_many = λ h. absurd (omega (arith, (lines_fit t.n u.n e).0));
-        new_many = λ h. absurd (omega (arith, (lines_fit t.n u.n e).1));
-        full = λ h. absurd (omega arith);
-        reach = omega (arith, p.put.next, p.short);
+        lines = record {
+          put = λ few many h. p.put;
+          old_many = λ h. absurd (omega (arith, (lines_fit t.n u.n e).0));
+          new_many = λ h. absurd (omega (arith, (lines_fit t.n u.n e).1));
+          full = λ h. absurd (omega (arith, room));
+          reach = omega (arith, p.put.put.next, p.put.short);
+        };
+        size = p.size;
+        same = p.same;
       }
 
 -- ---- the cases
@@ -91,49 +99,46 @@ few_read p sheet e = rw e (read_few true sheet)
 pub diffed_nothing : {p q : ReadPlan} {before : List ℕ} → length before < page_size → DiffedOn p q before before (record { length = 0; same = false })
 diffed_nothing {p} {q} {before} small = record { printed = not_printed small; same = rw (lt-leb page_size (length before) small) refl }
 
-module _ {p q P Q : ReadPlan} {before : List ℕ} (e : p ≡ P) (f : q ≡ Q) (large : page_size ≤ length before) where
+module _ {p q P Q : ReadPlan} {before : Page} (e : p ≡ P) (f : q ≡ Q) where
   -- of the sheets that were read, of those that the files hold
-  told : {after : List ℕ} {r : Diffed} → DiffedOn p q before after r → DiffedOn P Q before after r
-  told {after} {r} d = subst (λ (x : ReadPlan). DiffedOn x Q before after r) e (subst (λ (y : ReadPlan). DiffedOn p y before after r) f d)
+  told : {after : Page} {r : Bool} → Compared p q before after r → Compared P Q before after r
+  told {after} {r} d = subst (λ (x : ReadPlan). Compared x Q before after r) e (subst (λ (y : ReadPlan). Compared p y before after r) f d)
 
-  pub diffed_old : {after : List ℕ} {r : ℕ} → p.number ≢ 0 → PutShort 62 before 0 (side_refused old_word p.number) after r → DiffedOn P Q before after (record { length = r; same = false })
-  diffed_old n put =
-      told
-      (record { printed = printed put (sym (or_refused old_word p.number _ n)) large (omega arith); same = rw (le-leb page_size (length before) large, ne_eqb p.number 0 n) refl })
+  pub compared_old : {after : Page} → p.number ≢ 0 → Puts 62 before (side_refused old_word p.number) after → Compared P Q before after false
+  compared_old n put = told (record { put = puts_as put (sym (or_refused old_word p.number _ n)) (omega arith); same = rw (ne_eqb p.number 0 n) refl })
 
   module _ (a : p.number ≡ 0) where
-    pub diffed_new : {after : List ℕ} {r : ℕ} → q.number ≢ 0 → PutShort 62 before 0 (side_refused new_word q.number) after r → DiffedOn P Q before after (record { length = r; same = false })
-    diffed_new n put =
+    pub compared_new : {after : Page} → q.number ≢ 0 → Puts 62 before (side_refused new_word q.number) after → Compared P Q before after false
+    compared_new n put =
         told
         (record {
-          printed = printed put (sym (or_accepted old_word p.number _ a ∙ or_refused new_word q.number _ n)) large (omega arith);
-          same = rw (le-leb page_size (length before) large, eq-eqb p.number 0 a, ne_eqb q.number 0 n) refl;
+          put = puts_as put (sym (or_accepted old_word p.number _ a ∙ or_refused new_word q.number _ n)) (omega arith);
+          same = rw (eq-eqb p.number 0 a, ne_eqb q.number 0 n) refl;
         })
 
-    module _ (b : q.number ≡ 0) {middle : List ℕ} {k : ℕ} (lines : PutShort lines_size before 0 (lines_of (differences p.set p.alloc q.set q.alloc)) middle k) where
+    module _ (b : q.number ≡ 0) {middle : Page} (lines : Puts lines_size before (lines_of (differences p.set p.alloc q.set q.alloc)) middle) where
       abbrev ds : List Difference
       ds = differences p.set p.alloc q.set q.alloc
 
       compared : compared_text p q ≡ diff_text ds
       compared = or_accepted old_word p.number _ a ∙ or_accepted new_word q.number _ b
 
-      pub diffed_same : {after : List ℕ} {r : ℕ} → k ≡ 0 → PutShort 21 middle 0 (line (same_word ∷ [])) after r → DiffedOn P Q before after (record { length = r; same = true })
+      pub compared_same : {after : Page} → HasRoom lines_size before → middle.at ≡ before.at → Puts 21 middle (line (same_word ∷ [])) after → Compared P Q before after true
       unfolding diff_text is_none
-      diffed_same {after} {r} z put =
-          let none : ds ≡ [] = none_told ds (omega (arith, lines.put.next)) in
-          let kept : middle ≡ before = lines.put.page ∙ ap (λ (x : List ℕ). laid before 0 x) (ap lines_of none ∙ no_lines) ∙ laid_none before 0 in
-          let whole : PutShort 21 before 0 (line (same_word ∷ [])) after r = rw kept at put in
+      compared_same {after} room z put =
+          let none : ds ≡ [] = none_told ds (omega (arith, lines.put.put.next)) in
+          let kept : Puts lines_size before [] middle = puts_as lines (ap lines_of none ∙ no_lines) (omega arith) in
           told
           (record {
-            printed = printed whole (sym (compared ∙ ap diff_text none)) large (omega arith);
-            same = rw (le-leb page_size (length before) large, eq-eqb p.number 0 a, eq-eqb q.number 0 b, none) refl;
+            put = puts_as (puts_then (puts_short {less = 0} kept (omega arith)) put (omega (arith, room))) (sym (compared ∙ ap diff_text none)) (omega arith);
+            same = rw (eq-eqb p.number 0 a, eq-eqb q.number 0 b, none) refl;
           })
 
-      pub diffed_lines : k ≢ 0 → DiffedOn P Q before middle (record { length = k; same = false })
-      diffed_lines n =
-          let some = text_some ds (λ z. n (omega (arith, lines.put.next))) in
+      pub compared_lines : middle.at ≢ before.at → Compared P Q before middle false
+      compared_lines n =
+          let some = text_some ds (λ z. n (omega (arith, lines.put.put.next))) in
           told
           (record {
-            printed = printed lines (some.0 ∙ sym compared) large (omega arith);
-            same = rw (le-leb page_size (length before) large, eq-eqb p.number 0 a, eq-eqb q.number 0 b, some.1) refl;
+            put = puts_as lines (some.0 ∙ sym compared) (omega arith);
+            same = rw (eq-eqb p.number 0 a, eq-eqb q.number 0 b, some.1) refl;
           })

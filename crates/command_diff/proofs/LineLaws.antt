@@ -75,9 +75,9 @@ unfolding words_of line number_words
 header_line tag old new n = rw (lines_changed (in_header tag) old new n) refl
 
 pub number_line_lem : (i j old new : ℕ) → old ≢ new
-    → (decimal_of i ++ (space ∷ letter_word j)) ++ line ([] ∷ number_words (old ∷ new ∷ [])) ≡ lines_of (changed (in_station i j) old new)
+    → decimal_of i ++ line ((space ∷ letter_word j) ∷ number_words (old ∷ new ∷ [])) ≡ lines_of (changed (in_station i j) old new)
 unfolding words_of line line_on number_words
-number_line_lem i j old new n = rw (lines_changed (in_station i j) old new n) (append_assoc (decimal_of i) (space ∷ letter_word j) (line_on (decimal_of old ∷ decimal_of new ∷ [])))
+number_line_lem i j old new n = rw (lines_changed (in_station i j) old new n) refl
 
 pub alone_line : (new : Bool) (i w c d p s : ℕ) → (decimal_of i ++ (space ∷ side_word new)) ++ line_on (five_words w c d p s) ≡ line_of (one_sided new i w c d p s)
 unfolding words_of

@@ -6,6 +6,8 @@ use Rattle.plans.specs.declared.Alloc.{Alloc}
 use Rattle.sheets.specs.Reading.{read_plan}
 use Rattle.sheets.specs.declared.ReadPlan.{ReadPlan}
 use Rattle.text.specs.Text.{decimal_of, line, refused_word, page_size, PutShort, Printed}
+use Rattle.text.specs.Pages.{Puts}
+use Rattle.text.specs.declared.Page.{Page}
 use Rattle.differences.specs.Differences.{Difference, in_header, in_station, one_sided, differences, is_none}
 use Rattle.command_diff.specs.declared.Diffed.{Diffed}
 
@@ -69,6 +71,12 @@ pub record LinesPut (t : Set) (a : Alloc) (u : Set) (b : Alloc) (before : List �
   -- how far the place moves at most, for whoever puts more behind it
   pub reach : r ≤ place + lines_size
 
+-- the same of a page, which is as long as it was, and is the one that was lent
+pub record LinesPutOn (t : Set) (a : Alloc) (u : Set) (b : Alloc) (before after : Page) : Type 0 where
+  pub lines : LinesPut t a u b before.bytes.now before.at after.bytes.now after.at
+  pub size : length after.bytes.now ≡ length before.bytes.now
+  pub same : after.bytes.ghost_name ≡ before.bytes.ghost_name
+
 -- the lines, or `same` where nothing differs
 unfoldable pub diff_text : List Difference → List ℕ
 diff_text [] = line (same_word ∷ [])
@@ -100,6 +108,11 @@ diff_printed old new = compared_text (read_plan old) (read_plan new)
 -- both sheets are read, and nothing differs
 abbrev pub is_same : ReadPlan → ReadPlan → Bool
 is_same p q = eqb p.number 0 && (eqb q.number 0 && is_none (differences p.set p.alloc q.set q.alloc))
+
+-- what is put into a page of two sheets that were read, and whether it is `same`
+pub record Compared (p q : ReadPlan) (before after : Page) (r : Bool) : Type 0 where
+  pub put : Puts lines_size before (compared_text p q) after
+  pub same : r ≡ is_same p q
 
 -- what is handed back: the text stands at the start of the page, and whether it is `same`; a page that is too small gets nothing
 pub record DiffedOn (p q : ReadPlan) (before after : List ℕ) (r : Diffed) : Type 0 where

@@ -4,14 +4,14 @@
 mod putting;
 
 ghost use Rattle.sheets.specs.Reading.{read_plan};
-ghost use Rattle.text.specs.Text.{PutShort};
-ghost use Rattle.command_diff.specs.DiffText.{old_word, new_word, same_word, side_refused, LinesPut, DiffedOn};
-ghost use Rattle.std.specs.Prelude.{◌≤◌, length, cond, [], ◌∷◌};
-ghost use Rattle.text.specs.Text.{line, page_size};
+ghost use Rattle.text.specs.Text.{line};
+ghost use Rattle.text.specs.Pages.{HasRoom, Puts};
+ghost use Rattle.command_diff.specs.DiffText.{old_word, new_word, same_word, lines_size, side_refused, LinesPutOn, Compared, DiffedOn};
+ghost use Rattle.std.specs.Prelude.{cond, [], ◌∷◌};
 
 use plans::Alloc;
 use sets::Set;
-use text::PAGE_SIZE;
+use text::{PAGE_SIZE, Page};
 use units::numbers;
 
 // How many bytes of the page are the answer, and whether it is `same`.
@@ -25,37 +25,62 @@ pub struct Diffed {
 // How many bytes of a page the lines of any two plans need at most.
 pub const LINES_SIZE: usize = 60_000;
 
-// The lines of the differences of two plans, put from this place on. A page that has no room for the longest, and a plan of more stations than there are, get nothing.
-pub fn put_lines(page: &mut [u8], at: usize, t: Set, a: Alloc, u: Set, b: Alloc) -> usize
-    ensures { LinesPut t a u b page.old at page.new result }
+// The lines of the differences of two plans. A page that has no room for the longest, and a plan of more stations than there are, get nothing.
+pub fn put_lines(page: &mut Page, t: Set, a: Alloc, u: Set, b: Alloc)
+    ensures { LinesPutOn t a u b page.old page.new }
 {
     let few = (t.n <= numbers::MOST_STATIONS) & (u.n <= numbers::MOST_STATIONS);
     if !few {
-        return at;
+        return;
     }
-    if page.len().saturating_sub(at) < LINES_SIZE {
-        return at;
+    if page.room() < LINES_SIZE {
+        return;
     }
-    putting::put_differences(page, at, t, a, u, b)
+    putting::put_differences(page, t, a, u, b);
 }
 
 // `old refused N` or `new refused N`.
-fn put_refused(page: &mut [u8], new: bool, number: u8) -> usize
-    requires { page_size ≤ length page.old }
-    ensures { PutShort 62 page.old 0 (side_refused (cond new new_word old_word) number) page.new result }
+fn put_refused(page: &mut Page, new: bool, number: u8)
+    requires { HasRoom 62 page.old }
+    ensures { Puts 62 page.old (side_refused (cond new new_word old_word) number) page.new }
 {
     if new {
-        return text::put_line(page, 0, b"new refused", &[u64::from(number)]);
+        page.put_line(b"new refused", &[u64::from(number)]);
+        return;
     }
-    text::put_line(page, 0, b"old refused", &[u64::from(number)])
+    page.put_line(b"old refused", &[u64::from(number)]);
 }
 
 // `same`.
-fn put_same(page: &mut [u8]) -> usize
-    requires { page_size ≤ length page.old }
-    ensures { PutShort 21 page.old 0 (line (same_word ∷ [])) page.new result }
+fn put_same(page: &mut Page)
+    requires { HasRoom 21 page.old }
+    ensures { Puts 21 page.old (line (same_word ∷ [])) page.new }
 {
-    text::put_line(page, 0, b"same", &[])
+    page.put_line(b"same", &[]);
+}
+
+// The lines of two files' plans, `same`, or which side is refused. It answers whether it is `same`.
+fn put_compared(page: &mut Page, old: &[u8], new: &[u8]) -> bool
+    requires { HasRoom lines_size page.old }
+    ensures { Compared (read_plan old.now) (read_plan new.now) page.old page.new result }
+{
+    let before = sheets::read_plan(old);
+    if before.number != numbers::ACCEPTED {
+        put_refused(page, false, before.number);
+        return false;
+    }
+    let after = sheets::read_plan(new);
+    if after.number != numbers::ACCEPTED {
+        put_refused(page, true, after.number);
+        return false;
+    }
+    let begun = page.length();
+    putting::put_differences(page, before.set, before.alloc, after.set, after.alloc);
+    if page.length() == begun {
+        put_same(page);
+        return true;
+    }
+    false
 }
 
 // What `diff` prints of the bytes of two files, put at the start of the page.
@@ -68,38 +93,10 @@ pub fn diff_text(old: &[u8], new: &[u8], page: &mut [u8]) -> Diffed
             same: false,
         };
     }
-    let before = sheets::read_plan(old);
-    if before.number != numbers::ACCEPTED {
-        let length = put_refused(page, false, before.number);
-        return Diffed {
-            length,
-            same: false,
-        };
-    }
-    let after = sheets::read_plan(new);
-    if after.number != numbers::ACCEPTED {
-        let length = put_refused(page, true, after.number);
-        return Diffed {
-            length,
-            same: false,
-        };
-    }
-    let length = putting::put_differences(
-        page,
-        0,
-        before.set,
-        before.alloc,
-        after.set,
-        after.alloc,
-    );
-    if length == 0 {
-        return Diffed {
-            length: put_same(page),
-            same: true,
-        };
-    }
+    let mut page = Page::new(page);
+    let same = put_compared(&mut page, old, new);
     Diffed {
-        length,
-        same: false,
+        length: page.length(),
+        same,
     }
 }

@@ -11,19 +11,20 @@ use Rattle.units.specs.Places.{at}
 use Rattle.sets.specs.declared.Head.{Head}
 use Rattle.fields.specs.Fields.{is_allowed}
 use Rattle.fields.specs.declared.Passed.{Passed}
-use Rattle.reasons.specs.Grounds.{grounds_at}
 use Rattle.reasons.specs.Shortages.{too_much}
 use Rattle.reasons.specs.declared.Grounds.{Grounds}
 use Rattle.faults.specs.Holdings.{holding_at}
 use Rattle.faults.specs.declared.Holding.{Holding}
+use Rattle.text.specs.Phrases.{phrase}
+use Rattle.text.specs.declared.phrases.Phrase.{Phrase}
 use Rattle.command_explain.specs.declared.Form.{Form}
 use Rattle.command_explain.specs.declared.Form.TheVariants.{Refused}
-use Rattle.command_explain.specs.declared.Phrase.{Phrase}
 use Rattle.command_explain.specs.declared.Place.{Place}
 use Rattle.command_explain.specs.declared.Explained.{Explained}
-use Rattle.command_explain.specs.First.{phrase, verdict_form, verdict, kind_at, may_stand, may_stand_by, read_as, stands, fault_phrase, one_line, second_phrase, first_phrase}
-use Rattle.command_explain.specs.Stations.{walk_phrase, grounds_phrase, grounds, too_much_phrase, times, behind_smallest, smallest_phrase, held_form, named, given_by, in_range_phrase, station_phrase}
-use Rattle.command_explain.specs.Ends.{against_phrase, retired_phrase, deadline_promise, burst_promise, offered_promise, promise_phrase, behind_sum, account_phrase, last_phrase}
+use Rattle.command_explain.specs.declared.stations.Station.{Station}
+use Rattle.command_explain.specs.First.{verdict_form, verdict, kind_at, may_stand, may_stand_by, stands, fault_phrase, one_line, second_phrase, first_phrase}
+use Rattle.command_explain.specs.Stations.{station_at, walk_phrase, grounds_phrase, grounds, times, behind_smallest, smallest_grounds, smallest_phrase, held_form, named, given_by, in_range_phrase, station_phrase}
+use Rattle.command_explain.specs.Ends.{against_phrase, retired_phrase, burst_promise, offered_promise, promise_phrase, behind_sum, account_phrase, last_phrase}
 use Rattle.command_explain.specs.Phrases.{first_count, station_count, stations_of, phrase_behind, phrase_at}
 use Rattle.command_explain.specs.Out.{says_out, says_so}
 
@@ -31,24 +32,24 @@ use Rattle.command_explain.specs.Out.{says_out, says_so}
 record QuietForm (f : Form) : Type 0 where
   is : says_out f ≡ false
 
-record Quiet (p : Phrase) : Type 0 where
+record Quiet (p : Phrase Form) : Type 0 where
   form : QuietForm p.form
 
-either : (b : Bool) {x y : Phrase} → Quiet x → Quiet y → Quiet (cond b x y)
+either : (b : Bool) {x y : Phrase Form} → Quiet x → Quiet y → Quiet (cond b x y)
 either true q r = q
 either false q r = r
 
 -- of an empty place nothing is said
-record QuietAt (p : Option Phrase) : Type 0 where
+record QuietAt (p : Option (Phrase Form)) : Type 0 where
   is : says_so p ≡ false
 
 none : QuietAt None
 none = record { is = refl }
 
-there : {p : Phrase} → Quiet p → QuietAt (Some p)
+there : {p : Phrase Form} → Quiet p → QuietAt (Some p)
 there q = record { is = q.form.is }
 
-either_at : (b : Bool) {x y : Option Phrase} → QuietAt x → QuietAt y → QuietAt (cond b x y)
+either_at : (b : Bool) {x y : Option (Phrase Form)} → QuietAt x → QuietAt y → QuietAt (cond b x y)
 either_at true q r = q
 either_at false q r = r
 
@@ -96,7 +97,7 @@ unfolding stands says_out
 stands_quiet number place = either (eqb number runs_on || ltb place.left 3) (plain refl) (plain refl)
 
 fault_quiet : (e : Explained) (j : ℕ) → QuietAt (fault_phrase e j)
-unfolding fault_phrase read_as says_out
+unfolding fault_phrase says_out
 fault_quiet e j =
     either_at (eqb j 0) (there (either e.plan (plain refl) (plain refl)))
     (either_at (eqb j 1) (there (stands_quiet e.number e.place)) (may_quiet e.number e.place.passed (j - 2)))
@@ -116,16 +117,16 @@ unfolding grounds_phrase says_out
 grounds_quiet h i c d s = either (eqb h.mode fddi) (plain refl) (plain refl)
 
 behind_quiet : (e : Explained) (rests : Grounds) (largest : ℕ) → Quiet (behind_smallest e rests largest)
-unfolding behind_smallest too_much_phrase times says_out
+unfolding behind_smallest times says_out
 behind_quiet e rests largest =
     either (eqb e.number no_allocation) (either (too_much e.sums.available rests.smallest) (plain refl) (plain refl))
     (either (eqb rests.smallest 0) (plain refl) (plain refl))
 
-smallest_quiet : (e : Explained) (i j : ℕ) → QuietAt (smallest_phrase e i j)
+smallest_quiet : (e : Explained) (t : Station) (j : ℕ) → QuietAt (smallest_phrase e t j)
 unfolding smallest_phrase says_out
-smallest_quiet e i j =
-    either_at (eqb j 0) (there (grounds_quiet e.set.head i _ _ _))
-    (either_at (eqb j 1) (there (behind_quiet e (grounds_at e.set i) (at e.rooms.c i))) none)
+smallest_quiet e t j =
+    either_at (eqb j 0) (there (grounds_quiet e.set.head t.number _ _ _))
+    (either_at (eqb j 1) (there (behind_quiet e (smallest_grounds e.set.head t) t.largest)) none)
 
 held_quiet : (h : Holding) → QuietForm (held_form h)
 unfolding held_form says_out
@@ -133,18 +134,18 @@ held_quiet h =
     either_form h.short (either_form h.off_grid (said refl) (said refl))
     (either_form h.off_grid (said refl) (either_form (eqb h.excess 0) (said refl) (said refl)))
 
-given_quiet : (e : Explained) (i j : ℕ) (h : Holding) → QuietAt (given_by e i j h)
+given_quiet : (e : Explained) (t : Station) (j : ℕ) (h : Holding) → QuietAt (given_by e t j h)
 unfolding given_by says_out
-given_quiet e i j h =
+given_quiet e t j h =
     either_at (named e.number h)
-    (either_at (eqb j 0) (there (grounds_quiet e.set.head i _ _ _)) (either_at (eqb j 1) (there (with_form (held_quiet h))) none))
+    (either_at (eqb j 0) (there (grounds_quiet e.set.head t.number _ _ _)) (either_at (eqb j 1) (there (with_form (held_quiet h))) none))
     none
 
-in_range_quiet : (e : Explained) (i j : ℕ) → QuietAt (in_range_phrase e i j)
+in_range_quiet : (e : Explained) (t : Station) (j : ℕ) → QuietAt (in_range_phrase e t j)
 unfolding in_range_phrase says_out
-in_range_quiet e i j =
+in_range_quiet e t j =
     either_at (eqb e.number retired) none
-    (either_at e.plan (given_quiet e i j (holding_at e.set e.alloc i)) (smallest_quiet e i j))
+    (either_at e.plan (given_quiet e t j (holding_at e.set e.alloc t.number)) (smallest_quiet e t j))
 
 -- ---- behind the stations
 
@@ -161,7 +162,7 @@ offered_quiet mode spare =
     either_at (eqb mode earlier) (there (plain refl)) (either_at (eqb mode timely && leb 1 spare) (there (plain refl)) none)
 
 promise_quiet : (e : Explained) (j : ℕ) → QuietAt (promise_phrase e j)
-unfolding promise_phrase deadline_promise burst_promise says_out
+unfolding promise_phrase burst_promise says_out
 promise_quiet e j =
     let mode = e.set.head.mode in
     either_at (eqb j 0) (there (plain refl))
@@ -194,7 +195,7 @@ module _ (e : Explained) (other : eqb e.number out_of_range ≡ false) where
 
   station_quiet : (i j : ℕ) → QuietAt (station_phrase e i j)
   unfolding station_phrase
-  station_quiet i j = rw other (either_at (eqb e.number bad_walk_time) (walk_quiet i (at e.set.w i) j) (in_range_quiet e i j))
+  station_quiet i j = rw other (either_at (eqb e.number bad_walk_time) (walk_quiet i (at e.set.w i) j) (in_range_quiet e (station_at e i) j))
 
   all_quiet : (k : ℕ) → QuietAt (phrase_at e k)
   unfolding phrase_at phrase_behind

@@ -1,8 +1,8 @@
 -- Which lines say that a number is out of its range.
 use Rattle.std.specs.Prelude.{ℕ, ◌<◌, ◌≡◌, Bool, true, false, Option, None, Some}
+use Rattle.text.specs.declared.phrases.Phrase.{Phrase}
 use Rattle.command_explain.specs.declared.Form.{Form}
 use Rattle.command_explain.specs.declared.Form.TheVariants.{Refused, Planned, Accepted, Header, AsRequest, AsPlan, Start, Left, MayTtrt, MayStation, MayShare, MayMode, MayFrame, MayGrid, MayEnd, MayNothing, TtrtOut, ModeOut, FrameOut, GridOut, ModeOne, FrameOne, GridOne, WalkOut, LongestOut, DeadlineOut, GapOut, ShareOut, TauOut, Walk, Grounds, FddiGrounds, End, TooMuch, Times, FirstTime, Held, HeldMore, HeldShort, HeldOff, HeldShortOff, Sum, Missing, Spare, GridCause, Retired, Readable, Again, Back, OnlyShare, InTime, Burst, OwnBurst, Offered, NotOffered, NoDeadline}
-use Rattle.command_explain.specs.declared.Phrase.{Phrase}
 use Rattle.command_explain.specs.declared.Explained.{Explained}
 use Rattle.command_explain.specs.Phrases.{phrase_at, phrase_count}
 
@@ -66,7 +66,7 @@ says_out NotOffered = false
 says_out NoDeadline = false
 
 -- a phrase says it by its form
-abbrev pub says_so : Option Phrase → Bool
+abbrev pub says_so : Option (Phrase Form) → Bool
 says_so None = false
 says_so (Some p) = says_out p.form
 

@@ -1,5 +1,5 @@
 -- What is promised of the explanation beside the contracts, for any bytes; `proofs/Promised.antt` proves it. What its numbers mean stands in `reasons` and `faults`.
-use Rattle.std.specs.Prelude.{ℕ, ◌+◌, ◌≤◌, ◌<◌, ◌≡◌, Bool, true, false, None, Some, List, [], ◌∷◌, ◌↔◌}
+use Rattle.std.specs.Prelude.{ℕ, ◌+◌, ◌≤◌, ◌<◌, ◌≡◌, Bool, true, false, None, Some, List, ◌↔◌}
 use Rattle.units.specs.Numbers.{out_of_range}
 use Rattle.fields.specs.Bytes.{number_at}
 use Rattle.fields.specs.Fields.{head_tag, mode_tag, grid_tag, is_allowed, tag_at}
@@ -10,9 +10,10 @@ use Rattle.sheets.specs.Reading.{read_request, read_plan}
 use Rattle.command_plan.specs.PlanSheet.{planning_number}
 use Rattle.reasons.specs.Shortages.{shortage_of}
 use Rattle.faults.specs.Ranges.{header_range, range_at}
+use Rattle.text.specs.Phrases.{three, four}
 use Rattle.command_explain.specs.declared.Explained.{Explained}
 use Rattle.command_explain.specs.Sheet.{is_plan, skipped_by, place_in, explained}
-use Rattle.command_explain.specs.First.{phrase, kind_at, row_at, out_form, second_phrase}
+use Rattle.command_explain.specs.First.{kind_at, row_at, out_form, second_phrase}
 use Rattle.command_explain.specs.Stations.{out_form as stationForm, station_phrase}
 use Rattle.command_explain.specs.Out.{SomeOutSaid}
 
@@ -20,18 +21,16 @@ use Rattle.command_explain.specs.Out.{SomeOutSaid}
 pub record Listed (e : Explained) (i j : ℕ) : Type 0 where
   pub out : (range_at e.set e.alloc i j).out ≡ true
       → station_phrase e i j
-      ≡ Some (phrase (stationForm j)
-      (i ∷ (range_at e.set e.alloc i j).value ∷ (range_at e.set e.alloc i j).low ∷
-      (range_at e.set e.alloc i j).high ∷ 0 ∷ 0 ∷ []))
+      ≡ Some (four (stationForm j)
+      i (range_at e.set e.alloc i j).value (range_at e.set e.alloc i j).low (range_at e.set e.alloc i j).high)
   pub inside : (range_at e.set e.alloc i j).out ≡ false → station_phrase e i j ≡ None
 
 -- and field k of the header, behind the verdict: TTRT, the mode, F and g; the value is the one that stands in the field
 pub record HeaderListed (e : Explained) (k : ℕ) : Type 0 where
   pub out : (header_range e.set.head (row_at k).tag).out ≡ true
       → second_phrase e k
-      ≡ Some (phrase (out_form (row_at k) (header_range e.said (row_at k).tag).value)
-      ((header_range e.said (row_at k).tag).value ∷ (row_at k).low ∷
-      (header_range e.set.head (row_at k).tag).high ∷ 0 ∷ 0 ∷ 0 ∷ []))
+      ≡ Some (three (out_form (row_at k) (header_range e.said (row_at k).tag).value)
+      (header_range e.said (row_at k).tag).value (row_at k).low (header_range e.set.head (row_at k).tag).high)
   pub inside : (header_range e.set.head (row_at k).tag).out ≡ false → second_phrase e k ≡ None
 
 -- the mode, F or g, by its tag: where its number is out of range its field is there, and where it is there the number that is shown is the one in its body

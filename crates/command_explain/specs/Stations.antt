@@ -3,18 +3,32 @@ use Rattle.std.specs.Prelude.{ℕ, ◌-◌, Bool, cond, not, ◌&&◌, ◌||◌,
 use Rattle.units.specs.Numbers.{accepted, out_of_range, bad_walk_time, no_allocation, retired, fddi}
 use Rattle.units.specs.Places.{at}
 use Rattle.sets.specs.declared.Head.{Head}
-use Rattle.reasons.specs.Grounds.{grounds_of, grounds_at}
+use Rattle.reasons.specs.Grounds.{grounds_of}
 use Rattle.reasons.specs.Shortages.{too_much}
 use Rattle.reasons.specs.declared.Grounds.{Grounds}
 use Rattle.faults.specs.Holdings.{holding_at}
-use Rattle.faults.specs.Ranges.{range_at}
+use Rattle.faults.specs.Ranges.{station_range}
 use Rattle.faults.specs.declared.Holding.{Holding}
 use Rattle.faults.specs.declared.Ranged.{Ranged}
+use Rattle.text.specs.Phrases.{phrase, two, three, four, either}
+use Rattle.text.specs.declared.phrases.Phrase.{Phrase}
 use Rattle.command_explain.specs.declared.Form.{Form}
 use Rattle.command_explain.specs.declared.Form.TheVariants as form
-use Rattle.command_explain.specs.declared.Phrase.{Phrase}
 use Rattle.command_explain.specs.declared.Explained.{Explained}
-use Rattle.command_explain.specs.First.{phrase, bare}
+use Rattle.command_explain.specs.declared.stations.Station.{Station}
+
+-- station i of a sheet: its number, w, C, D, P and S, and the largest C with which there is still a plan
+abbrev pub station_at : Explained → ℕ → Station
+station_at e i =
+    record {
+      number = i;
+      w = at e.set.w i;
+      c = at e.set.c i;
+      d = at e.set.d i;
+      p = at e.set.p i;
+      s = at e.alloc.s i;
+      largest = at e.rooms.c i;
+    }
 
 -- ---- 4 and 5
 
@@ -26,47 +40,51 @@ abbrev pub out_form : ℕ → Form
 out_form j = get_or out_forms j form.ShareOut
 
 -- number j of station i, if it is out of its range: the number, and the range
-unfoldable pub ranged_out : ℕ → ℕ → Ranged → Option Phrase
+unfoldable pub ranged_out : ℕ → ℕ → Ranged → Option (Phrase Form)
 ranged_out i j range =
-    cond range.out (Some (phrase (out_form j) (i ∷ range.value ∷ range.low ∷ range.high ∷ 0 ∷ 0 ∷ []))) None
+    cond range.out (Some (four (out_form j) i range.value range.low range.high)) None
 
-abbrev pub station_out : Explained → ℕ → ℕ → Option Phrase
-station_out e i j = ranged_out i j (range_at e.set e.alloc i j)
+abbrev pub station_out : Station → ℕ → Option (Phrase Form)
+station_out t j = ranged_out t.number j (station_range t.w t.c t.d t.p t.s j)
 
 -- its walk time, if that is above 0
-unfoldable pub walk_phrase : ℕ → ℕ → ℕ → Option Phrase
-walk_phrase i w j = cond (eqb j 0 && not (eqb w 0)) (Some (phrase form.Walk (i ∷ w ∷ 0 ∷ 0 ∷ 0 ∷ 0 ∷ []))) None
+unfoldable pub walk_phrase : ℕ → ℕ → ℕ → Option (Phrase Form)
+walk_phrase i w j = cond (eqb j 0 && not (eqb w 0)) (Some (two form.Walk i w)) None
 
 -- ---- what S rests on
 
 -- C, D, m, α and S; in FDDI q and the rest r, which is TTRT − α
-unfoldable pub grounds_phrase : Head → ℕ → ℕ → ℕ → ℕ → Grounds → Phrase
+unfoldable pub grounds_phrase : Head → ℕ → ℕ → ℕ → ℕ → Grounds → Phrase Form
 grounds_phrase h i c d s rests =
     cond (eqb h.mode fddi) (phrase form.FddiGrounds (i ∷ c ∷ d ∷ rests.whole ∷ (h.ttrt - rests.alpha) ∷ s ∷ []))
     (phrase form.Grounds (i ∷ c ∷ d ∷ rests.whole ∷ rests.alpha ∷ s ∷ []))
 
-abbrev pub grounds : Head → ℕ → ℕ → ℕ → ℕ → Phrase
+abbrev pub grounds : Head → ℕ → ℕ → ℕ → ℕ → Phrase Form
 grounds h i c d s = grounds_phrase h i c d s (grounds_of h.grid h.ttrt c d)
 
 -- 6: whether this S alone is more than there is
-unfoldable pub too_much_phrase : ℕ → ℕ → Phrase
-too_much_phrase available s = cond (too_much available s) (bare form.TooMuch) (bare form.End)
+abbrev pub too_much_phrase : ℕ → ℕ → Phrase Form
+too_much_phrase available s = either (too_much available s) form.TooMuch form.End
 
 -- X at S, X at the next smaller S if there is one, and the largest C
-unfoldable pub times : Grounds → ℕ → Phrase
+unfoldable pub times : Grounds → ℕ → Phrase Form
 times rests largest =
-    cond (eqb rests.smallest 0) (phrase form.FirstTime (rests.time ∷ largest ∷ 0 ∷ 0 ∷ 0 ∷ 0 ∷ []))
-    (phrase form.Times (rests.time ∷ rests.below ∷ largest ∷ 0 ∷ 0 ∷ 0 ∷ []))
+    cond (eqb rests.smallest 0) (two form.FirstTime rests.time largest)
+    (three form.Times rests.time rests.below largest)
 
 -- what is said behind the smallest S
-unfoldable pub behind_smallest : Explained → Grounds → ℕ → Phrase
+unfoldable pub behind_smallest : Explained → Grounds → ℕ → Phrase Form
 behind_smallest e rests largest =
     cond (eqb e.number no_allocation) (too_much_phrase e.sums.available rests.smallest) (times rests largest)
 
-unfoldable pub smallest_phrase : Explained → ℕ → ℕ → Option Phrase
-smallest_phrase e i j =
-    cond (eqb j 0) (Some (grounds e.set.head i (at e.set.c i) (at e.set.d i) (grounds_at e.set i).smallest))
-    (cond (eqb j 1) (Some (behind_smallest e (grounds_at e.set i) (at e.rooms.c i))) None)
+-- what the smallest S rests on
+abbrev pub smallest_grounds : Head → Station → Grounds
+smallest_grounds h t = grounds_of h.grid h.ttrt t.c t.d
+
+unfoldable pub smallest_phrase : Explained → Station → ℕ → Option (Phrase Form)
+smallest_phrase e t j =
+    cond (eqb j 0) (Some (grounds e.set.head t.number t.c t.d (smallest_grounds e.set.head t).smallest))
+    (cond (eqb j 1) (Some (behind_smallest e (smallest_grounds e.set.head t) t.largest)) None)
 
 -- ---- what a station of a given plan holds
 
@@ -80,26 +98,26 @@ abbrev pub named : ℕ → Holding → Bool
 named number h = eqb number accepted || (h.short || h.off_grid)
 
 -- X, and what is wrong with it or more than need be
-abbrev pub held : Holding → Phrase
-held h = phrase (held_form h) (h.time ∷ h.excess ∷ 0 ∷ 0 ∷ 0 ∷ 0 ∷ [])
+abbrev pub held : Holding → Phrase Form
+held h = two (held_form h) h.time h.excess
 
 -- C, D, m, α and its S; then what it holds
-unfoldable pub given_by : Explained → ℕ → ℕ → Holding → Option Phrase
-given_by e i j h =
+unfoldable pub given_by : Explained → Station → ℕ → Holding → Option (Phrase Form)
+given_by e t j h =
     cond (named e.number h)
-    (cond (eqb j 0) (Some (grounds e.set.head i (at e.set.c i) (at e.set.d i) (at e.alloc.s i)))
+    (cond (eqb j 0) (Some (grounds e.set.head t.number t.c t.d t.s))
     (cond (eqb j 1) (Some (held h)) None))
     None
 
-abbrev pub given_phrase : Explained → ℕ → ℕ → Option Phrase
-given_phrase e i j = given_by e i j (holding_at e.set e.alloc i)
+abbrev pub given_phrase : Explained → Station → ℕ → Option (Phrase Form)
+given_phrase e t j = given_by e t j (holding_at e.set e.alloc t.number)
 
 -- ---- all of them
 
-unfoldable pub in_range_phrase : Explained → ℕ → ℕ → Option Phrase
-in_range_phrase e i j = cond (eqb e.number retired) None (cond e.plan (given_phrase e i j) (smallest_phrase e i j))
+unfoldable pub in_range_phrase : Explained → Station → ℕ → Option (Phrase Form)
+in_range_phrase e t j = cond (eqb e.number retired) None (cond e.plan (given_phrase e t j) (smallest_phrase e t j))
 
-unfoldable pub station_phrase : Explained → ℕ → ℕ → Option Phrase
+unfoldable pub station_phrase : Explained → ℕ → ℕ → Option (Phrase Form)
 station_phrase e i j =
-    cond (eqb e.number out_of_range) (station_out e i j)
-    (cond (eqb e.number bad_walk_time) (walk_phrase i (at e.set.w i) j) (in_range_phrase e i j))
+    cond (eqb e.number out_of_range) (station_out (station_at e i) j)
+    (cond (eqb e.number bad_walk_time) (walk_phrase i (at e.set.w i) j) (in_range_phrase e (station_at e i) j))

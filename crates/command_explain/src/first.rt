@@ -1,24 +1,16 @@
 // The phrases before the stations': the verdict, and behind it the first fault, the header's numbers that are out of their ranges, τ, or the header.
 ghost use Rattle.std.specs.Prelude.{◌≡◌};
 ghost use Rattle.fields.specs.Fields.{is_allowed};
-ghost use Rattle.command_explain.specs.First.{bare, verdict_form, verdict, kind_at, may_stand, read_as, stands, may_stand_by, fault_phrase, row_at, out_form, header_out, header_phrase, tau_out, header, one_line, second_phrase, first_phrase};
+ghost use Rattle.command_explain.specs.First.{verdict_form, verdict, kind_at, may_stand, stands, may_stand_by, fault_phrase, row_at, out_form, header_out, header_phrase, tau_out, header, one_line, second_phrase, first_phrase};
 
-use crate::{Explained, Form, Phrase, Place};
+use crate::{Explained, Form, Place};
 use fields::Passed;
 use sets::Head;
+use text::phrases::Phrase;
 use units::numbers;
 
-// A form without numbers.
-pub(crate) fn bare(form: Form) -> Phrase
-    ensures { result ≡ bare form }
-{
-    Phrase {
-        form,
-        numbers: [0; 6],
-    }
-}
-
 // The form of the verdict on a sheet that is accepted.
+#[tactic(auto, unfolding(crate::specs::First::verdict_form))]
 fn verdict_form(plan: bool) -> Form
     ensures { result ≡ verdict_form plan }
 {
@@ -26,22 +18,17 @@ fn verdict_form(plan: bool) -> Form
 }
 
 // The verdict.
-fn verdict(e: Explained) -> Phrase
+#[tactic(auto, unfolding(crate::specs::First::verdict))]
+fn verdict(e: Explained) -> Phrase<Form>
     ensures { result ≡ verdict e }
 {
     if e.number != numbers::ACCEPTED {
         let number = u64::from(e.number);
-        return Phrase {
-            form: Form::Refused,
-            numbers: [number, 0, 0, 0, 0, 0],
-        };
+        return Phrase::one(Form::Refused, number);
     }
     let n = u64::from(e.set.n);
     let ttrt = u64::from(e.set.head.ttrt);
-    Phrase {
-        form: verdict_form(e.plan),
-        numbers: [n, ttrt, e.sums.tau, e.sums.spare, 0, 0],
-    }
+    Phrase::four(verdict_form(e.plan), n, ttrt, e.sums.tau, e.sums.spare)
 }
 
 // ---- 1, 2, 3
@@ -107,7 +94,8 @@ fn is_allowed(passed: Passed, tag: u8, size: u8) -> bool
 }
 
 // Kind k, if it may stand there.
-fn may_stand(passed: Passed, k: usize) -> Option<Phrase>
+#[tactic(auto, unfolding(crate::specs::First::may_stand))]
+fn may_stand(passed: Passed, k: usize) -> Option<Phrase<Form>>
     ensures { result ≡ may_stand passed k }
 {
     let kind = kind_at(k);
@@ -116,59 +104,43 @@ fn may_stand(passed: Passed, k: usize) -> Option<Phrase>
     }
     let tag = u64::from(kind.tag);
     let size = u64::from(kind.size);
-    Some(Phrase {
-        form: kind.form,
-        numbers: [tag, size, 0, 0, 0, 0],
-    })
-}
-
-// As what the bytes were read.
-fn read_as(plan: bool) -> Phrase
-    ensures { result ≡ read_as plan }
-{
-    if plan {
-        return bare(Form::AsPlan);
-    }
-    bare(Form::AsRequest)
+    Some(Phrase::two(kind.form, tag, size))
 }
 
 // What stands at the place of the fault. Behind the end field, and where fewer than three bytes are left, it is said only how many.
-fn stands(number: u8, place: Place) -> Phrase
+#[tactic(auto, unfolding(crate::specs::First::stands))]
+fn stands(number: u8, place: Place) -> Phrase<Form>
     ensures { result ≡ stands number place }
 {
     let behind = number == numbers::RUNS_ON;
     let cut = place.left < 3;
     if behind | cut {
-        return Phrase {
-            form: Form::Left,
-            numbers: [place.byte, place.left, 0, 0, 0, 0],
-        };
+        return Phrase::two(Form::Left, place.byte, place.left);
     }
-    Phrase {
-        form: Form::Start,
-        numbers: [place.byte, place.tag, place.size, place.left, 0, 0],
-    }
+    Phrase::four(Form::Start, place.byte, place.tag, place.size, place.left)
 }
 
 // What may stand there: behind the end field nothing.
-fn may_stand_by(number: u8, passed: Passed, k: usize) -> Option<Phrase>
+#[tactic(auto, unfolding(crate::specs::First::may_stand_by))]
+fn may_stand_by(number: u8, passed: Passed, k: usize) -> Option<Phrase<Form>>
     ensures { result ≡ may_stand_by number passed k }
 {
     if number != numbers::RUNS_ON {
         return may_stand(passed, k);
     }
     if k == 0 {
-        return Some(bare(Form::MayNothing));
+        return Some(Phrase::bare(Form::MayNothing));
     }
     None
 }
 
-// Phrase j of a first fault.
-fn fault_phrase(e: Explained, j: usize) -> Option<Phrase>
+// Phrase j of a first fault: as what the bytes were read, what stands there, and what may.
+#[tactic(auto, unfolding(crate::specs::First::fault_phrase))]
+fn fault_phrase(e: Explained, j: usize) -> Option<Phrase<Form>>
     ensures { result ≡ fault_phrase e j }
 {
     match j {
-        0 => Some(read_as(e.plan)),
+        0 => Some(Phrase::either(e.plan, Form::AsPlan, Form::AsRequest)),
         1 => Some(stands(e.number, e.place)),
         _ => may_stand_by(e.number, e.place.passed, j - 2),
     }
@@ -218,6 +190,7 @@ fn row_at(k: usize) -> Row
 }
 
 // The form of a number that is out of range: a 1 is to be left out.
+#[tactic(auto, unfolding(crate::specs::First::out_form))]
 fn out_form(row: Row, value: u32) -> Form
     ensures { result ≡ out_form row value }
 {
@@ -229,7 +202,8 @@ fn out_form(row: Row, value: u32) -> Form
 }
 
 // Field k of the header, if its number is out of range.
-fn header_out(h: Head, said: Head, k: usize) -> Option<Phrase>
+#[tactic(auto, unfolding(crate::specs::First::header_out))]
+fn header_out(h: Head, said: Head, k: usize) -> Option<Phrase<Form>>
     ensures { result ≡ header_out h said k }
 {
     let row = row_at(k);
@@ -240,14 +214,12 @@ fn header_out(h: Head, said: Head, k: usize) -> Option<Phrase>
     let stands = faults::header_range(said, row.tag);
     let value = u64::from(stands.value);
     let high = u64::from(range.high);
-    Some(Phrase {
-        form: out_form(row, stands.value),
-        numbers: [value, row.low, high, 0, 0, 0],
-    })
+    Some(Phrase::three(out_form(row, stands.value), value, row.low, high))
 }
 
 // Phrase j of these; there are four.
-fn header_phrase(e: Explained, j: usize) -> Option<Phrase>
+#[tactic(auto, unfolding(crate::specs::First::header_phrase))]
+fn header_phrase(e: Explained, j: usize) -> Option<Phrase<Form>>
     ensures { result ≡ header_phrase e j }
 {
     if j < 4 {
@@ -259,34 +231,29 @@ fn header_phrase(e: Explained, j: usize) -> Option<Phrase>
 // ---- 5 and the header
 
 // τ, which is not 1 to TTRT.
-fn tau_out(e: Explained) -> Phrase
+fn tau_out(e: Explained) -> Phrase<Form>
     ensures { result ≡ tau_out e }
 {
     let ttrt = u64::from(e.set.head.ttrt);
-    Phrase {
-        form: Form::TauOut,
-        numbers: [e.sums.tau, 1, ttrt, 0, 0, 0],
-    }
+    Phrase::three(Form::TauOut, e.sums.tau, 1, ttrt)
 }
 
 // The header's numbers.
-fn header(h: Head) -> Phrase
+fn header(h: Head) -> Phrase<Form>
     ensures { result ≡ header h }
 {
     let ttrt = u64::from(h.ttrt);
     let mode = u64::from(h.mode);
     let frame = u64::from(h.frame);
     let grid = u64::from(h.grid);
-    Phrase {
-        form: Form::Header,
-        numbers: [ttrt, mode, frame, grid, 0, 0],
-    }
+    Phrase::four(Form::Header, ttrt, mode, frame, grid)
 }
 
 // ---- all of them
 
 // The line behind the verdict, where it is only one.
-fn one_line(e: Explained, j: usize) -> Option<Phrase>
+#[tactic(auto, unfolding(crate::specs::First::one_line))]
+fn one_line(e: Explained, j: usize) -> Option<Phrase<Form>>
     ensures { result ≡ one_line e j }
 {
     if j != 0 {
@@ -299,7 +266,8 @@ fn one_line(e: Explained, j: usize) -> Option<Phrase>
 }
 
 // Phrase j behind the verdict.
-fn second(e: Explained, j: usize) -> Option<Phrase>
+#[tactic(auto, unfolding(crate::specs::First::second_phrase))]
+fn second(e: Explained, j: usize) -> Option<Phrase<Form>>
     ensures { result ≡ second_phrase e j }
 {
     let walked = (1 <= e.number) & (e.number <= numbers::RUNS_ON);
@@ -313,7 +281,8 @@ fn second(e: Explained, j: usize) -> Option<Phrase>
 }
 
 // Phrase j before the stations'.
-pub(crate) fn phrase(e: Explained, j: usize) -> Option<Phrase>
+#[tactic(auto, unfolding(crate::specs::First::first_phrase))]
+pub(crate) fn phrase(e: Explained, j: usize) -> Option<Phrase<Form>>
     ensures { result ≡ first_phrase e j }
 {
     if j == 0 {

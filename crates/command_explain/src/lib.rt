@@ -14,6 +14,7 @@ use fields::Passed;
 use plans::Alloc;
 use reasons::Rooms;
 use sets::{Head, Set};
+use text::phrases::Phrase;
 
 // The forms of words. What each of them says stands in `adviser`.
 #[derive(Clone, Copy)]
@@ -85,13 +86,6 @@ pub enum Form {
     NoDeadline,
 }
 
-// A form, and its numbers in their order; behind the last of them zeros.
-#[derive(Clone, Copy)]
-pub struct Phrase {
-    pub form: Form,
-    pub numbers: [u64; 6],
-}
-
 // Where the walk over the bytes stopped: the byte, of 3 the one behind the end field; how many bytes there are from it on; the tag and the length there, if three bytes are left; and the fields that passed.
 #[derive(Clone, Copy)]
 pub struct Place {
@@ -157,7 +151,7 @@ pub fn explain(bytes: &[u8]) -> Explained
     let set = judged.set;
     let alloc = judged.alloc;
     let said = sheet::said_head(bytes, judged.set.head);
-    let sums = ends::sums_of(plan, set, alloc);
+    let sums = ends::sums_of(ends::account_of(plan, set, alloc), set, alloc);
     let rooms = reasons::rooms_of(set);
     Explained {
         plan,
@@ -181,7 +175,8 @@ pub fn phrase_count(e: Explained) -> usize
 }
 
 // Phrase k, if there is one at this place.
-pub fn phrase_at(e: Explained, k: usize) -> Option<Phrase>
+#[tactic(auto, unfolding(crate::specs::Phrases::phrase_at, crate::specs::Phrases::phrase_behind))]
+pub fn phrase_at(e: Explained, k: usize) -> Option<Phrase<Form>>
     ensures { result ≡ phrase_at e k }
 {
     if k < FIRST_COUNT {

@@ -11,9 +11,10 @@ use streams::{ending, usage};
 // A line for each command.
 fn put_commands(rt: &impl Print) -> Result<(), Error> {
     for place in 0..commands::COUNT {
-        let command = commands::command_at(place);
-        rt.write_all(b"  ")?;
-        rt.write_all(usage::line_of(command))?;
+        if let Some(command) = commands::command_at(place) {
+            rt.write_all(b"  ")?;
+            rt.write_all(usage::line_of(command))?;
+        }
     }
     Ok(())
 }

@@ -1,11 +1,12 @@
 -- A line of wagons or of changes goes by what it is; the numbers of such a line are 32-bit numbers.
 use Prim.Native.Nat.{ℕ, ◌^◌}
-use mathlib.Core.Path.{◌≡◌, refl, ap}
-use mathlib.Core.Logic.{◌≢◌}
-use mathlib.Core.Bool.{Bool, true, false}
+use mathlib.Core.Path.{◌≡◌, refl, sym, ap}
+use mathlib.Core.Bool.{Bool, true, false, true≢false}
 use native.Mathlib.Omega.{arith}
 use lib.Dec.{ltb, eqb}
-use borrow.Author.Tests.{ltb-true, eq-eqb, ne_eqb}
+use borrow.Author.Tests.{ltb-true}
+use Rattle.std.specs.Prelude.{Option, None, Some, is_some}
+use Rattle.std.specs.Option.{option_or}
 use Rattle.units.specs.Places.{at}
 use Rattle.units.proofs.JudgingLaws.{and-true}
 use Rattle.hopper.specs.Wagons.{with_more, without_last}
@@ -52,6 +53,10 @@ module _ (s : Scan) (code count : ℕ) (h : is_line s code count ≡ true) where
 
 -- ---- a line of wagons
 
+or_kept : (known other : Option ℕ) → is_some known ≡ true → known ≡ option_or known other
+or_kept None other e = absurd (true≢false (sym e))
+or_kept (Some n) other e = refl
+
 module _ (u : Listing) where
   pub listed_empty : is_empty_line u.scan ≡ true → on_next_line u u.list u.unread ≡ line_listed u
   unfolding line_listed
@@ -65,12 +70,12 @@ module _ (u : Listing) where
   unfolding line_listed
   listed_unread e w = rw (e, w)
 
--- 0 stands for no line
-pub first_none : (u : Listing) → u.unread ≡ 0 → u.line ≡ first_unread u
-first_none u e = rw (eq-eqb u.unread 0 e) refl
+-- where none is named it is this one, and what is named stays named
+pub first_none : (u : Listing) → u.unread ≡ None → Some u.line ≡ first_unread u
+first_none u e = rw e refl
 
-pub first_kept : (u : Listing) → u.unread ≢ 0 → u.unread ≡ first_unread u
-first_kept u e = rw (ne_eqb u.unread 0 e) refl
+pub first_kept : (u : Listing) → is_some u.unread ≡ true → u.unread ≡ first_unread u
+first_kept u e = or_kept u.unread (Some u.line) e
 
 -- ---- a line of changes
 

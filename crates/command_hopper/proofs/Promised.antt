@@ -5,6 +5,7 @@ use mathlib.Core.Bool.{Bool, true, false, cond}
 use mathlib.Core.List.{List, [], ◌∷◌}
 use mathlib.Core.Logic.{◌≢◌, ⊎_elim}
 use lib.Dec.{eqb}
+use Rattle.std.specs.Prelude.{None, Some, is_some}
 use Rattle.text.specs.Text.{newline, refused_line}
 use Rattle.text.proofs.TextLaws.{text_accepted, text_refused}
 use Rattle.plans.specs.declared.Planned.{Planned}
@@ -113,13 +114,13 @@ text_kept u (b ∷ bs) h = text_kept (refit_on u b) bs (byte_kept u b h)
 
 -- ---- the first line that cannot be read
 
-listed_unread : (u : Listing) (a b : Bool) (l m : WagonList) → u.unread ≢ 0
+listed_unread : (u : Listing) (a b : Bool) (l m : WagonList) → is_some u.unread ≡ true
     → (cond a (on_next_line u l u.unread) (cond b (on_next_line u m u.unread) (on_next_line u l (first_unread u)))).unread ≡ u.unread
 listed_unread u true b l m h = refl
 listed_unread u false true l m h = refl
 listed_unread u false false l m h = sym (first_kept u h)
 
-byte_unread : (u : Listing) (b : ℕ) → u.unread ≢ 0 → (list_on u b).unread ≡ u.unread
+byte_unread : (u : Listing) (b : ℕ) → is_some u.unread ≡ true → (list_on u b).unread ≡ u.unread
 unfolding list_on line_listed
 byte_unread u b h = go (eqb b newline)
   where
@@ -127,19 +128,19 @@ byte_unread u b h = go (eqb b newline)
     go true = listed_unread u (is_empty_line u.scan) (is_wagon u.scan) _ _ h
     go false = refl
 
-stays_unread : (u : Listing) (text : List ℕ) → u.unread ≢ 0 → (list_over u text).unread ≡ u.unread
+stays_unread : (u : Listing) (text : List ℕ) → is_some u.unread ≡ true → (list_over u text).unread ≡ u.unread
 unfolding list_over
 stays_unread u [] h = refl
 stays_unread u (b ∷ bs) h =
     let one = byte_unread u b h in
-    stays_unread (list_on u b) bs (λ e. h (sym one ∙ e)) ∙ one
+    stays_unread (list_on u b) bs (rw one h) ∙ one
 
-named : (u : Listing) → u.unread ≡ 0 → is_empty_line u.scan ≡ false → is_wagon u.scan ≡ false → (line_listed u).unread ≡ u.line
+named : (u : Listing) → u.unread ≡ None → is_empty_line u.scan ≡ false → is_wagon u.scan ≡ false → (line_listed u).unread ≡ Some u.line
 named u none e w = sym (first_none u none ∙ ap (λ (v : Listing). v.unread) (unread_line_lem u e w))
 
 -- ---- the examples, computed
 
-two_read : ((list_in two_wagons).list ≡ two_listed) × ((list_in two_wagons).unread ≡ 0)
+two_read : ((list_in two_wagons).list ≡ two_listed) × ((list_in two_wagons).unread ≡ None)
 unfolding list_over list_on line_listed stepped character_read letter_read number_begun digit_read with_more with_wagon
 two_read = (refl, refl)
 

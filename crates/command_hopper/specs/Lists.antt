@@ -1,5 +1,6 @@
 -- A text of wagons, read byte after byte: a line `wagon BOXES BRAKE DOOR` for each, from the head of the train on.
-use Rattle.std.specs.Prelude.{ℕ, ◌+◌, ◌≤◌, ◌<◌, ◌^◌, Bool, cond, List, [], ◌∷◌, ◌++◌, eqb}
+use Rattle.std.specs.Prelude.{ℕ, ◌+◌, ◌≤◌, ◌<◌, ◌^◌, Bool, cond, Option, None, Some, List, [], ◌∷◌, ◌++◌, eqb}
+use Rattle.std.specs.Option.{option_or}
 use Rattle.units.specs.Places.{at}
 use Rattle.hopper.specs.Wagons.{blank_list, with_more}
 use Rattle.hopper.specs.declared.Wagon.{Wagon}
@@ -33,15 +34,15 @@ pub record Narrow (s : Scan) (k : ℕ) : Type 0 where
 
 -- nothing was read: no wagon, on line 1
 abbrev pub list_start : Listing
-list_start = record { list = blank_list; scan = fresh_scan; line = 1; unread = 0 }
+list_start = record { list = blank_list; scan = fresh_scan; line = 1; unread = None }
 
 -- the next line, with this list and this first line that cannot be read
-abbrev pub on_next_line : Listing → WagonList → ℕ → Listing
+abbrev pub on_next_line : Listing → WagonList → Option ℕ → Listing
 on_next_line u l unread = record { list = l; scan = fresh_scan; line = next_line u.line; unread = unread }
 
--- the first line that cannot be read, where this one cannot; 0 stands for none
-abbrev pub first_unread : Listing → ℕ
-first_unread u = cond (eqb u.unread 0) u.line u.unread
+-- the first line that cannot be read, where this one cannot
+abbrev pub first_unread : Listing → Option ℕ
+first_unread u = option_or u.unread (Some u.line)
 
 -- a line ends: it is empty, or a wagon more, or cannot be read
 unfoldable pub line_listed : Listing → Listing

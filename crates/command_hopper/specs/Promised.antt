@@ -1,5 +1,5 @@
 -- What is promised of the texts of `hopper`, `hopper-sheet` and `refit`; `proofs/Promised.antt` proves it.
-use Rattle.std.specs.Prelude.{ℕ, ◌≡◌, false, List, [], ◌∷◌, ◌++◌, ◌≢◌, replicate}
+use Rattle.std.specs.Prelude.{ℕ, ◌≡◌, true, false, None, Some, is_some, List, [], ◌∷◌, ◌++◌, ◌≢◌, replicate}
 use Rattle.text.specs.Text.{refused_line}
 use Rattle.hopper.specs.Wagons.{ListFits}
 use Rattle.hopper.specs.Requests.{set_of, list_sheet, list_planned}
@@ -65,11 +65,11 @@ pub record Promised : Type 0 where
   pub said_pieces : (u : Refit) (first rest : List ℕ)
       → refit_text u (first ++ rest) ≡ refit_text u first ++ refit_text (refit_over u first) rest
   -- the line that is named is the first that cannot be read: once there is one it stays
-  pub first_unread_lem : (u : Listing) (text : List ℕ) → u.unread ≢ 0 → (list_over u text).unread ≡ u.unread
+  pub first_unread_lem : (u : Listing) (text : List ℕ) → is_some u.unread ≡ true → (list_over u text).unread ≡ u.unread
   -- and where there is none yet, a line that is neither empty nor a wagon is it
   pub named_unread : (u : Listing)
-      → u.unread ≡ 0 → is_empty_line u.scan ≡ false → is_wagon u.scan ≡ false → (line_listed u).unread ≡ u.line
+      → u.unread ≡ None → is_empty_line u.scan ≡ false → is_wagon u.scan ≡ false → (line_listed u).unread ≡ Some u.line
   -- a text of two wagons says their list, and no line of it cannot be read
-  pub two_wagons_lem : ((list_in two_wagons).list ≡ two_listed) × ((list_in two_wagons).unread ≡ 0)
+  pub two_wagons_lem : ((list_in two_wagons).list ≡ two_listed) × ((list_in two_wagons).unread ≡ None)
   -- a text of three changes asks of any train just what its lines say, one behind another
   pub three_changes_lem : (t : Train) → (refit_over (refit_from t) three_changes).train ≡ after t three_asked

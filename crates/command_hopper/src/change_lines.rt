@@ -1,11 +1,12 @@
 // A line of a text of changes.
 ghost use Rattle.std.specs.Prelude.{◌≡◌, ◌≤◌, length};
-ghost use Rattle.text.specs.Text.{page_size, Printed};
+ghost use Rattle.text.specs.Text.{unread_line, page_size, Printed};
 ghost use Rattle.command_hopper.specs.Refits.{told_of, line_changed, answered_text, change_text, EndedLine};
 
 use crate::{Change, Changed, Refit, Refitted, wagon_lines};
 use hopper::{Coupled, Train};
 use line_reader::Scan;
+use text::Page;
 use units::{Station, numbers};
 
 // The letters of `change`, `couple` and `uncouple`, each as one number to base 256.
@@ -59,10 +60,22 @@ fn put_answered(page: &mut [u8], number: u8, train: Train) -> usize
     ensures { Printed (answered_text number train) page.old page.new result }
 {
     if number != numbers::ACCEPTED {
-        return text::put_refused(page, 0, number);
+        let mut page = Page::new(page);
+        page.put_refused(number);
+        return page.length();
     }
     let said = crate::hopper_text(train.list, page);
     said.length
+}
+
+// The line that cannot be read.
+fn put_unread(page: &mut [u8], line: u64) -> usize
+    requires { page_size ≤ length page.old }
+    ensures { Printed (unread_line line) page.old page.new result }
+{
+    let mut page = Page::new(page);
+    page.put_unread(line);
+    page.length()
 }
 
 // What is printed of a line; one that cannot be read is named.
@@ -73,7 +86,7 @@ fn put_change(page: &mut [u8], change: Change, train: Train, line: u64) -> usize
     match change {
         Change::Nothing => 0,
         Change::Answered(number) => put_answered(page, number, train),
-        Change::Unread => text::put_unread(page, 0, line),
+        Change::Unread => put_unread(page, line),
     }
 }
 

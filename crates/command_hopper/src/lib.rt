@@ -14,15 +14,14 @@ use line_reader::Scan;
 use text::{PAGE_SIZE, Said};
 
 // A text of wagons that is being read.
-#[repr(C)]
 #[derive(Clone, Copy)]
 pub struct Listing {
     pub list: WagonList,
     pub scan: Scan,
     // The number of the line that is being read.
     pub line: u64,
-    // The first line that cannot be read; 0: none.
-    pub unread: u64,
+    // The first line that cannot be read, if there is one.
+    pub unread: Option<u64>,
 }
 
 // What a line of changes was answered.
@@ -80,7 +79,7 @@ pub fn begin_list() -> Listing
         list: hopper::blank_list(),
         scan: line_reader::fresh(),
         line: 1,
-        unread: 0,
+        unread: None,
     }
 }
 

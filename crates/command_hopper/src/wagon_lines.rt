@@ -25,7 +25,7 @@ pub(crate) fn wagon_in(s: Scan, first: usize) -> Wagon
 }
 
 // The next line, with this list and this first line that cannot be read.
-fn on_next_line(listing: Listing, list: WagonList, unread: u64) -> Listing
+fn on_next_line(listing: Listing, list: WagonList, unread: Option<u64>) -> Listing
     ensures { result ≡ on_next_line listing list unread }
 {
     Listing {
@@ -37,14 +37,10 @@ fn on_next_line(listing: Listing, list: WagonList, unread: u64) -> Listing
 }
 
 // The first line that cannot be read, where this one cannot.
-fn first_unread(listing: Listing) -> u64
+fn first_unread(listing: Listing) -> Option<u64>
     ensures { result ≡ first_unread listing }
 {
-    if listing.unread == 0 {
-        listing.line
-    } else {
-        listing.unread
-    }
+    listing.unread.or(Some(listing.line))
 }
 
 // A line ends: it is empty, or a wagon more, or cannot be read.

@@ -1,14 +1,15 @@
 // What `inspect` prints of a log that was read whole: `accepted N`; `record K RULE` and a line for people; or `refused N`.
 #![tactic(auto)]
 
-ghost use Rattle.std.specs.Prelude.{◌≡◌, ◌∷◌, ◌+◌, ◌≤◌, length};
-ghost use Rattle.text.specs.Text.{space, PutShort, Printed, page_size};
+ghost use Rattle.std.specs.Prelude.{◌≡◌, ◌∷◌, length};
+ghost use Rattle.text.specs.Text.{space, Printed};
+ghost use Rattle.text.specs.Pages.{HasRoom, Puts};
 ghost use Rattle.command_inspect.specs.FindingText.{accepted_line, rule_word, record_line, frames_aim, aim_of, before_of, unit_of, compared_line, mark_line, people_line, broken_text, finding_text, is_accepted, FoundOn};
 
 use inspection::Compared;
 use inspection_stream::Inspecting;
 use log_records::Entry;
-use text::PAGE_SIZE;
+use text::{PAGE_SIZE, Page};
 use units::numbers;
 
 // What was found is on a page: how many bytes it is, and whether the log is accepted.
@@ -20,167 +21,176 @@ pub struct Found {
 }
 
 // `accepted N`.
-fn put_accepted(page: &mut [u8], at: usize, records: u64) -> usize
-    requires { at + 42 ≤ length page.old }
-    ensures { PutShort 42 page.old at (accepted_line records) page.new result }
+fn put_accepted(page: &mut Page, records: u64)
+    requires { HasRoom 42 page.old }
+    ensures { Puts 42 page.old (accepted_line records) page.new }
 {
-    let named = text::put_short(page, at, b"accepted");
-    let counted = text::put_field(page, named, records);
-    text::put_end(page, counted)
+    page.put_short(b"accepted");
+    page.put_field(records);
+    page.put_end();
 }
 
 // A space, and the word of a rule.
-fn put_rule(page: &mut [u8], at: usize, rule: u8) -> usize
-    requires { at + 20 ≤ length page.old }
-    ensures { PutShort 20 page.old at (space ∷ rule_word rule) page.new result }
+fn put_rule(page: &mut Page, rule: u8)
+    requires { HasRoom 20 page.old }
+    ensures { Puts 20 page.old (space ∷ rule_word rule) page.new }
 {
     match rule {
-        1 => text::put_short(page, at, b" station"),
-        2 => text::put_short(page, at, b" start"),
-        3 => text::put_short(page, at, b" limit"),
-        4 => text::put_short(page, at, b" synchronous"),
-        _ => text::put_short(page, at, b" asynchronous"),
+        1 => page.put_short(b" station"),
+        2 => page.put_short(b" start"),
+        3 => page.put_short(b" limit"),
+        4 => page.put_short(b" synchronous"),
+        _ => page.put_short(b" asynchronous"),
     }
 }
 
 // `record K RULE`.
-fn put_record(page: &mut [u8], at: usize, number: u64, rule: u8) -> usize
-    requires { at + 62 ≤ length page.old }
-    ensures { PutShort 62 page.old at (record_line number rule) page.new result }
+fn put_record(page: &mut Page, number: u64, rule: u8)
+    requires { HasRoom 62 page.old }
+    ensures { Puts 62 page.old (record_line number rule) page.new }
 {
-    let named = text::put_short(page, at, b"record");
-    let counted = text::put_field(page, named, number);
-    let ruled = put_rule(page, counted, rule);
-    text::put_end(page, ruled)
+    page.put_short(b"record");
+    page.put_field(number);
+    put_rule(page, rule);
+    page.put_end();
 }
 
 // ---- the line for people
 
 // What frames are expected: ` whole frames of one length up to F, begun below`.
-fn put_frames(page: &mut [u8], at: usize, longest: u32) -> usize
-    requires { at + 81 ≤ length page.old }
-    ensures { PutShort 81 page.old at (frames_aim longest) page.new result }
+fn put_frames(page: &mut Page, longest: u32)
+    requires { HasRoom 81 page.old }
+    ensures { Puts 81 page.old (frames_aim longest) page.new }
 {
-    let whole = text::put_short(page, at, b" whole frames of one");
-    let long = text::put_short(page, whole, b" length up to");
-    let numbered = text::put_field(page, long, u64::from(longest));
-    text::put_short(page, numbered, b", begun below")
+    page.put_short(b" whole frames of one");
+    page.put_short(b" length up to");
+    page.put_field(u64::from(longest));
+    page.put_short(b", begun below");
 }
 
 // What the expected number is, by the rule.
-fn put_aim(page: &mut [u8], at: usize, rule: u8, longest: u32) -> usize
-    requires { at + 81 ≤ length page.old }
-    ensures { PutShort 81 page.old at (aim_of rule longest) page.new result }
+fn put_aim(page: &mut Page, rule: u8, longest: u32)
+    requires { HasRoom 81 page.old }
+    ensures { Puts 81 page.old (aim_of rule longest) page.new }
 {
     match rule {
-        1 => text::put_short(page, at, b" station"),
-        2 => at,
-        3 => text::put_short(page, at, b" limit"),
-        _ if (rule == 4) | (longest == 1) => text::put_short(page, at, b" at most"),
-        _ => put_frames(page, at, longest),
+        1 => page.put_short(b" station"),
+        2 => {}
+        3 => page.put_short(b" limit"),
+        _ if (rule == 4) | (longest == 1) => page.put_short(b" at most"),
+        _ => put_frames(page, longest),
     }
 }
 
 // What a start is counted from: the record before; where that is a mark, the visit before.
-fn put_before(page: &mut [u8], at: usize, before: Entry) -> usize
-    requires { at + 20 ≤ length page.old }
-    ensures { PutShort 20 page.old at (before_of before) page.new result }
+fn put_before(page: &mut Page, before: Entry)
+    requires { HasRoom 20 page.old }
+    ensures { Puts 20 page.old (before_of before) page.new }
 {
     match before {
-        Entry::Visit(_) => text::put_short(page, at, b" record before"),
-        Entry::Mark(_) => text::put_short(page, at, b" visit before"),
+        Entry::Visit(_) => page.put_short(b" record before"),
+        Entry::Mark(_) => page.put_short(b" visit before"),
     }
 }
 
 // What it is counted in: of a start ` ticks after the record before`.
-fn put_unit(page: &mut [u8], at: usize, rule: u8, before: Entry) -> usize
-    requires { at + 40 ≤ length page.old }
-    ensures { PutShort 40 page.old at (unit_of rule before) page.new result }
+fn put_unit(page: &mut Page, rule: u8, before: Entry)
+    requires { HasRoom 40 page.old }
+    ensures { Puts 40 page.old (unit_of rule before) page.new }
 {
     if rule != 2 {
-        return at;
+        return;
     }
-    let ticks = text::put_short(page, at, b" ticks after the");
-    put_before(page, ticks, before)
+    page.put_short(b" ticks after the");
+    put_before(page, before);
 }
 
 // Of a visit: the number that was expected, and the one that was found.
-fn put_compared(
-    page: &mut [u8],
-    at: usize,
-    rule: u8,
-    longest: u32,
-    before: Entry,
-    compared: Compared,
-) -> usize
-    requires { at + 204 ≤ length page.old }
-    ensures { PutShort 204 page.old at (compared_line rule longest before compared) page.new result }
+fn put_compared(page: &mut Page, rule: u8, longest: u32, before: Entry, compared: Compared)
+    requires { HasRoom 204 page.old }
+    ensures { Puts 204 page.old (compared_line rule longest before compared) page.new }
 {
-    let named = text::put_short(page, at, b"expected");
-    let aimed = put_aim(page, named, rule, longest);
-    let expected = text::put_field(page, aimed, u64::from(compared.expected));
-    let counted = put_unit(page, expected, rule, before);
-    let came = text::put_short(page, counted, b", found");
-    let found = text::put_field(page, came, u64::from(compared.found));
-    text::put_end(page, found)
+    page.put_short(b"expected");
+    put_aim(page, rule, longest);
+    page.put_field(u64::from(compared.expected));
+    put_unit(page, rule, before);
+    page.put_short(b", found");
+    page.put_field(u64::from(compared.found));
+    page.put_end();
 }
 
 // Of a mark: what it must be, its station and its mark.
-fn put_mark(page: &mut [u8], at: usize, compared: Compared, mark: u32) -> usize
-    requires { at + 204 ≤ length page.old }
-    ensures { PutShort 204 page.old at (mark_line compared mark) page.new result }
+fn put_mark(page: &mut Page, stations: Compared, mark: u32)
+    requires { HasRoom 204 page.old }
+    ensures { Puts 204 page.old (mark_line stations mark) page.new }
 {
-    let named = text::put_short(page, at, b"expected");
-    let below = text::put_short(page, named, b" a station below");
-    let stations = text::put_field(page, below, u64::from(compared.expected));
-    let marks = text::put_short(page, stations, b" and mark 0 or 1");
-    let said = text::put_short(page, marks, b", found");
-    let station = text::put_field(page, said, u64::from(compared.found));
-    let both = text::put_field(page, station, u64::from(mark));
-    text::put_end(page, both)
+    page.put_short(b"expected");
+    page.put_short(b" a station below");
+    page.put_field(u64::from(stations.expected));
+    page.put_short(b" and mark 0 or 1");
+    page.put_short(b", found");
+    page.put_field(u64::from(stations.found));
+    page.put_field(u64::from(mark));
+    page.put_end();
 }
 
 // The line for people, by the kind of the record.
 fn put_people(
-    page: &mut [u8],
-    at: usize,
+    page: &mut Page,
     rule: u8,
     longest: u32,
     before: Entry,
     entry: Entry,
     compared: Compared,
-) -> usize
-    requires { at + 204 ≤ length page.old }
-    ensures { PutShort 204 page.old at (people_line rule longest before entry compared) page.new result }
+)
+    requires { HasRoom 204 page.old }
+    ensures { Puts 204 page.old (people_line rule longest before entry compared) page.new }
 {
     match entry {
-        Entry::Visit(_) => put_compared(page, at, rule, longest, before, compared),
-        Entry::Mark(mark) => put_mark(page, at, compared, mark.mark),
+        Entry::Visit(_) => put_compared(page, rule, longest, before, compared),
+        Entry::Mark(mark) => put_mark(page, compared, mark.mark),
     }
 }
 
 // ---- all of it
 
 // Both lines of a log with a record that breaks a rule.
-fn put_broken(page: &mut [u8], inspecting: Inspecting) -> usize
-    requires { page_size ≤ length page.old }
-    ensures { PutShort 266 page.old 0 (broken_text inspecting) page.new result }
+fn put_broken(page: &mut Page, inspecting: Inspecting)
+    requires { HasRoom 266 page.old }
+    ensures { Puts 266 page.old (broken_text inspecting) page.new }
 {
     let set = inspecting.start.set;
     let looked = inspecting.looked;
     let state = looked.inspection;
     let finding = inspection::found(state, 0);
-    let named = put_record(page, 0, finding.record, state.rule);
+    put_record(page, finding.record, state.rule);
     let compared = inspection::compare(state, set, inspecting.start.alloc, looked.last);
     put_people(
         page,
-        named,
         state.rule,
         set.head.frame,
         looked.before,
         looked.last,
         compared,
-    )
+    );
+}
+
+// What was found, or the refusal.
+fn put_said(page: &mut Page, inspecting: Inspecting)
+    requires { HasRoom 266 page.old }
+    ensures { Puts 266 page.old (finding_text inspecting) page.new }
+{
+    let number = inspection_stream::number_of(inspecting);
+    if number != numbers::ACCEPTED {
+        page.put_refused(number);
+        return;
+    }
+    let state = inspecting.looked.inspection;
+    if state.rule == 0 {
+        put_accepted(page, state.records);
+        return;
+    }
+    put_broken(page, inspecting);
 }
 
 // What is printed when all was read. A page that is too small gets nothing.
@@ -190,15 +200,9 @@ fn put_text(inspecting: Inspecting, page: &mut [u8]) -> usize
     if page.len() < PAGE_SIZE {
         return 0;
     }
-    let number = inspection_stream::number_of(inspecting);
-    if number != numbers::ACCEPTED {
-        return text::put_refused(page, 0, number);
-    }
-    let state = inspecting.looked.inspection;
-    if state.rule == 0 {
-        return put_accepted(page, 0, state.records);
-    }
-    put_broken(page, inspecting)
+    let mut page = Page::new(page);
+    put_said(&mut page, inspecting);
+    page.length()
 }
 
 // The log was read, and none of its records breaks a rule.

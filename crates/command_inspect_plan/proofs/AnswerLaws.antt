@@ -1,6 +1,6 @@
 -- What is put, and what is handed back in each of the cases, for the proofs of this crate. No rule stands here.
 use Prim.Native.Nat.{ℕ, ◌+◌, ◌≤◌, ◌<◌}
-use mathlib.Core.Path.{◌≡◌, refl, sym, subst}
+use mathlib.Core.Path.{◌≡◌, refl, sym, subst, ◌∙◌}
 use mathlib.Core.Bool.{true, false}
 use mathlib.Core.List.{List, [], ◌∷◌, ◌++◌, append-nil}
 use mathlib.Core.Logic.{◌≢◌, ⊎_elim}
@@ -12,9 +12,12 @@ use Rattle.units.proofs.SmallLaws.{below_or_not}
 use Rattle.sets.specs.declared.Set.{Set}
 use Rattle.plans.specs.declared.Alloc.{Alloc}
 use Rattle.sheets.specs.declared.ReadPlan.{ReadPlan}
-use Rattle.text.specs.Text.{refused_line, line, line_on, page_size, PutShort}
-use Rattle.text.proofs.TextLaws.{put_length, put_short_then, put_as, printed, not_printed}
-use Rattle.command_diff.specs.DiffText.{lines_size, side_refused, LinesPut}
+use Rattle.text.specs.Text.{refused_line, line, line_on, page_size, Printed}
+use Rattle.text.specs.Pages.{HasRoom, Puts}
+use Rattle.text.specs.declared.Page.{Page}
+use Rattle.text.proofs.TextLaws.{not_printed}
+use Rattle.text.proofs.PageLaws.{puts_then, puts_as}
+use Rattle.command_diff.specs.DiffText.{lines_size, side_refused, LinesPutOn}
 use Rattle.command_diff.proofs.AnswerLaws.{or_refused, or_accepted}
 use Rattle.inspection_stream.specs.declared.Inspecting.{Inspecting}
 use Rattle.command_inspect.specs.FindingText.{FoundOn}
@@ -33,30 +36,36 @@ another_line_lem = refl
 
 -- ---- another plan
 
-pub another_put : {t : Set} {a : Alloc} {u : Set} {b : Alloc} {before middle after : List ℕ} {e r : ℕ}
-    → t.n ≤ 128 → page_size ≤ length before → PutShort 21 before 0 another_line middle e → LinesPut t a u b middle e after r
-    → PutShort (21 + lines_size) before 0 (another_text t a u b) after r
+pub another_put : {t : Set} {a : Alloc} {u : Set} {b : Alloc} {before middle after : Page}
+    → t.n ≤ 128 → HasRoom (21 + lines_size) before → Puts 21 before another_line middle → LinesPutOn t a u b middle after
+    → Puts (21 + lines_size) before (another_text t a u b) after
 unfolding lines_to
-another_put {t} {a} {u} {b} {before} {middle} {after} {e} {r} few large named lines =
-    let long : length middle ≡ length before = put_length named.put (omega (arith, named.short)) in
-    let both : u.n ≤ most_stations → PutShort (21 + lines_size) before 0 (another_text t a u b) after r = λ less.
-    put_as (put_short_then named (lines.put few less (omega (arith, long, named.put.next, named.short))) (omega arith))
-    (rw (le-leb u.n most_stations less) refl) (omega arith) in
+another_put {t} {a} {u} {b} {before} {middle} {after} few room named put =
+    let both : u.n ≤ most_stations → Puts (21 + lines_size) before (another_text t a u b) after = λ less.
+    let lines : Puts lines_size middle _ after = record {
+      put = put.lines.put few less (omega (arith, room, named.size, named.put.put.next, named.put.short));
+      size = put.size;
+      same = put.same;
+    } in
+    puts_as (puts_then named lines room) (rw (le-leb u.n most_stations less) refl) (omega arith) in
     ⊎_elim
     (λ (many : most_stations < u.n).
-    let same = lines.new_many many in
-    let whole : PutShort 21 before 0 another_line after r = rw (same.0, same.1) named in
-    put_as whole (rw (lt-leb u.n most_stations many) (sym (append-nil another_line))) (omega arith))
+    let same = put.lines.new_many many in
+    let whole : Puts 21 before another_line after = record {
+      put = rw (same.0, same.1) named.put;
+      size = put.size ∙ named.size;
+      same = put.same ∙ named.same;
+    } in
+    puts_as whole (rw (lt-leb u.n most_stations many) (sym (append-nil another_line))) (omega arith))
     both
     (below_or_not most_stations u.n)
 
 -- ---- a log, against a plan that was read
 
-module _ {t : Set} {a : Alloc} {k : Inspecting} {before after : List ℕ} (large : page_size ≤ length before) where
-  pub answered_another : {r : ℕ} → is_another t a k ≡ true → PutShort (21 + lines_size) before 0 (another_text t a k.start.set k.start.alloc) after r
-      → LogAnswered t a k before after (record { length = r; accepted = false })
-  unfolding log_text
-  answered_another e put = record { printed = printed put (rw e refl) large (omega arith); accepted = rw e refl }
+pub answered_another : {t : Set} {a : Alloc} {k : Inspecting} {before after : List ℕ} {r : ℕ} → is_another t a k ≡ true
+    → Printed (another_text t a k.start.set k.start.alloc) before after r → LogAnswered t a k before after (record { length = r; accepted = false })
+unfolding log_text
+answered_another e put = record { printed = rw e put; accepted = rw e refl }
 
 pub answered_found : {t : Set} {a : Alloc} {k : Inspecting} {before after : List ℕ} {r : Found}
     → is_another t a k ≡ false → FoundOn k before after r → LogAnswered t a k before after r
@@ -69,11 +78,11 @@ pub answered_nothing : {p : ReadPlan} {k : Inspecting} {before : List ℕ} → l
 answered_nothing {p} {k} {before} small = record { printed = not_printed small; accepted = rw (lt-leb page_size (length before) small) refl }
 
 module _ {p P : ReadPlan} {k : Inspecting} {before after : List ℕ} (e : p ≡ P) (large : page_size ≤ length before) where
-  pub answered_refused : {r : ℕ} → p.number ≢ 0 → PutShort 62 before 0 (side_refused plan_word p.number) after r → AnsweredOn P k before after (record { length = r; accepted = false })
+  pub answered_refused : {r : ℕ} → p.number ≢ 0 → Printed (side_refused plan_word p.number) before after r → AnsweredOn P k before after (record { length = r; accepted = false })
   answered_refused {r} n put =
       subst (λ (x : ReadPlan). AnsweredOn x k before after (record { length = r; accepted = false })) e
       (record {
-        printed = printed put (sym (or_refused plan_word p.number _ n)) large (omega arith);
+        printed = subst (λ (text : List ℕ). Printed text before after r) (sym (or_refused plan_word p.number _ n)) put;
         accepted = rw (le-leb page_size (length before) large, ne_eqb p.number 0 n) refl;
       })
 

@@ -3,7 +3,8 @@
 
 ghost use Rattle.std.specs.Prelude.{◌≡◌, ◌+◌, ◌≤◌, length};
 ghost use Rattle.sheets.specs.Reading.{read_plan};
-ghost use Rattle.text.specs.Text.{PutShort, page_size};
+ghost use Rattle.text.specs.Text.{page_size};
+ghost use Rattle.text.specs.Pages.{HasRoom, Puts};
 ghost use Rattle.command_diff.specs.DiffText.{side_refused, lines_size};
 ghost use Rattle.command_inspect_plan.specs.InspectText.{plan_word, another_text, is_another, LogAnswered, AnsweredOn};
 
@@ -11,26 +12,26 @@ use command_inspect::Found;
 use inspection_stream::Inspecting;
 use plans::Alloc;
 use sets::Set;
-use text::PAGE_SIZE;
+use text::{PAGE_SIZE, Page};
 use units::numbers;
 
 // `plan refused N`.
-fn put_refused(page: &mut [u8], number: u8) -> usize
-    requires { page_size ≤ length page.old }
-    ensures { PutShort 62 page.old 0 (side_refused plan_word number) page.new result }
+fn put_refused(page: &mut Page, number: u8)
+    requires { HasRoom 62 page.old }
+    ensures { Puts 62 page.old (side_refused plan_word number) page.new }
 {
-    let side = text::put_short(page, 0, b"plan ");
-    text::put_refused(page, side, number)
+    page.put_short(b"plan ");
+    page.put_refused(number);
 }
 
 // `another plan`, and the lines of what differs.
-fn put_another(page: &mut [u8], t: Set, a: Alloc, u: Set, b: Alloc) -> usize
-    requires { (t.n ≤ 128) × (page_size ≤ length page.old) }
-    ensures { PutShort (21 + lines_size) page.old 0 (another_text t a u b) page.new result }
+fn put_another(page: &mut Page, t: Set, a: Alloc, u: Set, b: Alloc)
+    requires { (t.n ≤ 128) × HasRoom (21 + lines_size) page.old }
+    ensures { Puts (21 + lines_size) page.old (another_text t a u b) page.new }
 {
-    let named = text::put_short(page, 0, b"another plan");
-    let ended = text::put_end(page, named);
-    command_diff::put_lines(page, ended, t, a, u, b)
+    page.put_short(b"another plan");
+    page.put_end();
+    command_diff::put_lines(page, t, a, u, b);
 }
 
 // The log was read, and its plan is another one.
@@ -52,9 +53,10 @@ fn put_answer(t: Set, a: Alloc, inspecting: Inspecting, page: &mut [u8]) -> Foun
     if is_another(t, a, inspecting) {
         let set = inspecting.start.set;
         let alloc = inspecting.start.alloc;
-        let length = put_another(page, t, a, set, alloc);
+        let mut page = Page::new(page);
+        put_another(&mut page, t, a, set, alloc);
         return Found {
-            length,
+            length: page.length(),
             accepted: false,
         };
     }
@@ -73,9 +75,10 @@ pub fn inspect_text(plan: &[u8], inspecting: Inspecting, page: &mut [u8]) -> Fou
     }
     let read = sheets::read_plan(plan);
     if read.number != numbers::ACCEPTED {
-        let length = put_refused(page, read.number);
+        let mut page = Page::new(page);
+        put_refused(&mut page, read.number);
         return Found {
-            length,
+            length: page.length(),
             accepted: false,
         };
     }

@@ -1,5 +1,5 @@
 -- One byte more of a run that is recorded, a log that begins, and pieces of a text.
-use Prim.Native.Nat.{ℕ, zero, suc, ◌+◌, ◌≤◌, ◌<◌, min}
+use Prim.Native.Nat.{ℕ, zero, suc, ◌+◌, ◌≤◌, ◌<◌}
 use mathlib.Core.Path.{◌≡◌, refl, sym, ap, ◌∙◌}
 use mathlib.Core.Bool.{true}
 use mathlib.Core.List.{List, [], ◌∷◌, append-nil}
@@ -7,7 +7,7 @@ use mathlib.Core.Logic.{◌≢◌}
 use native.Mathlib.Omega.{arith}
 use borrow.Author.Tests.{le-leb}
 use lib.Dec.{leb}
-use lib.ListN.{length}
+use lib.ListN.{length, take}
 use lib.Seq.{length-take-le}
 use Rattle.units.specs.Judging.{or_else}
 use Rattle.fields.specs.Rows.{laid}
@@ -165,11 +165,11 @@ pub recorded_none : (k : Recording) (text page : List ℕ) → length page < pag
 unfolding moved_over
 recorded_none k text page small = record { behind = ap (record_after k) (piece_none text page small); logged = not_printed small }
 
-pub recorded_piece : (k : Recording) (text : List ℕ) (end : ℕ) (before after : List ℕ) (r : Recorded)
-    → end ≡ min (length text) piece_size → page_size ≤ length before → RecordedPiece k text end before after r → RecordedOn k text before after r
-recorded_piece k text end before after r e large h =
-    let piece = piece_whole text end before e large in
+pub recorded_piece : (k : Recording) (text piece before after : List ℕ) (r : Recorded)
+    → piece ≡ take piece_size text → page_size ≤ length before → RecordedPiece k piece before after r → RecordedOn k text before after r
+recorded_piece k text piece before after r e large h =
+    let read = piece_whole text piece before e large in
     record {
-      behind = h.behind ∙ ap (record_after k) piece;
-      logged = printed h.logged (ap (logged_over k) piece) large (omega arith);
+      behind = h.behind ∙ ap (record_after k) read;
+      logged = printed h.logged (ap (logged_over k) read) large (omega arith);
     }

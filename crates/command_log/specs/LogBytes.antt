@@ -1,5 +1,5 @@
 -- What `log` writes: the calls are those of `run`, and each visit, marking and unmarking that the ring accepted goes out as a field of the log. No answer is printed.
-use Rattle.std.specs.Prelude.{ℕ, zero, suc, ◌*◌, ◌%◌, ◌≤◌, ◌≡◌, Bool, true, cond, ◌&&◌, List, [], ◌∷◌, eqb, length, take}
+use Rattle.std.specs.Prelude.{ℕ, zero, suc, ◌*◌, ◌%◌, ◌≤◌, ◌≡◌, Bool, true, cond, ◌&&◌, Option, None, Some, is_none, List, [], ◌∷◌, length, take}
 use Rattle.units.specs.declared.Station.{Station}
 use Rattle.sheets.specs.Layout.{fields_of, fields_length}
 use Rattle.sheets.specs.Reading.{then_number}
@@ -26,7 +26,7 @@ use Rattle.command_log.specs.declared.OpenedLog.{OpenedLog}
 
 -- the counter shows 0 at clock 0, when the ring is opened
 abbrev pub record_from : Run → Recording
-record_from u = record { run = u; clock = 0; counter = 0; unread = 0 }
+record_from u = record { run = u; clock = 0; counter = 0; unread = None }
 
 -- ---- what is recorded of an answer
 
@@ -68,8 +68,8 @@ entries_by counter clock (Unmark p number) = if_accepted number (a_mark (mark_of
 entries_by counter clock Unread = []
 
 -- the first line that cannot be read
-unfoldable pub first_unread : ℕ → ℕ → Bool → ℕ
-first_unread before n unread = cond (unread && eqb before 0) n before
+unfoldable pub first_unread : Option ℕ → ℕ → Bool → Option ℕ
+first_unread before n unread = cond (unread && is_none before) (Some n) before
 
 -- ---- byte after byte, as `run` reads them
 
@@ -107,10 +107,10 @@ pub record Records (r : Recorder) (vs : List VisitRecord) (es : List Entry) (bef
   pub clock : next.clock ≡ clock_after r.clock vs
   pub counter : next.counter ≡ counter_after r.counter r.clock vs
 
--- the recording over the first bytes of the text
-pub record RecordedPiece (k : Recording) (text : List ℕ) (end : ℕ) (before after : List ℕ) (r : Recorded) : Type 0 where
-  pub behind : r.recording ≡ record_after k (take end text)
-  pub logged : PutShort (20 * piece_size) before 0 (logged_over k (take end text)) after r.length
+-- the recording over a piece of the text
+pub record RecordedPiece (k : Recording) (piece before after : List ℕ) (r : Recorded) : Type 0 where
+  pub behind : r.recording ≡ record_after k piece
+  pub logged : PutShort (20 * piece_size) before 0 (logged_over k piece) after r.length
 
 -- the recording goes on over a piece of the text, and the fields of its records stand on the page
 pub record RecordedOn (k : Recording) (text before after : List ℕ) (r : Recorded) : Type 0 where

@@ -16,18 +16,16 @@ use sheets::ReadPlan;
 use text::PAGE_SIZE;
 use units::{Station, numbers};
 
-// A run that is recorded: where it stands; the recorder's counter, as it was at this clock of the ring; and the first line that cannot be read, 0 where each can.
-#[repr(C)]
+// A run that is recorded: where it stands; the recorder's counter, as it was at this clock of the ring; and the first line that cannot be read, if there is one.
 #[derive(Clone, Copy)]
 pub struct Recording {
     pub run: Run,
     pub clock: u64,
     pub counter: u32,
-    pub unread: u64,
+    pub unread: Option<u64>,
 }
 
 // The recording goes on: where it stands, and how many bytes of the page are fields of records.
-#[repr(C)]
 #[derive(Clone, Copy)]
 pub struct Recorded {
     pub recording: Recording,
@@ -35,7 +33,6 @@ pub struct Recorded {
 }
 
 // A recording that begins, how many bytes of the buffer are the plan's fields, and 0. Refused: no byte, and the refusal; the recording is that of a blank ring, or with 14 that of the opened ring.
-#[repr(C)]
 #[derive(Clone, Copy)]
 pub struct OpenedLog {
     pub recording: Recording,
@@ -51,7 +48,7 @@ fn start(run: Run) -> Recording
         run,
         clock: 0,
         counter: 0,
-        unread: 0,
+        unread: None,
     }
 }
 
@@ -84,11 +81,12 @@ pub fn open_log(sheet: &[u8], out: &mut [u8]) -> OpenedLog
 }
 
 // The first line that cannot be read.
-fn first_unread(known: u64, line: u64, unread: bool) -> u64
+#[tactic(auto, unfolding(crate::specs::LogBytes::first_unread))]
+fn first_unread(known: Option<u64>, line: u64, unread: bool) -> Option<u64>
     ensures { result ≡ first_unread known line unread }
 {
-    let first = unread & (known == 0);
-    if first { line } else { known }
+    let first = unread & known.is_none();
+    if first { Some(line) } else { known }
 }
 
 // The field of a visit, if it was accepted, put into the page; the recorder behind it.
@@ -150,10 +148,10 @@ fn record_answer(recorder: Recorder, answer: Answer, page: &mut [u8]) -> Recorde
     }
 }
 
-// The first bytes of the text, recorded line by line.
-fn record_piece(recording: Recording, text: &[u8], end: usize, page: &mut [u8]) -> Recorded
-    requires { Piece text.now end page.old }
-    ensures { RecordedPiece recording text.now end page.old page.new result }
+// A piece of the text, recorded line by line.
+fn record_piece(recording: Recording, piece: &[u8], page: &mut [u8]) -> Recorded
+    requires { Piece piece.now page.old }
+    ensures { RecordedPiece recording piece.now page.old page.new result }
 {
     let mut stands = recording.run;
     let mut unread = recording.unread;
@@ -163,7 +161,7 @@ fn record_piece(recording: Recording, text: &[u8], end: usize, page: &mut [u8]) 
         counter: recording.counter,
         number: 0,
     };
-    for byte in &text[..end] {
+    for byte in piece {
         if *byte == b'\n' {
             let ended = command_run::end_line(stands);
             recorder = record_answer(recorder, ended.answer, page);
@@ -195,6 +193,6 @@ pub fn record_on(recording: Recording, text: &[u8], page: &mut [u8]) -> Recorded
             length: 0,
         };
     }
-    let end = command_run::piece_length(text);
-    record_piece(recording, text, end, page)
+    let piece = line_reader::piece(text, command_run::PIECE_SIZE);
+    record_piece(recording, piece, page)
 }

@@ -2,7 +2,7 @@
 use Prim.Native.Nat.{ℕ}
 use mathlib.Core.Path.{◌≡◌, refl, sym, ap, ◌∙◌}
 use mathlib.Core.List.{List, [], ◌∷◌, map, reverse}
-use native.Mathlib.Omega.{arith}
+use Rattle.std.specs.Prelude.{Some}
 use Rattle.plans.specs.Planned.{judged_plan}
 use Rattle.sheets.specs.Reading.{read_plan}
 use Rattle.sheets.proofs.ReadLaws.{then_none}
@@ -88,9 +88,9 @@ promised =
           (recorded_unmark ring s counter clock i ∙ left_one _ _ z ∙ one_mark 0 (station_small ring (station_in s) inside), inside.1);
       unmarking_refused_not = λ ring s counter clock i z. recorded_unmark ring s counter clock i ∙ left_none _ _ z;
       other_not = not_recorded;
-      unread_none = λ sheet text. none_named (record_from (run_for sheet)) (with_end text) refl (omega arith);
+      unread_none = λ sheet text. none_named (record_from (run_for sheet)) (with_end text) refl;
       unread_first = λ sheet text first rest e quiet there.
-          first_named (record_from (run_for sheet)) (with_end text) first rest refl (omega arith) e quiet there ∙ (calls.promised).numbered (run_for sheet).ring first;
+          first_named (record_from (run_for sheet)) (with_end text) first rest refl e quiet there ∙ ap Some ((calls.promised).numbered (run_for sheet).ring first);
       opens = opened_exactly;
       run_retired = run_retired;
       log_retired = log_retired;

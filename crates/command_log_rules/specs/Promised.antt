@@ -1,5 +1,5 @@
 -- What is promised of the log that `log` writes; `proofs/Promised.antt` proves it.
-use Rattle.std.specs.Prelude.{ℕ, ◌-◌, ◌<◌, ◌≡◌, true, false, List, [], ◌∷◌, ◌++◌, reverse, ◌≢◌, ◌↔◌, length}
+use Rattle.std.specs.Prelude.{ℕ, ◌-◌, ◌<◌, ◌≡◌, true, false, None, Some, List, [], ◌∷◌, ◌++◌, reverse, ◌≢◌, ◌↔◌, length}
 use Rattle.sets.specs.declared.Set.{Set}
 use Rattle.plans.specs.Rules.{Retired}
 use Rattle.plans.specs.declared.Alloc.{Alloc}
@@ -114,11 +114,11 @@ pub record Promised : Type 0 where
   -- ---- what the status goes by
   -- no line is named exactly if every line of the text can be read
   pub unread_none : (sheet text : List ℕ)
-      → ((recording_of sheet text).unread ≡ 0) ↔ (some_unread (run_for sheet) (with_end text) ≡ false)
+      → ((recording_of sheet text).unread ≡ None) ↔ (some_unread (run_for sheet) (with_end text) ≡ false)
   -- else it is the first line that cannot: each line before it can be read
   pub unread_first : (sheet text first rest : List ℕ) → with_end text ≡ first ++ (newline ∷ rest)
       → some_unread (run_for sheet) first ≡ false → unread_at (run_after (run_for sheet) first) newline ≡ true
-      → (recording_of sheet text).unread ≡ next_line (lines_in first)
+      → (recording_of sheet text).unread ≡ Some (next_line (lines_in first))
   -- ---- the log
   -- `run` and `log` open exactly the plans that are read and not FDDI's. So what follows is of both editions of timely-token; of every run of an FDDI ring `log_rules` says how it is written
   pub opens : (sheet : List ℕ) → Opens sheet ↔ (((read_plan sheet).number ≡ 0) × ¬ Retired (set_from sheet))

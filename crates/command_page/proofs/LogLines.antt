@@ -26,10 +26,11 @@ use Rattle.picture_stream.specs.Watching.{is_drawn, handed_out, watch_all, lines
 use Rattle.picture_stream.specs.Promised.{drawn_in, rotation_of, WindowShown}
 use Rattle.picture_stream.proofs.Promised.{promised as of-stream}
 use Rattle.picture_stream.specs.declared.Window.{Window}
+use Rattle.text.specs.declared.phrases.Phrase.{Phrase}
 use Rattle.pictures.specs.Parts.{no_pen}
 use Rattle.pictures.specs.Picture.{picture_of, line_marks}
 use Rattle.pictures.specs.Promised.{line_ended}
-use Rattle.pictures.specs.declared.Part.{Part}
+use Rattle.pictures.specs.declared.Shape.{Shape}
 use Rattle.pictures.specs.declared.Scene.{Scene}
 use Rattle.pictures.proofs.LineLaws.{marks_of, marks_are, begun_by, ended_by}
 use Rattle.command_page.specs.Picture.{picture_in, line_from, lines_from}
@@ -155,7 +156,7 @@ module _ (c : Scene) (x : Window) (n : ℕ) (w : List ℕ) (same : c.n ≡ n) wh
     visit_tail : (last : Bool) (r : ℕ) → (last ≡ true → l.rotation ≡ r + 1) → (last ≡ false → l.rotation ≡ r) → x.first ≤ r → r < x.end → Lines (not last) l mark es
         → ended_by last ++ marks_of c (not last) drawn ≡ line_ended ∷ lines_from (r + 1) (min x.end (reach (not last) l es) - (r + 1))
     unfolding ended_by
-    visit_tail true r next here low high h = ap (λ (qs : List Part). line_ended ∷ qs) (up_next (r + 1) (next refl) (omega arith) h)
+    visit_tail true r next here low high h = ap (λ (qs : List (Phrase Shape)). line_ended ∷ qs) (up_next (r + 1) (next refl) (omega arith) h)
     visit_tail false r next here low high h = down_next r (here refl) low high h
 
   -- a record that is drawn begins its line, where it has not begun
@@ -207,7 +208,7 @@ module _ (c : Scene) (x : Window) (n : ℕ) (w : List ℕ) (same : c.n ≡ n) wh
                 let there = true_and _ _ (le-leb _ _ low) (lt-ltb _ _ high) in
                 let far : l.rotation + 1 ≤ min x.end (reach (not last) l' es) = omega (arith, visit_reach l v es few) in
                 visit_drawn b there
-                ∙ ap (λ (qs : List Part). begun_by b (handed_out mark l (Visit v)) ++ qs) (visit_tail l' mark es last l.rotation next here low high h)
+                ∙ ap (λ (qs : List (Phrase Shape)). begun_by b (handed_out mark l (Visit v)) ++ qs) (visit_tail l' mark es last l.rotation next here low high h)
                 ∙ begin_line b (handed_out mark l (Visit v)) _ far;
             before =
                 λ low.
@@ -254,7 +255,7 @@ module _ (c : Scene) (x : Window) (n : ℕ) (w : List ℕ) (same : c.n ≡ n) wh
             inside =
                 λ low high.
                 mark_drawn b on
-                ∙ ap (λ (qs : List Part). begun_by b (handed_out mark l (Mark m)) ++ qs) (h.inside low high)
+                ∙ ap (λ (qs : List (Phrase Shape)). begun_by b (handed_out mark l (Mark m)) ++ qs) (h.inside low high)
                 ∙ begin_line b (handed_out mark l (Mark m)) (min x.end (reach true (mark_lapped l) es)) (omega (arith, far, one_true))
                 ∙ ap (λ (y : Bool). cond b (line_ended ∷ lines_from (l.rotation + 1) (min x.end (reach y (mark_lapped l) es) - (l.rotation + 1))) (lines_from l.rotation (min x.end (reach y (mark_lapped l) es) - l.rotation))) (sym (or_yes b (is_drawn x l (Mark m)) on));
             before = λ low. absurd (omega (arith, there.0));
@@ -266,7 +267,7 @@ module _ (c : Scene) (x : Window) (n : ℕ) (w : List ℕ) (same : c.n ≡ n) wh
   none_left : (b : Bool) (l : Lap) → l.rotation < x.end
       → ended_by b ≡ cond b (line_ended ∷ lines_from (l.rotation + 1) (min x.end (l.rotation + one b) - (l.rotation + 1))) (lines_from l.rotation (min x.end (l.rotation + one b) - l.rotation))
   unfolding ended_by one
-  none_left true l high = ap (λ (qs : List Part). line_ended ∷ qs) (sym (no_lines (l.rotation + 1) _ (omega arith)))
+  none_left true l high = ap (λ (qs : List (Phrase Shape)). line_ended ∷ qs) (sym (no_lines (l.rotation + 1) _ (omega arith)))
   none_left false l high = sym (no_lines l.rotation _ (omega arith))
 
   ends : (b : Bool) (l : Lap) (mark : List ℕ) → Lines b l mark []

@@ -1,8 +1,9 @@
 -- A log that is read and drawn piece by piece: at each stop the record is drawn, and what is behind it goes on with the pen behind that record.
-use Rattle.std.proofs.Common.{◌≡◌, ℕ, true, cond, List, [], ◌∷◌, ◌++◌, length, drop, sym, refl, ap, ◌∙◌, drop-drop}
+use Rattle.std.proofs.Common.{◌≡◌, ℕ, List, ◌∷◌, ◌++◌, length, drop, Some, sym, refl, ap, ◌∙◌, drop-drop}
 use lib.Seq.{drop-append_seam}
-use Rattle.picture_stream.specs.Watching.{watched_from, watch_over, drawn_over}
+use Rattle.picture_stream.specs.Watching.{handed, watched_from, watch_over, drawn_over}
 use Rattle.picture_stream.specs.Promised.{GoesOn}
+use Rattle.tallies.specs.declared.Drawn.{Drawn}
 use Rattle.picture_stream.specs.declared.Window.{Window}
 use Rattle.picture_stream.specs.declared.Watching.{Watching}
 use Rattle.picture_stream.specs.declared.Watched.{Watched}
@@ -44,18 +45,18 @@ module _ (x : Window) (bs : List ℕ) (k : Watching) (at : ℕ) (r : Watched) (i
       ∙ ap (drop (length g.passed)) g.cut
       ∙ drop-append_seam g.passed g.rest
 
-  drawn_on : drawn_over x k (drop at bs) ≡ cond r.stopped (r.drawn ∷ []) [] ++ drawn_over x r.watching (drop r.at bs)
+  drawn_on : drawn_over x k (drop at bs) ≡ handed r.drawn ++ drawn_over x r.watching (drop r.at bs)
   drawn_on =
       g.drawn
-      ∙ ap (λ (w : Watched). cond w.stopped (w.drawn ∷ []) [] ++ drawn_over x w.watching g.rest) (sym is)
-      ∙ ap (λ (xs : List ℕ). cond r.stopped (r.drawn ∷ []) [] ++ drawn_over x r.watching xs) (sym rest_is)
+      ∙ ap (λ (w : Watched). handed w.drawn ++ drawn_over x w.watching g.rest) (sym is)
+      ∙ ap (λ (xs : List ℕ). handed r.drawn ++ drawn_over x r.watching xs) (sym rest_is)
 
   -- it stopped
-  drawn_stop : r.stopped ≡ true → drawn_over x k (drop at bs) ≡ r.drawn ∷ drawn_over x r.watching (drop r.at bs)
-  drawn_stop on = drawn_on ∙ rw on refl
+  drawn_stop : (d : Drawn) → r.drawn ≡ Some d → drawn_over x k (drop at bs) ≡ d ∷ drawn_over x r.watching (drop r.at bs)
+  drawn_stop d on = drawn_on ∙ rw on refl
 
 -- what is drawn from here on: the parts of the record at which reading stops, then those behind it
-pub draws_on : (c : Scene) (x : Window) (k : Watching) (p : Pen) (at : ℕ) (bs : List ℕ) (r : Watched) → r ≡ watched_from x k at (drop at bs) → r.stopped ≡ true
-    → parts_over c p (drawn_over x k (drop at bs)) ≡ parts_of c p r.drawn ++ parts_over c (pen_after c p r.drawn) (drawn_over x r.watching (drop r.at bs))
+pub draws_on : (c : Scene) (x : Window) (k : Watching) (p : Pen) (at : ℕ) (bs : List ℕ) (r : Watched) (d : Drawn) → r ≡ watched_from x k at (drop at bs) → r.drawn ≡ Some d
+    → parts_over c p (drawn_over x k (drop at bs)) ≡ parts_of c p d ++ parts_over c (pen_after c p d) (drawn_over x r.watching (drop r.at bs))
 unfolding parts_over
-draws_on c x k p at bs r is on = ap (parts_over c p) (drawn_stop x bs k at r is on)
+draws_on c x k p at bs r d is on = ap (parts_over c p) (drawn_stop x bs k at r is d on)

@@ -1,5 +1,5 @@
 -- The rows of what each station did are those of the log's records: of those before the named one, of all where none is named.
-use Rattle.std.proofs.Common.{◌≡◌, ℕ, ◌+◌, ◌<◌, Bool, true, eqb, List, [], ◌∷◌, sym, refl, ap, ◌∙◌, subst, arith, eqb-true}
+use Rattle.std.proofs.Common.{◌≡◌, ℕ, ◌+◌, ◌<◌, Bool, true, eqb, Some, List, sym, refl, ap, ◌∙◌, subst, arith, eqb-true}
 use mathlib.Core.Bool.{false≢true}
 use Rattle.units.specs.Places.{at}
 use Rattle.units.proofs.JudgingLaws.{and-true}
@@ -16,12 +16,13 @@ use Rattle.tallies.specs.Promised.{StationShown}
 use Rattle.tallies.proofs.Promised.{promised as of-tallies}
 use Rattle.picture_stream.specs.Watching.{watch_all}
 use Rattle.picture_stream.proofs.Promised.{promised as of-stream}
+use Rattle.text.specs.Phrases.{three, four}
 use Rattle.command_page.specs.declared.Outcome.{Outcome}
 use Rattle.command_page.specs.declared.Outcome.TheVariants as outcome
 use Rattle.command_page.specs.declared.Form.TheVariants as form
 use Rattle.command_page.specs.declared.Account.{Account}
 use Rattle.command_page.specs.Account.{outcome_of, account_of}
-use Rattle.command_page.specs.Named.{part, is_judged}
+use Rattle.command_page.specs.Named.{is_judged}
 use Rattle.command_page.specs.Did.{did, longest_part, did_part}
 use Rattle.command_page.specs.Parts.{stations_of}
 use Rattle.command_page.specs.Promised.{did_row, LongestRow, RowsShown, TableShown}
@@ -50,19 +51,19 @@ module _ (x : Account) (judged : is_judged x.outcome ≡ true) (n : ℕ) (w : Li
   column : (c y : ℕ) → at (seen_all n w nothing_seen es).numbers (c + i) ≡ y → did x c i ≡ y
   column c y e = ap (λ (xs : List ℕ). at xs (c + i)) numbers ∙ e
 
-  visits_row : did_row x i 0 ≡ part form.DidVisits (i ∷ wrapped (visits_of i es) ∷ wrapped (through_of i 0 es) ∷ 0 ∷ 0 ∷ 0 ∷ [])
+  visits_row : did_row x i 0 ≡ Some (three form.DidVisits i (wrapped (visits_of i es)) (wrapped (through_of i 0 es)))
   unfolding did_part
   visits_row = did_row_lem x judged i 0 there (omega arith) ∙ rw (column visits_column _ s.visits, column through_column _ s.through) refl
 
-  sent_row : did_row x i 2 ≡ part form.DidSent (most_of i es ∷ at x.alloc.s i ∷ wrapped (synchronous_of i es) ∷ wrapped (asynchronous_of i es) ∷ 0 ∷ 0 ∷ [])
+  sent_row : did_row x i 2 ≡ Some (four form.DidSent (most_of i es) (at x.alloc.s i) (wrapped (synchronous_of i es)) (wrapped (asynchronous_of i es)))
   unfolding did_part
   sent_row =
       did_row_lem x judged i 2 there (omega arith)
       ∙ rw (column most_column _ s.most, column synchronous_column _ s.synchronous, column asynchronous_column _ s.asynchronous) refl
 
-  longest_row : did_row x i 1 ≡ longest_part (wrapped (visits_of i es)) (did x longest_column i) x.sums.bound
+  longest_row : did_row x i 1 ≡ Some (longest_part (wrapped (visits_of i es)) (did x longest_column i) x.sums.bound)
   unfolding did_part
-  longest_row = did_row_lem x judged i 1 there (omega arith) ∙ ap (λ (v : ℕ). longest_part v (did x longest_column i) x.sums.bound) (column visits_column _ s.visits)
+  longest_row = did_row_lem x judged i 1 there (omega arith) ∙ ap (λ (v : ℕ). Some (longest_part v (did x longest_column i) x.sums.bound)) (column visits_column _ s.visits)
 
   longest_of_lem : Longest w i es (did x longest_column i) → LongestRow x w es i
   longest_of_lem h =

@@ -1,5 +1,5 @@
 -- What is promised of the page's parts beside the contracts; `proofs/Promised.antt` proves it.
-use Rattle.std.specs.Prelude.{◌≡◌, ℕ, ◌+◌, ◌-◌, ◌*◌, ◌^◌, ◌<◌, ◌≤◌, Bool, true, false, ◌≢◌, ◌↔◌, List, [], ◌∷◌, ◌++◌, length, drop}
+use Rattle.std.specs.Prelude.{◌≡◌, ℕ, ◌+◌, ◌-◌, ◌*◌, ◌^◌, ◌<◌, ◌≤◌, Bool, true, false, ◌≢◌, ◌↔◌, List, ◌++◌, length, drop, Some, Option, None}
 use Rattle.units.specs.Numbers.{accepted, fddi}
 use Rattle.units.specs.Places.{at, zeros}
 use Rattle.sets.specs.declared.Set.{Set}
@@ -14,6 +14,7 @@ use Rattle.inspection_stream.specs.declared.Inspecting.{Inspecting}
 use Rattle.command_inspect.specs.FindingText.{is_accepted}
 use Rattle.tallies.specs.Laps.{wrapped, no_lap}
 use Rattle.tallies.specs.Shown.{moment, visits_of, through_of, most_of, synchronous_of, asynchronous_of, Longest}
+use Rattle.tallies.specs.declared.Drawn.{Drawn}
 use Rattle.picture_stream.specs.Watching.{watched_from, drawn_over, watch_all, window_of}
 use Rattle.picture_stream.specs.Promised.{drawn_in, KeptSeen}
 use Rattle.picture_stream.specs.declared.Window.{Window}
@@ -23,13 +24,15 @@ use Rattle.pictures.specs.Parts.{no_pen, pen_after}
 use Rattle.pictures.specs.Picture.{parts_of, parts_over, picture_of, line_marks}
 use Rattle.pictures.specs.declared.Scene.{Scene}
 use Rattle.pictures.specs.declared.Pen.{Pen}
+use Rattle.text.specs.Phrases.{three, four}
+use Rattle.text.specs.declared.phrases.Phrase.{Phrase}
 use Rattle.command_page.specs.declared.Outcome.TheVariants as outcome
+use Rattle.command_page.specs.declared.Form.{Form}
 use Rattle.command_page.specs.declared.Form.TheVariants as form
-use Rattle.command_page.specs.declared.Part.{Part}
 use Rattle.command_page.specs.declared.Account.{Account}
 use Rattle.command_page.specs.Account.{is_other, outcome_of, refusal_of, bound_ticks, bound_of, due_of, account_of}
 use Rattle.command_page.specs.Parts.{first_count, stations_of, part_at}
-use Rattle.command_page.specs.Named.{part, nothing, is_judged}
+use Rattle.command_page.specs.Named.{is_judged}
 use Rattle.command_page.specs.Plan.{station_part}
 use Rattle.command_page.specs.Did.{longest_part, did_part}
 use Rattle.command_page.specs.Picture.{picture_in, GoneOver, lines_from}
@@ -59,24 +62,23 @@ Breaking given p k =
     × ((inspect_number k ≡ accepted) × (k.looked.inspection.rule ≢ 0))
 
 -- row j of what station i did: its visits, the longest time between two of them, and what it sent
-abbrev pub did_row : Account → ℕ → ℕ → Part
+abbrev pub did_row : Account → ℕ → ℕ → Option (Phrase Form)
 did_row x i j = part_at x (first_count + stations_of x + 8 + (3 * i + j))
 
 -- the row of the longest time between two visits of station i in these records, beside its bound
 pub record LongestRow (x : Account) (w : List ℕ) (es : List Entry) (i : ℕ) : Type 0 where
   pub longest : ℕ
   pub is : Longest w i es longest
-  pub row : did_row x i 1 ≡ longest_part (wrapped (visits_of i es)) longest x.sums.bound
+  pub row : did_row x i 1 ≡ Some (longest_part (wrapped (visits_of i es)) longest x.sums.bound)
 
 -- the rows of station i are those of these records
 pub record RowsShown (x : Account) (w : List ℕ) (es : List Entry) (i : ℕ) : Type 0 where
   pub visits : did_row x i 0
-      ≡ part form.DidVisits (i ∷ wrapped (visits_of i es) ∷ wrapped (through_of i 0 es) ∷ 0 ∷ 0 ∷ 0 ∷ [])
+      ≡ Some (three form.DidVisits i (wrapped (visits_of i es)) (wrapped (through_of i 0 es)))
   -- of fewer than 2 ^ 64 records that took less than 2 ^ 64 ticks
   pub longest : length es < 2 ^ 64 → moment w es < 2 ^ 64 → LongestRow x w es i
   pub sent : did_row x i 2
-      ≡ part form.DidSent
-      (most_of i es ∷ at x.alloc.s i ∷ wrapped (synchronous_of i es) ∷ wrapped (asynchronous_of i es) ∷ 0 ∷ 0 ∷ [])
+      ≡ Some (four form.DidSent (most_of i es) (at x.alloc.s i) (wrapped (synchronous_of i es)) (wrapped (asynchronous_of i es)))
 
 -- the table of what each station did is that of a log's records before the named one, of all where none is named
 pub record TableShown (bs : List ℕ) (x : Account) : Type 0 where
@@ -112,18 +114,18 @@ pub record Promised : Type 0 where
   pub bound : (t : Set) (a : Alloc) → judged_plan t a ≡ 0 → bound_of t a ≡ bound_ticks t a
   -- every station has its row of the plan and its row of what it did, in their order
   pub stations : (x : Account) → is_judged x.outcome ≡ true → (i : ℕ) → i < stations_of x
-      → part_at x (first_count + i) ≡ station_part x.set x.alloc i
+      → part_at x (first_count + i) ≡ Some (station_part x.set x.alloc i)
   pub dids : (x : Account) → is_judged x.outcome ≡ true → (i j : ℕ) → i < stations_of x → j < 3
-      → did_row x i j ≡ did_part x i j
+      → did_row x i j ≡ Some (did_part x i j)
   -- and from a log's bytes on, whatever they are: where the records were judged, each number of these rows is that of the records
   pub table : (given : Bool) (p : ReadPlan) (bs : List ℕ)
       → is_judged (outcome_of given p (watch_all bs).inspecting) ≡ true
       → TableShown bs (account_of given p (watch_all bs))
   -- the picture goes on from stop to stop: the parts of the record at which reading stops, then those behind it, with the pen behind that record
-  pub draws_on : (c : Scene) (x : Window) (k : Watching) (p : Pen) (at : ℕ) (bs : List ℕ) (r : Watched)
-      → r ≡ watched_from x k at (drop at bs) → r.stopped ≡ true
+  pub draws_on : (c : Scene) (x : Window) (k : Watching) (p : Pen) (at : ℕ) (bs : List ℕ) (r : Watched) (d : Drawn)
+      → r ≡ watched_from x k at (drop at bs) → r.drawn ≡ Some d
       → parts_over c p (drawn_over x k (drop at bs))
-      ≡ parts_of c p r.drawn ++ parts_over c (pen_after c p r.drawn) (drawn_over x r.watching (drop r.at bs))
+      ≡ parts_of c p d ++ parts_over c (pen_after c p d) (drawn_over x r.watching (drop r.at bs))
   -- and from piece to piece
   pub goes_over : (c : Scene) (x : Window) (k k₁ k₂ : Watching) (p p₁ p₂ : Pen) (first rest : List ℕ)
       → GoneOver c x k p first k₁ p₁ → GoneOver c x k₁ p₁ rest k₂ p₂ → GoneOver c x k p (first ++ rest) k₂ p₂
@@ -136,4 +138,4 @@ pub record Promised : Type 0 where
       → c.n ≡ (read_log bs).set.n
       → let x = window_of (watch_all bs) in line_marks (picture_in c x bs) ≡ lines_from x.first (x.end - x.first)
   -- where the records were not judged, nothing is said of them
-  pub not_judged : (x : Account) → is_judged x.outcome ≡ false → (k : ℕ) → 2 ≤ k → part_at x k ≡ nothing
+  pub not_judged : (x : Account) → is_judged x.outcome ≡ false → (k : ℕ) → 2 ≤ k → part_at x k ≡ None

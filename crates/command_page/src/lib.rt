@@ -3,7 +3,6 @@
 
 mod answer;
 mod did;
-mod forms;
 mod named;
 mod order;
 mod planned;
@@ -19,6 +18,7 @@ use picture_stream::{Watching, Window};
 use pictures::Scene;
 use plans::Alloc;
 use sets::Set;
+use text::phrases::Phrase;
 use units::numbers;
 
 // What is answered, the first of these that applies.
@@ -38,8 +38,6 @@ pub enum Outcome {
 // The forms of words. What each of them says stands in the program.
 #[derive(Clone, Copy)]
 pub enum Form {
-    // No words.
-    Nothing,
     // The word above the finding.
     WordPlanRefused,
     WordRefused,
@@ -108,13 +106,6 @@ pub enum Form {
     NoRotation,
 }
 
-// A form, and its numbers in their order; behind the last of them zeros.
-#[derive(Clone, Copy)]
-pub struct Part {
-    pub form: Form,
-    pub numbers: [u64; 6],
-}
-
 // What the named record must have, and where it comes from.
 #[derive(Clone, Copy)]
 pub struct Due {
@@ -167,7 +158,10 @@ pub struct Account {
 // How many parts the finding has, with the named record's.
 const FINDING_COUNT: usize = 20;
 
-// How many parts stand before the plan's stations, at each of them, behind them, at each station for what it did, and behind these; those that have no words among them.
+// How many parts the plan has as a whole.
+const PLAN_COUNT: usize = 9;
+
+// How many parts stand before the plan's stations, behind them, at each station for what it did, and behind these; the places that have none among them.
 pub const FIRST_COUNT: usize = 29;
 
 pub const MIDDLE_COUNT: usize = 8;
@@ -220,17 +214,18 @@ pub fn part_count(a: Account) -> usize
     FIRST_COUNT + n + MIDDLE_COUNT + DID_COUNT * n + LAST_COUNT
 }
 
-// Part k; behind the last of them there is none. The finding's own words come behind part 0.
-pub fn part_at(a: Account, k: usize) -> Part
+// Part k, if there is one at this place. The finding's own words come behind part 0.
+#[tactic(auto, unfolding(crate::specs::Parts::part_at))]
+pub fn part_at(a: Account, k: usize) -> Option<Phrase<Form>>
     ensures { result ≡ part_at a k }
 {
-    if k < FIRST_COUNT {
-        return order::first(a, k);
+    if k < FINDING_COUNT {
+        return named::finding(a, k);
     }
     if named::is_judged(a.outcome) {
-        return order::behind(a, k - FIRST_COUNT);
+        return order::judged(a, k - FINDING_COUNT);
     }
-    forms::nothing()
+    None
 }
 
 // What the picture is drawn by.

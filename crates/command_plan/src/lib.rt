@@ -5,12 +5,13 @@ mod planning;
 
 ghost use Rattle.std.specs.Prelude.{◌≡◌};
 ghost use Rattle.text.specs.Text.{Says};
+ghost use Rattle.text.specs.Pages.{HasRoom, Puts};
 ghost use Rattle.sheets.specs.Reading.{read_request};
 ghost use Rattle.command_plan.specs.PlanText.{request_text, plan_printed};
 ghost use Rattle.command_plan.specs.PlanSheet.{planning_number, plan_of, WrotePlan};
 
 use sheets::{ReadPlan, ReadRequest, Written};
-use text::{PAGE_SIZE, Said};
+use text::{PAGE_SIZE, Page, Said};
 use units::numbers;
 
 // The plan of a request that was read, with the first refusal of reading and planning.
@@ -30,6 +31,21 @@ pub fn plan_of(request: ReadRequest) -> ReadPlan
     }
 }
 
+// The plan of a request that was read, or the refusal, and its number.
+fn put_said(page: &mut Page, request: ReadRequest) -> u8
+    requires { HasRoom 6_000 page.old }
+    ensures text { Puts 6_000 page.old (request_text request) page.new }
+    ensures number { result ≡ planning_number request }
+{
+    let ReadPlan { set, alloc, number } = plan_of(request);
+    if number != numbers::ACCEPTED {
+        page.put_refused(number);
+        return number;
+    }
+    planning::put_plan(page, set, alloc);
+    number
+}
+
 // What is printed of a request that was read, its plan or the refusal, put at the start of the page, and its number.
 pub fn request_text(request: ReadRequest, page: &mut [u8]) -> Said
     ensures { Says (request_text request) (planning_number request) page.old page.new result }
@@ -40,13 +56,12 @@ pub fn request_text(request: ReadRequest, page: &mut [u8]) -> Said
             number: numbers::BUFFER_TOO_SHORT,
         };
     }
-    let ReadPlan { set, alloc, number } = plan_of(request);
-    if number != numbers::ACCEPTED {
-        let length = text::put_refused(page, 0, number);
-        return Said { length, number };
+    let mut page = Page::new(page);
+    let number = put_said(&mut page, request);
+    Said {
+        length: page.length(),
+        number,
     }
-    let length = planning::put_plan(page, set, alloc);
-    Said { length, number }
 }
 
 // What `plan` prints of a request sheet's bytes, put at the start of the page, and its number.

@@ -10,7 +10,10 @@ use Rattle.std.proofs.Math.Bool.{or_assoc, or-false}
 use Rattle.std.proofs.lemmas.List.{take_more}
 use Rattle.units.specs.Places.{at}
 use Rattle.text.specs.Text.{PutShort}
+use Rattle.text.specs.Pages.{HasRoom, Puts}
+use Rattle.text.specs.declared.Page.{Page}
 use Rattle.text.proofs.TextLaws.{put_none, put_short_then, put_as}
+use Rattle.text.proofs.PageLaws.{puts_none, puts_then, puts_as}
 use Rattle.command_run.specs.Bytes.{moved_over, out_over, some_over}
 
 module _ {S : Type 0} (move : S → ℕ → S) where
@@ -49,11 +52,37 @@ module _ {S : Type 0} (move : S → ℕ → S) where
       rw (e, ← or-false (test (moved_over move start (take i text)) (at text i)))
       (ap (some_over move test start) (take_more text i 0 l) ∙ some_append test start (take i text) (at text i ∷ []))
 
+  -- the state behind one byte more, and what went out then
+  pub moved_on : (text : List ℕ) (start s s' : S) (i : ℕ) → i < length text → s ≡ moved_over move start (take i text) → s' ≡ move s (at text i)
+      → s' ≡ moved_over move start (take (i + 1) text)
+  moved_on text start s s' i l e m = m ∙ ap (λ (z : S). move z (at text i)) e ∙ sym (moved_more text start i l)
+
+  pub out_more : (out : S → ℕ → List ℕ) (text : List ℕ) (start s : S) (i : ℕ) → i < length text → s ≡ moved_over move start (take i text)
+      → out_over move out start (take i text) ++ out s (at text i) ≡ out_over move out start (take (i + 1) text)
+  unfolding out_over
+  out_more out text start s i l e =
+      let b = at text i in
+      let passed = moved_over move start (take i text) in
+      ap (λ (z : S). out_over move out start (take i text) ++ out z b) e
+      ∙ ap (λ (x : List ℕ). out_over move out start (take i text) ++ x) (sym (append-nil (out passed b)))
+      ∙ sym (out_append out start (take i text) (b ∷ []))
+      ∙ ap (out_over move out start) (sym (take_more text i 0 l))
+
+-- ---- what goes out is put at the start of a page
+
 -- after i bytes the state stands behind them, and what went out, at most so many bytes at each, is put at the start of the page
 pub record Behind {S : Type 0} (move : S → ℕ → S) (out : S → ℕ → List ℕ) (most : ℕ) (text before : List ℕ) (start : S) (i : ℕ) (s : S) (page : List ℕ) (next : ℕ) : Type 0 where
   pub long : length page ≡ length before
   pub stands : s ≡ moved_over move start (take i text)
   pub put : PutShort (most * i) before 0 (out_over move out start (take i text)) page next
+
+-- the same of a page with its place, behind what was put before
+pub record Said {S : Type 0} (move : S → ℕ → S) (out : S → ℕ → List ℕ) (most : ℕ) (text : List ℕ) (start : S) (i : ℕ) (s : S) (before after : Page) : Type 0 where
+  pub stands : s ≡ moved_over move start (take i text)
+  pub put : Puts (most * i) before (out_over move out start (take i text)) after
+
+one_more : (most i : ℕ) → most * (i + 1) ≡ most * i + most
+one_more most i = mul-add most i 1 ∙ ap (λ (n : ℕ). most * i + n) (mul-one most)
 
 module _ {S : Type 0} {move : S → ℕ → S} {out : S → ℕ → List ℕ} {most : ℕ} where
   -- before the first byte
@@ -61,25 +90,32 @@ module _ {S : Type 0} {move : S → ℕ → S} {out : S → ℕ → List ℕ} {m
   unfolding moved_over out_over
   behind_none text page start = record { long = refl; stands = refl; put = record { put = put_none page 0; short = omega arith } }
 
+  pub said_none : (text : List ℕ) (page : Page) (start : S) → Said move out most text start 0 start page page
+  unfolding moved_over out_over
+  said_none text page start = record { stands = refl; put = puts_as (puts_none page) refl (omega arith) }
+
   -- one byte more: the state moves, and what goes out at the byte is put behind the rest
   pub behind_more : {text before page after : List ℕ} {start s s' : S} {i next next' : ℕ}
       → Behind move out most text before start i s page next → i < length text → most * (i + 1) ≤ length before
       → s' ≡ move s (at text i) → PutShort most page next (out s (at text i)) after next' → length after ≡ length page
       → Behind move out most text before start (i + 1) s' after next'
-  unfolding out_over
   behind_more {text} {before} {page} {after} {start} {s} {s'} {i} {next} {next'} was l room e q kept =
-      let b = at text i in
-      let passed = moved_over move start (take i text) in
-      let one : most * (i + 1) ≡ most * i + most = mul-add most i 1 ∙ ap (λ (n : ℕ). most * i + n) (mul-one most) in
-      let said : out_over move out start (take i text) ++ out s b ≡ out_over move out start (take (i + 1) text) =
-      ap (λ (z : S). out_over move out start (take i text) ++ out z b) was.stands
-      ∙ ap (λ (x : List ℕ). out_over move out start (take i text) ++ x) (sym (append-nil (out passed b)))
-      ∙ sym (out_append move out start (take i text) (b ∷ []))
-      ∙ ap (out_over move out start) (sym (take_more text i 0 l)) in
+      let one = one_more most i in
       record {
         long = kept ∙ was.long;
-        stands = e ∙ ap (λ (z : S). move z b) was.stands ∙ sym (moved_more move text start i l);
-        put = put_as (put_short_then was.put q (omega arith)) said (omega arith);
+        stands = moved_on move text start s s' i l was.stands e;
+        put = put_as (put_short_then was.put q (omega arith)) (out_more move out text start s i l was.stands) (omega arith);
+      }
+
+  pub said_more : {text : List ℕ} {before page after : Page} {start s s' : S} {i : ℕ}
+      → Said move out most text start i s before page → i < length text → HasRoom (most * (i + 1)) before
+      → s' ≡ move s (at text i) → Puts most page (out s (at text i)) after
+      → Said move out most text start (i + 1) s' before after
+  said_more {text} {start = start} {s = s} {s' = s'} {i = i} was l room e q =
+      let one = one_more most i in
+      record {
+        stands = moved_on move text start s s' i l was.stands e;
+        put = puts_as (puts_then was.put q (omega (arith, one, room))) (out_more move out text start s i l was.stands) (omega (arith, one));
       }
 
   -- one byte more at which nothing goes out
@@ -90,3 +126,10 @@ module _ {S : Type 0} {move : S → ℕ → S} {out : S → ℕ → List ℕ} {m
   behind_quiet {page = page} {next = next} was l room e quiet =
       let none : PutShort 0 page next [] page next = record { put = put_none page next; short = omega arith } in
       behind_more was l room e (put_as none quiet (omega arith)) refl
+
+  pub said_quiet : {text : List ℕ} {before page : Page} {start s s' : S} {i : ℕ}
+      → Said move out most text start i s before page → i < length text → HasRoom (most * (i + 1)) before
+      → s' ≡ move s (at text i) → [] ≡ out s (at text i)
+      → Said move out most text start (i + 1) s' before page
+  said_quiet {page = page} was l room e quiet =
+      said_more was l room e (puts_as (puts_none page) quiet (omega arith))

@@ -1,5 +1,5 @@
 -- The laws of what `run` prints, for the proofs of this layer. No rule stands here.
-use Prim.Native.Nat.{ℕ, zero, suc, ◌<◌, ◌≤◌, ◌^◌, min}
+use Prim.Native.Nat.{ℕ, zero, suc, ◌+◌, ◌*◌, ◌<◌, ◌≤◌, ◌^◌}
 use mathlib.Core.Path.{◌≡◌, refl, sym, ap, ◌∙◌}
 use mathlib.Core.Bool.{Bool, true, false, true≢false, ◌&&◌, ◌||◌}
 use mathlib.Core.List.{List, [], ◌∷◌, ◌++◌, append_assoc, append-nil}
@@ -12,6 +12,7 @@ use lib.IntN.{ℤ, pos, negsuc}
 use lib.Signed.{lt_z}
 use Rattle.std.specs.Prelude.{unsigned_abs}
 use Rattle.std.proofs.Math.Bool.{and-false}
+use Rattle.std.proofs.lemmas.List.{length-take}
 use lib.ListN.{length, take}
 use Rattle.units.specs.Places.{at}
 use Rattle.units.proofs.JudgingLaws.{and-true}
@@ -27,13 +28,16 @@ use Rattle.rings.specs.declared.Visited.{Visited}
 use Rattle.rings.specs.declared.Taken.{Taken}
 use Rattle.rings.specs.declared.MarkedRing.{MarkedRing}
 use Rattle.text.specs.Text.{line, line_on, space, newline, decimal_of, page_size}
-use Rattle.text.proofs.TextLaws.{line_first, line_next, take_piece, printed, not_printed}
+use Rattle.text.specs.Pages.{HasRoom, Begins}
+use Rattle.text.specs.declared.Page.{Page}
+use Rattle.text.proofs.TextLaws.{line_first, line_next, put_as, printed, not_printed}
 use Rattle.command_run.specs.Bytes.{moved_over, out_over, some_over}
 use Rattle.command_run.specs.Calls.{visit_word, message_word, mark_word, unmark_word, is_unread, is_visit, ask_in, is_message, message_in, names_station, is_mark, is_unmark, station_in, answered, visit_called, message_called, mark_called, unmark_called, unreadable, switched, called}
 use Rattle.command_run.specs.Runs.{run_from, opened_run, line_ends, line_goes_on, byte_on, run_on, answer_at, unread_at, run_after, some_unread, piece_size, piece_of}
 use Rattle.command_run.specs.RunText.{withdrawn_word, dash, without_sign, sign_of, signed_of, completion, withdrawn_words, answer_text, said_at, said_over, RanPiece, RanOn}
 use Rattle.command_run.specs.declared.Answer.{Answer}
 use Rattle.command_run.specs.declared.Answer.TheVariants.{Nothing}
+use Rattle.command_run.proofs.ByteLaws.{Said}
 use Rattle.line_reader.proofs.ScanLaws.{stepped_over, has_no_end, first_and_rest}
 use Rattle.line_reader.specs.Scan.{code_of, is_readable, is_empty_line}
 use Rattle.command_run.specs.declared.Run.{Run}
@@ -223,9 +227,12 @@ pub piece_none : (text page : List ℕ) → length page < page_size → [] ≡ p
 unfolding piece_of
 piece_none text page small = rw (lt-ltb (length page) page_size small)
 
-pub piece_whole : (text : List ℕ) (end : ℕ) (page : List ℕ) → end ≡ min (length text) piece_size → page_size ≤ length page → take end text ≡ piece_of text page
+pub piece_whole : (text piece page : List ℕ) → piece ≡ take piece_size text → page_size ≤ length page → piece ≡ piece_of text page
 unfolding piece_of
-piece_whole text end page e large = rw (le-ltb (length page) page_size large) (ap (λ (k : ℕ). take k text) e ∙ take_piece text piece_size)
+piece_whole text piece page e large = rw (le-ltb (length page) page_size large) e
+
+pub piece_few : (text piece : List ℕ) → piece ≡ take piece_size text → length piece ≤ piece_size
+piece_few text piece e = rw (e, length-take) (omega arith)
 
 pub ran_none : (u : Run) (text page : List ℕ) → length page < page_size → RanOn u text page page (record { run = u; length = 0; unread = false })
 unfolding moved_over some_over
@@ -233,15 +240,37 @@ ran_none u text page small =
     let none = piece_none text page small in
     record { behind = ap (run_after u) none; said = not_printed small; unread = ap (some_unread u) none }
 
-pub ran_piece : (u : Run) (text : List ℕ) (end : ℕ) (before after : List ℕ) (r : Ran)
-    → end ≡ min (length text) piece_size → page_size ≤ length before
-    → RanPiece u text end before after r → RanOn u text before after r
-ran_piece u text end before after r e large h =
-    let piece = piece_whole text end before e large in
+-- a page that was empty has room for one answer more
+pub empty_room : {bytes : List ℕ} {before : Page} {i n : ℕ}
+    → Begins bytes before → i < n → n ≤ piece_size → page_size ≤ length bytes → HasRoom (240 * (i + 1)) before
+empty_room begins inside few large = rw (begins.now, begins.at) (omega (arith, inside, few, large))
+
+pub said_room : {u s : Run} {text bytes : List ℕ} {i n : ℕ} {before after : Page}
+    → Begins bytes before → Said run_on said_at 240 text u i s before after → i < n → n ≤ piece_size → page_size ≤ length bytes → HasRoom 240 after
+said_room {bytes = bytes} {before = before} begins said inside few large =
+    let size : length before.bytes.now ≡ length bytes = ap length begins.now in
+    omega (arith, said.put.put.put.next, said.put.put.short, said.put.size, begins.at, size, inside, few, large)
+
+-- the answers of a piece, put into a page that was empty
+pub ran_all : {u s : Run} {piece bytes : List ℕ} {i r : ℕ} {before after : Page} {unread : Bool}
+    → take i piece ≡ piece → i ≤ piece_size → Begins bytes before → Said run_on said_at 240 piece u i s before after → unread ≡ some_unread u (take i piece) → r ≡ after.at
+    → RanPiece u piece bytes after.bytes.now (record { run = s; length = r; unread = unread })
+ran_all {u = u} whole few begins said seen long =
+    let put = rw (begins.now, begins.at, ← long) at said.put.put in
     record {
-      behind = h.behind ∙ ap (run_after u) piece;
-      said = printed h.said (ap (said_over u) piece) large (omega arith);
-      unread = h.unread ∙ ap (some_unread u) piece;
+      behind = said.stands ∙ ap (run_after u) whole;
+      said = put_as put (ap (said_over u) whole) (omega (arith, few));
+      unread = seen ∙ ap (some_unread u) whole;
+    }
+
+pub ran_piece : (u : Run) (text piece before after : List ℕ) (r : Ran)
+    → piece ≡ take piece_size text → page_size ≤ length before → RanPiece u piece before after r → RanOn u text before after r
+ran_piece u text piece before after r e large h =
+    let read = piece_whole text piece before e large in
+    record {
+      behind = h.behind ∙ ap (run_after u) read;
+      said = printed h.said (ap (said_over u) read) large (omega arith);
+      unread = h.unread ∙ ap (some_unread u) read;
     }
 
 -- ---- a run that begins

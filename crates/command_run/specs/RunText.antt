@@ -1,5 +1,5 @@
 -- What `run` prints: the calls are read line by line, and each is answered by the ring.
-use Rattle.std.specs.Prelude.{ℕ, zero, suc, ◌+◌, ◌*◌, ◌≡◌, List, [], ◌∷◌, ◌++◌, ℤ, pos, negsuc, take}
+use Rattle.std.specs.Prelude.{ℕ, zero, suc, ◌+◌, ◌*◌, ◌≡◌, List, [], ◌∷◌, ◌++◌, ℤ, pos, negsuc}
 use Rattle.rings.specs.declared.VisitRecord.{VisitRecord}
 use Rattle.rings.specs.declared.VisitAnswer.{VisitAnswer}
 use Rattle.rings.specs.declared.MarkAnswer.{MarkAnswer}
@@ -115,11 +115,11 @@ said_over u text = out_over run_on said_at u text
 
 -- ---- what the functions hand back
 
--- the run over the first bytes of the text
-pub record RanPiece (u : Run) (text : List ℕ) (end : ℕ) (before after : List ℕ) (r : Ran) : Type 0 where
-  pub behind : r.run ≡ run_after u (take end text)
-  pub said : PutShort (240 * piece_size) before 0 (said_over u (take end text)) after r.length
-  pub unread : r.unread ≡ some_unread u (take end text)
+-- the run over a piece of the text
+pub record RanPiece (u : Run) (piece before after : List ℕ) (r : Ran) : Type 0 where
+  pub behind : r.run ≡ run_after u piece
+  pub said : PutShort (240 * piece_size) before 0 (said_over u piece) after r.length
+  pub unread : r.unread ≡ some_unread u piece
 
 -- the run goes on over a piece of the text, and what it prints stands on the page
 pub record RanOn (u : Run) (text before after : List ℕ) (r : Ran) : Type 0 where

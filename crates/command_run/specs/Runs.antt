@@ -86,9 +86,8 @@ abbrev pub piece_size : ℕ
 piece_size = 256
 
 -- a piece of the text, and a page with room for its answers
-pub record Piece (text : List ℕ) (end : ℕ) (page : List ℕ) : Type 0 where
-  pub inside : end ≤ length text
-  pub few : end ≤ piece_size
+pub record Piece (piece page : List ℕ) : Type 0 where
+  pub few : length piece ≤ piece_size
   pub large : page_size ≤ length page
 
 -- the bytes that are read: the first 256; with a page that is too small, none

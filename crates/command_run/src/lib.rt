@@ -1,17 +1,18 @@
 // What `run` prints: the calls are read line by line, and each is answered by the ring.
 #![tactic(auto)]
 
-ghost use Rattle.std.specs.Prelude.{◌≡◌, true, ◌∷◌, ◌+◌, ◌≤◌, min, length};
+ghost use Rattle.std.specs.Prelude.{◌≡◌, true, [], ◌∷◌, ◌≤◌, length};
 ghost use Rattle.sheets.specs.Reading.{read_plan};
-ghost use Rattle.text.specs.Text.{PutShort, space, line_on};
+ghost use Rattle.text.specs.Text.{space, line, line_on, text_or};
+ghost use Rattle.text.specs.Pages.{HasRoom, Puts};
 ghost use Rattle.command_run.specs.Calls.{is_unread, is_visit, ask_in, is_message, message_in, names_station, station_in, switched, called};
-ghost use Rattle.command_run.specs.Runs.{run_from, opened_run, line_ends, piece_size, Piece};
-ghost use Rattle.command_run.specs.RunText.{signed_of, completion, arrival_words, amount_words, visit_line, visit_text, taken_text, withdrawn_words, mark_text, unmark_text, answer_text, RanPiece, RanOn};
+ghost use Rattle.command_run.specs.Runs.{run_from, opened_run, line_ends, Piece};
+ghost use Rattle.command_run.specs.RunText.{signed_of, completion, arrival_words, amount_words, visit_line, visit_text, withdrawn_words, mark_text, answer_text, RanPiece, RanOn};
 
 use line_reader::Scan;
 use rings::{Ask, MarkAnswer, Message, Ring, VisitAnswer, VisitRecord};
 use sheets::ReadPlan;
-use text::PAGE_SIZE;
+use text::{PAGE_SIZE, Page};
 use units::{Station, Ticks, numbers};
 
 // The letters of `visit`, `message`, `mark` and `unmark`, each as one number to base 256.
@@ -24,7 +25,7 @@ const MARK: u64 = 1_835_102_827;
 const UNMARK: u64 = 129_117_141_955_179;
 
 // How many bytes are read at once.
-const PIECE_SIZE: usize = 256;
+pub const PIECE_SIZE: usize = 256;
 
 // A run: the ring, what was read of the line, and the line's number.
 #[repr(C)]
@@ -167,136 +168,130 @@ fn station_in(s: Scan) -> Station
 // ---- the answers
 
 // The margin with its sign, a space before it.
-fn put_margin(page: &mut [u8], at: usize, margin: i64) -> usize
-    requires { at + 40 ≤ length page.old }
-    ensures { PutShort 40 page.old at (space ∷ signed_of margin) page.new result }
+fn put_margin(page: &mut Page, margin: i64)
+    requires { HasRoom 40 page.old }
+    ensures { Puts 40 page.old (space ∷ signed_of margin) page.new }
 {
     let number = margin.unsigned_abs();
     if margin < 0 {
-        let signed = text::put_short(page, at, b" -");
-        return text::put_number(page, signed, number);
+        page.put_short(b" -");
+        page.put_number(number);
+        return;
     }
-    text::put_field(page, at, number)
+    page.put_field(number);
 }
 
 // Finish and margin of a completed message, or two dashes; and the line's end.
-fn put_completion(page: &mut [u8], at: usize, completed: u8, finish: u64, margin: i64) -> usize
-    requires { at + 62 ≤ length page.old }
-    ensures { PutShort 62 page.old at (line_on (completion completed finish margin)) page.new result }
+fn put_completion(page: &mut Page, completed: u8, finish: u64, margin: i64)
+    requires { HasRoom 62 page.old }
+    ensures { Puts 62 page.old (line_on (completion completed finish margin)) page.new }
 {
     if completed == 0 {
-        let dashes = text::put_short(page, at, b" - -");
-        return text::put_end(page, dashes);
+        page.put_short(b" - -");
+        page.put_end();
+        return;
     }
-    let finished = text::put_field(page, at, finish);
-    let judged = put_margin(page, finished, margin);
-    text::put_end(page, judged)
+    page.put_field(finish);
+    put_margin(page, margin);
+    page.put_end();
 }
 
 // Station, start and TRT of a visit.
-fn put_arrival(page: &mut [u8], at: usize, v: VisitRecord) -> usize
-    requires { at + 83 ≤ length page.old }
-    ensures { PutShort 83 page.old at (arrival_words v) page.new result }
+fn put_arrival(page: &mut Page, v: VisitRecord)
+    requires { HasRoom 83 page.old }
+    ensures { Puts 83 page.old (arrival_words v) page.new }
 {
-    let named = text::put_short(page, at, b"visit");
-    let stationed = text::put_field(page, named, v.station.0);
-    let started = text::put_field(page, stationed, v.start.0);
-    text::put_field(page, started, v.trt.0)
+    page.put_short(b"visit");
+    page.put_field(v.station.0);
+    page.put_field(v.start.0);
+    page.put_field(v.trt.0);
 }
 
 // Limit, and the two amounts sent.
-fn put_amounts(page: &mut [u8], at: usize, v: VisitRecord) -> usize
-    requires { at + 63 ≤ length page.old }
-    ensures { PutShort 63 page.old at (amount_words v) page.new result }
+fn put_amounts(page: &mut Page, v: VisitRecord)
+    requires { HasRoom 63 page.old }
+    ensures { Puts 63 page.old (amount_words v) page.new }
 {
-    let limited = text::put_field(page, at, v.limit.0);
-    let synchronous = text::put_field(page, limited, v.synchronous.0);
-    text::put_field(page, synchronous, v.asynchronous.0)
+    page.put_field(v.limit.0);
+    page.put_field(v.synchronous.0);
+    page.put_field(v.asynchronous.0);
 }
 
 // A visit's line.
-fn put_visit_line(page: &mut [u8], at: usize, v: VisitRecord) -> usize
-    requires { at + 240 ≤ length page.old }
-    ensures { PutShort 240 page.old at (visit_line v) page.new result }
+fn put_visit_line(page: &mut Page, v: VisitRecord)
+    requires { HasRoom 240 page.old }
+    ensures { Puts 240 page.old (visit_line v) page.new }
 {
-    let arrived = put_arrival(page, at, v);
-    let sent = put_amounts(page, arrived, v);
-    put_completion(page, sent, v.completed, v.finish.0, v.margin)
+    put_arrival(page, v);
+    put_amounts(page, v);
+    put_completion(page, v.completed, v.finish.0, v.margin);
 }
 
 // A visit's answer, or the refusal.
-fn put_visit(page: &mut [u8], at: usize, answer: VisitAnswer) -> usize
-    requires { at + 240 ≤ length page.old }
-    ensures { PutShort 240 page.old at (visit_text answer) page.new result }
+fn put_visit(page: &mut Page, answer: VisitAnswer)
+    requires { HasRoom 240 page.old }
+    ensures { Puts 240 page.old (visit_text answer) page.new }
 {
     if answer.number != numbers::ACCEPTED {
-        return text::put_refused(page, at, answer.number);
+        page.put_refused(answer.number);
+        return;
     }
-    put_visit_line(page, at, answer.record)
+    put_visit_line(page, answer.record);
 }
 
-// `taken`, or the refusal.
-fn put_taken(page: &mut [u8], at: usize, number: u8) -> usize
-    requires { at + 240 ≤ length page.old }
-    ensures { PutShort 240 page.old at (taken_text number) page.new result }
+// The word of a call that was accepted, or the refusal.
+fn put_done(page: &mut Page, number: u8, word: &[u8])
+    requires { (length word.now ≤ 20) × HasRoom 240 page.old }
+    ensures { Puts 240 page.old (text_or number (line (word.now ∷ []))) page.new }
 {
     if number != numbers::ACCEPTED {
-        return text::put_refused(page, at, number);
+        page.put_refused(number);
+        return;
     }
-    let taken = text::put_short(page, at, b"taken");
-    text::put_end(page, taken)
+    page.put_short(word);
+    page.put_end();
 }
 
 // What remained of the message that was withdrawn, and its arrival; nothing where none was; and the line's end.
-fn put_withdrawn(page: &mut [u8], at: usize, answer: MarkAnswer) -> usize
-    requires { at + 63 ≤ length page.old }
-    ensures { PutShort 63 page.old at (line_on (withdrawn_words answer.withdrawn answer.rest.0 answer.arrival.0)) page.new result }
+fn put_withdrawn(page: &mut Page, answer: MarkAnswer)
+    requires { HasRoom 63 page.old }
+    ensures { Puts 63 page.old (line_on (withdrawn_words answer.withdrawn answer.rest.0 answer.arrival.0)) page.new }
 {
     if answer.withdrawn == 0 {
-        return text::put_end(page, at);
+        page.put_end();
+        return;
     }
-    let named = text::put_short(page, at, b" withdrawn");
-    let remained = text::put_field(page, named, answer.rest.0);
-    let arrived = text::put_field(page, remained, answer.arrival.0);
-    text::put_end(page, arrived)
+    page.put_short(b" withdrawn");
+    page.put_field(answer.rest.0);
+    page.put_field(answer.arrival.0);
+    page.put_end();
 }
 
 // `marked`, with the message that was withdrawn; or the refusal.
-fn put_mark(page: &mut [u8], at: usize, answer: MarkAnswer) -> usize
-    requires { at + 240 ≤ length page.old }
-    ensures { PutShort 240 page.old at (mark_text answer) page.new result }
+fn put_mark(page: &mut Page, answer: MarkAnswer)
+    requires { HasRoom 240 page.old }
+    ensures { Puts 240 page.old (mark_text answer) page.new }
 {
     if answer.number != numbers::ACCEPTED {
-        return text::put_refused(page, at, answer.number);
+        page.put_refused(answer.number);
+        return;
     }
-    let named = text::put_short(page, at, b"marked");
-    put_withdrawn(page, named, answer)
-}
-
-// `unmarked`, or the refusal.
-fn put_unmark(page: &mut [u8], at: usize, number: u8) -> usize
-    requires { at + 240 ≤ length page.old }
-    ensures { PutShort 240 page.old at (unmark_text number) page.new result }
-{
-    if number != numbers::ACCEPTED {
-        return text::put_refused(page, at, number);
-    }
-    let named = text::put_short(page, at, b"unmarked");
-    text::put_end(page, named)
+    page.put_short(b"marked");
+    put_withdrawn(page, answer);
 }
 
 // What is printed of an answer; a line that cannot be read is named.
-fn put_answer(page: &mut [u8], at: usize, answer: Answer, line: u64) -> usize
-    requires { at + 240 ≤ length page.old }
-    ensures { PutShort 240 page.old at (answer_text answer line) page.new result }
+fn put_answer(page: &mut Page, answer: Answer, line: u64)
+    requires { HasRoom 240 page.old }
+    ensures { Puts 240 page.old (answer_text answer line) page.new }
 {
     match answer {
-        Answer::Nothing => at,
-        Answer::Visit(visit) => put_visit(page, at, visit),
-        Answer::HandIn(number) => put_taken(page, at, number),
-        Answer::Mark(_, marking) => put_mark(page, at, marking),
-        Answer::Unmark(_, refusal) => put_unmark(page, at, refusal),
-        Answer::Unread => text::put_unread(page, at, line),
+        Answer::Nothing => {}
+        Answer::Visit(visit) => put_visit(page, visit),
+        Answer::HandIn(number) => put_done(page, number, b"taken"),
+        Answer::Mark(_, marking) => put_mark(page, marking),
+        Answer::Unmark(_, refusal) => put_done(page, refusal, b"unmarked"),
+        Answer::Unread => page.put_unread(line),
     }
 }
 
@@ -408,25 +403,18 @@ pub fn open_run(sheet: &[u8]) -> OpenedRun
     open_plan(sheets::read_plan(sheet))
 }
 
-// How many of the bytes are read at once.
-pub fn piece_length(text: &[u8]) -> usize
-    ensures { result ≡ min (length text.now) piece_size }
+// A piece of the text, answered line by line.
+fn run_piece(run: Run, piece: &[u8], page: &mut [u8]) -> Ran
+    requires { Piece piece.now page.old }
+    ensures { RanPiece run piece.now page.old page.new result }
 {
-    text.len().min(PIECE_SIZE)
-}
-
-// The first bytes of the text, answered line by line.
-fn run_piece(run: Run, text: &[u8], end: usize, page: &mut [u8]) -> Ran
-    requires { Piece text.now end page.old }
-    ensures { RanPiece run text.now end page.old page.new result }
-{
+    let mut page = Page::new(page);
     let mut stands = run;
-    let mut next: usize = 0;
     let mut unread = false;
-    for byte in &text[..end] {
+    for byte in piece {
         if *byte == b'\n' {
             let ended = end_line(stands);
-            next = put_answer(page, next, ended.answer, stands.line);
+            put_answer(&mut page, ended.answer, stands.line);
             unread |= ended.answer.is_unread();
             stands = ended.run;
         } else {
@@ -435,7 +423,7 @@ fn run_piece(run: Run, text: &[u8], end: usize, page: &mut [u8]) -> Ran
     }
     Ran {
         run: stands,
-        length: next,
+        length: page.length(),
         unread,
     }
 }
@@ -451,6 +439,5 @@ pub fn run_on(run: Run, text: &[u8], page: &mut [u8]) -> Ran
             unread: false,
         };
     }
-    let end = piece_length(text);
-    run_piece(run, text, end, page)
+    run_piece(run, line_reader::piece(text, PIECE_SIZE), page)
 }

@@ -3,29 +3,49 @@
 
 mod showing;
 
-ghost use Rattle.std.specs.Prelude.{◌≤◌, length};
+ghost use Rattle.std.specs.Prelude.{◌≡◌};
 ghost use Rattle.sheets.specs.Reading.{read_plan};
-ghost use Rattle.text.specs.Text.{Printed, Says, page_size};
+ghost use Rattle.text.specs.Text.{Printed, Says};
+ghost use Rattle.text.specs.Pages.{HasRoom, Puts};
 ghost use Rattle.sheet_text_rules.specs.ShowText.{plan_shown, plan_lines_of, show_printed, shown_number};
 
 use plans::Alloc;
 use sets::Set;
-use text::{PAGE_SIZE, Said};
+use text::{PAGE_SIZE, Page, Said};
 use units::numbers;
 
 // The text of a plan sheet, or the refusal, and its number.
-fn show_plan(sheet: &[u8], page: &mut [u8]) -> Said
-    requires { page_size ≤ length page.old }
-    ensures { Says (plan_shown sheet.now) (read_plan sheet.now).number page.old page.new result }
+fn put_plan(page: &mut Page, sheet: &[u8]) -> u8
+    requires { HasRoom 20_000 page.old }
+    ensures text { Puts 20_000 page.old (plan_shown sheet.now) page.new }
+    ensures number { result ≡ (read_plan sheet.now).number }
 {
     let plan = sheets::read_plan(sheet);
-    let number = plan.number;
-    if number != numbers::ACCEPTED {
-        let length = text::put_refused(page, 0, number);
-        return Said { length, number };
+    if plan.number != numbers::ACCEPTED {
+        page.put_refused(plan.number);
+        return plan.number;
     }
-    let length = showing::put_sheet(page, true, plan.set, plan.alloc);
-    Said { length, number }
+    showing::put_sheet(page, true, plan.set, plan.alloc);
+    plan.number
+}
+
+// The text of a request sheet, or that of a plan sheet where the shape is another, and its number.
+fn put_shown(page: &mut Page, sheet: &[u8]) -> u8
+    requires { HasRoom 20_000 page.old }
+    ensures text { Puts 20_000 page.old (show_printed sheet.now) page.new }
+    ensures number { result ≡ shown_number sheet.now }
+{
+    let request = sheets::read_request(sheet);
+    let number = request.number;
+    if number == numbers::WRONG_SHAPE {
+        return put_plan(page, sheet);
+    }
+    if number != numbers::ACCEPTED {
+        page.put_refused(number);
+        return number;
+    }
+    showing::put_sheet(page, false, request.set, plans::blank_alloc());
+    number
 }
 
 // What `show` prints of a sheet's bytes, put at the start of the page, and its number.
@@ -38,17 +58,12 @@ pub fn show_text(sheet: &[u8], page: &mut [u8]) -> Said
             number: numbers::BUFFER_TOO_SHORT,
         };
     }
-    let request = sheets::read_request(sheet);
-    let number = request.number;
-    if number == numbers::WRONG_SHAPE {
-        return show_plan(sheet, page);
+    let mut page = Page::new(page);
+    let number = put_shown(&mut page, sheet);
+    Said {
+        length: page.length(),
+        number,
     }
-    if number != numbers::ACCEPTED {
-        let length = text::put_refused(page, 0, number);
-        return Said { length, number };
-    }
-    let length = showing::put_sheet(page, false, request.set, plans::blank_alloc());
-    Said { length, number }
 }
 
 // The text of a plan, put at the start of the page; nothing for one of more than 128 stations.
@@ -61,5 +76,7 @@ pub fn plan_text(set: Set, alloc: Alloc, page: &mut [u8]) -> usize
     if 128 < set.n {
         return 0;
     }
-    showing::put_sheet(page, true, set, alloc)
+    let mut page = Page::new(page);
+    showing::put_sheet(&mut page, true, set, alloc);
+    page.length()
 }

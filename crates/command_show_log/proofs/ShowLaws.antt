@@ -30,10 +30,13 @@ use Rattle.log_stream.specs.Pieces.{stepped, entry_in, entries_of, read_over, ha
 use Rattle.log_stream.proofs.FieldLaws.{read_append, handed_append}
 use Rattle.log_stream.specs.declared.Gathered.{Gathered}
 use Rattle.text.specs.Text.{text_or, page_size, PutShort, Printed, number_on}
-use Rattle.text.proofs.TextLaws.{put_none, put_short_then, put_as, printed, not_printed}
+use Rattle.text.specs.Pages.{HasRoom, Puts}
+use Rattle.text.specs.declared.Page.{Page}
+use Rattle.text.proofs.TextLaws.{put_none, printed, not_printed}
+use Rattle.text.proofs.PageLaws.{puts_then, puts_as}
 use Rattle.sheet_text_rules.specs.ShowText.{sheet_text, plan_lines_of, show_printed, shown_number}
 use Rattle.sheet_text_rules.specs.LogText.{entry_line, entry_lines}
-use Rattle.command_show_log.specs.LogShown.{is_log, plan_text, plain_text, shown_number_of, head_text, first_number, lines_for, show_after, shown_over, piece_size, ShownPiece, piece_of, ShownOn}
+use Rattle.command_show_log.specs.LogShown.{is_log, plan_text, plain_text, shown_number_of, head_text, first_number, lines_for, show_after, shown_over, piece_size, piece_of, ShownOn}
 use Rattle.command_show_log.specs.declared.Showing.{Showing}
 use Rattle.command_show_log.specs.declared.Shown.{Shown}
 
@@ -103,10 +106,10 @@ handed_snoc : (v : Gathered) (bs : List ℕ) (b : ℕ) → handed_over v (bs ++ 
 unfolding handed_over
 handed_snoc v bs b = handed_append v bs (b ∷ []) ∙ ap (λ (es : List Entry). handed_over v bs ++ es) (append-nil (entries_of (entry_in (stepped (read_over v bs) b))))
 
-pub turn : (bs page₀ page page' : List ℕ) (number : ℕ) (start v v' : Gathered) (i next next' : ℕ) → i < length bs → 126 * i + 126 ≤ length page₀ → v ≡ read_over start (take i bs)
-    → PutShort (126 * i) page₀ 0 (lines_for number (handed_over start (take i bs))) page next → v' ≡ stepped v (at bs i) → PutShort 126 page next (lines_for number (entries_of (entry_in v'))) page' next'
-    → (v' ≡ read_over start (take (i + 1) bs)) × PutShort (126 * (i + 1)) page₀ 0 (lines_for number (handed_over start (take (i + 1) bs))) page' next'
-turn bs page₀ page page' number start v v' i next next' l room ev p e q =
+pub turn : (bs : List ℕ) (page₀ page page' : Page) (number : ℕ) (start v v' : Gathered) (i : ℕ) → i < length bs → HasRoom (126 * i + 126) page₀ → v ≡ read_over start (take i bs)
+    → Puts (126 * i) page₀ (lines_for number (handed_over start (take i bs))) page → v' ≡ stepped v (at bs i) → Puts 126 page (lines_for number (entries_of (entry_in v'))) page'
+    → (v' ≡ read_over start (take (i + 1) bs)) × Puts (126 * (i + 1)) page₀ (lines_for number (handed_over start (take (i + 1) bs))) page'
+turn bs page₀ page page' number start v v' i l room ev p e q =
     let b = at bs i in
     let xs = take i bs in
     let more : take (i + 1) bs ≡ take i bs ++ at bs i ∷ [] = take_more bs i 0 l in
@@ -115,7 +118,7 @@ turn bs page₀ page page' number start v v' i next next' l room ev p e q =
     ap (λ (z : Gathered). lines_for number (handed_over start xs) ++ lines_for number (entries_of (entry_in z))) there
     ∙ sym (lines_append number (handed_over start xs) (entries_of (entry_in (stepped (read_over start xs) b))))
     ∙ ap (lines_for number) (sym (handed_snoc start xs b)) in
-    rw more (there ∙ sym (read_snoc start xs b), put_as (put_short_then p q (omega arith)) lines (omega arith))
+    rw more (there ∙ sym (read_snoc start xs b), puts_as (puts_then p q room) lines (omega arith))
 
 -- ---- a piece
 
@@ -132,14 +135,14 @@ take_some bs k =
     (below_or_not (length bs) k)
 
 pub shown_piece : (k : Showing) (bs : List ℕ) (end : ℕ) (before after : List ℕ) (r : Shown) → end ≡ min (length bs) piece_size
-    → page_size ≤ length before → ShownPiece k bs end before after r → ShownOn k bs before after r
+    → page_size ≤ length before → r.showing ≡ show_after k (take end bs) → Printed (shown_over k (take end bs)) before after r.length → ShownOn k bs before after r
 unfolding piece_of
-shown_piece k bs end before after r e large h =
+shown_piece k bs end before after r e large behind shown =
     let piece : take end bs ≡ take piece_size bs = ap (λ (n : ℕ). take n bs) e ∙ take_some bs piece_size in
     let whole = le-ltb (length before) page_size large in
     record {
-      behind = rw whole (h.behind ∙ ap (show_after k) piece);
-      shown = rw whole (printed h.shown (ap (shown_over k) piece) large (omega arith));
+      behind = rw whole (behind ∙ ap (show_after k) piece);
+      shown = rw whole (printed_as shown (ap (shown_over k) piece));
     }
 
 -- ---- the first bytes

@@ -1,5 +1,5 @@
 -- What `show` prints of a log: the plan's text, then a line for each record as it is read; a fault behind that ends the text with the refusal.
-use Rattle.std.specs.Prelude.{ℕ, zero, suc, ◌*◌, ◌≤◌, ◌≡◌, Bool, cond, not, ◌&&◌, List, [], ◌++◌, ltb, eqb, length, take, drop}
+use Rattle.std.specs.Prelude.{ℕ, zero, suc, ◌≡◌, Bool, cond, not, ◌&&◌, List, [], ◌++◌, ltb, eqb, length, take, drop}
 use Rattle.sets.specs.declared.Set.{Set}
 use Rattle.plans.specs.declared.Alloc.{Alloc}
 use Rattle.sheets.specs.Reading.{then_number, plan_start}
@@ -7,7 +7,7 @@ use Rattle.log_records.specs.declared.Entry.{Entry}
 use Rattle.logs.specs.Records.{record_size}
 use Rattle.logs.specs.Reading.{read_log}
 use Rattle.log_stream.specs.Pieces.{first_size, nothing_read, number_of, read_over, handed_over}
-use Rattle.text.specs.Text.{text_or, page_size, PutShort, Printed, number_on}
+use Rattle.text.specs.Text.{text_or, page_size, Printed, number_on}
 use Rattle.sheet_text_rules.specs.ShowText.{plan_lines_of, show_printed, shown_number}
 use Rattle.sheet_text_rules.specs.LogText.{entry_lines}
 use Rattle.command_show_log.specs.declared.Showing.{Showing}
@@ -104,17 +104,6 @@ records_read bs = records_part (first_part bs) ++ drop first_size bs
 -- how many bytes are read at once
 abbrev pub piece_size : ℕ
 piece_size = 512
-
--- a piece of the bytes, and a page with room for its lines
-pub record RecordsPiece (bs : List ℕ) (end : ℕ) (page : List ℕ) : Type 0 where
-  pub inside : end ≤ length bs
-  pub few : end ≤ piece_size
-  pub large : page_size ≤ length page
-
--- the records over the first bytes: at most a line for each of them
-pub record ShownPiece (k : Showing) (bs : List ℕ) (end : ℕ) (before after : List ℕ) (r : Shown) : Type 0 where
-  pub behind : r.showing ≡ show_after k (take end bs)
-  pub shown : PutShort (126 * piece_size) before 0 (shown_over k (take end bs)) after r.length
 
 -- the bytes that are read: the first 512; with a page that is too small, none
 unfoldable pub piece_of : List ℕ → List ℕ → List ℕ

@@ -1,18 +1,19 @@
 // What `show` prints of a log: the plan's text, then a line for each record as it is read. Requests and plans are answered as ever.
 #![tactic(auto)]
 
-ghost use Rattle.std.specs.Prelude.{◌≡◌, ◌+◌, ◌≤◌, min, length};
+ghost use Rattle.std.specs.Prelude.{◌≡◌, ◌*◌, ◌≤◌, min, length, take};
 ghost use Rattle.sheets.specs.Reading.{plan_start};
-ghost use Rattle.text.specs.Text.{PutShort, Printed, Says, page_size};
+ghost use Rattle.text.specs.Text.{Printed, Says, page_size};
+ghost use Rattle.text.specs.Pages.{HasRoom, Puts};
 ghost use Rattle.sheet_text_rules.specs.LogText.{visit_line, mark_line, entry_line};
-ghost use Rattle.command_show_log.specs.LogShown.{plan_text, plain_text, shown_number_of, lines_for, end_text, last_number, RecordsPiece, ShownPiece, ShownOn, BegunOn};
+ghost use Rattle.command_show_log.specs.LogShown.{plan_text, plain_text, shown_number_of, lines_for, end_text, show_after, shown_over, last_number, ShownOn, BegunOn};
 ghost use Rattle.log_stream.specs.Pieces.{entries_of};
 
 use log_records::{Entry, MarkEntry, NextEntry, VisitEntry};
 use log_stream::Gathered;
 use plans::Alloc;
 use sets::Set;
-use text::{PAGE_SIZE, Said};
+use text::{PAGE_SIZE, Page, Said};
 use units::numbers;
 
 // How many bytes are read at once.
@@ -48,59 +49,52 @@ pub struct Begun {
 // ---- the lines
 
 // The line of a visit.
-fn put_visit_line(page: &mut [u8], at: usize, v: VisitEntry) -> usize
-    requires { at + 126 ≤ length page.old }
-    ensures { PutShort 126 page.old at (visit_line v) page.new result }
+fn put_visit_line(page: &mut Page, v: VisitEntry)
+    requires { HasRoom 126 page.old }
+    ensures { Puts 126 page.old (visit_line v) page.new }
 {
     let station = u64::from(v.station);
     let start = u64::from(v.start);
     let limit = u64::from(v.limit);
     let synchronous = u64::from(v.synchronous);
     let asynchronous = u64::from(v.asynchronous);
-    text::put_line(
-        page,
-        at,
+    page.put_line(
         b"visit",
         &[station, start, limit, synchronous, asynchronous],
-    )
+    );
 }
 
 // The line of a mark.
-fn put_mark_line(page: &mut [u8], at: usize, m: MarkEntry) -> usize
-    requires { at + 126 ≤ length page.old }
-    ensures { PutShort 126 page.old at (mark_line m) page.new result }
+fn put_mark_line(page: &mut Page, m: MarkEntry)
+    requires { HasRoom 126 page.old }
+    ensures { Puts 126 page.old (mark_line m) page.new }
 {
-    text::put_line(
-        page,
-        at,
-        b"mark",
-        &[u64::from(m.station), u64::from(m.mark)],
-    )
+    page.put_line(b"mark", &[u64::from(m.station), u64::from(m.mark)]);
 }
 
 // The line of an entry.
-fn put_entry_line(page: &mut [u8], at: usize, e: Entry) -> usize
-    requires { at + 126 ≤ length page.old }
-    ensures { PutShort 126 page.old at (entry_line e) page.new result }
+fn put_entry_line(page: &mut Page, e: Entry)
+    requires { HasRoom 126 page.old }
+    ensures { Puts 126 page.old (entry_line e) page.new }
 {
     match e {
-        Entry::Visit(v) => put_visit_line(page, at, v),
-        Entry::Mark(m) => put_mark_line(page, at, m),
+        Entry::Visit(v) => put_visit_line(page, v),
+        Entry::Mark(m) => put_mark_line(page, m),
     }
 }
 
 // The line of the entry that was handed out, if there is one and its plan was accepted.
-fn put_entry(page: &mut [u8], at: usize, number: u8, got: NextEntry) -> usize
-    requires { at + 126 ≤ length page.old }
-    ensures { PutShort 126 page.old at (lines_for number (entries_of got)) page.new result }
+fn put_entry(page: &mut Page, number: u8, got: NextEntry)
+    requires { HasRoom 126 page.old }
+    ensures { Puts 126 page.old (lines_for number (entries_of got)) page.new }
 {
     if number != numbers::ACCEPTED {
-        return at;
+        return;
     }
     if got.next == 0 {
-        return at;
+        return;
     }
-    put_entry_line(page, at, got.entry)
+    put_entry_line(page, got.entry);
 }
 
 // ---- the records
@@ -112,23 +106,20 @@ fn piece_length(bytes: &[u8]) -> usize
     bytes.len().min(PIECE_SIZE)
 }
 
-// The first of the bytes.
-fn show_piece(showing: Showing, bytes: &[u8], end: usize, page: &mut [u8]) -> Shown
-    requires { RecordsPiece bytes.now end page.old }
-    ensures { ShownPiece showing bytes.now end page.old page.new result }
+// The first of the bytes: at most a line for each of them, and what is kept behind them.
+fn show_piece(page: &mut Page, showing: Showing, bytes: &[u8], end: usize) -> Showing
+    requires { (end ≤ length bytes.now) × (end ≤ 512) × HasRoom (126 * 512) page.old }
+    ensures behind { result ≡ show_after showing (take end bytes.now) }
+    ensures shown { Puts (126 * 512) page.old (shown_over showing (take end bytes.now)) page.new }
 {
     let number = showing.number;
     let mut gathered = showing.gathered;
-    let mut next: usize = 0;
     for byte in &bytes[..end] {
         gathered = log_stream::step(gathered, *byte);
         let got = log_stream::entry_in(gathered);
-        next = put_entry(page, next, number, got);
+        put_entry(page, number, got);
     }
-    Shown {
-        showing: Showing { gathered, number },
-        length: next,
-    }
+    Showing { gathered, number }
 }
 
 // The records go on over at most 512 bytes: their lines are put at the start of the page. A page that is too small leaves all as it was.
@@ -139,7 +130,10 @@ pub fn show_on(showing: Showing, bytes: &[u8], page: &mut [u8]) -> Shown
         return Shown { showing, length: 0 };
     }
     let end = piece_length(bytes);
-    show_piece(showing, bytes, end, page)
+    let mut page = Page::new(page);
+    let showing = show_piece(&mut page, showing, bytes, end);
+    let length = page.length();
+    Shown { showing, length }
 }
 
 // The number when all was read.
@@ -167,8 +161,12 @@ pub fn show_end(showing: Showing, page: &mut [u8]) -> Said
     if number == numbers::ACCEPTED {
         return Said { length: 0, number };
     }
-    let length = text::put_refused(page, 0, number);
-    Said { length, number }
+    let mut page = Page::new(page);
+    page.put_refused(number);
+    Said {
+        length: page.length(),
+        number,
+    }
 }
 
 // ---- the first bytes
@@ -184,9 +182,10 @@ fn show_plain(passed: bool, head: &[u8], page: &mut [u8]) -> Said
     let log = logs::read_log(head);
     let told = log.number;
     if told != numbers::ACCEPTED {
-        let length = text::put_refused(page, 0, told);
+        let mut page = Page::new(page);
+        page.put_refused(told);
         return Said {
-            length,
+            length: page.length(),
             number: told,
         };
     }

@@ -8,6 +8,7 @@ ghost use Rattle.command_tune.specs.Tune.{is_range, refused_with, begun, is_done
 ghost use Rattle.command_tune.specs.Lines.{number_of, line_count, line_at};
 
 use sets::Set;
+use text::phrases::Phrase;
 use tuning::Tuning;
 use units::numbers;
 use units::refusals::answer_number;
@@ -31,13 +32,6 @@ pub enum Form {
     Best,
     // The first line of the plan at the best.
     Plan,
-}
-
-// A form, and its numbers in their order; behind the last of them zeros.
-#[derive(Clone, Copy)]
-pub struct Line {
-    pub form: Form,
-    pub numbers: [u64; 6],
 }
 
 // A range of TTRT, tried up to the next one.
@@ -163,14 +157,14 @@ pub fn line_count(k: Tune) -> usize
 }
 
 // Line i, from 0; behind the last of them there is none.
-pub fn line_at(k: Tune, i: usize) -> Option<Line>
+pub fn line_at(k: Tune, i: usize) -> Option<Phrase<Form>>
     ensures { result ≡ line_at k i }
 {
     if line_count(k) <= i {
         return None;
     }
     if k.number != numbers::ACCEPTED {
-        return Some(lines::one(Form::Refused, u64::from(k.number)));
+        return Some(Phrase::one(Form::Refused, u64::from(k.number)));
     }
     if i < 3 {
         return Some(lines::first(k, i));

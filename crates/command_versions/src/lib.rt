@@ -5,13 +5,15 @@ mod listing;
 mod saying;
 mod words;
 
+ghost use Rattle.std.specs.Prelude.{◌≡◌, ◌*◌};
 ghost use Rattle.text.specs.Text.{Says};
+ghost use Rattle.text.specs.Pages.{HasRoom, Puts};
 ghost use Rattle.versions.specs.Answers.{versions_in};
 ghost use Rattle.command_versions.specs.VersionsText.{versions_printed};
 ghost use Rattle.command_versions.specs.KeepText.{keep_printed};
 ghost use Rattle.command_versions.specs.Kept.{KeptAt};
 
-use text::{PAGE_SIZE, Said};
+use text::{PAGE_SIZE, Page, Said};
 use units::numbers;
 use versions::StoredPlan;
 
@@ -21,6 +23,19 @@ pub struct KeptPlan {
     pub from: usize,
     pub end: usize,
     pub number: u8,
+}
+
+// The line of a plan that was stored, or the refusal.
+fn put_kept(page: &mut Page, stored: StoredPlan)
+    requires { HasRoom 42 page.old }
+    ensures { Puts 42 page.old (keep_printed stored) page.new }
+{
+    let number = stored.number;
+    if number != numbers::ACCEPTED {
+        page.put_refused(number);
+        return;
+    }
+    saying::put_stored(page, stored.version);
 }
 
 // What `keep` prints of what storing answered, put at the start of the page, and its number.
@@ -33,13 +48,28 @@ pub fn keep_text(stored: StoredPlan, page: &mut [u8]) -> Said
             number: numbers::BUFFER_TOO_SHORT,
         };
     }
-    let number = stored.number;
-    if number != numbers::ACCEPTED {
-        let length = text::put_refused(page, 0, number);
-        return Said { length, number };
+    let mut page = Page::new(page);
+    put_kept(&mut page, stored);
+    Said {
+        length: page.length(),
+        number: stored.number,
     }
-    let length = saying::put_stored(page, stored.version);
-    Said { length, number }
+}
+
+// The lines of the kept versions, or the refusal, and its number.
+fn put_listed(page: &mut Page, area: &[u8]) -> u8
+    requires { HasRoom (125 * 16) page.old }
+    ensures text { Puts (125 * 16) page.old (versions_printed area.now) page.new }
+    ensures number { result ≡ (versions_in area.now).number }
+{
+    let kept = versions::versions_in(area);
+    let number = kept.number;
+    if number != numbers::ACCEPTED {
+        page.put_refused(number);
+        return number;
+    }
+    listing::put_versions(page, area, kept);
+    number
 }
 
 // What `versions` prints of a store's bytes, put at the start of the page, and its number.
@@ -52,14 +82,12 @@ pub fn versions_text(area: &[u8], page: &mut [u8]) -> Said
             number: numbers::BUFFER_TOO_SHORT,
         };
     }
-    let kept = versions::versions_in(area);
-    let number = kept.number;
-    if number != numbers::ACCEPTED {
-        let length = text::put_refused(page, 0, number);
-        return Said { length, number };
+    let mut page = Page::new(page);
+    let number = put_listed(&mut page, area);
+    Said {
+        length: page.length(),
+        number,
     }
-    let length = listing::put_versions(page, area, kept);
-    Said { length, number }
 }
 
 // Where the plan stands of the version that a whole number asks for.

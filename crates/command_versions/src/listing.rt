@@ -1,6 +1,6 @@
 // The lines of `versions`: one for each kept version, oldest first.
 ghost use Rattle.std.specs.Prelude.{◌≡◌, ◌+◌, ◌-◌, ◌*◌, ◌≤◌, length, take, drop};
-ghost use Rattle.text.specs.Text.{PutShort};
+ghost use Rattle.text.specs.Pages.{HasRoom, Puts};
 ghost use Rattle.sheets.specs.Reading.{read_plan};
 ghost use Rattle.versions.specs.Answers.{versions_in};
 ghost use Rattle.command_versions.specs.VersionsText.{plan_in, line_words, version_line, line_in, count_from, version_lines};
@@ -8,36 +8,29 @@ ghost use Rattle.command_versions.specs.VersionsText.{plan_in, line_words, versi
 use plans::Alloc;
 use sets::Set;
 use sheets::ReadPlan;
+use text::Page;
 use versions::VersionsIn;
 
 // The words of a version's line: its number, `plan`, N, TTRT, τ, A*.
-fn put_words(
-    page: &mut [u8],
-    at: usize,
-    version: u64,
-    n: u64,
-    ttrt: u64,
-    tau: u64,
-    spare: u64,
-) -> usize
-    requires { at + 125 ≤ length page.old }
-    ensures { PutShort 125 page.old at (line_words version n ttrt tau spare) page.new result }
+fn put_words(page: &mut Page, version: u64, n: u64, ttrt: u64, tau: u64, spare: u64)
+    requires { HasRoom 125 page.old }
+    ensures { Puts 125 page.old (line_words version n ttrt tau spare) page.new }
 {
-    let numbered = text::put_number(page, at, version);
-    text::put_line(page, numbered, b" plan", &[n, ttrt, tau, spare])
+    page.put_number(version);
+    page.put_line(b" plan", &[n, ttrt, tau, spare]);
 }
 
 // The line of a version: its number, and the first line of its plan.
-fn put_line(page: &mut [u8], at: usize, version: u32, t: Set, a: Alloc) -> usize
-    requires { at + 125 ≤ length page.old }
-    ensures { PutShort 125 page.old at (version_line version t a) page.new result }
+fn put_line(page: &mut Page, version: u32, t: Set, a: Alloc)
+    requires { HasRoom 125 page.old }
+    ensures { Puts 125 page.old (version_line version t a) page.new }
 {
     let number = u64::from(version);
     let n = u64::from(t.n);
     let ttrt = u64::from(t.head.ttrt);
     let tau = sets::walk_time(t);
     let spare = plans::spare(t, a);
-    put_words(page, at, number, n, ttrt, tau, spare)
+    put_words(page, number, n, ttrt, tau, spare);
 }
 
 // The plan that stands from one place up to another, read.
@@ -70,24 +63,22 @@ fn count_from(oldest: u32, newest: u32) -> u32
 }
 
 // The line of a kept version.
-fn put_version(page: &mut [u8], at: usize, area: &[u8], version: u32) -> usize
-    requires { at + 125 ≤ length page.old }
-    ensures { PutShort 125 page.old at (line_in area.now version) page.new result }
+fn put_version(page: &mut Page, area: &[u8], version: u32)
+    requires { HasRoom 125 page.old }
+    ensures { Puts 125 page.old (line_in area.now version) page.new }
 {
     let plan = plan_in(area, version);
-    put_line(page, at, version, plan.set, plan.alloc)
+    put_line(page, version, plan.set, plan.alloc);
 }
 
 // A line for each kept version.
-pub(crate) fn put_versions(page: &mut [u8], area: &[u8], kept: VersionsIn) -> usize
-    requires { (kept ≡ versions_in area.now) × (125 * 16 ≤ length page.old) }
-    ensures { PutShort (125 * 16) page.old 0 (version_lines area.now) page.new result }
+pub(crate) fn put_versions(page: &mut Page, area: &[u8], kept: VersionsIn)
+    requires { (kept ≡ versions_in area.now) × HasRoom (125 * 16) page.old }
+    ensures { Puts (125 * 16) page.old (version_lines area.now) page.new }
 {
     let oldest = kept.oldest;
     let n = count_from(oldest, kept.newest);
-    let mut next: usize = 0;
     for i in 0..n {
-        next = put_version(page, next, area, oldest + i);
+        put_version(page, area, oldest + i);
     }
-    next
 }

@@ -1,11 +1,12 @@
 // The line of `keep`: `version`, and the number.
-ghost use Rattle.std.specs.Prelude.{◌≤◌, length};
-ghost use Rattle.text.specs.Text.{PutShort};
+ghost use Rattle.text.specs.Pages.{HasRoom, Puts};
 ghost use Rattle.command_versions.specs.KeepText.{stored_line};
 
-pub(crate) fn put_stored(page: &mut [u8], version: u32) -> usize
-    requires { 42 ≤ length page.old }
-    ensures { PutShort 42 page.old 0 (stored_line version) page.new result }
+use text::Page;
+
+pub(crate) fn put_stored(page: &mut Page, version: u32)
+    requires { HasRoom 42 page.old }
+    ensures { Puts 42 page.old (stored_line version) page.new }
 {
-    text::put_line(page, 0, b"version", &[u64::from(version)])
+    page.put_line(b"version", &[u64::from(version)]);
 }

@@ -1,25 +1,18 @@
--- The laws of words and of the table that is searched, for the proofs of this layer. No rule stands here.
+-- The laws of words, for the proofs of this layer. No rule stands here.
 use Prim.Native.Nat.{ℕ}
-use mathlib.Core.Path.{◌≡◌, refl, sym, ap, ◌∙◌}
-use mathlib.Core.Bool.{Bool, true, false, cond}
-use mathlib.Core.List.{List, [], ◌∷◌}
+use mathlib.Core.Path.{◌≡◌, refl, sym}
+use mathlib.Core.Bool.{Bool, true, false}
+use mathlib.Core.List.{List}
 use borrow.Author.Tests.{eq-eqb, eqb-true}
 use lib.Dec.{eqb}
 use lib.ListN.{length}
 use lib.Seq.{ext_get_or}
-use Rattle.std.proofs.Common.{Option, Some}
-use Rattle.std.specs.List.{find}
-use Rattle.std.specs.Option.{unwrap_or}
 use Rattle.std.specs.Str.{bytes_eq}
 use Rattle.std.proofs.lemmas.Slice.Eq.{bytes_eq-Decides}
 use Rattle.units.specs.Places.{at, all_below}
 use Rattle.units.proofs.PlaceLaws.{all_at, all_of}
 use Rattle.units.proofs.JudgingLaws.{and-true, true_and}
-use Rattle.commands.specs.Table.{word_of}
 use Rattle.commands.specs.Words.{same_bytes}
-use Rattle.commands.specs.Asked.{whose}
-use Rattle.commands.specs.declared.Command.{Command}
-use Rattle.commands.specs.declared.Command.TheVariants.{Unknown}
 
 -- ---- two words are the same
 
@@ -47,16 +40,3 @@ pub same_by_eq : (v w : List ℕ) → bytes_eq v w ≡ same_bytes v w
 same_by_eq v w =
     both_or_none (bytes_eq v w) (same_bytes v w) (λ e. same_itself_by v w ((bytes_eq-Decides v w).0 e))
     (λ e. (bytes_eq-Decides v w).1 (sym (same_word_lem v w e)))
-
--- ---- the command of a word
-
-first_or : (b : Bool) (c : Command) (behind : Option Command) → unwrap_or (cond b (Some c) behind) Unknown ≡ cond b c (unwrap_or behind Unknown)
-first_or true c behind = refl
-first_or false c behind = refl
-
-pub found_first : (cs : List Command) (word : List ℕ) → unwrap_or (find (λ c. same_bytes word (word_of c)) cs) Unknown ≡ whose cs word
-unfolding whose
-found_first [] word = refl
-found_first (c ∷ cs) word =
-    first_or (same_bytes word (word_of c)) c (find (λ d. same_bytes word (word_of d)) cs)
-    ∙ ap (cond (same_bytes word (word_of c)) c) (found_first cs word)

@@ -1,17 +1,17 @@
 -- The table of the commands: their words, and how many words may follow each. `commands.txt` has the same for the script.
-use Rattle.std.specs.Prelude.{ℕ, ◌≡◌, List, [], ◌∷◌, get_or}
+use Rattle.std.specs.Prelude.{ℕ, ◌≡◌, List, [], ◌∷◌, Option, slice_get}
 use Rattle.commands.specs.declared.Command.{Command}
-use Rattle.commands.specs.declared.Command.TheVariants.{Plan, PlanSheet, Explain, Tune, Compose, Show, Run, Log, Inspect, Page, Diff, Hopper, HopperSheet, Refit, EmptyStore, Keep, Kept, Versions, Version, Help, Unknown}
+use Rattle.commands.specs.declared.Command.TheVariants.{Plan, PlanSheet, Explain, Tune, Compose, Show, Run, Log, Inspect, Page, Diff, Hopper, HopperSheet, Refit, EmptyStore, Keep, Kept, Versions, Version, Help}
 
 -- all of them, in the order of the table
 abbrev pub commands : List Command
 commands = Plan ∷ PlanSheet ∷ Explain ∷ Tune ∷ Compose ∷ Show ∷ Run ∷ Log ∷ Inspect ∷ Page ∷ Diff ∷ Hopper ∷ HopperSheet ∷ Refit ∷ EmptyStore ∷ Keep ∷ Kept ∷ Versions ∷ Version ∷ Help ∷ []
 
 -- the command at a place of the table; behind the last of them there is none
-abbrev pub command_at : ℕ → Command
-command_at place = get_or commands place Unknown
+abbrev pub command_at : ℕ → Option Command
+command_at place = slice_get commands place
 
--- the word of a command, byte by byte; none is asked for by the empty word
+-- the word of a command, byte by byte
 abbrev pub word_of : Command → List ℕ
 word_of Plan = 112 ∷ 108 ∷ 97 ∷ 110 ∷ []
 word_of PlanSheet = 112 ∷ 108 ∷ 97 ∷ 110 ∷ 45 ∷ 115 ∷ 104 ∷ 101 ∷ 101 ∷ 116 ∷ []
@@ -33,9 +33,8 @@ word_of Kept = 107 ∷ 101 ∷ 112 ∷ 116 ∷ []
 word_of Versions = 118 ∷ 101 ∷ 114 ∷ 115 ∷ 105 ∷ 111 ∷ 110 ∷ 115 ∷ []
 word_of Version = 118 ∷ 101 ∷ 114 ∷ 115 ∷ 105 ∷ 111 ∷ 110 ∷ []
 word_of Help = 104 ∷ 101 ∷ 108 ∷ 112 ∷ []
-word_of Unknown = []
 
--- the least words that may follow a command; of what is none no number is right
+-- the least words that may follow a command
 abbrev pub least_of : Command → ℕ
 least_of Plan = 0
 least_of PlanSheet = 0
@@ -57,7 +56,6 @@ least_of Kept = 2
 least_of Versions = 1
 least_of Version = 0
 least_of Help = 0
-least_of Unknown = 1
 
 -- the most words that may follow it
 abbrev pub most_of : Command → ℕ
@@ -81,7 +79,6 @@ most_of Kept = 2
 most_of Versions = 1
 most_of Version = 0
 most_of Help = 0
-most_of Unknown = 0
 
 -- the two, as they are answered
 pub record Follows (c : Command) (least most : ℕ) : Type 0 where

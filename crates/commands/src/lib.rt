@@ -4,12 +4,15 @@
 pub mod status;
 pub mod words;
 
-ghost use Rattle.std.specs.Prelude.{◌≡◌};
+ghost use Rattle.std.specs.Prelude.{◌≡◌, false};
+ghost use Rattle.std.specs.Range.{range_inclusive_start, range_inclusive_end, range_inclusive_exhausted};
 ghost use Rattle.commands.specs.Table.{command_at, word_of, Follows};
 ghost use Rattle.commands.specs.Words.{same_bytes};
 ghost use Rattle.commands.specs.Asked.{command_of, counted_for, asked_for};
 
-// A command for each row of the table; and what a word that is none asks for.
+use std::ops::RangeInclusive;
+
+// A command for each row of the table.
 #[derive(Clone, Copy, PartialEq, Eq)]
 pub enum Command {
     Plan,
@@ -32,7 +35,6 @@ pub enum Command {
     Versions,
     Version,
     Help,
-    Unknown,
 }
 
 // How many commands there are.
@@ -63,16 +65,13 @@ const COMMANDS: [Command; COUNT] = [
 ];
 
 // The command at a place of the table; behind the last of them there is none.
-pub fn command_at(place: usize) -> Command
+pub fn command_at(place: usize) -> Option<Command>
     ensures { result ≡ command_at place }
 {
-    match COMMANDS.get(place) {
-        Some(command) => *command,
-        None => Command::Unknown,
-    }
+    COMMANDS.get(place).copied()
 }
 
-// The command's word; none is asked for by the empty word.
+// The command's word.
 fn word_of(command: Command) -> &'static [u8]
     ensures { result.now ≡ word_of command }
 {
@@ -97,7 +96,6 @@ fn word_of(command: Command) -> &'static [u8]
         Command::Versions => b"versions",
         Command::Version => b"version",
         Command::Help => b"help",
-        Command::Unknown => b"",
     }
 }
 
@@ -108,86 +106,73 @@ fn has_word(command: Command, word: &[u8]) -> bool
     word == word_of(command)
 }
 
-// How many words may follow a command: at least, and at most.
-#[derive(Clone, Copy)]
-struct Range {
-    least: usize,
-    most: usize,
-}
-
-// How many words may follow this one; of what is no command no number is right.
-fn following(command: Command) -> Range
-    ensures { Follows command result.least result.most }
+// How many words may follow this one.
+fn following(command: Command) -> RangeInclusive<usize>
+    ensures ends { Follows command (range_inclusive_start result) (range_inclusive_end result) }
+    ensures whole { range_inclusive_exhausted result ≡ false }
 {
     match command {
-        Command::Plan => Range { least: 0, most: 0 },
-        Command::PlanSheet => Range { least: 0, most: 0 },
-        Command::Explain => Range { least: 0, most: 0 },
-        Command::Tune => Range { least: 0, most: 2 },
-        Command::Compose => Range { least: 0, most: 0 },
-        Command::Show => Range { least: 0, most: 0 },
-        Command::Run => Range { least: 1, most: 1 },
-        Command::Log => Range { least: 1, most: 1 },
-        Command::Inspect => Range { least: 0, most: 1 },
-        Command::Page => Range { least: 1, most: 2 },
-        Command::Diff => Range { least: 2, most: 2 },
-        Command::Hopper => Range { least: 0, most: 0 },
-        Command::HopperSheet => Range { least: 0, most: 0 },
-        Command::Refit => Range { least: 1, most: 1 },
-        Command::EmptyStore => Range { least: 1, most: 1 },
-        Command::Keep => Range { least: 1, most: 1 },
-        Command::Kept => Range { least: 2, most: 2 },
-        Command::Versions => Range { least: 1, most: 1 },
-        Command::Version => Range { least: 0, most: 0 },
-        Command::Help => Range { least: 0, most: 0 },
-        Command::Unknown => Range { least: 1, most: 0 },
+        Command::Plan => 0..=0,
+        Command::PlanSheet => 0..=0,
+        Command::Explain => 0..=0,
+        Command::Tune => 0..=2,
+        Command::Compose => 0..=0,
+        Command::Show => 0..=0,
+        Command::Run => 1..=1,
+        Command::Log => 1..=1,
+        Command::Inspect => 0..=1,
+        Command::Page => 1..=2,
+        Command::Diff => 2..=2,
+        Command::Hopper => 0..=0,
+        Command::HopperSheet => 0..=0,
+        Command::Refit => 1..=1,
+        Command::EmptyStore => 1..=1,
+        Command::Keep => 1..=1,
+        Command::Kept => 2..=2,
+        Command::Versions => 1..=1,
+        Command::Version => 0..=0,
+        Command::Help => 0..=0,
     }
 }
 
 // The command whose word it is.
-fn command_of(word: &[u8]) -> Command
+fn command_of(word: &[u8]) -> Option<Command>
     ensures { result ≡ command_of word.now }
 {
     COMMANDS
         .iter()
         .copied()
         .find(|command| has_word(*command, word))
-        .unwrap_or(Command::Unknown)
 }
 
-// What a caller's words ask for.
+// What a caller's words ask for, where the first of them is a command.
 #[derive(Clone, Copy)]
 pub enum Asked {
     // A command with as many words as it takes.
     Do(Command),
     // A word too many or too few for this one.
     Miscounted(Command),
-    // The first word is no command.
-    Nothing,
 }
 
 // The command with so many words behind it.
+#[tactic(auto, unfolding(crate::specs::Asked::counted_for))]
 fn counted(command: Command, more: usize) -> Asked
     ensures { result ≡ counted_for command more }
 {
-    let Range { least, most } = following(command);
-    if most < least {
-        return Asked::Nothing;
-    }
-    let fits = (least <= more) & (more <= most);
-    if fits {
+    if following(command).contains(&more) {
         return Asked::Do(command);
     }
     Asked::Miscounted(command)
 }
 
-// What so many words ask for, the first of which is this one; no word at all asks for `plan`.
-pub fn asked_for(word: &[u8], given: usize) -> Asked
+// What so many words ask for, the first of which is this one, if that is a command; no word at all asks for `plan`.
+#[tactic(auto, unfolding(crate::specs::Asked::asked_for))]
+pub fn asked_for(word: &[u8], given: usize) -> Option<Asked>
     ensures { result ≡ asked_for word.now given }
 {
     if given == 0 {
-        return Asked::Do(Command::Plan);
+        return Some(Asked::Do(Command::Plan));
     }
-    let command = command_of(word);
-    counted(command, given - 1)
+    let command = command_of(word)?;
+    Some(counted(command, given - 1))
 }

@@ -32,8 +32,8 @@ fn obey(rt: &(impl Input + Print + Complain), sheet: bool) -> u8 {
         Ok(listing) => listing,
         Err(error) => return ending::unread_input(rt, error),
     };
-    if listing.unread != 0 {
-        return ending::name_line(rt, listing.unread);
+    if let Some(line) = listing.unread {
+        return ending::name_line(rt, line);
     }
     if sheet {
         return write_sheet(rt, listing.list);

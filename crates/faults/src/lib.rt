@@ -155,19 +155,16 @@ fn header_number(h: Head, tag: u8) -> u32
 }
 
 // The largest that it may be.
+#[tactic(auto, unfolding(crate::specs::Ranges::header_high))]
 fn header_high(tag: u8) -> u32
     ensures { result ≡ header_high tag }
 {
-    if tag == fields::HEAD_TAG {
-        return numbers::MOST_TTRT;
+    match tag {
+        fields::HEAD_TAG => numbers::MOST_TTRT,
+        fields::MODE_TAG => numbers::LAST_MODE,
+        fields::FRAME_TAG => numbers::MOST_FRAME,
+        _ => numbers::MOST_GRID,
     }
-    if tag == fields::MODE_TAG {
-        return numbers::LAST_MODE;
-    }
-    if tag == fields::FRAME_TAG {
-        return numbers::MOST_FRAME;
-    }
-    numbers::MOST_GRID
 }
 
 // The number of a header's field with its range: tag 1 is TTRT, 4 the mode, 5 F, and 6, as any other, g.
@@ -181,19 +178,13 @@ pub fn header_range(h: Head, tag: u8) -> Ranged
 fn nth(w: u32, c: u32, d: u32, p: u32, s: u32, j: u8) -> u32
     ensures { result ≡ nth_of w c d p s j }
 {
-    if j == 0 {
-        return w;
+    match j {
+        0 => w,
+        1 => c,
+        2 => d,
+        3 => p,
+        _ => s,
     }
-    if j == 1 {
-        return c;
-    }
-    if j == 2 {
-        return d;
-    }
-    if j == 3 {
-        return p;
-    }
-    s
 }
 
 // Number j of a station with its range: 0 is w, 1 C, 2 D, 3 P, and 4, as any other, S.

@@ -19,11 +19,10 @@ fn write_kept(rt: &(impl Print + Complain), store: &[u8], number: &[u8]) -> u8 {
 // The same of the store in a file.
 fn find(rt: &(impl Files + Print + Complain), path: &str, number: &[u8]) -> u8 {
     let mut area: [u8; files::STORE_READ] = [0; files::STORE_READ];
-    let filled = files::load(rt, path, &mut area);
-    if filled.failed.is_some() {
-        return status::FAILED;
+    match files::load(rt, path, &mut area) {
+        Ok(length) => write_kept(rt, &area[..length], number),
+        Err(_) => status::FAILED,
     }
-    write_kept(rt, &area[..filled.length], number)
 }
 
 // The same of the store whose path is the word at this place.
@@ -31,9 +30,9 @@ fn find_in(rt: &(impl Env + Files + Print + Complain), word: usize, number: &[u8
     if !number_words::is_whole(number) {
         return usage::misused(rt, Command::Kept);
     }
-    match words::path(rt, word) {
+    match files::path(rt, word) {
         Ok(path) => find(rt, path.as_str(), number),
-        Err(error) => files::fail(rt, "the path of the store", error),
+        Err(_) => status::FAILED,
     }
 }
 
@@ -49,19 +48,18 @@ pub(crate) fn kept(rt: &(impl Env + Files + Print + Complain), first: usize, sec
 // Prints the versions of the store in a file.
 fn list(rt: &(impl Files + Print + Complain), path: &str) -> u8 {
     let mut area: [u8; files::STORE_READ] = [0; files::STORE_READ];
-    let filled = files::load(rt, path, &mut area);
-    if filled.failed.is_some() {
+    let Ok(length) = files::load(rt, path, &mut area) else {
         return status::FAILED;
-    }
+    };
     let mut page = io::large_buffer();
-    let said = command_versions::versions_text(&area[..filled.length], &mut page);
+    let said = command_versions::versions_text(&area[..length], &mut page);
     ending::answer(rt, &page[..said.length], status::status_of(said.number))
 }
 
 // `versions`: the path is the word at this place.
 pub(crate) fn versions(rt: &(impl Env + Files + Print + Complain), word: usize) -> u8 {
-    match words::path(rt, word) {
+    match files::path(rt, word) {
         Ok(path) => list(rt, path.as_str()),
-        Err(error) => files::fail(rt, "the path of the store", error),
+        Err(_) => status::FAILED,
     }
 }

@@ -1,34 +1,46 @@
 // Files by their paths: read whole, written and synced, and what is said where that fails.
-ghost use Rattle.std.specs.Prelude.{◌≡◌};
+ghost use Rattle.std.specs.Io.{ReadsAtMost};
 ghost use Rattle.io.specs.Counts.{IsPrefixLen};
 
 use commands::status;
-use std::fs;
+use std::env::Env;
 use std::fs::{Files, OpenFile};
-use std::io::{Error, Read, Write};
+use std::io::{Error, Write};
 use streams::complaints::Complain;
-use streams::reading::Filled;
-use streams::{reading, reasons};
+use streams::failing::Failed;
+use streams::loading;
+use streams::words::PathText;
 
 // One byte more than a store has: it tells that a byte follows it.
 pub(crate) const STORE_READ: usize = 65_537;
 
+// What is said of a file begins with this.
+pub(crate) const NAME: &[u8] = b"olivastrum: ";
+
 // Names the path, and what the system says of it; the status is that of a failure.
 pub(crate) fn fail(rt: &impl Complain, path: &str, error: Error) -> u8 {
-    rt.complain(b"olivastrum: ");
-    reasons::say(rt, path.as_bytes(), error);
-    status::FAILED
+    loading::fail(rt, NAME, path.as_bytes(), error)
 }
 
-// A file that has the number of standard input, output or error: what is said there would be written into it.
-pub(crate) fn fail_closed(rt: &impl Complain) -> u8 {
-    rt.complain(b"olivastrum: standard input, output or error is closed\n");
-    status::FAILED
+// The path of a store, which is the word at this place; where it is none, that is said.
+pub(crate) fn path(rt: &(impl Env + Complain), word: usize) -> Result<PathText, Failed> {
+    loading::path(rt, NAME, b"the path of the store", word)
+}
+
+// Fills the buffer from the file of this path.
+pub(crate) fn load(
+    rt: &(impl Files + Complain),
+    path: &str,
+    buffer: &mut [u8],
+) -> Result<usize, Failed>
+    ensures { ReadsAtMost result buffer.new }
+{
+    loading::load_path(rt, NAME, path, buffer)
 }
 
 // A path with a sentence behind it.
 pub(crate) fn fail_saying(rt: &impl Complain, path: &str, sentence: &[u8]) -> u8 {
-    rt.complain(b"olivastrum: ");
+    rt.complain(NAME);
     rt.complain(path.as_bytes());
     rt.complain(sentence);
     status::FAILED
@@ -38,45 +50,6 @@ pub(crate) fn fail_saying(rt: &impl Complain, path: &str, sentence: &[u8]) -> u8
 pub(crate) fn fail_long(rt: &impl Complain) -> u8 {
     rt.complain(b"olivastrum: the path of the store is too long\n");
     status::FAILED
-}
-
-// No byte came.
-fn none(error: Error) -> Filled
-    ensures { result.length ≡ 0 }
-{
-    Filled {
-        length: 0,
-        failed: Some(error),
-    }
-}
-
-// Fills the buffer from an open file; one that cannot be read is named.
-pub(crate) fn fill(
-    rt: &impl Complain,
-    file: &mut impl Read,
-    path: &str,
-    buffer: &mut [u8],
-) -> Filled
-    ensures { IsPrefixLen result.length buffer.new }
-{
-    let filled = reading::fill(file, buffer);
-    if let Some(error) = filled.failed {
-        fail(rt, path, error);
-    }
-    filled
-}
-
-// Fills the buffer from the file of this path.
-pub(crate) fn load(rt: &(impl Files + Complain), path: &str, buffer: &mut [u8]) -> Filled
-    ensures { IsPrefixLen result.length buffer.new }
-{
-    match fs::open(rt, path) {
-        Ok(mut file) => fill(rt, &mut file, path, buffer),
-        Err(error) => {
-            fail(rt, path, error);
-            none(error)
-        }
-    }
 }
 
 // Writes the bytes, and waits until they have reached the device.

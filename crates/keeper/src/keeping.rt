@@ -8,7 +8,7 @@ use std::fs::{Files, OpenFile};
 use std::io::{Input, Print, Write};
 use std::os::fd::AsRawFd;
 use streams::complaints::Complain;
-use streams::{ending, reading, words};
+use streams::{ending, hearing};
 use versions::StoredPlan;
 
 // Says what storing answered.
@@ -48,11 +48,10 @@ fn hold(
     sheet: &[u8],
 ) -> u8 {
     let mut area: [u8; files::STORE_READ] = [0; files::STORE_READ];
-    let filled = files::load(rt, path, &mut area);
-    if filled.failed.is_some() {
-        return replacing::give_up(rt, new);
+    match files::load(rt, path, &mut area) {
+        Ok(length) => store(rt, path, new, file, &mut area[..length], sheet),
+        Err(_) => replacing::give_up(rt, new),
     }
-    store(rt, path, new, file, &mut area[..filled.length], sheet)
 }
 
 // Keeps the plan in the store of this path.
@@ -72,12 +71,11 @@ where
     R::File: AsRawFd,
 {
     let mut sheet: [u8; sheets::PLAN_READ] = [0; sheets::PLAN_READ];
-    let filled = reading::fill(&mut rt.reader(), &mut sheet);
-    if let Some(error) = filled.failed {
-        return ending::unread_input(rt, error);
-    }
-    match words::path(rt, word) {
-        Ok(path) => keep_in(rt, path.as_str(), &sheet[..filled.length]),
-        Err(error) => files::fail(rt, "the path of the store", error),
+    let Ok(length) = hearing::fill(rt, &mut rt.reader(), &mut sheet) else {
+        return status::FAILED;
+    };
+    match files::path(rt, word) {
+        Ok(path) => keep_in(rt, path.as_str(), &sheet[..length]),
+        Err(_) => status::FAILED,
     }
 }

@@ -7,7 +7,6 @@ use std::fs::{Files, OpenFile};
 use std::io::Write;
 use std::os::fd::AsRawFd;
 use streams::complaints::Complain;
-use streams::words;
 
 // The new file stands, and no other keeper goes on: where nothing has the store's name, the empty store takes it.
 fn hold(
@@ -40,8 +39,8 @@ pub(crate) fn empty_store<R: Env + Files + Complain>(rt: &R, word: usize) -> u8
 where
     R::File: AsRawFd,
 {
-    match words::path(rt, word) {
+    match files::path(rt, word) {
         Ok(path) => make(rt, path.as_str()),
-        Err(error) => files::fail(rt, "the path of the store", error),
+        Err(_) => status::FAILED,
     }
 }

@@ -6,13 +6,11 @@ use std::fs::{Files, OpenFile, OpenOptions};
 use std::io::{Error, ErrorKind, Write};
 use std::os::fd::AsRawFd;
 use streams::complaints::Complain;
+use streams::loading;
 use streams::words::{PathText, WORD_SIZE};
 
 // The longest path that has room for `.new` behind it.
 const LONGEST: usize = WORD_SIZE - 4;
-
-// The number of standard error, the highest of the three.
-const STDERR_FILENO: i32 = 2;
 
 // The path of the file beside a store, or none where it is too long.
 fn beside(path: &str) -> Option<PathText> {
@@ -73,9 +71,9 @@ where
             return None;
         }
     };
-    if file.as_raw_fd() <= STDERR_FILENO {
+    if loading::is_standard(&file) {
         let _ = fs::remove_file(rt, new);
-        files::fail_closed(rt);
+        loading::fail_closed(rt, files::NAME);
         return None;
     }
     Some(file)

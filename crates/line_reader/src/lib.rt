@@ -1,7 +1,7 @@
-// A line of text, read byte after byte: a word, and up to five numbers behind it.
+// A line of text, read byte after byte: a word, and up to five numbers behind it; and the pieces in which a text is read.
 #![tactic(auto)]
 
-ghost use Rattle.std.specs.Prelude.{◌≡◌, ◌+◌, ◌-◌, ◌*◌, ◌<◌, ◌≤◌, ◌^◌, ltb};
+ghost use Rattle.std.specs.Prelude.{◌≡◌, ◌+◌, ◌-◌, ◌*◌, ◌<◌, ◌≤◌, ◌^◌, ltb, take};
 ghost use Rattle.line_reader.specs.Scan.{is_blank, fresh_scan, in_phase, letter_read, number_begun, digit_read, character_read, stepped, is_empty_line, next_line};
 
 // ---- where in a line the reading stands
@@ -182,4 +182,13 @@ pub fn next_line(line: u64) -> u64
     ensures { result ≡ next_line line }
 {
     line.saturating_add(1)
+}
+
+// ---- a text in pieces
+
+// The bytes of a text that are read at once: the first so many, or all if they are fewer.
+pub fn piece(text: &[u8], most: usize) -> &[u8]
+    ensures { result.now ≡ take most text.now }
+{
+    &text[..most.min(text.len())]
 }

@@ -1,11 +1,11 @@
 // `compose`: the sheet of the text on standard input, or the log; a log's bytes go out as its lines come.
 use crate::complaining;
-use crate::failing::{Failed, say, unread};
 use command_compose::{Composing, Draft};
 use commands::status;
-use std::io::{Input, Print, Read};
+use std::io::{Input, Print};
 use streams::complaints::Complain;
-use streams::ending;
+use streams::failing::{Failed, say};
+use streams::{ending, hearing};
 use text_faults::Watch;
 use units::numbers;
 
@@ -28,44 +28,19 @@ fn take(rt: &(impl Print + Complain), reading: Reading, text: &[u8]) -> Result<R
     })
 }
 
-// Reads once, as many bytes as are taken at once; nothing where the input has ended.
-fn turn(
-    rt: &(impl Print + Complain),
-    from: &mut impl Read,
-    reading: Reading,
-) -> Result<Option<Reading>, Failed> {
-    let mut text: [u8; 2_048] = [0; 2_048];
-    match from.read(&mut text) {
-        Ok(0) => Ok(None),
-        Ok(length) => Ok(Some(take(rt, reading, &text[..length])?)),
-        Err(error) => Err(unread(rt, error)),
-    }
-}
-
-// All the input; the turns are counted, up to a number that no text uses up.
-fn take_all(
-    rt: &(impl Print + Complain),
-    from: &mut impl Read,
-    begun: Reading,
-) -> Result<Reading, Failed> {
-    let mut reading = begun;
-    for _ in 0..u64::MAX {
-        let Some(more) = turn(rt, from, reading)? else {
-            return Ok(reading);
-        };
-        reading = more;
-    }
-    Err(Failed)
-}
-
 // The whole text; its last line may lack its newline.
 fn read(rt: &(impl Input + Print + Complain)) -> Result<Reading, Failed> {
+    let mut text: [u8; 2_048] = [0; 2_048];
     let begun = Reading {
         composing: command_compose::begin(),
         watch: text_faults::begin(),
     };
-    let reading = take_all(rt, &mut rt.reader(), begun)?;
-    take(rt, reading, b"\n")
+    hearing::hear_lines(
+        rt,
+        &mut text,
+        begun,
+        |reading, text| take(rt, reading, text),
+    )
 }
 
 // Writes the sheet or the end of the log, or says why there is none.
@@ -89,8 +64,8 @@ pub(crate) fn compose(rt: &(impl Input + Print + Complain)) -> u8 {
         return status::FAILED;
     };
     let draft = read.composing.draft;
-    if draft.unread != 0 {
-        let status = ending::name_line(rt, draft.unread);
+    if let Some(line) = draft.unread {
+        let status = ending::name_line(rt, line);
         complaining::name_word(rt, read.watch);
         return status;
     }

@@ -20,14 +20,12 @@ fn compare(rt: &(impl Print + Complain), old: &[u8], new: &[u8]) -> u8 {
 // Of each file one byte more than the longest plan is read: it tells that a byte follows it. Both are closed before anything is printed.
 pub(crate) fn diff(rt: &(impl Env + Files + Print + Complain), first: usize, second: usize) -> u8 {
     let mut old: [u8; sheets::PLAN_READ] = [0; sheets::PLAN_READ];
-    let before = loading::load(rt, b"diff: ", first, &mut old);
-    if before.failed.is_some() {
+    let Ok(before) = loading::load(rt, b"diff: ", first, &mut old) else {
         return status::FAILED;
-    }
+    };
     let mut new: [u8; sheets::PLAN_READ] = [0; sheets::PLAN_READ];
-    let after = loading::load(rt, b"diff: ", second, &mut new);
-    if after.failed.is_some() {
+    let Ok(after) = loading::load(rt, b"diff: ", second, &mut new) else {
         return status::FAILED;
-    }
-    compare(rt, &old[..before.length], &new[..after.length])
+    };
+    compare(rt, &old[..before], &new[..after])
 }

@@ -1,70 +1,35 @@
 // `inspect`: whether a run could have given the records of the log on standard input, or its first fault; `inspect PLAN`: whether its plan is the one in PLAN, too.
-use crate::failing::{Failed, unread};
 use commands::status;
 use inspection_stream::Inspecting;
 use std::env::Env;
 use std::fs::Files;
 use std::io::{Input, Print, Read};
+use std::ops::ControlFlow;
 use streams::complaints::Complain;
-use streams::{ending, loading, reading, words};
+use streams::failing::Failed;
+use streams::{ending, hearing, loading, words};
 
-// The log behind one reading, and whether the input goes on.
-#[derive(Clone, Copy)]
-struct Looked {
-    inspecting: Inspecting,
-    more: bool,
-}
-
-// Reads once. Behind a fault of the log nothing is read: no byte there changes the answer.
-fn turn(
-    rt: &impl Complain,
-    from: &mut impl Read,
-    inspecting: Inspecting,
-) -> Result<Looked, Failed> {
-    let mut bytes: [u8; 4_096] = [0; 4_096];
-    let filled = reading::fill(from, &mut bytes);
-    if let Some(error) = filled.failed {
-        return Err(unread(rt, error));
+// Goes on. Behind a fault of the log nothing is read: no byte there changes the answer.
+fn look_on(inspecting: Inspecting, bytes: &[u8]) -> ControlFlow<Inspecting, Inspecting> {
+    let behind = inspection_stream::inspect_on(inspecting, bytes);
+    if behind.gathered.number == 0 {
+        return ControlFlow::Continue(behind);
     }
-    let length = filled.length;
-    let behind = inspection_stream::inspect_on(inspecting, &bytes[..length]);
-    let sound = behind.gathered.number == 0;
-    Ok(Looked {
-        inspecting: behind,
-        more: sound & (length == 4_096),
-    })
-}
-
-// All the input; the turns are counted, up to a number that no log uses up.
-fn look_on(
-    rt: &impl Complain,
-    from: &mut impl Read,
-    begun: Inspecting,
-) -> Result<Inspecting, Failed> {
-    let mut inspecting = begun;
-    for _ in 0..u64::MAX {
-        let looked = turn(rt, from, inspecting)?;
-        inspecting = looked.inspecting;
-        if !looked.more {
-            return Ok(inspecting);
-        }
-    }
-    Err(Failed)
+    ControlFlow::Break(behind)
 }
 
 // The whole log. The first 3,400 bytes are enough for every plan: what they say of it is what the whole log says.
 fn look(rt: &impl Complain, from: &mut impl Read) -> Result<Inspecting, Failed> {
     let mut head: [u8; log_stream::FIRST_SIZE] = [0; log_stream::FIRST_SIZE];
-    let filled = reading::fill(from, &mut head);
-    if let Some(error) = filled.failed {
-        return Err(unread(rt, error));
-    }
-    let read = filled.length;
+    let read = hearing::fill(rt, from, &mut head)?;
     let begun = inspection_stream::inspect_start(&head[..read]);
     if read < log_stream::FIRST_SIZE {
         return Ok(begun);
     }
-    look_on(rt, from, begun)
+    let mut bytes: [u8; 4_096] = [0; 4_096];
+    hearing::fill_all(rt, from, &mut bytes, begun, |inspecting, bytes| {
+        Ok(look_on(inspecting, bytes))
+    })
 }
 
 // Says what is on the page; the status is 0 exactly where the log is accepted.
@@ -94,11 +59,9 @@ fn finish_against(rt: &(impl Print + Complain), plan: &[u8], inspecting: Inspect
 // The plan sheet is read first: of its file one byte more than the longest plan, which tells that a byte follows it.
 fn inspect_against(rt: &(impl Env + Files + Input + Print + Complain), word: usize) -> u8 {
     let mut sheet: [u8; sheets::PLAN_READ] = [0; sheets::PLAN_READ];
-    let plan = loading::load(rt, b"inspect: ", word, &mut sheet);
-    if plan.failed.is_some() {
+    let Ok(length) = loading::load(rt, b"inspect: ", word, &mut sheet) else {
         return status::FAILED;
-    }
-    let length = plan.length;
+    };
     let Ok(inspecting) = look(rt, &mut rt.reader()) else {
         return status::FAILED;
     };

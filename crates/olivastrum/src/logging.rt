@@ -1,10 +1,10 @@
 // `log PLAN`: the log of the run that the calls on standard input make.
-use crate::failing::{Failed, say, unread};
 use command_log::Recording;
 use commands::status;
-use std::io::{Input, Print, Read};
+use std::io::{Input, Print};
 use streams::complaints::Complain;
-use streams::ending;
+use streams::failing::{Failed, say};
+use streams::{ending, hearing};
 
 // Writes the fields of the visits and marks in the lines that end in these bytes.
 fn hear(
@@ -19,46 +19,17 @@ fn hear(
     Ok(recorded.recording)
 }
 
-// Reads once, and records what came; nothing where the input has ended.
-fn turn(
-    rt: &(impl Print + Complain),
-    from: &mut impl Read,
-    recording: Recording,
-) -> Result<Option<Recording>, Failed> {
-    let mut text: [u8; 256] = [0; 256];
-    match from.read(&mut text) {
-        Ok(0) => Ok(None),
-        Ok(length) => Ok(Some(hear(rt, recording, &text[..length])?)),
-        Err(error) => Err(unread(rt, error)),
-    }
-}
-
-// All the input; the turns are counted, up to a number that no run uses up.
-fn hear_all(
-    rt: &(impl Print + Complain),
-    from: &mut impl Read,
-    begun: Recording,
-) -> Result<Recording, Failed> {
-    let mut recording = begun;
-    for _ in 0..u64::MAX {
-        let Some(more) = turn(rt, from, recording)? else {
-            return Ok(recording);
-        };
-        recording = more;
-    }
-    Err(Failed)
-}
-
-// Writes the log of an opened ring, its first bytes and then what the calls record; the first line that cannot be read, or 0.
+// Writes the log of an opened ring, its first bytes and then what the calls record; the first line that cannot be read, if there is one.
 fn write(
     rt: &(impl Input + Print + Complain),
     first: &[u8],
     begun: Recording,
-) -> Result<u64, Failed> {
+) -> Result<Option<u64>, Failed> {
     say(rt, first)?;
-    let recording = hear_all(rt, &mut rt.reader(), begun)?;
-    // A last line may lack its newline.
-    let last = hear(rt, recording, b"\n")?;
+    let mut text: [u8; 256] = [0; 256];
+    let last = hearing::hear_lines(rt, &mut text, begun, |recording, text| {
+        hear(rt, recording, text)
+    })?;
     let mut end: [u8; 3] = [0; 3];
     sheets::records::put_end(&mut end, 0);
     say(rt, &end)?;
@@ -74,8 +45,8 @@ pub(crate) fn start(rt: &(impl Input + Print + Complain), sheet: &[u8]) -> u8 {
     }
     let length = opened.length;
     match write(rt, &out[..length], opened.recording) {
-        Ok(0) => status::DONE,
-        Ok(line) => ending::name_line(rt, line),
+        Ok(None) => status::DONE,
+        Ok(Some(line)) => ending::name_line(rt, line),
         Err(Failed) => status::FAILED,
     }
 }

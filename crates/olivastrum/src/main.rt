@@ -4,49 +4,48 @@
 mod complaining;
 mod composing;
 mod diffing;
-mod failing;
 mod inspecting;
 mod logging;
 mod planned;
 mod running;
 mod showing;
 
-use commands::{Command, status};
+use commands::Command;
 use std::env::Env;
 use std::fs::Files;
 use std::io::{Input, Print};
 use std::os::fd::AsRawFd;
 use streams::complaints::Complain;
-use streams::{ending, usage, words};
+use streams::program::Words;
+use streams::{program, usage};
 
-// Does what the words from this one on ask for; the second and the third are behind it.
-fn obey<R: Env + Files + Input + Print + Complain>(
-    rt: &R,
-    first: usize,
-    second: usize,
-    third: usize,
-) -> u8
+// Does the command.
+fn obey<R: Env + Files + Input + Print + Complain>(rt: &R, command: Command, words: Words) -> u8
 where
     R::File: AsRawFd,
 {
-    match words::command(rt, first) {
+    match command {
         Command::Compose => composing::compose(rt),
         Command::Show => showing::show(rt),
-        Command::Run => planned::obey(rt, false, second),
-        Command::Log => planned::obey(rt, true, second),
-        Command::Inspect => inspecting::inspect(rt, second),
-        Command::Diff => diffing::diff(rt, second, third),
+        Command::Run => planned::obey(
+            rt,
+            b"run: ",
+            words.second,
+            |sheet| running::start(rt, sheet),
+        ),
+        Command::Log => planned::obey(
+            rt,
+            b"log: ",
+            words.second,
+            |sheet| logging::start(rt, sheet),
+        ),
+        Command::Inspect => inspecting::inspect(rt, words.second),
+        Command::Diff => diffing::diff(rt, words.second, words.third),
         Command::Help => command_help::print(rt),
-        Command::Unknown => status::FAILED,
         _ => usage::elsewhere(rt),
     }
 }
 
 fn main(rt: HostRuntime) {
-    if !words::status_asked(&rt) {
-        obey(&rt, 1, 2, 3);
-        return;
-    }
-    let status = obey(&rt, 2, 3, 4);
-    ending::tell(status);
+    program::run(&rt, |command, words| obey(&rt, command, words));
 }

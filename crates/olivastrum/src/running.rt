@@ -1,10 +1,10 @@
 // `run PLAN`: the calls on standard input, answered line by line.
-use crate::failing::{Failed, say, unread};
 use command_run::Run;
 use commands::status;
-use std::io::{Input, Print, Read};
+use std::io::{Input, Print};
 use streams::complaints::Complain;
-use streams::ending;
+use streams::failing::{Failed, say};
+use streams::{ending, hearing};
 
 // The run behind what was read, and whether one of its lines could not be read.
 #[derive(Clone, Copy)]
@@ -25,42 +25,11 @@ fn hear(rt: &(impl Print + Complain), heard: Heard, text: &[u8]) -> Result<Heard
     })
 }
 
-// Reads once, and answers what came; nothing where the input has ended.
-fn turn(
-    rt: &(impl Print + Complain),
-    from: &mut impl Read,
-    heard: Heard,
-) -> Result<Option<Heard>, Failed> {
-    let mut text: [u8; 256] = [0; 256];
-    match from.read(&mut text) {
-        Ok(0) => Ok(None),
-        Ok(length) => Ok(Some(hear(rt, heard, &text[..length])?)),
-        Err(error) => Err(unread(rt, error)),
-    }
-}
-
-// All the input. A proved loop has to end, and nothing says that the input does: so the turns are counted, up to a number that no run uses up.
-fn hear_all(
-    rt: &(impl Print + Complain),
-    from: &mut impl Read,
-    begun: Heard,
-) -> Result<Heard, Failed> {
-    let mut heard = begun;
-    for _ in 0..u64::MAX {
-        let Some(more) = turn(rt, from, heard)? else {
-            return Ok(heard);
-        };
-        heard = more;
-    }
-    Err(Failed)
-}
-
 // Answers all the calls, and says whether one of their lines could not be read.
 fn answer(rt: &(impl Input + Print + Complain), run: Run) -> Result<bool, Failed> {
     let begun = Heard { run, unread: false };
-    let heard = hear_all(rt, &mut rt.reader(), begun)?;
-    // A last line may lack its newline.
-    let last = hear(rt, heard, b"\n")?;
+    let mut text: [u8; 256] = [0; 256];
+    let last = hearing::hear_lines(rt, &mut text, begun, |heard, text| hear(rt, heard, text))?;
     Ok(last.unread)
 }
 

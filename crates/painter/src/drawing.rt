@@ -1,11 +1,11 @@
 // The picture: each record that is drawn is put out as it comes.
 use crate::shapes;
 use picture_stream::{Watching, Window};
-use pictures::{Pen, Scene};
+use pictures::{Drawing, Pen, Scene};
 use std::io::Print;
 use streams::complaints::Complain;
 use streams::ending;
-use tallies::Drawn;
+use text::Page;
 
 // What a log is drawn by: what every record is, and which ones are.
 #[derive(Clone, Copy)]
@@ -14,45 +14,47 @@ pub(crate) struct Easel {
     pub window: Window,
 }
 
-// A log that is being read and drawn: what is kept of it, the pen, and whether all could be written so far.
+// A log that is being read and drawn: what is kept of it, and the pen, as long as all could be written.
 #[derive(Clone, Copy)]
 pub(crate) struct Canvas {
     pub watching: Watching,
-    pub pen: Pen,
-    pub wrote: bool,
+    pub pen: Option<Pen>,
 }
 
 // The parts of a record, one behind the other on a page. The first, where it begins a line, has the record's number in its words too, as part 3 has it.
-fn put_parts(page: &mut [u8], scene: Scene, pen: Pen, drawn: Drawn) -> usize {
-    let mut at = 0;
-    if let Some(label) = pictures::part_at(scene, pen, drawn, 0) {
-        if let Some(record) = pictures::part_at(scene, pen, drawn, 3) {
-            at = shapes::put_label(page, at, label, record);
-        }
+fn put_parts(page: &mut Page, drawing: Drawing) {
+    if let (Some(label), Some(record)) = (drawing.part_at(0), drawing.part_at(3)) {
+        shapes::put_label(page, label, record);
     }
     for k in 1..pictures::PART_COUNT {
-        if let Some(part) = pictures::part_at(scene, pen, drawn, k) {
-            at = shapes::put_part(page, at, part);
+        if let Some(part) = drawing.part_at(k) {
+            shapes::put_part(page, part);
         }
     }
-    at
 }
 
-// Draws a record.
-fn draw(rt: &(impl Print + Complain), scene: Scene, pen: Pen, drawn: Drawn) -> bool {
-    let mut page = io::large_buffer();
-    let put = put_parts(&mut page, scene, pen, drawn);
-    ending::say_put(rt, &page, put)
+// Draws a record: the pen behind it, if it could be written.
+fn draw(rt: &(impl Print + Complain), drawing: Drawing) -> Option<Pen> {
+    let mut buffer = io::large_buffer();
+    let mut page = Page::new(&mut buffer);
+    put_parts(&mut page, drawing);
+    let put = page.length();
+    if ending::say_put(rt, &buffer, put) {
+        Some(drawing.pen_after())
+    } else {
+        None
+    }
 }
 
 // Ends a line that has begun.
 pub(crate) fn end(rt: &(impl Print + Complain), pen: Pen) -> bool {
-    let mut page = io::buffer();
-    let mut put = 0;
+    let mut buffer = io::buffer();
+    let mut page = Page::new(&mut buffer);
     if let Some(part) = pictures::line_end(pen) {
-        put = shapes::put_part(&mut page, put, part);
+        shapes::put_part(&mut page, part);
     }
-    ending::say_put(rt, &page, put)
+    let put = page.length();
+    ending::say_put(rt, &buffer, put)
 }
 
 // The bytes from this place on: each turn goes to the next record that is drawn, a byte further at least.
@@ -70,12 +72,10 @@ pub(crate) fn go_over(
         let watched = picture_stream::watch_on(stands.watching, easel.window, bytes, at);
         stands.watching = watched.watching;
         at = watched.at;
-        if !(watched.stopped & stands.wrote) {
+        let (Some(pen), Some(drawn)) = (stands.pen, watched.drawn) else {
             return stands;
-        }
-        let drawn = watched.drawn;
-        stands.wrote = draw(rt, scene, stands.pen, drawn);
-        stands.pen = pictures::pen_after(scene, stands.pen, drawn);
+        };
+        stands.pen = draw(rt, Drawing { scene, pen, drawn });
     }
     stands
 }

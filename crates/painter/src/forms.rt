@@ -1,16 +1,10 @@
 // The words of the page's forms. `tests/page` holds the numbers in them to the log.
 use crate::texts;
-use command_page::{Form, Part};
+use command_page::Form;
 use std::io::Print;
 use streams::complaints::Complain;
-use streams::ending;
-
-// Says words, with a number in the place of each `#`.
-pub(crate) fn fill(rt: &(impl Print + Complain), words: &[u8], numbers: [u64; 6]) -> bool {
-    let mut page = io::buffer();
-    let put = text::put_filled(&mut page, 0, words, numbers);
-    ending::say_put(rt, &page, put)
-}
+use streams::ending::say_filled;
+use text::phrases::Phrase;
 
 // What each station did.
 fn did(form: Form) -> &'static [u8] {
@@ -51,6 +45,8 @@ fn plan(form: Form) -> &'static [u8] {
         Form::TimelyMode => b"<tr><td>mode</td><td>1, timely-token, 2003 edition</td></tr>\n",
         Form::FddiMode => b"<tr><td>mode</td><td>2, FDDI, which is retired</td></tr>\n",
         Form::EarlierMode => b"<tr><td>mode</td><td>3, timely-token, 2002 edition</td></tr>\n",
+        Form::LongestFrame => b"<tr><td>F, the longest asynchronous frame</td><td>#</td></tr>\n",
+        Form::Grid => b"<tr><td>g, the step in which S is held</td><td>#</td></tr>\n",
         Form::Tau => b"<tr><td>tau, all walk times together</td><td>#</td></tr>\n",
         Form::Sum => b"<tr><td>the sum of all S</td><td>#</td></tr>\n",
         Form::Spare => b"<tr><td>A*, the spare time</td><td>#</td></tr>\n",
@@ -117,38 +113,14 @@ fn words(form: Form) -> &'static [u8] {
     }
 }
 
-// F, which is 1 where the plan names none.
-fn say_frame(rt: &(impl Print + Complain), numbers: [u64; 6]) -> bool {
-    if numbers[0] == 1 {
-        return texts::no_frame(rt);
-    }
-    fill(
-        rt,
-        b"<tr><td>F, the longest asynchronous frame</td><td>#</td></tr>\n",
-        numbers,
-    )
-}
-
-// g, in the same way.
-fn say_grid(rt: &(impl Print + Complain), numbers: [u64; 6]) -> bool {
-    if numbers[0] == 1 {
-        return texts::no_grid(rt);
-    }
-    fill(
-        rt,
-        b"<tr><td>g, the step in which S is held</td><td>#</td></tr>\n",
-        numbers,
-    )
-}
-
 // What was expected of whole frames.
 fn say_frames(rt: &(impl Print + Complain), numbers: [u64; 6]) -> bool {
     let longest = [numbers[2], 0, 0, 0, 0, 0];
-    fill(
+    say_filled(
         rt,
         b"<td>asynchronous</td><td>begun below #</td><td>#</td>",
         numbers,
-    ) && fill(
+    ) && say_filled(
         rt,
         b"<td>the limit; whole frames of one length up to F #</td></tr>\n",
         longest,
@@ -161,45 +133,49 @@ fn say_meaning(rt: &(impl Print + Complain), form: Form, numbers: [u64; 6]) -> b
         Form::Sentence => texts::sentence(rt, numbers[0]) && texts::not_judged(rt),
         Form::MeansAnother => texts::means(rt) && texts::another(rt),
         Form::MeansBroken => texts::means(rt)
-            && fill(rt, b"<p>Record # is the first that breaks a rule.", numbers)
+            && say_filled(rt, b"<p>Record # is the first that breaks a rule.", numbers)
             && texts::broken(rt),
         Form::MeansAccepted => texts::means(rt) && texts::accepted(rt),
         Form::Rules => texts::rules(rt),
-        Form::NamedVisit => fill(rt, b"<h3>Record #, a visit</h3>\n", numbers) && texts::named(rt),
-        Form::NamedMark => fill(rt, b"<h3>Record #, a mark</h3>\n", numbers) && texts::named(rt),
+        Form::NamedVisit => say_filled(rt, b"<h3>Record #, a visit</h3>\n", numbers)
+            && texts::named(rt),
+        Form::NamedMark => say_filled(rt, b"<h3>Record #, a mark</h3>\n", numbers)
+            && texts::named(rt),
         Form::FrameRule => say_frames(rt, numbers),
         Form::NamedEnd => texts::end_named(rt),
-        _ => fill(rt, words(form), numbers),
+        _ => say_filled(rt, words(form), numbers),
     }
 }
 
-// A form in its words, with a number in the place of each `#`.
+// A form in its words, with a number in the place of each `#`. F and g are 1 where the plan names none.
 fn say_form(rt: &(impl Print + Complain), form: Form, numbers: [u64; 6]) -> bool {
     match form {
-        Form::Nothing => true,
-        Form::LongestFrame => say_frame(rt, numbers),
-        Form::Grid => say_grid(rt, numbers),
+        Form::LongestFrame if numbers[0] == 1 => texts::no_frame(rt),
+        Form::Grid if numbers[0] == 1 => texts::no_grid(rt),
         Form::StationsBegin => texts::stations(rt),
         Form::DidAll => texts::did(rt)
-            && fill(rt, b"<p>Records counted: #, all of the log.</p>\n", numbers)
+            && say_filled(rt, b"<p>Records counted: #, all of the log.</p>\n", numbers)
             && texts::did_rows(rt),
         Form::DidBefore => texts::did(rt)
-            && fill(
+            && say_filled(
                 rt,
                 b"<p>Records counted: #, those before record #.</p>\n",
                 numbers,
             )
             && texts::did_rows(rt),
         Form::Rotations => texts::picture(rt)
-            && fill(rt, b"<p>Rotations # to # of #.</p>\n", numbers)
+            && say_filled(rt, b"<p>Rotations # to # of #.</p>\n", numbers)
             && texts::key(rt),
         Form::NoRotation => texts::picture(rt)
-            && fill(rt, b"<p>The log has no visit.</p>\n", numbers),
+            && say_filled(rt, b"<p>The log has no visit.</p>\n", numbers),
         _ => say_meaning(rt, form, numbers),
     }
 }
 
-// Says a part.
-pub(crate) fn say_part(rt: &(impl Print + Complain), part: Part) -> bool {
+// Says a part, if there is one.
+pub(crate) fn say_part(rt: &(impl Print + Complain), part: Option<Phrase<Form>>) -> bool {
+    let Some(part) = part else {
+        return true;
+    };
     say_form(rt, part.form, part.numbers)
 }

@@ -13,16 +13,16 @@ use std::env::Env;
 use std::fs::Files;
 use std::io::Print;
 use streams::complaints::Complain;
-use streams::{ending, loading, usage, words};
+use streams::program::Words;
+use streams::{loading, program, usage, words};
 
 // `page LOG PLAN`: the plan sheet is read first, of its file one byte more than the longest plan, which tells that a byte follows it.
 fn page_against(rt: &(impl Env + Files + Print + Complain), log: usize, word: usize) -> u8 {
     let mut sheet: [u8; sheets::PLAN_READ] = [0; sheets::PLAN_READ];
-    let plan = loading::load(rt, b"page: ", word, &mut sheet);
-    if plan.failed.is_some() {
-        return status::FAILED;
+    match loading::load(rt, b"page: ", word, &mut sheet) {
+        Ok(length) => saying::say(rt, log, Some(&sheet[..length])),
+        Err(_) => status::FAILED,
     }
-    saying::say(rt, log, Some(&sheet[..plan.length]))
 }
 
 // `page LOG`: with a path at the second place the log is held to the plan there, else to its own.
@@ -33,25 +33,14 @@ fn page(rt: &(impl Env + Files + Print + Complain), log: usize, word: usize) -> 
     saying::say(rt, log, None)
 }
 
-// Does what the words from this one on ask for; the second and the third are behind it.
-fn obey(
-    rt: &(impl Env + Files + Print + Complain),
-    first: usize,
-    second: usize,
-    third: usize,
-) -> u8 {
-    match words::command(rt, first) {
-        Command::Page => page(rt, second, third),
-        Command::Unknown => status::FAILED,
+// Does the command.
+fn obey(rt: &(impl Env + Files + Print + Complain), command: Command, words: Words) -> u8 {
+    match command {
+        Command::Page => page(rt, words.second, words.third),
         _ => usage::elsewhere(rt),
     }
 }
 
 fn main(rt: HostRuntime) {
-    if !words::status_asked(&rt) {
-        obey(&rt, 1, 2, 3);
-        return;
-    }
-    let status = obey(&rt, 2, 3, 4);
-    ending::tell(status);
+    program::run(&rt, |command, words| obey(&rt, command, words));
 }

@@ -9,19 +9,27 @@ use streams::complaints::Complain;
 use streams::reading::Filled;
 use streams::{loading, reading};
 
-// A log that was read: what was found and drawn, how many bytes it has, and whether it could be read.
+// A log that was read: what was found and drawn, and how many bytes it has, if it could be read.
 #[derive(Clone, Copy)]
 pub(crate) struct Reading {
     pub canvas: Canvas,
-    pub bytes: u64,
-    pub failed: bool,
+    pub bytes: Option<u64>,
 }
 
-// The log behind one reading more, and whether the file goes on.
+// How a file stands behind one reading more: it goes on, it has ended, or it could not be read.
+#[derive(Clone, Copy)]
+enum Stand {
+    More,
+    Ended,
+    Failed(Error),
+}
+
+// The log behind one reading more: what was found and drawn, how many bytes were read, and how the file stands.
 #[derive(Clone, Copy)]
 struct Turn {
-    read: Reading,
-    more: bool,
+    canvas: Canvas,
+    bytes: u64,
+    stand: Stand,
 }
 
 // Where an open file ends; none where it has no places, as a pipe. It is read from its first byte on.
@@ -35,8 +43,7 @@ fn end_of(file: &mut impl Seek) -> Option<u64> {
 fn begun_with(head: &[u8]) -> Canvas {
     Canvas {
         watching: picture_stream::watch_start(head),
-        pen: pictures::pen_up(),
-        wrote: true,
+        pen: Some(pictures::pen_up()),
     }
 }
 
@@ -44,8 +51,7 @@ fn begun_with(head: &[u8]) -> Canvas {
 fn unread() -> Reading {
     Reading {
         canvas: begun_with(b""),
-        bytes: 0,
-        failed: true,
+        bytes: None,
     }
 }
 
@@ -63,72 +69,57 @@ fn irregular(rt: &impl Complain, path: &str) -> Reading {
     unread()
 }
 
-// How it stands behind so many bytes: where a read failed, the file is named.
-fn behind(
-    rt: &impl Complain,
-    path: &str,
-    canvas: Canvas,
-    bytes: u64,
-    filled: Filled,
-    size: usize,
-) -> Turn {
-    if let Some(error) = filled.failed {
-        loading::name(rt, b"page: ", path.as_bytes(), error);
-    }
-    let more = (filled.length == size) & canvas.wrote;
-    let read = Reading {
+// How it stands behind so many bytes; a file goes on where a reading of this size was full, and all could be written.
+fn behind(canvas: Canvas, bytes: u64, filled: Filled, size: usize) -> Turn {
+    let more = (filled.length == size) & canvas.pen.is_some();
+    let stand = match filled.failed {
+        Some(error) => Stand::Failed(error),
+        None if more => Stand::More,
+        None => Stand::Ended,
+    };
+    Turn {
         canvas,
         bytes: bytes.wrapping_add(filled.length as u64),
-        failed: filled.failed.is_some(),
-    };
-    Turn { read, more }
+        stand,
+    }
+}
+
+// The log behind the last reading; where that failed, the file is named.
+fn reading_of(rt: &impl Complain, path: &str, turn: Turn) -> Reading {
+    let canvas = turn.canvas;
+    if let Stand::Failed(error) = turn.stand {
+        loading::name(rt, b"page: ", path.as_bytes(), error);
+        return Reading {
+            canvas,
+            bytes: None,
+        };
+    }
+    Reading {
+        canvas,
+        bytes: Some(turn.bytes),
+    }
 }
 
 // The first bytes, in which the plan stands.
-fn first(rt: &(impl Print + Complain), path: &str, file: &mut impl Read, easel: Easel) -> Turn {
+fn first(rt: &(impl Print + Complain), file: &mut impl Read, easel: Easel) -> Turn {
     let mut head: [u8; log_stream::FIRST_SIZE] = [0; log_stream::FIRST_SIZE];
     let filled = reading::fill(file, &mut head);
     let bytes = &head[..filled.length];
     let begun = begun_with(bytes);
     let at = begun.watching.inspecting.start.at;
     let canvas = drawing::go_over(rt, begun, easel, bytes, at);
-    behind(rt, path, canvas, 0, filled, log_stream::FIRST_SIZE)
+    behind(canvas, 0, filled, log_stream::FIRST_SIZE)
 }
 
 // Some bytes more.
-fn next(
-    rt: &(impl Print + Complain),
-    path: &str,
-    file: &mut impl Read,
-    easel: Easel,
-    before: Reading,
-) -> Turn {
+fn next(rt: &(impl Print + Complain), file: &mut impl Read, easel: Easel, before: Turn) -> Turn {
     let mut bytes: [u8; 4_096] = [0; 4_096];
     let filled = reading::fill(file, &mut bytes);
     let canvas = drawing::go_over(rt, before.canvas, easel, &bytes[..filled.length], 0);
-    behind(rt, path, canvas, before.bytes, filled, 4_096)
+    behind(canvas, before.bytes, filled, 4_096)
 }
 
-// All that is left; the turns are counted, up to a number that no log uses up.
-fn rest(
-    rt: &(impl Print + Complain),
-    path: &str,
-    file: &mut impl Read,
-    easel: Easel,
-    begun: Reading,
-) -> Reading {
-    let mut stands = begun;
-    for _ in 0..u64::MAX {
-        let turn = next(rt, path, file, easel, stands);
-        if !turn.more {
-            return turn.read;
-        }
-        stands = turn.read;
-    }
-    stands
-}
-
-// All bytes of an open file that ends there. One that ends at 0 and has bytes is a device.
+// All bytes of an open file that ends there; the turns are counted, up to a number that no log uses up. One that ends at 0 and has bytes is a device.
 fn read_open(
     rt: &(impl Print + Complain),
     path: &str,
@@ -136,15 +127,19 @@ fn read_open(
     end: u64,
     easel: Easel,
 ) -> Reading {
-    let turn = first(rt, path, file, easel);
-    let begun = turn.read;
-    if (end == 0) & (begun.bytes > 0) {
+    let mut turn = first(rt, file, easel);
+    if (end == 0) & (turn.bytes > 0) {
+        // (where reading failed, that is said first)
+        reading_of(rt, path, turn);
         return irregular(rt, path);
     }
-    if turn.more {
-        return rest(rt, path, file, easel, begun);
+    for _ in 0..u64::MAX {
+        let Stand::More = turn.stand else {
+            return reading_of(rt, path, turn);
+        };
+        turn = next(rt, file, easel, turn);
     }
-    begun
+    reading_of(rt, path, turn)
 }
 
 // The whole of an open file.

@@ -11,6 +11,7 @@ use std::fs::Files;
 use std::io::Print;
 use streams::complaints::Complain;
 use streams::{ending, loading, version, words};
+use text::Page;
 
 // Nothing is drawn: for the first reading.
 fn bare_easel() -> Easel {
@@ -63,9 +64,9 @@ fn say_parts(rt: &(impl Print + Complain), account: Account, last: usize) -> boo
 // A station's number, behind those before it.
 fn say_station(rt: &(impl Print + Complain), any: bool, station: u64) -> bool {
     if any {
-        return forms::fill(rt, b", station #", [station, 0, 0, 0, 0, 0]);
+        return ending::say_filled(rt, b", station #", [station, 0, 0, 0, 0, 0]);
     }
-    forms::fill(rt, b"station #", [station, 0, 0, 0, 0, 0])
+    ending::say_filled(rt, b"station #", [station, 0, 0, 0, 0, 0])
 }
 
 // The stations that are marked.
@@ -87,7 +88,7 @@ fn say_when(rt: &(impl Print + Complain), named: u64) -> bool {
     if named == 0 {
         return ending::say(rt, b"<p>Switched through when the log ends: ");
     }
-    forms::fill(
+    ending::say_filled(
         rt,
         b"<p>Switched through before record #: ",
         [named, 0, 0, 0, 0, 0],
@@ -116,16 +117,16 @@ fn say_account(rt: &(impl Print + Complain), watching: Watching, account: Accoun
 
 // The foot: the version, and how many bytes the log has.
 fn say_foot(rt: &(impl Print + Complain), bytes: u64) -> bool {
-    let mut page = io::buffer();
-    let begun = text::put_filled(&mut page, 0, b"<footer>\n<p>Olivastrum ", [0; 6]);
-    let named = version::put(&mut page, begun);
-    let put = text::put_filled(
-        &mut page,
-        named,
+    let mut buffer = io::buffer();
+    let mut page = Page::new(&mut buffer);
+    page.put_filled(b"<footer>\n<p>Olivastrum ", [0; 6]);
+    version::put(&mut page);
+    page.put_filled(
         b". The log has # bytes.</p>\n</footer>\n</body>\n</html>\n",
         [bytes, 0, 0, 0, 0, 0],
     );
-    ending::say_put(rt, &page, put)
+    let put = page.length();
+    ending::say_put(rt, &buffer, put)
 }
 
 // What stands before the picture: the head, the finding with its word, and all that is said of it.
@@ -210,12 +211,11 @@ fn say_picture(
     let window = account.window;
     let second = reading::read_all(rt, path, Easel { scene, window });
     let canvas = second.canvas;
-    let ended = canvas.wrote && drawing::end(rt, canvas.pen);
+    let ended = canvas.pen.is_some_and(|pen| drawing::end(rt, pen));
     if !ended {
         return false;
     }
-    let long = !second.failed & (second.bytes == first.bytes);
-    if long && is_same(first.canvas.watching, canvas.watching) {
+    if (second.bytes == first.bytes) && is_same(first.canvas.watching, canvas.watching) {
         return true;
     }
     say_changed(rt);
@@ -257,6 +257,7 @@ fn say_all(
     path: &str,
     plan: Option<&[u8]>,
     first: Reading,
+    bytes: u64,
 ) -> u8 {
     let watching = first.canvas.watching;
     let account = command_page::account_of(plan.is_some(), plan.unwrap_or(b""), watching);
@@ -265,7 +266,7 @@ fn say_all(
     }
     let outcome = account.outcome;
     let drawn = !is_judged(outcome) || say_picture(rt, path, account, first);
-    let ended = say_foot(rt, first.bytes);
+    let ended = say_foot(rt, bytes);
     if drawn & ended {
         return status_of(outcome);
     }
@@ -287,8 +288,8 @@ pub(crate) fn say(
     };
     let path = path.as_str();
     let first = reading::read_all(rt, path, bare_easel());
-    if first.failed {
-        return status::FAILED;
+    match first.bytes {
+        Some(bytes) => say_all(rt, path, plan, first, bytes),
+        None => status::FAILED,
     }
-    say_all(rt, path, plan, first)
 }

@@ -1,5 +1,5 @@
 -- Where reading stops for a record that is drawn, and what is left.
-use Rattle.std.proofs.Common.{◌≡◌, ℕ, ◌+◌, true, false, List, [], ◌∷◌, sym, refl, ap, ⊎_elim, true≢false, arith}
+use Rattle.std.proofs.Common.{◌≡◌, ℕ, ◌+◌, true, false, List, [], ◌∷◌, Some, sym, refl, ap, ⊎_elim, true≢false, arith}
 use Rattle.units.proofs.JudgingLaws.{true_or_false}
 use Rattle.picture_stream.specs.Watching.{step_watched, stops_at, drawn_at, watched_from, watch_over, drawn_over}
 use Rattle.picture_stream.specs.Promised.{GoesOn}
@@ -9,7 +9,7 @@ use Rattle.picture_stream.specs.declared.Watched.{Watched}
 
 module _ (x : Window) (k : Watching) (at : ℕ) (b : ℕ) (bs : List ℕ) where
   -- it stops behind this byte
-  stops_here : stops_at x k b ≡ true → GoesOn x k at (b ∷ bs) (record { watching = step_watched k b; at = at + 1; stopped = true; drawn = drawn_at k b })
+  stops_here : stops_at x k b ≡ true → GoesOn x k at (b ∷ bs) (record { watching = step_watched k b; at = at + 1; drawn = Some (drawn_at k b) })
   unfolding watch_over drawn_over
   stops_here h =
       record {

@@ -1,6 +1,6 @@
 -- One byte more of a log that is read for its picture: what is left to do is the same.
 use Rattle.std.proofs.lemmas.Bool.{cond-true, cond-false}
-use Rattle.std.proofs.Common.{◌≡◌, ℕ, ◌+◌, ◌<◌, ◌≤◌, Bool, true, false, cond, ◌≢◌, List, ◌∷◌, length, drop, sym, refl, ap, ◌∙◌, add-one, drop_of_length-le, drop-cons, eq-eqb, ne_eqb}
+use Rattle.std.proofs.Common.{◌≡◌, ℕ, ◌+◌, ◌<◌, ◌≤◌, Bool, true, false, cond, ◌≢◌, List, ◌∷◌, length, drop, Some, None, sym, refl, ap, ◌∙◌, add-one, drop_of_length-le, drop-cons, eq-eqb, ne_eqb}
 use Rattle.units.specs.Places.{at}
 use Rattle.log_records.specs.Entry.{next_entry}
 use Rattle.log_records.specs.declared.NextEntry.{NextEntry}
@@ -12,7 +12,7 @@ use Rattle.inspection_stream.proofs.TurnLaws.{read_stands}
 use Rattle.tallies.specs.Tallies.{SeenOn}
 use Rattle.tallies.specs.declared.Seen.{Seen}
 use Rattle.tallies.specs.declared.Drawn.{Drawn}
-use Rattle.picture_stream.specs.Watching.{is_drawn, drawn_of, watching_of, record_watched, byte_watched, stops, not_drawn, watched_from}
+use Rattle.picture_stream.specs.Watching.{is_drawn, drawn_of, watching_of, record_watched, byte_watched, stops, watched_from}
 use Rattle.picture_stream.specs.declared.Window.{Window}
 use Rattle.picture_stream.specs.declared.Watching.{Watching}
 use Rattle.picture_stream.specs.declared.Watched.{Watched}
@@ -50,14 +50,14 @@ module _ (x : Window) (bs : List ℕ) (k₀ : Watching) (from : ℕ) where
   going_first = record { left = refl }
 
   -- nothing is left
-  pub going_ends : (k : Watching) (i : ℕ) (d : Drawn) → Going k i → length bs ≤ i → d ≡ not_drawn → ◌≡◌ {A = Watched} (record { watching = k; at = i; stopped = false; drawn = d }) (watched_from x k₀ from (drop from bs))
+  pub going_ends : (k : Watching) (i : ℕ) → Going k i → length bs ≤ i → ◌≡◌ {A = Watched} (record { watching = k; at = i; drawn = None }) (watched_from x k₀ from (drop from bs))
   unfolding watched_from
-  going_ends k i d g past none = rw none (sym (g.left ∙ ap (watched_from x k i) (drop_of_length-le bs past)))
+  going_ends k i g past = sym (g.left ∙ ap (watched_from x k i) (drop_of_length-le bs past))
 
   module _ (k : Watching) (i : ℕ) (g : Going k i) (inside : i < length bs) (v : Gathered) (read : v ≡ stepped k.inspecting.gathered (at bs i)) (got : NextEntry) (is : got ≡ entry_in v) where
     -- the next byte
     turned : watched_from x k₀ from (drop from bs)
-        ≡ cond (stops x k.seen got) (record { watching = byte_watched k v got; at = i + 1; stopped = true; drawn = drawn_of k.seen got.entry }) (watched_from x (byte_watched k v got) (i + 1) (drop (i + 1) bs))
+        ≡ cond (stops x k.seen got) (record { watching = byte_watched k v got; at = i + 1; drawn = Some (drawn_of k.seen got.entry) }) (watched_from x (byte_watched k v got) (i + 1) (drop (i + 1) bs))
     unfolding watched_from
     turned =
         let more : drop i bs ≡ at bs i ∷ drop (i + 1) bs = rw add-one (drop-cons bs i 0 inside) in
@@ -80,5 +80,5 @@ module _ (x : Window) (bs : List ℕ) (k₀ : Watching) (from : ℕ) where
       pub going_past : flag ≡ false → Going (watching_of k.inspecting.start v l s') (i + 1)
       going_past out = record { left = turned ∙ cond-false _ _ _ (flagged ∙ out) ∙ ap (λ (w : Watching). watched_from x w (i + 1) (drop (i + 1) bs)) behind }
 
-      pub going_stops : flag ≡ true → (w : Watching) → w ≡ watching_of k.inspecting.start v l s' → (d : Drawn) → d ≡ drawn_of k.seen got.entry → ◌≡◌ {A = Watched} (record { watching = w; at = i + 1; stopped = true; drawn = d }) (watched_from x k₀ from (drop from bs))
+      pub going_stops : flag ≡ true → (w : Watching) → w ≡ watching_of k.inspecting.start v l s' → (d : Drawn) → d ≡ drawn_of k.seen got.entry → ◌≡◌ {A = Watched} (record { watching = w; at = i + 1; drawn = Some d }) (watched_from x k₀ from (drop from bs))
       going_stops in-it w put d handed = rw (put, handed, ← behind) (sym (turned ∙ cond-true _ _ _ (flagged ∙ in-it)))

@@ -1,5 +1,5 @@
 -- What is promised of a log that is read for its picture; `proofs/Promised.antt` proves it.
-use Rattle.std.specs.Prelude.{◌≡◌, ℕ, ◌+◌, ◌-◌, ◌^◌, ◌<◌, ◌≤◌, min, max, true, false, cond, ◌≢◌, List, [], ◌∷◌, ◌++◌, length, take}
+use Rattle.std.specs.Prelude.{◌≡◌, ℕ, ◌+◌, ◌-◌, ◌^◌, ◌<◌, ◌≤◌, min, max, true, cond, ◌≢◌, IsSome, IsNone, List, [], ◌∷◌, ◌++◌, length, take}
 use Rattle.sets.specs.declared.Set.{Set}
 use Rattle.plans.specs.declared.Alloc.{Alloc}
 use Rattle.log_records.specs.declared.Entry.{Entry}
@@ -13,7 +13,7 @@ use Rattle.tallies.specs.Tallies.{switched_by, nothing_seen, seen_all}
 use Rattle.tallies.specs.Shown.{Known}
 use Rattle.tallies.specs.declared.Lap.{Lap}
 use Rattle.tallies.specs.declared.Seen.{Seen}
-use Rattle.picture_stream.specs.Watching.{is_drawn, handed_out, watched_from, watch_over, drawn_over, watch_all, drawn_all, lines_in, window_of}
+use Rattle.picture_stream.specs.Watching.{is_drawn, handed_out, handed, watched_from, watch_over, drawn_over, watch_all, drawn_all, lines_in, window_of}
 use Rattle.picture_stream.specs.declared.Window.{Window}
 use Rattle.picture_stream.specs.declared.Watching.{Watching}
 use Rattle.tallies.specs.declared.Drawn.{Drawn}
@@ -33,10 +33,10 @@ pub record GoesOn (x : Window) (k : Watching) (at : ℕ) (bs : List ℕ) (r : Wa
   pub cut : bs ≡ passed ++ rest
   pub place : r.at ≡ at + length passed
   pub read : watch_over k bs ≡ watch_over r.watching rest
-  pub drawn : drawn_over x k bs ≡ cond r.stopped (r.drawn ∷ []) [] ++ drawn_over x r.watching rest
+  pub drawn : drawn_over x k bs ≡ handed r.drawn ++ drawn_over x r.watching rest
   -- where it did not stop, nothing is left; where it did, it has moved
-  pub all : r.stopped ≡ false → rest ≡ []
-  pub moved : r.stopped ≡ true → 1 ≤ length passed
+  pub all : IsNone r.drawn → rest ≡ []
+  pub moved : IsSome r.drawn → 1 ≤ length passed
 
 -- the records that keep every rule, and what was seen of them
 pub record KeptSeen (t : Set) (a : Alloc) (es : List Entry) (s : Seen) : Type 0 where

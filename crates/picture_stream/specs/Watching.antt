@@ -1,8 +1,7 @@
 -- A log that is read for its picture: its inspection, what was seen of its records, and the records that are drawn.
-use Rattle.std.specs.Prelude.{ℕ, ◌+◌, ◌-◌, min, max, Bool, true, false, cond, ◌&&◌, List, [], ◌∷◌, ◌++◌, drop, ◌==◌, nat_le, nat_lt}
+use Rattle.std.specs.Prelude.{ℕ, ◌+◌, ◌-◌, min, max, Bool, false, cond, ◌&&◌, List, [], ◌∷◌, ◌++◌, drop, Option, Some, None, ◌==◌, nat_le, nat_lt}
 use Rattle.sheets.specs.Reading.{plan_start}
 use Rattle.sheets.specs.declared.PlanStart.{PlanStart}
-use Rattle.log_records.specs.Entry.{blank_entry}
 use Rattle.log_records.specs.declared.Entry.{Entry}
 use Rattle.log_records.specs.declared.Entry.TheVariants.{Visit, Mark}
 use Rattle.log_records.specs.declared.NextEntry.{NextEntry}
@@ -12,7 +11,7 @@ use Rattle.inspection.specs.Findings.{broken_record}
 use Rattle.inspection_stream.specs.Inspecting.{looked_at, inspect_from}
 use Rattle.inspection_stream.specs.declared.Looked.{Looked}
 use Rattle.inspection_stream.specs.declared.Inspecting.{Inspecting}
-use Rattle.tallies.specs.Laps.{wrapped, no_lap}
+use Rattle.tallies.specs.Laps.{wrapped}
 use Rattle.tallies.specs.Tallies.{seen, nothing_seen, is_through}
 use Rattle.tallies.specs.declared.Lap.{Lap}
 use Rattle.tallies.specs.declared.Seen.{Seen}
@@ -89,15 +88,16 @@ watch_from k = record { inspecting = k; seen = nothing_seen }
 abbrev pub watch_start : List ℕ → Watching
 watch_start head = watch_from (inspect_from (plan_start head))
 
--- nothing is handed out
-abbrev pub not_drawn : Drawn
-not_drawn = record { lap = no_lap; entry = blank_entry; through = false }
+-- what is handed out
+abbrev pub handed : Option Drawn → List Drawn
+handed None = []
+handed (Some d) = d ∷ []
 
 -- these bytes, which begin at a place, up to the first record that is drawn
 unfoldable pub watched_from : Window → Watching → ℕ → List ℕ → Watched
-watched_from x k at [] = record { watching = k; at = at; stopped = false; drawn = not_drawn }
+watched_from x k at [] = record { watching = k; at = at; drawn = None }
 watched_from x k at (b ∷ bs) =
-    cond (stops_at x k b) (record { watching = step_watched k b; at = at + 1; stopped = true; drawn = drawn_at k b })
+    cond (stops_at x k b) (record { watching = step_watched k b; at = at + 1; drawn = Some (drawn_at k b) })
     (watched_from x (step_watched k b) (at + 1) bs)
 
 -- all of these bytes, whatever is drawn

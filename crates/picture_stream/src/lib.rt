@@ -3,7 +3,7 @@
 
 ghost use Rattle.std.specs.Prelude.{◌≡◌, drop};
 ghost use Rattle.tallies.specs.Tallies.{seen_of};
-ghost use Rattle.picture_stream.specs.Watching.{no_window, is_drawn, handed_out, watch_start, not_drawn, watching_of, watched_from, lines_in, lines_of, last_line, window_of};
+ghost use Rattle.picture_stream.specs.Watching.{no_window, is_drawn, handed_out, watch_start, watching_of, watched_from, lines_in, lines_of, last_line, window_of};
 
 use inspection_stream::{Inspecting, Looked};
 use log_records::Entry;
@@ -27,13 +27,12 @@ pub struct Watching {
     pub seen: Seen,
 }
 
-// The log behind some bytes more, and the place behind the last of them. A record that is drawn ends them: then `stopped`, and it is handed out.
+// The log behind some bytes more, and the place behind the last of them. A record that is drawn ends them, and is handed out.
 #[derive(Clone, Copy)]
 pub struct Watched {
     pub watching: Watching,
     pub at: usize,
-    pub stopped: bool,
-    pub drawn: Drawn,
+    pub drawn: Option<Drawn>,
 }
 
 // At most so many rotations are drawn.
@@ -84,17 +83,6 @@ pub fn watch_start(head: &[u8]) -> Watching
     let inspecting = inspection_stream::begin(start);
     let seen = tallies::nothing();
     Watching { inspecting, seen }
-}
-
-// Nothing is handed out.
-fn not_drawn() -> Drawn
-    ensures { result ≡ not_drawn }
-{
-    Drawn {
-        lap: tallies::no_lap(),
-        entry: Entry::Visit(log_records::blank_visit()),
-        through: false,
-    }
 }
 
 // The log that is being read, of its parts.
@@ -151,8 +139,7 @@ pub fn watch_on(watching: Watching, window: Window, bytes: &[u8], from: usize) -
                 return Watched {
                     watching,
                     at: i + 1,
-                    stopped: true,
-                    drawn,
+                    drawn: Some(drawn),
                 };
             }
         }
@@ -161,14 +148,14 @@ pub fn watch_on(watching: Watching, window: Window, bytes: &[u8], from: usize) -
     Watched {
         watching,
         at: from.max(bytes.len()),
-        stopped: false,
-        drawn: not_drawn(),
+        drawn: None,
     }
 }
 
 // ---- the window of a log that was read whole
 
 // How many lines so many rotations are, with one that has begun.
+#[tactic(auto, unfolding(crate::specs::Watching::lines_in))]
 fn lines_in(lap: Lap) -> u64
     ensures { result ≡ lines_in lap }
 {
@@ -179,6 +166,7 @@ fn lines_in(lap: Lap) -> u64
 }
 
 // How many lines the picture of the whole log has: rotations, the last one perhaps not whole.
+#[tactic(auto, unfolding(crate::specs::Watching::lines_of))]
 pub fn lines_of(watching: Watching) -> u64
     ensures { result ≡ lines_of watching }
 {
@@ -192,6 +180,7 @@ pub fn lines_of(watching: Watching) -> u64
 }
 
 // The line behind the last that is drawn: where a record is named, its rotation and two behind it are; else the first ones.
+#[tactic(auto, unfolding(crate::specs::Watching::last_line))]
 fn last_line(watching: Watching) -> u64
     ensures { result ≡ last_line watching }
 {

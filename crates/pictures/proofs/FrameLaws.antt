@@ -5,9 +5,10 @@ use Rattle.log_records.specs.declared.Entry.{Entry}
 use Rattle.log_records.specs.declared.Entry.TheVariants.{Visit, Mark}
 use Rattle.tallies.specs.declared.Lap.{Lap}
 use Rattle.tallies.specs.declared.Drawn.{Drawn}
-use Rattle.pictures.specs.Parts.{HasShape, number_of, rotation_begin, line_begin, bound_mark, rotation_end, is_last, drawn_to, begin_shape, tick, is_shown, is_roomy, number_shape, first_bar, second_bar, cut_mark, frame, visit_part, visit_behind, mark_part, entry_part, part_at}
+use Rattle.text.specs.declared.phrases.Phrase.{Phrase}
+use Rattle.pictures.specs.Parts.{begun, HasShape, number_of, rotation_begin, line_begin, bound_mark, rotation_end, is_last, drawn_to, begin_shape, tick, is_shown, is_roomy, number_shape, first_bar, second_bar, cut_mark, frame, visit_part, visit_behind, mark_part, entry_part, part_at}
+use Rattle.pictures.specs.declared.Shape.{Shape}
 use Rattle.pictures.specs.declared.Shape.TheVariants as shape
-use Rattle.pictures.specs.declared.Part.{Part}
 use Rattle.pictures.specs.declared.Scene.{Scene}
 use Rattle.pictures.specs.declared.Pen.{Pen}
 
@@ -26,10 +27,10 @@ frame_named c p d h = named_entry c p d.through d.lap d.entry h
 
 module _ (c : Scene) (p : Pen) (l : Lap) (k : ℕ) where
   -- this part k is a frame only at the named record, and only as part 11
-  abbrev Only : Option Part → Type 0
+  abbrev Only : Option (Phrase Shape) → Type 0
   Only o = HasShape o shape.Frame → (k ≡ 11) × (number_of l ≡ c.named)
 
-  either : (b : Bool) (x y : Option Part) → (b ≡ true → Only x) → Only y → Only (cond b x y)
+  either : (b : Bool) (x y : Option (Phrase Shape)) → (b ≡ true → Only x) → Only y → Only (cond b x y)
   either true x y h g = h refl
   either false x y h g = g
 
@@ -68,7 +69,7 @@ module _ (c : Scene) (p : Pen) (l : Lap) (k : ℕ) where
   ticks false e = ((cc), (cc))
 
   -- a bar that goes by the mode
-  barred : (b : Bool) (x y : Part) → Only (Some x) → Only (Some y) → Only (Some (cond b x y))
+  barred : (b : Bool) (x y : Phrase Shape) → Only (Some x) → Only (Some y) → Only (Some (cond b x y))
   barred true x y h g = h
   barred false x y h g = g
 
@@ -99,9 +100,9 @@ pub frame_only : (c : Scene) (p : Pen) (d : Drawn) (k : ℕ) → HasShape (part_
 unfolding part_at rotation_begin line_begin bound_mark rotation_end
 frame_only c p d k =
     let l = d.lap in
-    either c p l k (eqb k 0) _ _ (λ h. either c p l k p.begun _ _ (λ g. λ e. absurd e) (λ e. ((cc), (cc))))
-    (either c p l k (eqb k 1) _ _ (λ h. either c p l k p.begun _ _ (λ g. λ e. absurd e) (λ e. ((cc), (cc))))
-    (either c p l k (eqb k 2) _ _ (λ h. either c p l k p.begun _ _ (λ g. λ e. absurd e) (λ e. ((cc), (cc))))
+    either c p l k (eqb k 0) _ _ (λ h. either c p l k (begun p) _ _ (λ g. λ e. absurd e) (λ e. ((cc), (cc))))
+    (either c p l k (eqb k 1) _ _ (λ h. either c p l k (begun p) _ _ (λ g. λ e. absurd e) (λ e. ((cc), (cc))))
+    (either c p l k (eqb k 2) _ _ (λ h. either c p l k (begun p) _ _ (λ g. λ e. absurd e) (λ e. ((cc), (cc))))
     (either c p l k (eqb k 12) _ _ (λ h. λ e. ((cc), (cc)))
     (either c p l k (eqb k 13) _ _ (λ h. either c p l k (is_last c l d.entry) _ _ (λ g. λ e. ((cc), (cc))) (λ e. absurd e))
     (entry c p l k d.through d.entry)))))

@@ -7,7 +7,8 @@ use Rattle.log_records.specs.declared.Entry.{Entry}
 use Rattle.log_records.specs.declared.Entry.TheVariants.{Visit, Mark}
 use Rattle.tallies.specs.declared.Lap.{Lap}
 use Rattle.tallies.specs.declared.Drawn.{Drawn}
-use Rattle.pictures.specs.Parts.{part, synchronous_at, asynchronous_at, drawn_to, first_bar, second_bar, cut_mark, rotation_begin, line_begin, bound_mark, rotation_end, is_last, frame_at, frame_width, visit_part, visit_behind, mark_part, entry_part, pen_after, part_at}
+use Rattle.text.specs.Phrases.{phrase}
+use Rattle.pictures.specs.Parts.{begun, synchronous_at, asynchronous_at, drawn_to, first_bar, second_bar, cut_mark, rotation_begin, line_begin, bound_mark, rotation_end, is_last, frame_at, frame_width, visit_part, visit_behind, mark_part, entry_part, pen_after, part_at}
 use Rattle.pictures.specs.Promised.{Order, LineBegun, VisitParts, MarkParts, Promised}
 use Rattle.pictures.specs.declared.Shape.TheVariants as shape
 use Rattle.pictures.specs.declared.Scene.{Scene}
@@ -25,11 +26,11 @@ order c l v =
     }
 
 cut : (c : Scene) (l : Lap) (v : VisitEntry) → c.bound < drawn_to c l v
-    → cut_mark c l v ≡ Some (part shape.Cut (98 * c.bound ∷ c.bound ∷ 3 * c.bound ∷ 100 * c.bound ∷ 2 * c.bound ∷ 0 ∷ []))
+    → cut_mark c l v ≡ Some (phrase shape.Cut (98 * c.bound ∷ c.bound ∷ 3 * c.bound ∷ 100 * c.bound ∷ 2 * c.bound ∷ 0 ∷ []))
 unfolding cut_mark
 cut c l v h = rw (lt-ltb _ _ h) refl
 
-line_begins : (c : Scene) (p : Pen) (d : Drawn) → p.begun ≡ false → LineBegun c p d
+line_begins : (c : Scene) (p : Pen) (d : Drawn) → begun p ≡ false → LineBegun c p d
 unfolding part_at rotation_begin line_begin bound_mark
 line_begins c p d e =
     record {
@@ -38,18 +39,18 @@ line_begins c p d e =
       bound = cond-false _ _ _ e;
     }
 
-line_begun_lem : (c : Scene) (p : Pen) (d : Drawn) → p.begun ≡ true
+line_begun_lem : (c : Scene) (p : Pen) (d : Drawn) → begun p ≡ true
     → (part_at c p d 0 ≡ None) × ((part_at c p d 1 ≡ None) × (part_at c p d 2 ≡ None))
 unfolding part_at rotation_begin line_begin bound_mark
 line_begun_lem c p d e = (cond-true _ _ _ e, (cond-true _ _ _ e, cond-true _ _ _ e))
 
 line_ends_lem : (c : Scene) (p : Pen) (d : Drawn) → is_last c d.lap d.entry ≡ true
-    → ((pen_after c p d).begun ≡ false) × (part_at c p d 13 ≡ Some (part shape.RotationEnd (0 ∷ 0 ∷ 0 ∷ 0 ∷ 0 ∷ 0 ∷ [])))
+    → (begun (pen_after c p d) ≡ false) × (part_at c p d 13 ≡ Some (phrase shape.RotationEnd (0 ∷ 0 ∷ 0 ∷ 0 ∷ 0 ∷ 0 ∷ [])))
 unfolding pen_after part_at rotation_end
 line_ends_lem c p d e = (rw e refl, rw e refl)
 
 line_goes_on_lem : (c : Scene) (p : Pen) (d : Drawn) → is_last c d.lap d.entry ≡ false
-    → ((pen_after c p d).begun ≡ true) × (part_at c p d 13 ≡ None)
+    → (begun (pen_after c p d) ≡ true) × (part_at c p d 13 ≡ None)
 unfolding pen_after part_at rotation_end
 line_goes_on_lem c p d e = (rw e refl, rw e refl)
 

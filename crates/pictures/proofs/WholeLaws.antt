@@ -3,14 +3,15 @@ use Rattle.std.proofs.Common.{◌≡◌, ℕ, ◌+◌, ◌-◌, ◌*◌, ◌≤�
 use Rattle.units.specs.Places.{at}
 use Rattle.log_records.specs.declared.VisitEntry.{VisitEntry}
 use Rattle.tallies.specs.declared.Lap.{Lap}
-use Rattle.pictures.specs.Parts.{part, placed, synchronous_at, asynchronous_at, walk_at, end_at, limit_at, drawn_to, bar_of, line_of, cut_mark}
+use Rattle.text.specs.Phrases.{phrase}
+use Rattle.pictures.specs.Parts.{placed, synchronous_at, asynchronous_at, walk_at, end_at, limit_at, drawn_to, bar_of, line_of, cut_mark}
 use Rattle.pictures.specs.Promised.{DrawnWhole}
 use Rattle.pictures.specs.declared.Shape.{Shape}
 use Rattle.pictures.specs.declared.Shape.TheVariants as shape
 use Rattle.pictures.specs.declared.Scene.{Scene}
 
 bar_whole : (s : Shape) (c : Scene) (from ticks : ℕ) → from + ticks ≤ c.bound
-    → bar_of s c from ticks ≡ part s (100 * from ∷ c.bound ∷ 100 * ticks ∷ 2 * c.bound ∷ 0 ∷ 0 ∷ [])
+    → bar_of s c from ticks ≡ phrase s (100 * from ∷ c.bound ∷ 100 * ticks ∷ 2 * c.bound ∷ 0 ∷ 0 ∷ [])
 bar_whole s c from ticks h =
     let wide : placed c (from + ticks) - placed c from ≡ 100 * ticks = omega arith in
     let begin : placed c from ≡ 100 * from = omega arith in
@@ -18,7 +19,7 @@ bar_whole s c from ticks h =
 
 line_whole : (s : Shape) (c : Scene) (height from ticks end : ℕ) → from + ticks ≡ end → end ≤ c.bound
     → line_of s c height from ticks
-    ≡ part s (100 * from ∷ height * c.bound ∷ 100 * end ∷ height * c.bound ∷ 0 ∷ 0 ∷ [])
+    ≡ phrase s (100 * from ∷ height * c.bound ∷ 100 * end ∷ height * c.bound ∷ 0 ∷ 0 ∷ [])
 line_whole s c height from ticks end e h =
     let ends : placed c (from + ticks) ≡ 100 * end = omega arith in
     let begin : placed c from ≡ 100 * from = omega arith in

@@ -6,27 +6,29 @@ use Rattle.log_records.specs.declared.Entry.TheVariants.{Visit, Mark}
 use Rattle.tallies.specs.Laps.{wrapped}
 use Rattle.tallies.specs.declared.Lap.{Lap}
 use Rattle.tallies.specs.declared.Drawn.{Drawn}
-use Rattle.pictures.specs.Parts.{part, bare, HasShape, number_of, synchronous_at, asynchronous_at, walk_at, end_at, limit_at, drawn_to, visit_begin, mark_begin, tick, station_number, first_bar, second_bar, synchronous_bar, asynchronous_bar, walk_line, limit_line, cut_mark, frame, frame_at, frame_width, is_last, pen_after, part_at}
+use Rattle.text.specs.Phrases.{phrase, bare}
+use Rattle.text.specs.declared.phrases.Phrase.{Phrase}
+use Rattle.pictures.specs.Parts.{begun, HasShape, number_of, synchronous_at, asynchronous_at, walk_at, end_at, limit_at, drawn_to, visit_begin, mark_begin, tick, station_number, first_bar, second_bar, synchronous_bar, asynchronous_bar, walk_line, limit_line, cut_mark, frame, frame_at, frame_width, is_last, pen_after, part_at}
 use Rattle.pictures.specs.Picture.{pen_over, parts_over, picture_of, line_marks}
+use Rattle.pictures.specs.declared.Shape.{Shape}
 use Rattle.pictures.specs.declared.Shape.TheVariants as shape
-use Rattle.pictures.specs.declared.Part.{Part}
 use Rattle.pictures.specs.declared.Scene.{Scene}
 use Rattle.pictures.specs.declared.Pen.{Pen}
 
 -- a visit that ends within its line is drawn as it is: every bar is as wide as its ticks, and each stands where the one before it ends; where its limit ends within the line too, that is drawn as it is, and nothing is cut
 pub record DrawnWhole (c : Scene) (l : Lap) (v : VisitEntry) : Type 0 where
   pub synchronous : synchronous_bar c l v
-      ≡ part shape.Synchronous
+      ≡ phrase shape.Synchronous
       (100 * synchronous_at c l v ∷ c.bound ∷ 100 * v.synchronous ∷ 2 * c.bound ∷ 0 ∷ 0 ∷ [])
   pub asynchronous : asynchronous_bar c l v
-      ≡ part shape.Asynchronous
+      ≡ phrase shape.Asynchronous
       (100 * asynchronous_at c l v ∷ c.bound ∷ 100 * v.asynchronous ∷ 2 * c.bound ∷ 0 ∷ 0 ∷ [])
   pub walk : walk_line c l v
-      ≡ part shape.Walk
+      ≡ phrase shape.Walk
       (100 * walk_at l v ∷ 2 * c.bound ∷ 100 * end_at c l v ∷ 2 * c.bound ∷ 0 ∷ 0 ∷ [])
   pub limit : limit_at c l v ≤ c.bound
       → limit_line c l v
-      ≡ part shape.Limit
+      ≡ phrase shape.Limit
       (100 * asynchronous_at c l v ∷ 3 * c.bound ∷ 100 * limit_at c l v ∷ 3 * c.bound ∷ 0 ∷ 0 ∷ [])
   pub not_cut : limit_at c l v ≤ c.bound → cut_mark c l v ≡ None
 
@@ -41,11 +43,11 @@ pub record Order (c : Scene) (l : Lap) (v : VisitEntry) : Type 0 where
 
 -- a record begins a line, which is as long as the bound
 pub record LineBegun (c : Scene) (p : Pen) (d : Drawn) : Type 0 where
-  pub rotation : part_at c p d 0 ≡ Some (part shape.RotationBegin (wrapped (d.lap.rotation + 1) ∷ 0 ∷ 0 ∷ 0 ∷ 0 ∷ 0 ∷ []))
-  pub line : part_at c p d 1 ≡ Some (part shape.LineBegin (100 * c.bound ∷ 4 * c.bound ∷ 0 ∷ 0 ∷ 0 ∷ 0 ∷ []))
+  pub rotation : part_at c p d 0 ≡ Some (phrase shape.RotationBegin (wrapped (d.lap.rotation + 1) ∷ 0 ∷ 0 ∷ 0 ∷ 0 ∷ 0 ∷ []))
+  pub line : part_at c p d 1 ≡ Some (phrase shape.LineBegin (100 * c.bound ∷ 4 * c.bound ∷ 0 ∷ 0 ∷ 0 ∷ 0 ∷ []))
   -- the bound is marked at its end
   pub bound : part_at c p d 2
-      ≡ Some (part shape.BoundMark (100 * c.bound ∷ 100 * c.bound ∷ 4 * c.bound ∷ 0 ∷ 0 ∷ 0 ∷ []))
+      ≡ Some (phrase shape.BoundMark (100 * c.bound ∷ 100 * c.bound ∷ 4 * c.bound ∷ 0 ∷ 0 ∷ 0 ∷ []))
 
 -- the parts of a visit
 pub record VisitParts (c : Scene) (p : Pen) (d : Drawn) (v : VisitEntry) : Type 0 where
@@ -73,11 +75,11 @@ NoneLast c [] = Unit {0}
 NoneLast c (d ∷ ds) = (is_last c d.lap d.entry ≡ false) × NoneLast c ds
 
 -- a line begins with the number of the first record's rotation
-abbrev pub line_begun : Drawn → Part
-line_begun d = part shape.RotationBegin (wrapped (d.lap.rotation + 1) ∷ 0 ∷ 0 ∷ 0 ∷ 0 ∷ 0 ∷ [])
+abbrev pub line_begun : Drawn → Phrase Shape
+line_begun d = phrase shape.RotationBegin (wrapped (d.lap.rotation + 1) ∷ 0 ∷ 0 ∷ 0 ∷ 0 ∷ 0 ∷ [])
 
-abbrev pub line_ended : Part
-line_ended = part shape.RotationEnd (0 ∷ 0 ∷ 0 ∷ 0 ∷ 0 ∷ 0 ∷ [])
+abbrev pub line_ended : Phrase Shape
+line_ended = phrase shape.RotationEnd (0 ∷ 0 ∷ 0 ∷ 0 ∷ 0 ∷ 0 ∷ [])
 
 -- the first of these records; this one where there is none
 unfoldable pub first_or : Drawn → List Drawn → Drawn
@@ -88,23 +90,23 @@ first_or d (e ∷ es) = e
 pub record OneLine (c : Scene) (p : Pen) (ds : List Drawn) (last : Drawn) (rest : List Drawn) : Type 0 where
   pub line : line_marks (picture_of c p (ds ++ (last ∷ rest)))
       ≡ line_begun (first_or last ds) ∷ line_ended ∷ line_marks (picture_of c (pen_over c p (ds ++ (last ∷ []))) rest)
-  pub none_begun : (pen_over c p (ds ++ (last ∷ []))).begun ≡ false
+  pub none_begun : begun (pen_over c p (ds ++ (last ∷ []))) ≡ false
 
 pub record Promised : Type 0 where
   pub whole : (c : Scene) (l : Lap) (v : VisitEntry) → end_at c l v ≤ c.bound → DrawnWhole c l v
   pub order : (c : Scene) (l : Lap) (v : VisitEntry) → Order c l v
   -- a visit that ends behind its line, or whose limit does, is marked as cut
   pub cut : (c : Scene) (l : Lap) (v : VisitEntry) → c.bound < drawn_to c l v
-      → cut_mark c l v ≡ Some (part shape.Cut (98 * c.bound ∷ c.bound ∷ 3 * c.bound ∷ 100 * c.bound ∷ 2 * c.bound ∷ 0 ∷ []))
+      → cut_mark c l v ≡ Some (phrase shape.Cut (98 * c.bound ∷ c.bound ∷ 3 * c.bound ∷ 100 * c.bound ∷ 2 * c.bound ∷ 0 ∷ []))
   -- where no line has begun a record begins one, with its rotation's number, and where one has it begins none
-  pub line_begins : (c : Scene) (p : Pen) (d : Drawn) → p.begun ≡ false → LineBegun c p d
-  pub line_begun_lem : (c : Scene) (p : Pen) (d : Drawn) → p.begun ≡ true
+  pub line_begins : (c : Scene) (p : Pen) (d : Drawn) → begun p ≡ false → LineBegun c p d
+  pub line_begun_lem : (c : Scene) (p : Pen) (d : Drawn) → begun p ≡ true
       → (part_at c p d 0 ≡ None) × ((part_at c p d 1 ≡ None) × (part_at c p d 2 ≡ None))
   -- behind a record a line has begun, but behind the last visit of a rotation, which ends it
   pub line_ends_lem : (c : Scene) (p : Pen) (d : Drawn) → is_last c d.lap d.entry ≡ true
-      → ((pen_after c p d).begun ≡ false) × (part_at c p d 13 ≡ Some (part shape.RotationEnd (0 ∷ 0 ∷ 0 ∷ 0 ∷ 0 ∷ 0 ∷ [])))
+      → (begun (pen_after c p d) ≡ false) × (part_at c p d 13 ≡ Some (phrase shape.RotationEnd (0 ∷ 0 ∷ 0 ∷ 0 ∷ 0 ∷ 0 ∷ [])))
   pub line_goes_on_lem : (c : Scene) (p : Pen) (d : Drawn) → is_last c d.lap d.entry ≡ false
-      → ((pen_after c p d).begun ≡ true) × (part_at c p d 13 ≡ None)
+      → (begun (pen_after c p d) ≡ true) × (part_at c p d 13 ≡ None)
   -- the frame of a record lies within the line
   pub framed : (c : Scene) (from to : ℕ) → frame_at c from + frame_width c from to ≤ 100 * c.bound
   -- it is drawn exactly at the named record: of its parts part 11 is one, and no other part of any record is
@@ -122,9 +124,9 @@ pub record Promised : Type 0 where
       → parts_over c p (ds ++ es) ≡ parts_over c p ds ++ parts_over c (pen_over c p ds) es
   -- records up to the last visit of a rotation begin one line, with the number of their rotation, and end it; then the next one begins
   pub one_line_lem : (c : Scene) (p : Pen) (ds : List Drawn) (last : Drawn) (rest : List Drawn)
-      → p.begun ≡ false → NoneLast c ds → is_last c last.lap last.entry ≡ true → OneLine c p ds last rest
+      → begun p ≡ false → NoneLast c ds → is_last c last.lap last.entry ≡ true → OneLine c p ds last rest
   -- and those behind which no last visit comes begin one line, and it is ended behind them
-  pub last_line_lem : (c : Scene) (p : Pen) (d : Drawn) (ds : List Drawn) → p.begun ≡ false → NoneLast c (d ∷ ds)
+  pub last_line_lem : (c : Scene) (p : Pen) (d : Drawn) (ds : List Drawn) → begun p ≡ false → NoneLast c (d ∷ ds)
       → line_marks (picture_of c p (d ∷ ds)) ≡ line_begun d ∷ line_ended ∷ []
   -- a record has 14 parts
   pub no_more : (c : Scene) (p : Pen) (d : Drawn) (k : ℕ) → 14 ≤ k → part_at c p d k ≡ None

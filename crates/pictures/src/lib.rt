@@ -7,9 +7,12 @@ pub(crate) mod records;
 pub(crate) mod visits;
 
 ghost use Rattle.std.specs.Prelude.{◌≡◌};
-ghost use Rattle.pictures.specs.Parts.{part_at, pen_after, line_end, no_pen};
+ghost use Rattle.pictures.specs.Parts.{begun, entry_part, is_last, room_behind, part_at, pen_after, line_end, no_pen};
 
+use log_records::{Entry, VisitEntry};
 use tallies::Drawn;
+use text::phrases::Phrase;
+use visits::DrawnVisit;
 
 // The shapes. What each of them is in words stands in the program.
 #[derive(Clone, Copy)]
@@ -44,13 +47,6 @@ pub enum Shape {
     RotationEnd,
 }
 
-// A shape, and its numbers in their order; behind the last of them zeros.
-#[derive(Clone, Copy)]
-pub struct Part {
-    pub shape: Shape,
-    pub numbers: [u64; 6],
-}
-
 // What every picture of a log is drawn by.
 #[derive(Clone, Copy)]
 pub struct Scene {
@@ -65,12 +61,21 @@ pub struct Scene {
     pub named: u64,
 }
 
-// Between two records: whether a line has begun, and from where on it has room for a number.
-#[repr(C)]
+// Between two records.
 #[derive(Clone, Copy)]
-pub struct Pen {
-    pub begun: bool,
-    pub room: u64,
+pub enum Pen {
+    // No line has begun.
+    Up,
+    // On a line that has begun; from here on it has room for a number.
+    Down(u64),
+}
+
+// A record that is drawn: what every picture is drawn by, the pen before the record, and the record.
+#[derive(Clone, Copy)]
+pub struct Drawing {
+    pub scene: Scene,
+    pub pen: Pen,
+    pub drawn: Drawn,
 }
 
 // How many parts a record has; those that are not there among them.
@@ -80,50 +85,93 @@ pub const PART_COUNT: usize = 14;
 pub fn pen_up() -> Pen
     ensures { result ≡ no_pen }
 {
-    Pen {
-        begun: false,
-        room: 0,
+    Pen::Up
+}
+
+impl Pen {
+    // Whether a line has begun.
+    pub fn has_begun(self) -> bool
+        ensures { result ≡ begun self }
+    {
+        matches!(self, Pen::Down(_))
     }
 }
 
-// Part k of a record, if it is there; behind the last of them there is none.
-pub fn part_at(scene: Scene, pen: Pen, drawn: Drawn, k: usize) -> Option<Part>
-    ensures { result ≡ part_at scene pen drawn k }
-{
-    let lap = drawn.lap;
-    if k == 0 {
-        return line::rotation_begin(pen, lap);
+impl Drawing {
+    // The visit that the record is.
+    fn of_visit(self, visit: VisitEntry) -> DrawnVisit
+        ensures { result ≡ record { scene = self.scene; pen = self.pen; lap = self.drawn.lap; through = self.drawn.through; visit = visit } }
+    {
+        DrawnVisit {
+            scene: self.scene,
+            pen: self.pen,
+            lap: self.drawn.lap,
+            through: self.drawn.through,
+            visit,
+        }
     }
-    if k == 1 {
-        return line::line_begin(scene, pen);
-    }
-    if k == 2 {
-        return line::bound_mark(scene, pen);
-    }
-    if k == 12 {
-        return Some(places::bare(Shape::RecordEnd));
-    }
-    let entry = drawn.entry;
-    if k == 13 {
-        return line::rotation_end(line::is_last(scene, lap, entry));
-    }
-    records::entry_part(scene, pen, drawn.through, lap, entry, k)
-}
 
-// The pen behind a record.
-pub fn pen_after(scene: Scene, pen: Pen, drawn: Drawn) -> Pen
-    ensures { result ≡ pen_after scene pen drawn }
-{
-    let lap = drawn.lap;
-    let entry = drawn.entry;
-    let last = line::is_last(scene, lap, entry);
-    let room = line::room_behind(scene, pen, drawn.through, lap, entry);
-    Pen { begun: !last, room }
+    // The parts of a visit, or of a mark.
+    fn entry_part(self, k: usize) -> Option<Phrase<Shape>>
+        ensures { result ≡ entry_part self.scene self.pen self.drawn.through self.drawn.lap self.drawn.entry k }
+    {
+        match self.drawn.entry {
+            Entry::Visit(visit) => self.of_visit(visit).part(k),
+            Entry::Mark(m) => records::mark_part(self.scene, self.drawn.lap, m, k),
+        }
+    }
+
+    // The last visit of a rotation ends its line.
+    fn is_last(self) -> bool
+        ensures { result ≡ is_last self.scene self.drawn.lap self.drawn.entry }
+    {
+        match self.drawn.entry {
+            Entry::Visit(_) => u64::from(self.scene.n) <= u64::from(self.drawn.lap.turn) + 1,
+            Entry::Mark(_) => false,
+        }
+    }
+
+    // From where on there is room for a number behind the record: a mark has none.
+    fn room_behind(self) -> u64
+        ensures { result ≡ room_behind self.scene self.pen self.drawn.through self.drawn.lap self.drawn.entry }
+    {
+        match self.drawn.entry {
+            Entry::Visit(visit) => self.of_visit(visit).room_past(),
+            Entry::Mark(_) => line::room_of(self.pen),
+        }
+    }
+
+    // Part k of the record, if it is there; behind the last of them there is none.
+    #[tactic(auto, unfolding(crate::specs::Parts::part_at))]
+    pub fn part_at(self, k: usize) -> Option<Phrase<Shape>>
+        ensures { result ≡ part_at self.scene self.pen self.drawn k }
+    {
+        match k {
+            0 => line::rotation_begin(self.pen, self.drawn.lap),
+            1 => line::line_begin(self.scene, self.pen),
+            2 => line::bound_mark(self.scene, self.pen),
+            12 => Some(Phrase::bare(Shape::RecordEnd)),
+            13 => line::rotation_end(self.is_last()),
+            _ => self.entry_part(k),
+        }
+    }
+
+    // The pen behind the record.
+    #[tactic(auto, unfolding(crate::specs::Parts::pen_after))]
+    pub fn pen_after(self) -> Pen
+        ensures { result ≡ pen_after self.scene self.pen self.drawn }
+    {
+        if self.is_last() {
+            return Pen::Up;
+        }
+        Pen::Down(self.room_behind())
+    }
 }
 
 // Behind the last record: a line that has begun is ended.
-pub fn line_end(pen: Pen) -> Option<Part>
+#[tactic(auto, unfolding(crate::specs::Parts::line_end))]
+pub fn line_end(pen: Pen) -> Option<Phrase<Shape>>
     ensures { result ≡ line_end pen }
 {
-    line::rotation_end(pen.begun)
+    line::rotation_end(pen.has_begun())
 }

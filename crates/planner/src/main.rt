@@ -2,32 +2,30 @@
 #![tactic(auto)]
 
 use commands::{Command, status};
-use std::env::Env;
 use std::io::{Input, Print};
 use streams::complaints::Complain;
-use streams::{ending, reading, usage, version, words};
+use streams::{ending, hearing, program, usage, version};
+use text::Page;
 
 // `plan`: the plan of the request sheet on standard input, or the refusal. The longest, of 128 stations with a mode, F and g, has 2,460 bytes; one more tells that a byte follows it.
 fn plan(rt: &(impl Input + Print + Complain)) -> u8 {
     let mut sheet: [u8; sheets::REQUEST_READ] = [0; sheets::REQUEST_READ];
-    let filled = reading::fill(&mut rt.reader(), &mut sheet);
-    if let Some(error) = filled.failed {
-        return ending::unread_input(rt, error);
-    }
+    let Ok(length) = hearing::fill(rt, &mut rt.reader(), &mut sheet) else {
+        return status::FAILED;
+    };
     let mut page = io::large_buffer();
-    let said = command_plan::plan_text(&sheet[..filled.length], &mut page);
+    let said = command_plan::plan_text(&sheet[..length], &mut page);
     ending::answer(rt, &page[..said.length], status::status_of(said.number))
 }
 
 // `plan-sheet`: the plan sheet of the request sheet on standard input; refused, no byte is written.
 fn plan_sheet(rt: &(impl Input + Print + Complain)) -> u8 {
     let mut sheet: [u8; sheets::REQUEST_READ] = [0; sheets::REQUEST_READ];
-    let filled = reading::fill(&mut rt.reader(), &mut sheet);
-    if let Some(error) = filled.failed {
-        return ending::unread_input(rt, error);
-    }
+    let Ok(length) = hearing::fill(rt, &mut rt.reader(), &mut sheet) else {
+        return status::FAILED;
+    };
     let mut out = io::large_buffer();
-    let written = command_plan::plan_sheet(&sheet[..filled.length], &mut out);
+    let written = command_plan::plan_sheet(&sheet[..length], &mut out);
     if written.number != 0 {
         return ending::refuse_sheet(rt, written.number);
     }
@@ -36,31 +34,27 @@ fn plan_sheet(rt: &(impl Input + Print + Complain)) -> u8 {
 
 // `version`: a line.
 fn version(rt: &(impl Print + Complain)) -> u8 {
-    let mut page = io::buffer();
-    let named = version::put(&mut page, 0);
-    let put = text::put_end(&mut page, named);
-    if !ending::say_put(rt, &page, put) {
+    let mut buffer = io::buffer();
+    let mut page = Page::new(&mut buffer);
+    version::put(&mut page);
+    page.put_end();
+    let put = page.length();
+    if !ending::say_put(rt, &buffer, put) {
         return status::FAILED;
     }
     status::DONE
 }
 
-// Does what the words from this one on ask for.
-fn obey(rt: &(impl Env + Input + Print + Complain), first: usize) -> u8 {
-    match words::command(rt, first) {
+// Does the command; no word of one here has another behind it.
+fn obey(rt: &(impl Input + Print + Complain), command: Command) -> u8 {
+    match command {
         Command::Plan => plan(rt),
         Command::PlanSheet => plan_sheet(rt),
         Command::Version => version(rt),
-        Command::Unknown => status::FAILED,
         _ => usage::elsewhere(rt),
     }
 }
 
 fn main(rt: HostRuntime) {
-    if !words::status_asked(&rt) {
-        obey(&rt, 1);
-        return;
-    }
-    let status = obey(&rt, 2);
-    ending::tell(status);
+    program::run(&rt, |command, _| obey(&rt, command));
 }

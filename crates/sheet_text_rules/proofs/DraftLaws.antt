@@ -5,6 +5,7 @@ use mathlib.Core.Bool.{Bool, true, false, cond, ◌||◌}
 use mathlib.Core.List.{List, [], ◌∷◌, ◌++◌}
 use mathlib.Core.Logic.{⊎_elim, ◌≢◌}
 use native.Mathlib.Omega.{arith}
+use Rattle.std.specs.Prelude.{None}
 use native.Mathlib.Numerals.{add-one}
 use borrow.Author.Tests.{le-leb, lt-ltb, eq-eqb, ne_eqb}
 use lib.Dec.{leb, eqb}
@@ -257,10 +258,10 @@ draft_behind plan t a k =
       set = first_stations t k;
       alloc = record { s = fill k (share_of plan a) zeros };
       line = line_behind t.head k;
-      unread = 0;
+      unread = None;
       head = tag_behind t.head further_count;
       kind = kind_behind plan k;
-      wrong = 0;
+      wrong = false;
     }
 
 -- the stations before are of the same kind
@@ -277,10 +278,10 @@ head_draft h k =
       set = record { head = head_so_far h k; n = 0; w = zeros; c = zeros; d = zeros; p = zeros };
       alloc = blank_alloc;
       line = head_line h k;
-      unread = 0;
+      unread = None;
       head = tag_behind h k;
       kind = 0;
-      wrong = 0;
+      wrong = false;
     }
 
 -- TTRT's line alone

@@ -5,8 +5,9 @@ use mathlib.Core.Bool.{Bool, true, false, ◌&&◌}
 use mathlib.Core.List.{List}
 use mathlib.Core.Logic.{⊎_elim, ◌≢◌}
 use native.Mathlib.Omega.{arith}
+use Rattle.std.specs.Prelude.{is_none}
 use borrow.Author.Tests.{le-leb, lt-ltb, le-ltb, ne_eqb}
-use lib.Dec.{leb, ltb, eqb}
+use lib.Dec.{leb, ltb}
 use Rattle.units.proofs.JudgingLaws.{true_or_false}
 use Rattle.sets.specs.Header.{head_number}
 use Rattle.sets.specs.Rules.{CountAllowed}
@@ -27,7 +28,7 @@ and-false true = refl
 and-false false = refl
 
 misplaced_broken : (d : Draft) → is_whole (misplaced d) ≡ false
-misplaced_broken d = and-false (eqb d.unread 0)
+misplaced_broken d = and-false (is_none d.unread)
 
 module _ (d : Draft) (tag number : ℕ) where
   pub line_given : 1 ≤ d.head → d.head < tag → d.set.n ≡ 0 → head_number (with_further d tag number).set.head tag ≡ header_number true number

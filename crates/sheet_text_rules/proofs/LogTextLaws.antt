@@ -1,11 +1,11 @@
 -- The text of a log makes its bytes: at the first record the draft holds the plan, whose fields go out; each record's line lets out its field; and the end comes last.
 use Prim.Native.Nat.{ℕ, zero, suc, ◌^◌, ◌≤◌}
 use mathlib.Core.Path.{◌≡◌, refl, sym, ap, ◌∙◌}
-use mathlib.Core.Bool.{true, false}
+use mathlib.Core.Bool.{true, false, false≢true}
 use mathlib.Core.List.{List, [], ◌∷◌, ◌++◌, append_assoc, append-nil}
 use native.Mathlib.Omega.{arith}
+use Rattle.std.specs.Prelude.{Option, None, Some, is_none}
 use borrow.Author.Tests.{eqb-true, lt-ltb, le-ltb, ne_eqb, le-leb}
-use lib.Dec.{eqb}
 use lib.ListN.{length}
 use mathlib.Core.Logic.{◌≢◌}
 use Rattle.units.proofs.JudgingLaws.{and-true}
@@ -196,6 +196,10 @@ unfolding lines_on
 lines_out d [] = refl
 lines_out d (e ∷ es) = lines_out (on_next_line d) es
 
+none_is : (known : Option ℕ) → is_none known ≡ true → known ≡ None
+none_is None e = refl
+none_is (Some n) e = absurd (false≢true e)
+
 out_kind : (d : Draft) → goes_out d ≡ true → d.kind ≡ 3
 out_kind d out = eqb-true d.kind 3 (and-true (is_whole d) _ out).1
 
@@ -311,12 +315,12 @@ module _ (t : Set) (a : Alloc) (judged : judged_sheet true t a ≡ 0) where
     some_composed : Makes (log_text t a (e ∷ es)) (log_of t a (e ∷ es))
     unfolding log_of
     some_composed =
-        let read = (and-true (eqb (lines_on logged es).unread 0) _ (and-true (is_whole (lines_on logged es)) _ still_out).0).0 in
+        let read = (and-true (is_none (lines_on logged es).unread) _ (and-true (is_whole (lines_on logged es)) _ still_out).0).0 in
         record {
           first = fields_of true t a ++ entries_bytes (e ∷ es);
           last = end_bytes;
           composes = record {
-            readable = ap (λ (d : Draft). d.unread) log_ended ∙ eqb-true (lines_on logged es).unread 0 read;
+            readable = ap (λ (d : Draft). d.unread) log_ended ∙ none_is (lines_on logged es).unread read;
             sent = all_sent;
             answer = λ buffer room. ap (λ (d : Draft). end_answer d buffer) log_ended ∙ (end_of_log (on_next_line (lines_on logged es)) buffer still_out room).0;
             buffer = λ buffer room. ap (λ (d : Draft). end_buffer d buffer) log_ended ∙ (end_of_log (on_next_line (lines_on logged es)) buffer still_out room).1;

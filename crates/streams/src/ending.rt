@@ -7,6 +7,7 @@ use crate::complaints::Complain;
 use crate::{reading, reasons};
 use commands::status;
 use std::io::{Error, Print};
+use text::Page;
 
 // Where the status goes, if the first word asks for it.
 const STATUS_FILENO: i32 = 3;
@@ -61,6 +62,21 @@ pub fn say_put(rt: &(impl Print + Complain), page: &[u8], put: usize) -> bool {
     say(rt, &page[..length])
 }
 
+// Writes words, with a number in the place of each `#`.
+pub fn say_filled(rt: &(impl Print + Complain), words: &[u8], numbers: [u64; 6]) -> bool {
+    let mut buffer = io::buffer();
+    let mut page = Page::new(&mut buffer);
+    page.put_filled(words, numbers);
+    let put = page.length();
+    say_put(rt, &buffer, put)
+}
+
+// Writes what was put at the start of a page on standard error.
+pub fn warn_put(rt: &impl Complain, page: &[u8], put: usize) {
+    let length = reading::further(0, put, page.len());
+    rt.complain(&page[..length]);
+}
+
 // With this status, where what was to be said could be written.
 fn ended(wrote: bool, status: u8) -> u8
     ensures { Ends status result }
@@ -83,7 +99,9 @@ pub fn refuse(rt: &(impl Print + Complain), number: u8) -> u8
     ensures { Ends (status_of number) result }
 {
     let mut line: [u8; LINE_SIZE] = [0; LINE_SIZE];
-    let length = text::put_refused(&mut line, 0, number);
+    let mut page = Page::new(&mut line);
+    page.put_refused(number);
+    let length = page.length();
     answer(rt, &line[..length], status::status_of(number))
 }
 
@@ -92,7 +110,9 @@ pub fn refuse_sheet(rt: &impl Complain, number: u8) -> u8
     ensures { Ends (status_of number) result }
 {
     let mut line: [u8; LINE_SIZE] = [0; LINE_SIZE];
-    let length = text::put_refused(&mut line, 0, number);
+    let mut page = Page::new(&mut line);
+    page.put_refused(number);
+    let length = page.length();
     let wrote = rt.complain(&line[..length]);
     ended(wrote, status::status_of(number))
 }
@@ -102,7 +122,9 @@ pub fn name_line(rt: &impl Complain, number: u64) -> u8
     ensures { result ≡ failed }
 {
     let mut line: [u8; LINE_SIZE] = [0; LINE_SIZE];
-    let length = text::put_unread(&mut line, 0, number);
+    let mut page = Page::new(&mut line);
+    page.put_unread(number);
+    let length = page.length();
     complain(rt, &line[..length])
 }
 

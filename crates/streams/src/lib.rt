@@ -3,7 +3,10 @@
 
 pub mod complaints;
 pub mod ending;
+pub mod failing;
+pub mod hearing;
 pub mod loading;
+pub mod program;
 pub mod reading;
 pub mod reasons;
 pub mod usage;

@@ -1,14 +1,21 @@
 // A file whose path is a word. Where it cannot be opened or read, the command and the path are named.
 ghost use Rattle.std.specs.Prelude.{◌≡◌};
-ghost use Rattle.io.specs.Counts.{IsPrefixLen};
+ghost use Rattle.std.specs.Io.{ReadsAtMost};
+ghost use Rattle.streams.specs.Ends.{failed};
 
 use crate::complaints::Complain;
-use crate::reading::Filled;
-use crate::{reading, reasons, words};
+use crate::failing::Failed;
+use crate::words::PathText;
+use crate::{ending, reading, reasons, words};
+use commands::status;
 use std::env::Env;
 use std::fs;
 use std::fs::Files;
 use std::io::{Error, Read};
+use std::os::fd::AsRawFd;
+
+// The number of standard error, the highest of the three.
+const STDERR_FILENO: i32 = 2;
 
 // Names the command and the path, and what the system says of it.
 pub fn name(rt: &impl Complain, command: &[u8], path: &[u8], error: Error) {
@@ -16,32 +23,77 @@ pub fn name(rt: &impl Complain, command: &[u8], path: &[u8], error: Error) {
     reasons::say(rt, path, error);
 }
 
-// A file that cannot be opened: it is named, and no byte came.
-fn unopened(rt: &impl Complain, command: &[u8], path: &[u8], error: Error) -> Filled
-    ensures { result.length ≡ 0 }
+// The same, and fails.
+pub fn fail(rt: &impl Complain, command: &[u8], path: &[u8], error: Error) -> u8
+    ensures { result ≡ failed }
 {
     name(rt, command, path, error);
-    Filled {
-        length: 0,
-        failed: Some(error),
-    }
+    status::FAILED
+}
+
+// A file that has the number of standard input, output or error: what is read there would be read from it, and what is said there written into it.
+pub fn fail_closed(rt: &impl Complain, command: &[u8]) -> u8
+    ensures { result ≡ failed }
+{
+    rt.complain(command);
+    ending::complain(rt, b"standard input, output or error is closed\n")
+}
+
+// Whether an open file has one of these numbers.
+pub fn is_standard(file: &impl AsRawFd) -> bool {
+    file.as_raw_fd() <= STDERR_FILENO
 }
 
 // Fills the buffer from an open file; one that cannot be read is named.
-fn fill(
+pub fn fill(
     rt: &impl Complain,
     command: &[u8],
     file: &mut impl Read,
     path: &[u8],
-    sheet: &mut [u8],
-) -> Filled
-    ensures { IsPrefixLen result.length sheet.new }
+    buffer: &mut [u8],
+) -> Result<usize, Failed>
+    ensures { ReadsAtMost result buffer.new }
 {
-    let filled = reading::fill(file, sheet);
+    let filled = reading::fill(file, buffer);
     if let Some(error) = filled.failed {
         name(rt, command, path, error);
+        return Err(Failed);
     }
-    filled
+    Ok(filled.length)
+}
+
+// Fills the buffer from the file of this path.
+pub fn load_path(
+    rt: &(impl Files + Complain),
+    command: &[u8],
+    path: &str,
+    buffer: &mut [u8],
+) -> Result<usize, Failed>
+    ensures { ReadsAtMost result buffer.new }
+{
+    match fs::open(rt, path) {
+        Ok(mut file) => fill(rt, command, &mut file, path.as_bytes(), buffer),
+        Err(error) => {
+            name(rt, command, path.as_bytes(), error);
+            Err(Failed)
+        }
+    }
+}
+
+// The word at this place as a path; one that is none is called this.
+pub fn path(
+    rt: &(impl Env + Complain),
+    command: &[u8],
+    called: &[u8],
+    word: usize,
+) -> Result<PathText, Failed> {
+    match words::path(rt, word) {
+        Ok(path) => Ok(path),
+        Err(error) => {
+            name(rt, command, called, error);
+            Err(Failed)
+        }
+    }
 }
 
 // Fills the buffer from the file whose path is the word at this place.
@@ -50,16 +102,41 @@ pub fn load(
     command: &[u8],
     word: usize,
     sheet: &mut [u8],
-) -> Filled
-    ensures { IsPrefixLen result.length sheet.new }
+) -> Result<usize, Failed>
+    ensures { ReadsAtMost result sheet.new }
 {
-    let path = match words::path(rt, word) {
-        Ok(path) => path,
-        Err(error) => return unopened(rt, command, b"the path of a file", error),
+    let path = path(rt, command, b"the path of a file", word)?;
+    load_path(rt, command, path.as_str(), sheet)
+}
+
+// An open file and its path.
+#[derive(Drop)]
+pub struct Opened<F> {
+    pub path: PathText,
+    pub file: F,
+}
+
+// Opens the file whose path is the word at this place, beside the three that are open already.
+pub fn open<R: Env + Files + Complain>(
+    rt: &R,
+    command: &[u8],
+    called: &[u8],
+    word: usize,
+) -> Result<Opened<R::File>, Failed>
+where
+    R::File: AsRawFd,
+{
+    let path = path(rt, command, called, word)?;
+    let file = match fs::open(rt, path.as_str()) {
+        Ok(file) => file,
+        Err(error) => {
+            name(rt, command, path.as_str().as_bytes(), error);
+            return Err(Failed);
+        }
     };
-    let path = path.as_str();
-    match fs::open(rt, path) {
-        Ok(mut file) => fill(rt, command, &mut file, path.as_bytes(), sheet),
-        Err(error) => unopened(rt, command, path.as_bytes(), error),
+    if is_standard(&file) {
+        fail_closed(rt, command);
+        return Err(Failed);
     }
+    Ok(Opened { path, file })
 }

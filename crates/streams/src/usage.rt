@@ -47,7 +47,6 @@ pub fn line_of(command: Command) -> &'static [u8] {
             b"olivastrum versions STORE         print the kept versions: number, and the first line of the plan\n",
         Command::Version => b"olivastrum version                print the version\n",
         Command::Help => b"olivastrum help                   print this\n",
-        Command::Unknown => b"",
     }
 }
 

@@ -78,20 +78,20 @@ fn given_from(rt: &impl Env, first: usize) -> usize {
     0
 }
 
-// The command that the words from this one on ask for. Where they ask for none, it is said why, and the answer is `Unknown`.
-pub fn command(rt: &(impl Env + Complain), first: usize) -> Command {
+// The command that the words from this one on ask for. Where they ask for none, it is said why.
+pub fn command(rt: &(impl Env + Complain), first: usize) -> Option<Command> {
     let given = given_from(rt, first);
     let mut buffer = [0u8; WORD_SIZE];
     let length = word_at(rt, first, &mut buffer);
     match commands::asked_for(&buffer[..length], given) {
-        Asked::Do(asked) => asked,
-        Asked::Miscounted(asked) => {
+        Some(Asked::Do(asked)) => Some(asked),
+        Some(Asked::Miscounted(asked)) => {
             usage::miscounted(rt, asked);
-            Command::Unknown
+            None
         }
-        Asked::Nothing => {
+        None => {
             usage::no_command(rt, &buffer[..length]);
-            Command::Unknown
+            None
         }
     }
 }

@@ -93,6 +93,7 @@ fn took_by(w: &[u32; 128], visit: VisitEntry) -> u64
 }
 
 // One visit more: the last one of a rotation ends it.
+#[tactic(auto, unfolding(crate::specs::Laps::visit_lapped))]
 fn lap_visit(lap: Lap, n: u32, w: &[u32; 128], visit: VisitEntry) -> Lap
     ensures { result ≡ visit_lapped n w.now lap visit }
 {
@@ -164,6 +165,7 @@ fn raise_at(numbers: &mut [u64; 896], i: usize, x: u64)
 }
 
 // The time since the last visit began; none before the first.
+#[tactic(auto, unfolding(crate::specs::Tallies::gap_of))]
 fn gap_of(visits: u64, last: u64, clock: u64) -> u64
     ensures { result ≡ gap_of visits last clock }
 {
@@ -180,21 +182,24 @@ fn place_of(station: u32) -> usize
     (station % 128) as usize
 }
 
-// 0 is in, anything else switched through.
-fn switch_of(mark: u32) -> u8
+// What a visit adds to those while the station was switched through: 0 is in, anything else switched through.
+#[tactic(auto, unfolding(crate::specs::Tallies::switch_of))]
+fn switch_of(mark: u32) -> u64
     ensures { result ≡ switch_of mark }
 {
-    u8::from(mark != 0)
+    u64::from(mark != 0)
 }
 
 // The mark of a station behind a record that marks it. One that is neither 0 nor 1 changes nothing.
+#[tactic(auto, unfolding(crate::specs::Tallies::marked_by, crate::specs::Tallies::switch_of))]
 fn marked_by(before: u8, mark: u32) -> u8
     ensures { result ≡ marked_by before mark }
 {
-    if 1 < mark {
-        return before;
+    match mark {
+        0 => 0,
+        1 => 1,
+        _ => before,
     }
-    switch_of(mark)
 }
 
 // A mark of a station behind the last place switches nobody.
@@ -216,7 +221,7 @@ fn tally_visit(numbers: &mut [u64; 896], p: usize, mark: u32, clock: u64, visit:
     raise_at(&mut *numbers, LONGEST + p, gap);
     numbers[LAST + p] = clock;
     add_at(&mut *numbers, VISITS + p, 1);
-    add_at(&mut *numbers, THROUGH + p, u64::from(switch_of(mark)));
+    add_at(&mut *numbers, THROUGH + p, switch_of(mark));
     let sent = u64::from(visit.synchronous);
     raise_at(&mut *numbers, MOST + p, sent);
     add_at(&mut *numbers, SYNCHRONOUS + p, sent);

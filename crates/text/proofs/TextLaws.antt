@@ -1,19 +1,19 @@
 -- The laws of decimal numbers, lines and text put into a page, for the proofs of this layer.
-use Prim.Native.Nat.{ℕ, zero, suc, ◌+◌, ◌*◌, ◌^◌, ◌/◌, ◌%◌, ◌≤◌, ◌<◌, min}
+use Prim.Native.Nat.{ℕ, zero, suc, ◌+◌, ◌*◌, ◌^◌, ◌/◌, ◌%◌, ◌≤◌, ◌<◌}
 use mathlib.Core.Path.{◌≡◌, refl, sym, ap, ◌∙◌}
 use mathlib.Core.Bool.{cond}
 use mathlib.Core.List.{List, [], ◌∷◌, ◌++◌, append_assoc, append-nil}
 use mathlib.Core.Logic.{◌≢◌, ⊎_elim}
-use native.Mathlib.Nat.{mul-zero, mul-suc, pow-suc, div-lt_iff_lt-mul}
+use native.Mathlib.Nat.{pow-suc, div-lt_iff_lt-mul}
 use native.Mathlib.Omega.{arith}
 use lib.Dec.{ltb}
 use borrow.Author.Tests.{lt-ltb, le-ltb}
-use lib.ListN.{length, take, set, length-append}
-use lib.Seq.{sets-eq, take_all, take-length, length-take-le, drop-drop}
+use lib.ListN.{length, set, length-append}
+use lib.Seq.{sets-eq, length-take-le, drop-drop}
 use borrow.Rule.Slice.PartMut.{put_mid}
 use Rattle.units.specs.Numbers.{buffer_too_short}
 use Rattle.units.proofs.SmallLaws.{below_or_not}
-use Rattle.fields.specs.Rows.{laid, rows}
+use Rattle.fields.specs.Rows.{laid}
 use Rattle.fields.proofs.RowLaws.{laid_none, laid_length, laid_then, laid_first}
 use Rattle.text.specs.Text.{digit, decimal_within, decimal_of, line_on, line, number_words, fields_of, newline, space, Put, PutShort, PutWithin, Printed, page_size, page_with, length_on, number_on, Says, text_or, refused_word, refused_line, line_word, cannot_be_read, unread_line}
 use Rattle.text.specs.declared.Said.{Said}
@@ -81,13 +81,6 @@ within_none not_both =
       reach = omega arith;
     }
 
--- what is put behind a segment, with room for both
-pub within_then : {before middle after s t : List ℕ} {a r q most more : ℕ}
-    → PutShort most before a s middle r → PutWithin more middle r t after q → length t ≤ more → a + most + more ≤ length before
-    → PutShort (most + more) before a (s ++ t) after q
-within_then p k few fits =
-    put_short_then p (k.put (omega (arith, p.put.next, p.short, put_length p.put (omega (arith, p.short)))) few) fits
-
 -- ---- a text at the start of a page
 
 pub printed : {text segment before after : List ℕ} {r most : ℕ} → PutShort most before 0 segment after r → segment ≡ text → page_size ≤ length before → most ≤ page_size → Printed text before after r
@@ -125,23 +118,6 @@ says_nothing {text} {before} small = record { printed = not_printed small; numbe
 pub says_as : {s t before after : List ℕ} {r : Said} {k n : ℕ} → Says s k before after r → s ≡ t → k ≡ n → Says t n before after r
 says_as p same told = rw (← same, ← told) p
 
--- ---- a piece of a text: its first bytes, or all if they are fewer
-
-pub take_piece : (text : List ℕ) (k : ℕ) → take (min (length text) k) text ≡ take k text
-take_piece text k =
-    ⊎_elim (λ (b : length text < k).
-    let e : min (length text) k ≡ length text = omega arith in
-    rw (e, take-length text) (sym (take_all k text (omega arith))))
-    (λ (b : k ≤ length text). let e : min (length text) k ≡ k = omega arith in rw e)
-    (below_or_not (length text) k)
-
--- ---- rows of lines
-
-pub rows_short : (n step : ℕ) (f : ℕ → List ℕ) → ((i : ℕ) → length (f i) ≤ step) → length (rows n f) ≤ step * n
-unfolding rows
-rows_short zero step f h = omega (arith, mul-zero step)
-rows_short (suc n) step f h = omega (arith, length-append (rows n f) (f n), rows_short n step f h, h n, mul-suc step n)
-
 -- ---- decimal numbers
 
 pub decimal_short : (k n : ℕ) → length (decimal_within k n) ≤ k
@@ -156,17 +132,6 @@ decimal_short (suc k) n =
 
 pub field_short : (n : ℕ) → length (space ∷ decimal_of n) ≤ 21
 field_short n = omega (arith, decimal_short 20 n)
-
--- a number's field, or the line's end, put behind a segment
-pub field_then : {before middle after s : List ℕ} {a r q most : ℕ} (n : ℕ)
-    → PutShort most before a s middle r → PutWithin 21 middle r (space ∷ decimal_of n) after q → a + most + 21 ≤ length before
-    → PutShort (most + 21) before a (s ++ (space ∷ decimal_of n)) after q
-field_then n p k fits = within_then p k (field_short n) fits
-
-pub end_then : {before middle after s : List ℕ} {a r q most : ℕ}
-    → PutShort most before a s middle r → PutWithin 1 middle r (newline ∷ []) after q → a + most + 1 ≤ length before
-    → PutShort (most + 1) before a (s ++ (newline ∷ [])) after q
-end_then p k fits = within_then p k (omega arith) fits
 
 -- more places than are needed change nothing
 pub decimal_more : (k n : ℕ) → n < 10 ^ suc k → decimal_within (suc (suc k)) n ≡ decimal_within (suc k) n
@@ -230,22 +195,10 @@ unfolding fields_of
 fields_short [] = omega arith
 fields_short (n ∷ ns) = omega (arith, length-append (space ∷ decimal_of n) (fields_of ns), field_short n, fields_short ns)
 
-line_short : (word ns : List ℕ) → length (line (word ∷ number_words ns)) ≤ length word + (21 * length ns + 1)
+pub line_short : (word ns : List ℕ) → length (line (word ∷ number_words ns)) ≤ length word + (21 * length ns + 1)
 line_short word ns =
     rw (← line_fields word ns)
     (omega (arith, length-append (word ++ fields_of ns) (newline ∷ []), length-append word (fields_of ns), fields_short ns))
-
--- a line of a word and numbers, put where it has room, or behind a segment
-pub line_put : {before after : List ℕ} {a r : ℕ} (word ns : List ℕ)
-    → PutWithin (length word + (21 * length ns + 1)) before a (line (word ∷ number_words ns)) after r → a + (length word + (21 * length ns + 1)) ≤ length before
-    → PutShort (length word + (21 * length ns + 1)) before a (line (word ∷ number_words ns)) after r
-line_put word ns k room = k.put room (line_short word ns)
-
-pub line_then : {before middle after s : List ℕ} {a r q most : ℕ} (word ns : List ℕ)
-    → PutShort most before a s middle r → PutWithin (length word + (21 * length ns + 1)) middle r (line (word ∷ number_words ns)) after q
-    → a + most + (length word + (21 * length ns + 1)) ≤ length before
-    → PutShort (most + (length word + (21 * length ns + 1))) before a (s ++ line (word ∷ number_words ns)) after q
-line_then word ns p k fits = within_then p k (line_short word ns) fits
 
 -- a line whose last word has two parts
 pub line_parts : (word part rest : List ℕ) → line (word ∷ (part ++ rest) ∷ []) ≡ ((word ++ (space ∷ part)) ++ rest) ++ (newline ∷ [])

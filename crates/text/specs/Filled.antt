@@ -2,6 +2,7 @@
 use Rattle.std.specs.Prelude.{ℕ, zero, suc, ◌+◌, ◌≤◌, ◌<◌, ◌≡◌, cond, List, [], ◌∷◌, ◌++◌, eqb, length}
 use Rattle.units.specs.Places.{at}
 use Rattle.text.specs.Text.{decimal_of, PutWithin}
+use Rattle.text.specs.declared.Page.{Page}
 
 -- `#`
 abbrev pub hole : ℕ
@@ -33,3 +34,9 @@ filled words numbers = filled_up_to words numbers (length words)
 pub record PutFilled (words numbers before : List ℕ) (a : ℕ) (after : List ℕ) (r : ℕ) : Type 0 where
   pub fits : length words ≤ 100 → PutWithin 2_000 before a (filled words numbers) after r
   pub long : 100 < length words → (after ≡ before) × (r ≡ a)
+
+-- the same of a page, which is as long as it was, and is the one that was lent
+pub record PutsFilled (words numbers : List ℕ) (before after : Page) : Type 0 where
+  pub filled : PutFilled words numbers before.bytes.now before.at after.bytes.now after.at
+  pub size : length after.bytes.now ≡ length before.bytes.now
+  pub same : after.bytes.ghost_name ≡ before.bytes.ghost_name

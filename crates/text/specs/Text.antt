@@ -84,10 +84,6 @@ pub record Put (before : List ℕ) (a : ℕ) (segment after : List ℕ) (r : ℕ
   pub page : after ≡ laid before a segment
   pub next : r ≡ a + length segment
 
--- the segment has room in the page from the place a on
-abbrev pub Room : List ℕ → ℕ → List ℕ → Type 0
-Room page a segment = a + length segment ≤ length page
-
 -- the same, of a segment of at most so many bytes
 pub record PutShort (most : ℕ) (before : List ℕ) (a : ℕ) (segment after : List ℕ) (r : ℕ) : Type 0 where
   pub put : Put before a segment after r

@@ -1,10 +1,13 @@
-// Text put into a page. Each public function puts a text into the page from a place on, and answers the place behind it. If the page has no room for the most bytes that it may put, the page stays as it was and the answer is the place itself.
+// Text put into a page. Each public method puts a text behind what was put before. If the page has no room for the most bytes that the method may put, the page stays as it was.
 #![tactic(auto)]
 
-ghost use Rattle.std.specs.Prelude.{◌≡◌, [], ◌∷◌, ◌+◌, ◌-◌, ◌*◌, ◌^◌, ◌<◌, ◌≤◌, leb, length};
+pub mod phrases;
+
+ghost use Rattle.std.specs.Prelude.{◌≡◌, [], ◌∷◌, ◌+◌, ◌-◌, ◌*◌, ◌^◌, ◌<◌, leb, length};
 ghost use Rattle.units.specs.Places.{at as place_at};
-ghost use Rattle.text.specs.Text.{Put, PutShort, PutWithin, Room, digit, decimal_of, space, newline, fields_of, number_words, line, refused_line, unread_line};
-ghost use Rattle.text.specs.Filled.{piece_of, used_by, filled, PutFilled};
+ghost use Rattle.text.specs.Text.{digit, decimal_of, space, newline, fields_of, number_words, line, refused_line, unread_line};
+ghost use Rattle.text.specs.Pages.{HasRoom, Begins, Puts, PutsWithin};
+ghost use Rattle.text.specs.Filled.{piece_of, used_by, filled, PutsFilled};
 
 // How many bytes a page must have, so that every text of the program fits.
 pub const PAGE_SIZE: usize = 65_536;
@@ -17,165 +20,221 @@ pub struct Said {
     pub number: u8,
 }
 
-// One byte.
-fn put_byte(page: &mut [u8], at: usize, byte: u8) -> usize
-    requires { Room page.old at (byte ∷ []) }
-    ensures { Put page.old at (byte ∷ []) page.new result }
-{
-    page[at] = byte;
-    at + 1
+// A page that was lent, and the place behind what was put into it.
+#[derive(Drop)]
+pub struct Page<'a> {
+    bytes: &'a mut [u8],
+    at: usize,
 }
 
-// The bytes of a word.
-#[tactic(auto, using(crate::proofs::TextLaws::put_part))]
-fn put_word(page: &mut [u8], at: usize, word: &[u8]) -> usize
-    requires { Room page.old at word.now }
-    ensures { Put page.old at word.now page.new result }
-{
-    let next = at + word.len();
-    page[at..next].copy_from_slice(word);
-    next
-}
-
-// A number below 10.
-fn put_digit(page: &mut [u8], at: usize, d: u64) -> usize
-    requires { (d < 10) × Room page.old at (digit d ∷ []) }
-    ensures { Put page.old at (digit d ∷ []) page.new result }
-{
-    let small = d as u8;
-    put_byte(page, at, 48 + small)
-}
-
-// A number in decimal.
-fn put_decimal(page: &mut [u8], at: usize, n: u64) -> usize
-    requires { Room page.old at (decimal_of n) }
-    ensures { Put page.old at (decimal_of n) page.new result }
-{
-    if n < 10 {
-        return put_digit(page, at, n);
+impl<'a> Page<'a> {
+    // A page into which nothing was put.
+    pub fn new(bytes: &'a mut [u8]) -> Page<'a>
+        ensures begins { Begins bytes.old result }
+        ensures same { result.bytes.ghost_name ≡ bytes.entry.ghost_name }
+    {
+        Page { bytes, at: 0 }
     }
-    let next = put_decimal(page, at, n / 10);
-    put_digit(page, next, n % 10)
-}
 
-// A space, and a number.
-fn put_spaced(page: &mut [u8], at: usize, n: u64) -> usize
-    requires { at + 21 ≤ length page.old }
-    ensures { PutShort 21 page.old at (space ∷ decimal_of n) page.new result }
-{
-    let next = put_byte(page, at, b' ');
-    put_decimal(page, next, n)
-}
-
-// The numbers, each with a space before it.
-fn put_fields(page: &mut [u8], at: usize, numbers: &[u64]) -> usize
-    requires { at + 21 * length numbers.now ≤ length page.old }
-    ensures { PutShort (21 * length numbers.now) page.old at (fields_of numbers.now) page.new result }
-{
-    let mut next = at;
-    for number in numbers {
-        next = put_spaced(page, next, *number);
+    // How many bytes were put.
+    pub fn length(&self) -> usize
+        ensures { result ≡ self.now.at }
+    {
+        self.at
     }
-    next
-}
 
-// A page of this size has room from the place on for a line of a word of so many bytes and of so many numbers.
-fn has_room(size: usize, at: usize, word: usize, numbers: usize) -> bool
-    ensures { result ≡ leb (at + (word + (21 * numbers + 1))) size }
-{
-    let room = size.saturating_sub(at).saturating_sub(word);
-    1 <= room && numbers <= (room - 1) / 21
-}
-
-// A word of at most 20 bytes.
-pub fn put_short(page: &mut [u8], at: usize, word: &[u8]) -> usize
-    ensures { PutWithin 20 page.old at word.now page.new result }
-{
-    if word.len() > 20 {
-        return at;
+    // How many bytes more have room.
+    pub fn room(&self) -> usize
+        ensures { result ≡ length self.now.bytes.now - self.now.at }
+    {
+        self.bytes.len().saturating_sub(self.at)
     }
-    if page.len().saturating_sub(at) < 20 {
-        return at;
-    }
-    put_word(page, at, word)
-}
 
-// A number at the start of a line.
-pub fn put_number(page: &mut [u8], at: usize, n: u64) -> usize
-    ensures { PutWithin 20 page.old at (decimal_of n) page.new result }
-{
-    if page.len().saturating_sub(at) < 20 {
-        return at;
+    // There is room for a line of a word of so many bytes and of so many numbers.
+    fn has_room(&self, word: usize, numbers: usize) -> bool
+        ensures { result ≡ leb (self.now.at + (word + (21 * numbers + 1))) (length self.now.bytes.now) }
+    {
+        let room = self.room().saturating_sub(word);
+        1 <= room && numbers <= (room - 1) / 21
     }
-    put_decimal(page, at, n)
-}
 
-// A space, and a number.
-pub fn put_field(page: &mut [u8], at: usize, n: u64) -> usize
-    ensures { PutWithin 21 page.old at (space ∷ decimal_of n) page.new result }
-{
-    if page.len().saturating_sub(at) < 21 {
-        return at;
+    // One byte.
+    fn put_byte(&mut self, byte: u8)
+        requires { HasRoom 1 self.old }
+        ensures { Puts 1 self.old (byte ∷ []) self.new }
+    {
+        self.bytes[self.at] = byte;
+        self.at += 1;
     }
-    put_spaced(page, at, n)
-}
 
-// The end of a line.
-pub fn put_end(page: &mut [u8], at: usize) -> usize
-    ensures { PutWithin 1 page.old at (newline ∷ []) page.new result }
-{
-    if page.len().saturating_sub(at) < 1 {
-        return at;
+    // The bytes of a word.
+    #[tactic(auto, using(crate::proofs::PageLaws::word_put))]
+    fn put_word(&mut self, word: &[u8])
+        requires { HasRoom (length word.now) self.old }
+        ensures { Puts (length word.now) self.old word.now self.new }
+    {
+        let next = self.at + word.len();
+        self.bytes[self.at..next].copy_from_slice(word);
+        self.at = next;
     }
-    put_byte(page, at, b'\n')
-}
 
-// A line: a word, the numbers with a space before each, and the line's end.
-pub fn put_line(page: &mut [u8], at: usize, word: &[u8], numbers: &[u64]) -> usize
-    ensures { PutWithin (length word.now + (21 * length numbers.now + 1)) page.old at (line (word.now ∷ number_words numbers.now)) page.new result }
-{
-    if !has_room(page.len(), at, word.len(), numbers.len()) {
-        return at;
+    // A number below 10.
+    fn put_digit(&mut self, d: u64)
+        requires { (d < 10) × HasRoom 1 self.old }
+        ensures { Puts 1 self.old (digit d ∷ []) self.new }
+    {
+        let small = d as u8;
+        self.put_byte(48 + small);
     }
-    let named = put_word(page, at, word);
-    let numbered = put_fields(page, named, numbers);
-    put_byte(page, numbered, b'\n')
-}
 
-// `refused`, and the number.
-pub fn put_refused(page: &mut [u8], at: usize, number: u8) -> usize
-    ensures { PutWithin 42 page.old at (refused_line number) page.new result }
-{
-    if page.len().saturating_sub(at) < 42 {
-        return at;
+    // A number in decimal.
+    fn put_decimal(&mut self, n: u64)
+        requires { HasRoom (length (decimal_of n)) self.old }
+        ensures { Puts (length (decimal_of n)) self.old (decimal_of n) self.new }
+    {
+        if n < 10 {
+            self.put_digit(n);
+            return;
+        }
+        self.put_decimal(n / 10);
+        self.put_digit(n % 10);
     }
-    put_line(page, at, b"refused", &[u64::from(number)])
-}
 
-// `line N: cannot be read`.
-pub fn put_unread(page: &mut [u8], at: usize, line: u64) -> usize
-    ensures { PutWithin 42 page.old at (unread_line line) page.new result }
-{
-    if page.len().saturating_sub(at) < 42 {
-        return at;
+    // A space, and a number.
+    fn put_spaced(&mut self, n: u64)
+        requires { HasRoom 21 self.old }
+        ensures { Puts 21 self.old (space ∷ decimal_of n) self.new }
+    {
+        self.put_byte(b' ');
+        self.put_decimal(n);
     }
-    let named = put_word(page, at, b"line");
-    let numbered = put_spaced(page, named, line);
-    let told = put_word(page, numbered, b": cannot be read");
-    put_byte(page, told, b'\n')
-}
 
-// ---- words with numbers among them
-
-// What a byte of the words stands for: `#` for a number, any other byte for itself.
-fn put_piece(page: &mut [u8], at: usize, byte: u8, n: u64) -> usize
-    requires { at + 20 ≤ length page.old }
-    ensures { PutShort 20 page.old at (piece_of byte n) page.new result }
-{
-    if byte == b'#' {
-        return put_decimal(page, at, n);
+    // The numbers, each with a space before it.
+    fn put_fields(&mut self, numbers: &[u64])
+        requires { HasRoom (21 * length numbers.now) self.old }
+        ensures { Puts (21 * length numbers.now) self.old (fields_of numbers.now) self.new }
+    {
+        for number in numbers {
+            self.put_spaced(*number);
+        }
     }
-    put_byte(page, at, byte)
+
+    // A word of at most 20 bytes.
+    pub fn put_short(&mut self, word: &[u8])
+        ensures { PutsWithin 20 self.old word.now self.new }
+    {
+        if word.len() > 20 {
+            return;
+        }
+        if self.room() < 20 {
+            return;
+        }
+        self.put_word(word);
+    }
+
+    // A number at the start of a line.
+    pub fn put_number(&mut self, number: u64)
+        ensures { PutsWithin 20 self.old (decimal_of number) self.new }
+    {
+        if self.room() < 20 {
+            return;
+        }
+        self.put_decimal(number);
+    }
+
+    // A space, and a number.
+    pub fn put_field(&mut self, n: u64)
+        ensures { PutsWithin 21 self.old (space ∷ decimal_of n) self.new }
+    {
+        if self.room() < 21 {
+            return;
+        }
+        self.put_spaced(n);
+    }
+
+    // The end of a line.
+    pub fn put_end(&mut self)
+        ensures { PutsWithin 1 self.old (newline ∷ []) self.new }
+    {
+        if self.room() < 1 {
+            return;
+        }
+        self.put_word(b"\n");
+    }
+
+    // A line: a word, the numbers with a space before each, and the line's end.
+    pub fn put_line(&mut self, word: &[u8], numbers: &[u64])
+        ensures { PutsWithin (length word.now + (21 * length numbers.now + 1)) self.old (line (word.now ∷ number_words numbers.now)) self.new }
+    {
+        if !self.has_room(word.len(), numbers.len()) {
+            return;
+        }
+        self.put_word(word);
+        self.put_fields(numbers);
+        self.put_byte(b'\n');
+    }
+
+    // `refused`, and the number.
+    pub fn put_refused(&mut self, number: u8)
+        ensures { PutsWithin 42 self.old (refused_line number) self.new }
+    {
+        if self.room() < 42 {
+            return;
+        }
+        self.put_line(b"refused", &[u64::from(number)]);
+    }
+
+    // `line N: cannot be read`.
+    pub fn put_unread(&mut self, line: u64)
+        ensures { PutsWithin 42 self.old (unread_line line) self.new }
+    {
+        if self.room() < 42 {
+            return;
+        }
+        self.put_word(b"line");
+        self.put_spaced(line);
+        self.put_word(b": cannot be read\n");
+    }
+
+    // ---- words with numbers among them
+
+    // What a byte of the words stands for: `#` for a number, any other byte for itself.
+    fn put_piece(&mut self, byte: u8, n: u64)
+        requires { HasRoom 20 self.old }
+        ensures { Puts 20 self.old (piece_of byte n) self.new }
+    {
+        if byte == b'#' {
+            self.put_decimal(n);
+            return;
+        }
+        self.put_byte(byte);
+    }
+
+    // The words, byte after byte.
+    fn put_pieces(&mut self, words: &[u8], numbers: [u64; 6])
+        requires { HasRoom (20 * length words.now) self.old }
+        ensures { Puts (20 * length words.now) self.old (filled words.now numbers) self.new }
+    {
+        let mut used: usize = 0;
+        for byte in words {
+            let n = number_of(numbers, used);
+            self.put_piece(*byte, n);
+            used = used_by(used, *byte);
+        }
+    }
+
+    // Words of at most 100 bytes, with a number in the place of each `#`: the first number for the first, and so on.
+    pub fn put_filled(&mut self, words: &[u8], numbers: [u64; 6])
+        ensures { PutsFilled words.now numbers self.old self.new }
+    {
+        if words.len() > 100 {
+            return;
+        }
+        if self.room() < 2_000 {
+            return;
+        }
+        self.put_pieces(words, numbers);
+    }
 }
 
 // How many numbers are used behind a byte, where so many were before it.
@@ -194,32 +253,4 @@ fn number_of(numbers: [u64; 6], k: usize) -> u64
     ensures { result ≡ place_at numbers k }
 {
     numbers.get(k).copied().unwrap_or(0)
-}
-
-// The words, byte after byte.
-fn put_pieces(page: &mut [u8], at: usize, words: &[u8], numbers: [u64; 6]) -> usize
-    requires { at + 20 * length words.now ≤ length page.old }
-    ensures { PutShort (20 * length words.now) page.old at (filled words.now numbers) page.new result }
-{
-    let mut next = at;
-    let mut used: usize = 0;
-    for byte in words {
-        let n = number_of(numbers, used);
-        next = put_piece(page, next, *byte, n);
-        used = used_by(used, *byte);
-    }
-    next
-}
-
-// Words of at most 100 bytes, with a number in the place of each `#`: the first number for the first, and so on.
-pub fn put_filled(page: &mut [u8], at: usize, words: &[u8], numbers: [u64; 6]) -> usize
-    ensures { PutFilled words.now numbers page.old at page.new result }
-{
-    if words.len() > 100 {
-        return at;
-    }
-    if page.len().saturating_sub(at) < 2_000 {
-        return at;
-    }
-    put_pieces(page, at, words, numbers)
 }

@@ -5,8 +5,10 @@ use mathlib.Core.Bool.{Bool, true, false, cond, not, ◌&&◌, ◌||◌, true≢
 use mathlib.Core.List.{List, [], ◌∷◌, ◌++◌}
 use mathlib.Core.Logic.{⊎_elim, ◌≢◌}
 use native.Mathlib.Omega.{arith}
+use Rattle.std.specs.Prelude.{Option, None, Some, is_some, is_none}
+use Rattle.std.specs.Option.{option_or}
 use lib.Dec.{leb, ltb, eqb}
-use borrow.Author.Tests.{eq-eqb, ne_eqb, eqb-true, eqb-false, leb-false, not-false}
+use borrow.Author.Tests.{leb-false, not-false}
 use Rattle.units.specs.Places.{at}
 use Rattle.units.proofs.JudgingLaws.{true_or_false}
 use Rattle.fields.specs.Fields.{head_tag, mode_tag}
@@ -81,6 +83,19 @@ either false d x y k l = l
 same : (d : Draft) → Kept d d
 same d = record { line = refl; unread = refl }
 
+-- the first line that is named stays named
+or_kept : (known : Option ℕ) (line : ℕ) → is_none known ≡ false → option_or known (Some line) ≡ known
+or_kept None line n = absurd (true≢false n)
+or_kept (Some k) line n = refl
+
+or_first : (known : Option ℕ) (line : ℕ) → is_none known ≡ true → Some line ≡ option_or known (Some line)
+or_first None line z = refl
+or_first (Some k) line z = absurd (false≢true z)
+
+not_both : (known : Option ℕ) → is_some known ≡ true → is_none known ≡ true → ⊥
+not_both None n z = false≢true n
+not_both (Some k) n z = false≢true z
+
 module _ (d : Draft) (s : Scan) where
   kept_ttrt : (x : ℕ) → Kept d (with_ttrt d x)
   unfolding with_ttrt
@@ -107,19 +122,19 @@ module _ (d : Draft) (s : Scan) where
       by_line d s (Kept d) k (same d) (λ e. kept_ttrt _) (λ e. kept_further _ _) (λ e. kept_station 1) (λ e. kept_station 2) kept_record
 
   -- any line leaves a first one that is named
-  line_named : d.unread ≢ 0 → (line_drafted d s).unread ≡ d.unread
+  line_named : is_none d.unread ≡ false → (line_drafted d s).unread ≡ d.unread
   unfolding with_unread
   line_named n =
-      ⊎_elim (λ (k : known s ≡ true). (line_read k).unread) (λ (k : known s ≡ false). rw (line_unread d s k, ne_eqb _ _ n) refl) (true_or_false (known s))
+      ⊎_elim (λ (k : known s ≡ true). (line_read k).unread) (λ (k : known s ≡ false). rw (line_unread d s k) (or_kept d.unread d.line n)) (true_or_false (known s))
 
 -- ---- both, byte after byte
 
 pub record Alike (w : Watch) (c : Composing) : Type 0 where
   pub some : 1 ≤ c.draft.line
   pub unread : w.unread ≡ c.draft.unread
-  pub scan : w.unread ≡ 0 → w.scan ≡ c.scan
-  pub line : w.unread ≡ 0 → w.line ≡ c.draft.line
-  pub early : w.unread ≢ 0 → w.found.stuck ≡ false → TooFew w.scan
+  pub scan : is_none w.unread ≡ true → w.scan ≡ c.scan
+  pub line : is_none w.unread ≡ true → w.line ≡ c.draft.line
+  pub early : is_some w.unread ≡ true → w.found.stuck ≡ false → TooFew w.scan
 
 next_some : (n : ℕ) → 1 ≤ next_line n
 next_some n = omega arith
@@ -138,17 +153,17 @@ either_alike : (b : Bool) (x y : Watch) (c : Composing) → Alike x c → Alike 
 either_alike true x y c k l = k
 either_alike false x y c k l = l
 
-module _ (w : Watch) (c : Composing) (a : Alike w c) (going : w.unread ≡ 0) where
+module _ (w : Watch) (c : Composing) (a : Alike w c) (going : is_none w.unread ≡ true) where
   goes_on : (b : ℕ) → eqb b newline ≡ false → Alike (watched w b) (compose_on c b)
   unfolding watched compose_on
   goes_on b n =
-      rw (eq-eqb _ _ going, n)
+      rw (going, n)
       (record {
         some = a.some;
         unread = a.unread;
         scan = λ z. ap (λ (s : Scan). stepped s b) (a.scan going);
         line = λ z. a.line going;
-        early = λ n. absurd (n going);
+        early = λ n. absurd (not_both w.unread n going);
       })
 
   reads_on : (b : ℕ) → eqb b newline ≡ true → is_read w.scan ≡ true → Alike (watched w b) (compose_on c b)
@@ -164,9 +179,9 @@ module _ (w : Watch) (c : Composing) (a : Alike w c) (going : w.unread ≡ 0) wh
         unread = a.unread ∙ sym kept.unread;
         scan = λ z. refl;
         line = λ z. ap next_line (a.line going ∙ sym kept.line);
-        early = λ n. absurd (n going);
+        early = λ n. absurd (not_both w.unread n going);
       } in
-      rw (eq-eqb _ _ going, n, r)
+      rw (going, n, r)
       (either_alike (eqb w.out 0 && not (eqb (number_out w.scan) 0)) _ _ _ (next w.line (number_out w.scan)) (next w.out w.number))
 
   stops : (b : ℕ) → eqb b newline ≡ true → is_read w.scan ≡ false → Alike (watched w b) (compose_on c b)
@@ -174,45 +189,44 @@ module _ (w : Watch) (c : Composing) (a : Alike w c) (going : w.unread ≡ 0) wh
   stops b n r =
       let d = c.draft in
       let k : known c.scan ≡ false = ap known (sym (a.scan going)) ∙ sym (read_same w.scan) ∙ r in
-      let named : eqb d.unread 0 ≡ true = eq-eqb _ _ (sym a.unread ∙ going) in
+      let first = or_first d.unread d.line (rw a.unread at going) in
       let same_line = a.line going in
       let some = a.some in
-      rw (eq-eqb _ _ going, n, r, line_unread d c.scan k, named)
+      rw (going, n, r, line_unread d c.scan k)
       (record {
         some = next_some _;
-        unread = same_line;
-        scan = λ z. absurd (omega (arith, z, same_line, some));
-        line = λ z. absurd (omega (arith, z, same_line, some));
+        unread = ap Some same_line ∙ first;
+        scan = λ z. absurd (false≢true z);
+        line = λ z. absurd (false≢true z);
         early = λ m e. ended_early w.found w.scan r e;
       })
 
 -- behind a line that cannot be read
-stays : (w : Watch) (c : Composing) (b : ℕ) → Alike w c → w.unread ≢ 0 → Alike (watched w b) (compose_on c b)
+stays : (w : Watch) (c : Composing) (b : ℕ) → Alike w c → is_none w.unread ≡ false → Alike (watched w b) (compose_on c b)
 unfolding watched compose_on
 stays w c b a n =
-    let named : c.draft.unread ≢ 0 = λ z. n (a.unread ∙ z) in
-    rw (ne_eqb _ _ n)
+    let named : is_none c.draft.unread ≡ false = rw a.unread at n in
+    rw n
     (⊎_elim (λ (e : eqb b newline ≡ true).
     rw e
     (record {
       some = next_some _;
       unread = a.unread ∙ sym (line_named c.draft c.scan named);
-      scan = λ z. absurd (n z);
-      line = λ z. absurd (n z);
+      scan = λ z. absurd (true≢false (sym z ∙ n));
+      line = λ z. absurd (true≢false (sym z ∙ n));
       early = a.early;
     }))
     (λ (e : eqb b newline ≡ false).
-    rw e (record { some = a.some; unread = a.unread; scan = λ z. absurd (n z); line = λ z. absurd (n z); early = a.early }))
+    rw e (record { some = a.some; unread = a.unread; scan = λ z. absurd (true≢false (sym z ∙ n)); line = λ z. absurd (true≢false (sym z ∙ n)); early = a.early }))
     (true_or_false (eqb b newline)))
 
 pub alike_on : (w : Watch) (c : Composing) (b : ℕ) → Alike w c → Alike (watched w b) (compose_on c b)
 alike_on w c b a =
-    ⊎_elim (λ (z : eqb w.unread 0 ≡ true).
-    let going = eqb-true _ _ z in
+    ⊎_elim (λ (going : is_none w.unread ≡ true).
     ⊎_elim (λ (n : eqb b newline ≡ true). ⊎_elim (reads_on w c a going b n) (stops w c a going b n) (true_or_false (is_read w.scan))) (goes_on w c a going b)
     (true_or_false (eqb b newline)))
-    (λ (z : eqb w.unread 0 ≡ false). stays w c b a (eqb-false _ _ z))
-    (true_or_false (eqb w.unread 0))
+    (λ (n : is_none w.unread ≡ false). stays w c b a n)
+    (true_or_false (is_none w.unread))
 
 pub alike_after : (w : Watch) (c : Composing) (bs : List ℕ) → Alike w c → Alike (watch_after w bs) (compose_after c bs)
 unfolding watch_after compose_after
@@ -220,7 +234,7 @@ alike_after w c [] a = a
 alike_after w c (b ∷ bs) a = alike_after (watched w b) (compose_on c b) bs (alike_on w c b a)
 
 pub alike_start : Alike watch_start compose_start
-alike_start = record { some = omega arith; unread = refl; scan = λ z. refl; line = λ z. refl; early = λ n. absurd (n refl) }
+alike_start = record { some = omega arith; unread = refl; scan = λ z. refl; line = λ z. refl; early = λ n. absurd (false≢true n) }
 
 pub alike : (text : List ℕ) → Alike (watch_of text) (compose_after compose_start (text ++ (newline ∷ [])))
 alike text = alike_after watch_start compose_start (text ++ (newline ∷ [])) alike_start

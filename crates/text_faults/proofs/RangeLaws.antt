@@ -1,14 +1,15 @@
 -- Where no line had a number out of its range, every number of the draft is in its range, and so `compose` does not refuse it with 4.
 use Prim.Native.Nat.{ℕ, zero, suc, ◌+◌, ◌≤◌, ◌<◌}
 use mathlib.Core.Path.{◌≡◌, refl, sym, ap, ◌∙◌}
-use mathlib.Core.Bool.{Bool, true, false, cond, not, ◌&&◌, ◌||◌, false≢true}
+use mathlib.Core.Bool.{Bool, true, false, cond, not, ◌&&◌, ◌||◌, false≢true, true≢false}
 use mathlib.Core.List.{List, [], ◌∷◌, ◌++◌}
 use mathlib.Core.Logic.{⊎_elim, ◌≢◌}
 use native.Mathlib.Omega.{arith}
+use Rattle.std.specs.Prelude.{Option, Some, is_none}
 use lib.Dec.{leb, ltb, eqb}
 use lib.ListN.{length, length-set, set}
 use lib.Seq.{get_or-set_same, get_or-set_other}
-use borrow.Author.Tests.{eq-eqb, ne_eqb, eqb-true, eqb-false, ltb-true, ltb-false, leb-true, not-false}
+use borrow.Author.Tests.{eq-eqb, ne_eqb, eqb-true, ltb-true, ltb-false, leb-true, not-false}
 use Rattle.units.specs.Numbers.{accepted, buffer_too_short, most_ttrt, last_mode, most_frame, most_grid, most_walk, most_c, most_d, most_p, most_s}
 use Rattle.units.specs.Judging.{or_else}
 use Rattle.units.specs.Places.{at}
@@ -20,7 +21,6 @@ use Rattle.sets.specs.Header.{head_of, with_head_number}
 use Rattle.sets.specs.Rules.{HeadInRange, StationInRange, NumbersAllowed}
 use Rattle.sets.proofs.SetLaws.{judged_four}
 use Rattle.plans.proofs.PlanLaws.{given_four}
-use Rattle.field_reader.proofs.ScannedLaws.{zero_or_not}
 use Rattle.sheets.specs.Reading.{then_number, judged_sheet}
 use Rattle.sheets.specs.Writing.{write_answer}
 use Rattle.command_compose.specs.Sent.{goes_out, end_answer}
@@ -51,7 +51,7 @@ pub record Good (d : Draft) : Type 0 where
   pub long_s : length d.alloc.s ≡ 128
 
 -- the same numbers, and another line, kind or place
-pub as_before : (d : Draft) (line unread kind wrong : ℕ) → Good d → Good (record { set = d.set; alloc = d.alloc; line = line; unread = unread; head = d.head; kind = kind; wrong = wrong })
+pub as_before : (d : Draft) (line : ℕ) (unread : Option ℕ) (kind : ℕ) (wrong : Bool) → Good d → Good (record { set = d.set; alloc = d.alloc; line = line; unread = unread; head = d.head; kind = kind; wrong = wrong })
 as_before d line unread kind wrong g =
     record {
       header = g.header;
@@ -107,7 +107,7 @@ word_is s code n e = eqb-true _ _ (and-true (eqb s.word code) (eqb s.count n && 
 
 module _ (d : Draft) (s : Scan) (g : Good d) (fine : number_out s ≡ 0) where
   good_misplaced : Good (misplaced d)
-  good_misplaced = as_before d d.line d.unread d.kind 1 g
+  good_misplaced = as_before d d.line d.unread d.kind true g
 
   good_ttrt : is_ttrt s ≡ true → Good (with_ttrt d (at s.values 0))
   unfolding with_ttrt number_out
@@ -232,13 +232,13 @@ module _ (d : Draft) (s : Scan) (g : Good d) (fine : number_out s ≡ 0) where
   good_station w kind =
       either (leb head_tag d.head && (ltb d.set.n 128 && (eqb d.kind 0 || eqb d.kind kind))) _ _
       (λ t. with_station_lem (ltb-true _ _ (and-true (ltb d.set.n 128) (eqb d.kind 0 || eqb d.kind kind) (and-true (leb head_tag d.head) _ t).1).0) (station_fine s.values (rw w at fine)) kind)
-      (as_before d d.line d.unread d.kind 1 g)
+      (as_before d d.line d.unread d.kind true g)
 
   good_record : Good (with_record d)
   unfolding with_record
   good_record =
       either (eqb d.kind 2) _ _ (λ t. as_before d d.line d.unread _ d.wrong g)
-      (either (ltb d.kind 3) _ _ (λ t. as_before d d.line d.unread d.kind 1 g) g)
+      (either (ltb d.kind 3) _ _ (λ t. as_before d d.line d.unread d.kind true g) g)
 
   good_line : known s ≡ true → Good (line_drafted d s)
   good_line k =
@@ -248,7 +248,7 @@ module _ (d : Draft) (s : Scan) (g : Good d) (fine : number_out s ≡ 0) where
 
 -- no line had a number out of its range
 abbrev Fine : Watch → Composing → Type 0
-Fine w c = w.unread ≡ 0 → w.out ≡ 0 → Good c.draft
+Fine w c = is_none w.unread ≡ true → w.out ≡ 0 → Good c.draft
 
 -- a line that was read and is not named had none
 not_named : (a b : Bool) (x y : Watch) → (cond (a && b) x y).out ≡ 0 → x.out ≢ 0 → (y.out ≡ 0) × (a && b ≡ false)
@@ -256,12 +256,12 @@ not_named true true x y e n = absurd (n e)
 not_named true false x y e n = (e, refl)
 not_named false b x y e n = (e, refl)
 
-unread_line_lem : (w : Watch) → is_read w.scan ≡ false → (line_ended w).unread ≡ w.line
+unread_line_lem : (w : Watch) → is_read w.scan ≡ false → (line_ended w).unread ≡ Some w.line
 unfolding line_ended
 unread_line_lem w r = rw r refl
 
 -- a line that was read
-line_fine : (w : Watch) (c : Composing) → Alike w c → Fine w c → w.unread ≡ 0 → is_read w.scan ≡ true → (line_ended w).out ≡ 0 → Good (on_next_line (line_drafted c.draft c.scan))
+line_fine : (w : Watch) (c : Composing) → Alike w c → Fine w c → is_none w.unread ≡ true → is_read w.scan ≡ true → (line_ended w).out ≡ 0 → Good (on_next_line (line_drafted c.draft c.scan))
 unfolding line_ended
 line_fine w c a f z r o =
     let line = a.line z in
@@ -276,25 +276,22 @@ line_fine w c a f z r o =
 fine_on : (w : Watch) (c : Composing) (b : ℕ) → Alike w c → Fine w c → Fine (watched w b) (compose_on c b)
 unfolding watched compose_on
 fine_on w c b a f =
-    ⊎_elim (λ (z : eqb w.unread 0 ≡ true).
-    let going = eqb-true _ _ z in
-    let line = a.line going in
-    let some = a.some in
+    ⊎_elim (λ (z : is_none w.unread ≡ true).
     ⊎_elim (λ (n : eqb b newline ≡ true).
-    ⊎_elim (λ (r : is_read w.scan ≡ true). rw (z, n) (λ u o. line_fine w c a f going r o))
-    (λ (r : is_read w.scan ≡ false). rw (z, n) (λ u o. absurd (omega (arith, sym (unread_line_lem w r) ∙ u, line, some))))
+    ⊎_elim (λ (r : is_read w.scan ≡ true). rw (z, n) (λ u o. line_fine w c a f z r o))
+    (λ (r : is_read w.scan ≡ false). rw (z, n) (λ u o. absurd (false≢true (rw (unread_line_lem w r) at u))))
     (true_or_false (is_read w.scan)))
     (λ (n : eqb b newline ≡ false). rw (z, n) f)
     (true_or_false (eqb b newline)))
-    (λ (z : eqb w.unread 0 ≡ false). rw z (λ u o. absurd (eqb-false _ _ z u)))
-    (true_or_false (eqb w.unread 0))
+    (λ (z : is_none w.unread ≡ false). rw z (λ u o. absurd (true≢false (sym u ∙ z))))
+    (true_or_false (is_none w.unread))
 
 fine_after : (w : Watch) (c : Composing) (bs : List ℕ) → Alike w c → Fine w c → Fine (watch_after w bs) (compose_after c bs)
 unfolding watch_after compose_after
 fine_after w c [] a f = f
 fine_after w c (b ∷ bs) a f = fine_after (watched w b) (compose_on c b) bs (alike_on w c b a) (fine_on w c b a f)
 
-good_text : (text : List ℕ) → (watch_of text).unread ≡ 0 → (watch_of text).out ≡ 0 → Good (draft_of text)
+good_text : (text : List ℕ) → is_none (watch_of text).unread ≡ true → (watch_of text).out ≡ 0 → Good (draft_of text)
 good_text text = fine_after watch_start compose_start (text ++ (newline ∷ [])) alike_start (λ u o. blank_good)
 
 -- ---- 4
@@ -322,7 +319,7 @@ not_four d out g e =
     ⊎_elim (λ (l : goes_out d ≡ true). room_four _ (sym (written_four _ 3) ∙ rw l at e))
     (λ (l : goes_out d ≡ false).
     ⊎_elim (λ (h : is_whole d ≡ true).
-    let head = g.header (leb-true _ _ (and-true (eqb d.wrong 0) (leb head_tag d.head) (and-true (eqb d.unread 0) _ h).1).1) in
+    let head = g.header (leb-true _ _ (and-true (not d.wrong) (leb head_tag d.head) (and-true (is_none d.unread) _ h).1).1) in
     let numbers : NumbersAllowed d.set = record { header = head; stations = g.stations } in
     ⊎_elim (λ (p : leb 2 d.kind ≡ true). ((given_four d.set d.alloc).0 (then_four _ _ (sym (written_four _ _) ∙ rw (l, h, p) at e))).1 (numbers, g.shares))
     (λ (p : leb 2 d.kind ≡ false). ((judged_four d.set).0 (then_four _ _ (sym (written_four _ _) ∙ rw (l, h, p) at e))).1 numbers)
@@ -332,12 +329,12 @@ not_four d out g e =
     (true_or_false (goes_out d))
 
 -- a text with a line that cannot be read is refused with 2
-not_whole : (d : Draft) (out : List ℕ) → d.unread ≢ 0 → (end_answer d out).number ≢ 4
+not_whole : (d : Draft) (out : List ℕ) → is_none d.unread ≡ false → (end_answer d out).number ≢ 4
 unfolding end_answer composed_answer
-not_whole d out n e = let z : ◌≡◌ {A = ℕ} 2 4 = rw (ne_eqb _ _ n) at e in omega arith
+not_whole d out n e = let z : ◌≡◌ {A = ℕ} 2 4 = rw n at e in omega arith
 
 pub out_named : (text out : List ℕ) → (end_answer (draft_of text) out).number ≡ 4 → (watch_of text).out ≢ 0
 out_named text out e o =
-    ⊎_elim (λ (z : (watch_of text).unread ≡ 0). not_four (draft_of text) out (good_text text z o) e)
-    (λ (n : (watch_of text).unread ≢ 0). not_whole (draft_of text) out (λ z. n ((alike text).unread ∙ z)) e)
-    (zero_or_not (watch_of text).unread)
+    ⊎_elim (λ (z : is_none (watch_of text).unread ≡ true). not_four (draft_of text) out (good_text text z o) e)
+    (λ (n : is_none (watch_of text).unread ≡ false). not_whole (draft_of text) out (rw (alike text).unread at n) e)
+    (true_or_false (is_none (watch_of text).unread))

@@ -1,5 +1,5 @@
 -- Cases that a person can check by hand.
-use Rattle.std.specs.Prelude.{ℕ, ◌≡◌, Bool, true, false, List, [], ◌∷◌, take}
+use Rattle.std.specs.Prelude.{ℕ, ◌≡◌, Bool, true, false, None, Some, List, [], ◌∷◌, take}
 use Rattle.text_faults.specs.declared.Form.{Form}
 use Rattle.text_faults.specs.declared.Form.TheVariants.{Word, Number, Byte, End}
 use Rattle.text_faults.specs.Watching.{watch_of}
@@ -7,13 +7,13 @@ use Rattle.text_faults.specs.Expected.{expected_of}
 
 -- the first line cannot be read; whether a word is at fault, and what was expected at which place
 pub record Fault (text : List ℕ) (stuck : Bool) (form : Form) (place : ℕ) : Type 0 where
-  pub line : (watch_of text).unread ≡ 1
+  pub line : (watch_of text).unread ≡ Some 1
   pub at_fault : (watch_of text).found.stuck ≡ stuck
   pub expected : expected_of (watch_of text) ≡ record { form = form; place = place }
 
 -- each line can be read, and in this one this number is out of its range
 pub record Out (text : List ℕ) (line number : ℕ) : Type 0 where
-  pub unread : (watch_of text).unread ≡ 0
+  pub unread : (watch_of text).unread ≡ None
   pub in_line : (watch_of text).out ≡ line
   pub is : (watch_of text).number ≡ number
 

@@ -1,5 +1,5 @@
 -- A text that is watched as it is read, byte after byte: the first line that cannot be read, with its word; the first line with a number out of its range.
-use Rattle.std.specs.Prelude.{ℕ, cond, not, ◌&&◌, List, [], ◌∷◌, ◌++◌, eqb}
+use Rattle.std.specs.Prelude.{ℕ, cond, not, None, Some, is_none, ◌&&◌, List, [], ◌∷◌, ◌++◌, eqb}
 use Rattle.text.specs.Text.{newline}
 use Rattle.line_reader.specs.Scan.{fresh_scan, stepped}
 use Rattle.line_reader.specs.Scan as lines
@@ -10,7 +10,7 @@ use Rattle.text_faults.specs.declared.Watch.{Watch}
 
 -- no line was read yet
 abbrev pub watch_start : Watch
-watch_start = record { found = nothing_found 0; scan = fresh_scan; line = 1; unread = 0; out = 0; number = 0 }
+watch_start = record { found = nothing_found 0; scan = fresh_scan; line = 1; unread = None; out = 0; number = 0 }
 
 -- the next line, with this first line and number out of their ranges
 abbrev pub next_line : Watch → ℕ → ℕ → Watch
@@ -31,7 +31,7 @@ unread_line w =
       found = word_ended w.found w.scan;
       scan = w.scan;
       line = w.line;
-      unread = w.line;
+      unread = Some w.line;
       out = w.out;
       number = w.number;
     }
@@ -47,7 +47,7 @@ line_ended w =
 -- one byte more; behind a line that cannot be read nothing is looked at
 unfoldable pub watched : Watch → ℕ → Watch
 watched w b =
-    cond (eqb w.unread 0)
+    cond (is_none w.unread)
     (cond (eqb b newline) (line_ended w)
     (record {
       found = found_on w.found w.scan b;

@@ -50,8 +50,8 @@ pub struct Watch {
     pub scan: Scan,
     // The number of the line that is being read.
     pub line: u64,
-    // The first line that cannot be read; 0: none. Behind it nothing is looked at.
-    pub unread: u64,
+    // The first line that cannot be read, if there is one. Behind it nothing is looked at.
+    pub unread: Option<u64>,
     // The first line with a number that is out of its range; 0: none.
     pub out: u64,
     // Which number that is: 1 TTRT, 2 the mode, 3 F, 4 g, 5 w, 6 C, 7 D, 8 P, 9 S; 0: none.
@@ -149,7 +149,7 @@ pub fn begin() -> Watch
         found: nothing_found(0),
         scan: line_reader::fresh(),
         line: 1,
-        unread: 0,
+        unread: None,
         out: 0,
         number: 0,
     }
@@ -177,7 +177,7 @@ fn line_ended(w: Watch) -> Watch
         let found = word_ended(w.found, w.scan);
         return Watch {
             found,
-            unread: w.line,
+            unread: Some(w.line),
             ..w
         };
     }
@@ -193,7 +193,7 @@ fn line_ended(w: Watch) -> Watch
 fn watched(w: Watch, byte: u8) -> Watch
     ensures { result ≡ watched w byte }
 {
-    if w.unread != 0 {
+    if w.unread.is_some() {
         return w;
     }
     if byte == b'\n' {

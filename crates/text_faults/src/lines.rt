@@ -29,22 +29,19 @@ fn is_single(word: u64) -> bool
 }
 
 // How many numbers the line has at least; 0 where no line begins so.
+#[tactic(auto, unfolding(crate::specs::Lines::least_of))]
 fn least_of(word: u64) -> usize
     ensures { result ≡ least_of word }
 {
     if is_single(word) {
         return 1;
     }
-    if word == STATION {
-        return 4;
+    match word {
+        STATION => 4,
+        VISIT => 5,
+        MARK => 2,
+        _ => 0,
     }
-    if word == VISIT {
-        return 5;
-    }
-    if word == MARK {
-        return 2;
-    }
-    0
 }
 
 // How many it has at most: a station of a plan has one more.

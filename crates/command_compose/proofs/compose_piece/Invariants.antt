@@ -1,4 +1,4 @@
--- `compose_piece` is right because after i turns the text stands behind its first i bytes, and what they let out is put.
+-- `compose_piece` is right because after i turns the text stands behind the piece's first i bytes, and what they let out is put.
 use Prim.Native.Nat.{ℕ, ◌+◌, ◌≤◌, ◌<◌}
 use mathlib.Core.Path.{◌≡◌, sym, ap, subst, ◌∙◌}
 use mathlib.Core.List.{List, [], ◌∷◌, ◌++◌}
@@ -57,4 +57,4 @@ abbrev pub invariant-loop-byte : goal.invariant-loop-byte
 invariant-loop-byte l =
     let start : Composing = record { draft = l.initial.draft; scan = l.initial.read } in
     let stands : Composing = record { draft = l.draft; scan = l.read } in
-    (length l.page ≡ length l.initial.page) × Behind l.text l.initial.page start l.byte-index stands l.page l.next × Little l.byte-index l.draft.kind l.next
+    (length l.page ≡ length l.initial.page) × Behind l.piece l.initial.page start l.byte-index stands l.page l.next × Little l.byte-index l.draft.kind l.next

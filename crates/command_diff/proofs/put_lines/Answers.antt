@@ -7,14 +7,14 @@ pub returns-then-not-few : goal.returns-then-not-few
 returns-then-not-few c =
     lines_many c.if-not-few.true
 
-pub returns-then-saturating_sub-lt-LINES_SIZE : goal.returns-then-saturating_sub-lt-LINES_SIZE
-returns-then-saturating_sub-lt-LINES_SIZE c =
-    lines_full (omega (arith, c.if-saturating_sub-lt-LINES_SIZE.true, c.saturating_sub.ensures))
+pub returns-then-room-lt-LINES_SIZE : goal.returns-then-room-lt-LINES_SIZE
+returns-then-room-lt-LINES_SIZE c =
+    lines_full (λ fits. omega (arith, fits))
 
 pub put_differences-requires : goal.put_differences-requires
 put_differences-requires c =
-    (lines_fit _ _ c.if-not-few.false, omega (arith, c.if-saturating_sub-lt-LINES_SIZE.false, c.saturating_sub.ensures))
+    (lines_fit _ _ c.if-not-few.false, omega arith)
 
 pub returns : goal.returns
 returns c =
-    lines_put c.if-not-few.false (omega (arith, c.if-saturating_sub-lt-LINES_SIZE.false, c.saturating_sub.ensures)) c.put_differences.ensures
+    lines_put c.if-not-few.false (omega arith) c.put_differences.ensures

@@ -2,13 +2,12 @@
 use mathlib.Core.Path.{refl, ap}
 use native.Mathlib.Omega.{arith}
 use Rattle.inspection.specs.declared.Finding.{Finding}
-use Rattle.text.proofs.TextLaws.{put_short_then, put_as}
+use Rattle.text.proofs.PageLaws.{puts_then, puts_as}
 use Rattle.command_inspect.specs.FindingText.{broken_text}
 use Rattle.command_inspect.proofs.put_broken.Goals as goal
 
 pub returns : goal.returns
 unfolding broken_text
 returns c =
-    let room = c.requires in
-    put_as (put_short_then c.put_record-named.ensures c.put_people.ensures (omega (arith, room)))
+    puts_as (puts_then c.put_record.ensures c.put_people.ensures (omega (arith, c.requires)))
     (rw (ap (λ (f : Finding). f.«record») c.found-finding.ensures, c.compare-compared.ensures) refl) (omega arith)

@@ -1,15 +1,15 @@
 -- `put_answer` is right because it puts what the definition says of each kind of answer.
 use mathlib.Core.Path.{refl}
 use native.Mathlib.Omega.{arith}
-use Rattle.text.proofs.TextLaws.{unread_short, put_none, put_as}
+use Rattle.text.proofs.TextLaws.{unread_short}
+use Rattle.text.proofs.PageLaws.{puts_none, puts, puts_as}
 use Rattle.command_run.specs.RunText.{answer_text}
-use borrow.Author.Rules.{rules}
 use Rattle.command_run.proofs.put_answer.Goals as goal
 
 pub returns-in-Nothing : goal.returns-in-Nothing
 unfolding answer_text
 returns-in-Nothing c =
-    rw c.in-Nothing.is (record { put = put_none _ _; short = omega arith })
+    rw c.in-Nothing.is (puts_as (puts_none _) refl (omega arith))
 
 pub returns-in-Visit : goal.returns-in-Visit
 unfolding answer_text
@@ -19,7 +19,7 @@ returns-in-Visit c =
 pub returns-in-HandIn : goal.returns-in-HandIn
 unfolding answer_text
 returns-in-HandIn c =
-    rw c.in-HandIn.is c.put_taken.ensures
+    rw c.in-HandIn.is c.put_done.ensures
 
 pub returns-in-Mark : goal.returns-in-Mark
 unfolding answer_text
@@ -29,9 +29,9 @@ returns-in-Mark c =
 pub returns-in-Unmark : goal.returns-in-Unmark
 unfolding answer_text
 returns-in-Unmark c =
-    rw c.in-Unmark.is c.put_unmark.ensures
+    rw c.in-Unmark.is c.put_done-in-Unmark.ensures
 
 pub returns-in-Unread : goal.returns-in-Unread
 unfolding answer_text
 returns-in-Unread c =
-    rw c.in-Unread.is (put_as (c.put_unread.ensures.put (search rules) (unread_short _)) refl (omega arith))
+    rw c.in-Unread.is (puts_as (puts c.put_unread.ensures (omega (arith, c.requires)) (unread_short _)) refl (omega arith))

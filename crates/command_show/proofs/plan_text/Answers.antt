@@ -2,11 +2,13 @@
 use mathlib.Core.Path.{◌≡◌, refl}
 use mathlib.Core.List.{[]}
 use native.Mathlib.Omega.{arith}
+use borrow.Author.Rules.{rules}
 use borrow.Author.Tests.{le-leb, lt-leb}
 use Rattle.sets.specs.declared.Set.{Set}
 use Rattle.plans.specs.declared.Alloc.{Alloc}
 use Rattle.sheet_text_rules.specs.ShowText.{sheet_text, plan_lines_of}
-use Rattle.text.proofs.TextLaws.{put_none, printed, not_printed}
+use Rattle.text.proofs.TextLaws.{put_none, printed as printed_at, not_printed}
+use Rattle.text.proofs.PageLaws.{printed}
 use Prim.Native.Nat.{◌≤◌, ◌<◌}
 use mathlib.Core.Bool.{true}
 use Rattle.command_show.proofs.plan_text.Goals as goal
@@ -25,12 +27,9 @@ returns-then-page-lt-PAGE_SIZE c =
 
 pub returns-then-set-gt128 : goal.returns-then-set-gt128
 returns-then-set-gt128 c =
-    printed {most = 0} (record { put = put_none _ 0; short = omega arith }) (no_lines _ _ c.if-set-gt128.true) c.if-page-lt-PAGE_SIZE.false (omega arith)
-
-pub put_sheet-requires : goal.put_sheet-requires
-put_sheet-requires c =
-    (c.if-set-gt128.false, omega (arith, c.if-page-lt-PAGE_SIZE.false))
+    printed_at {most = 0} (record { put = put_none _ 0; short = omega arith }) (no_lines _ _ c.if-set-gt128.true) c.if-page-lt-PAGE_SIZE.false (omega arith)
 
 pub returns : goal.returns
 returns c =
-    printed c.put_sheet.ensures (few_lines _ _ c.if-set-gt128.false) c.if-page-lt-PAGE_SIZE.false (omega arith)
+    let done = printed c.new-page.ensures.begins c.put_sheet.ensures c.length.ensures (few_lines _ _ c.if-set-gt128.false) c.if-page-lt-PAGE_SIZE.false (omega arith) in
+    search (rules, done)

@@ -5,12 +5,12 @@ use native.Mathlib.Omega.{arith}
 use Rattle.sheet_text_rules.specs.LogText.{visit_line}
 use Rattle.command_compose.specs.Compose.{visit_word}
 use Rattle.text.specs.Text.{number_words}
-use Rattle.text.proofs.TextLaws.{line_put, put_as}
+use Rattle.text.proofs.PageLaws.{line_put, puts_as}
 use Rattle.command_show_log.proofs.put_visit_line.Goals as goal
 
 pub returns : goal.returns
 unfolding number_words visit_line
 returns c =
-    put_as (line_put visit_word (_ ∷ _ ∷ _ ∷ _ ∷ _ ∷ []) c.put_line.ensures (omega arith))
+    puts_as (line_put visit_word (_ ∷ _ ∷ _ ∷ _ ∷ _ ∷ []) c.put_line.ensures (omega arith))
     (rw (c.from-station.ensures, c.from-start.ensures, c.from-limit.ensures, c.from-synchronous.ensures, c.from-asynchronous.ensures) refl)
     (omega arith)

@@ -1,5 +1,5 @@
 -- `show_piece` is right because after i turns the records stand behind the first i bytes, and their lines are put.
-use Prim.Native.Nat.{ℕ, zero, suc, ◌+◌, ◌*◌, ◌≤◌, ◌<◌}
+use Prim.Native.Nat.{ℕ, zero, suc, ◌+◌, ◌*◌, ◌<◌}
 use mathlib.Core.Path.{◌≡◌, refl, sym, ap, ◌∙◌}
 use mathlib.Core.List.{[]}
 use native.Mathlib.Omega.{arith}
@@ -9,7 +9,8 @@ use Rattle.std.proofs.lemmas.List.{get_or-take, length-take}
 use Rattle.log_records.specs.declared.NextEntry.{NextEntry}
 use Rattle.log_stream.specs.Pieces.{stepped, entries_of, read_over, handed_over}
 use Rattle.log_stream.specs.declared.Gathered.{Gathered}
-use Rattle.text.proofs.TextLaws.{put_none, put_as}
+use Rattle.text.specs.Pages.{HasRoom}
+use Rattle.text.proofs.PageLaws.{puts_none, puts_as}
 use Rattle.sheet_text_rules.specs.LogText.{entry_lines}
 use Rattle.command_show_log.specs.LogShown.{lines_for}
 use Rattle.command_show_log.proofs.ShowLaws.{turn}
@@ -23,13 +24,13 @@ no_lines (suc k) = refl
 pub loop-byte-init : goal.loop-byte-init
 unfolding read_over handed_over
 loop-byte-init c =
-    (refl, refl, put_as {most = 0} (record { put = put_none _ _; short = omega arith }) (sym (no_lines _)) (omega arith))
+    (refl, puts_as (puts_none _) (sym (no_lines _)) (omega arith))
 
-pub put_entry-next-requires : goal.put_entry-next-requires
-put_entry-next-requires c =
-    let inv = c.loop-byte.invariant in
+pub put_entry-requires : goal.put_entry-requires
+put_entry-requires c =
+    let put = c.loop-byte.invariant.1 in
     let before : c.loop-byte.byte-index < c.args.end = omega (arith, length-take {A = ℕ}) in
-    omega (arith, c.requires.few, c.requires.large, inv.0, inv.2.put.next, inv.2.short)
+    omega (arith, c.requires.1, c.requires.2, put.put.put.next, put.put.short, put.size)
 
 pub loop-byte-preserved : goal.loop-byte-preserved
 loop-byte-preserved c =
@@ -37,21 +38,20 @@ loop-byte-preserved c =
     let i = c.loop-byte.byte-index in
     let inv = c.loop-byte.invariant in
     let before : c.loop-byte.byte-index < c.args.end = omega (arith, length-take {A = ℕ}) in
-    let inside : c.loop-byte.byte-index < length bytes = omega (arith, c.requires.inside) in
-    let room : 126 * c.loop-byte.byte-index + 126 ≤ length c.args.page.now = omega (arith, c.requires.few, c.requires.large) in
+    let inside : c.loop-byte.byte-index < length bytes = omega (arith, c.requires.0) in
+    let room : HasRoom (126 * c.loop-byte.byte-index + 126) c.args.page.now = omega (arith, c.requires.1, c.requires.2) in
     let here : get_or (take c.args.end c.args.bytes.now) c.loop-byte.byte-index 0 ≡ at bytes i = get_or-take c.args.end bytes i 0 before in
     let number = c.args.showing.number in
     let read = c.step-gathered.ensures ∙ ap (stepped c.loop-byte.gathered) here in
-    let q = put_as {more = 126} c.put_entry-next.ensures (ap (λ (n : NextEntry). lines_for number (entries_of n)) c.entry_in-got.ensures) (omega arith) in
-    let t = turn bytes c.args.page.now c.loop-byte.page c.put_entry-next.new.page number c.args.showing.gathered
-    c.loop-byte.gathered c.step-gathered.result i c.loop-byte.next c.put_entry-next.result inside room inv.1 inv.2 read q in
-    (c.put_entry-next.auto.page ∙ inv.0, t.0, t.1)
+    let q = puts_as {more = 126} c.put_entry.ensures (ap (λ (n : NextEntry). lines_for number (entries_of n)) c.entry_in-got.ensures) (omega arith) in
+    turn bytes _ _ _ number c.args.showing.gathered c.loop-byte.gathered c.step-gathered.result i inside room inv.0 inv.1 read q
 
-pub returns : goal.returns
-returns c =
-    let end : c.loop-byte.byte-index ≡ c.args.end = omega (arith, length-take {A = ℕ}, c.requires.inside) in
-    let there = rw end at c.loop-byte.invariant.1 in
-    record {
-      behind = ap (λ (v : Gathered). record { gathered = v; number = c.args.showing.number }) there;
-      shown = put_as c.loop-byte.invariant.2 (rw end) (omega (arith, c.requires.few));
-    }
+pub returns-clause-behind : goal.returns-clause-behind
+returns-clause-behind c =
+    let end : c.loop-byte.byte-index ≡ c.args.end = omega (arith, length-take {A = ℕ}, c.requires.0) in
+    ap (λ (v : Gathered). record { gathered = v; number = c.args.showing.number }) (rw end at c.loop-byte.invariant.0)
+
+pub returns-clause-shown : goal.returns-clause-shown
+returns-clause-shown c =
+    let end : c.loop-byte.byte-index ≡ c.args.end = omega (arith, length-take {A = ℕ}, c.requires.0) in
+    puts_as c.loop-byte.invariant.1 (rw end) (omega (arith, c.requires.1))

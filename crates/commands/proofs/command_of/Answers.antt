@@ -1,21 +1,15 @@
 -- `command_of` is right because it looks for the first command whose word it is.
-use Rattle.std.proofs.Common.{◌≡◌, ◌∙◌, sym, ap, rules, tests}
-use Rattle.std.specs.List.{find}
-use Rattle.std.specs.Option.{unwrap_or}
+use Rattle.std.proofs.Common.{◌∙◌, sym, rules, tests}
 use Rattle.std.proofs.lemmas.Iterator.{YieldsList-from_slice}
 use Rattle.std.proofs.lemmas.Iterator.Adapters.{option_map_id}
 use Rattle.std.proofs.lemmas.Iterator.Consumers.{YieldsList-from_copied}
 use Rattle.std.proofs.lemmas.Iterator.Search.{find_from_yields_List}
 use Rattle.commands.specs.Table.{commands, word_of}
 use Rattle.commands.specs.Words.{same_bytes}
-use Rattle.commands.specs.declared.Command.TheVariants.{Unknown}
-use Rattle.commands.proofs.WordLaws.{found_first}
 use Rattle.commands.proofs.command_of.Goals as goal
 
 pub returns : goal.returns
 returns c =
     let word = c.args.word.now in
-    let found : c.find.result ≡ find (λ d. same_bytes word (word_of d)) commands =
     sym (option_map_id c.find.result)
-    ∙ find_from_yields_List (λ d. same_bytes word (word_of d)) _ _ c.find.result c.find.ensures.ran (YieldsList-from_copied (YieldsList-from_slice commands cc)) (λ x b q k. search (rules, tests)) in
-    c.unwrap_or.ensures ∙ ap (λ o. unwrap_or o Unknown) found ∙ found_first commands word
+    ∙ find_from_yields_List (λ d. same_bytes word (word_of d)) _ _ c.find.result c.find.ensures.ran (YieldsList-from_copied (YieldsList-from_slice commands cc)) (λ x b q k. search (rules, tests))

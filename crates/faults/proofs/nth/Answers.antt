@@ -5,26 +5,26 @@ use Rattle.differences.specs.Views.{nth_of}
 use Rattle.faults.proofs.RangeLaws.{nth_last}
 use Rattle.faults.proofs.nth.Goals as goal
 
-pub returns-then-j-eq0 : goal.returns-then-j-eq0
+pub returns-in-0 : goal.returns-in-0
 unfolding nth_of
-returns-then-j-eq0 c =
-    rw c.if-j-eq0.true refl
+returns-in-0 c =
+    rw c.in-0.is refl
 
-pub returns-then-j-eq1 : goal.returns-then-j-eq1
+pub returns-in-1 : goal.returns-in-1
 unfolding nth_of
-returns-then-j-eq1 c =
-    rw c.if-j-eq1.true refl
+returns-in-1 c =
+    rw c.in-1.is refl
 
-pub returns-then-j-eq2 : goal.returns-then-j-eq2
+pub returns-in-2 : goal.returns-in-2
 unfolding nth_of
-returns-then-j-eq2 c =
-    rw c.if-j-eq2.true refl
+returns-in-2 c =
+    rw c.in-2.is refl
 
-pub returns-then-j-eq3 : goal.returns-then-j-eq3
+pub returns-in-3 : goal.returns-in-3
 unfolding nth_of
-returns-then-j-eq3 c =
-    rw c.if-j-eq3.true refl
+returns-in-3 c =
+    rw c.in-3.is refl
 
-pub returns : goal.returns
-returns c =
+pub returns-in_default : goal.returns-in_default
+returns-in_default c =
     sym (nth_last _ _ _ _ _ _ (omega arith))

@@ -28,4 +28,4 @@ returns-then-is_drawn c =
 pub returns : goal.returns
 returns c =
     let at_end : c.max.result ≡ c.loop-i.i = omega (arith, c.max.ensures, c.loop-i.invariant.behind, c.loop-i.invariant.inside, c.loop-i-test.false) in
-    rw (c.together-watching-2.ensures, at_end) (going_ends _ _ _ _ _ _ _ c.loop-i.invariant.left c.loop-i-test.false c.not_drawn.ensures)
+    rw (c.together-watching-2.ensures, at_end) (going_ends _ _ _ _ _ _ c.loop-i.invariant.left c.loop-i-test.false)

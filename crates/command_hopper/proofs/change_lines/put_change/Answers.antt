@@ -1,9 +1,8 @@
 -- `put_change` is right because it puts what the definition says of each kind of line.
 use mathlib.Core.Path.{refl}
 use native.Mathlib.Omega.{arith}
-use Rattle.text.proofs.TextLaws.{unread_short, put_none, printed}
+use Rattle.text.proofs.TextLaws.{put_none, printed}
 use Rattle.command_hopper.specs.Refits.{change_text}
-use borrow.Author.Rules.{rules}
 use Rattle.command_hopper.proofs.change_lines.put_change.Goals as goal
 
 pub returns-in-Nothing : goal.returns-in-Nothing
@@ -19,4 +18,4 @@ returns-in-Answered c =
 pub returns-in-Unread : goal.returns-in-Unread
 unfolding change_text
 returns-in-Unread c =
-    rw c.in-Unread.is (printed (c.put_unread.ensures.put (search rules) (unread_short _)) refl (omega arith) (omega arith))
+    rw c.in-Unread.is c.put_unread.ensures

@@ -3,11 +3,11 @@ use mathlib.Core.Path.{refl}
 use mathlib.Core.List.{[], ◌∷◌}
 use native.Mathlib.Omega.{arith}
 use Rattle.text.specs.Text.{number_words}
-use Rattle.text.proofs.TextLaws.{line_put, put_as}
+use Rattle.text.proofs.PageLaws.{line_put, puts_as}
 use Rattle.command_plan.specs.PlanText.{plan_word}
 use Rattle.command_plan.proofs.planning.put_plan_line.Goals as goal
 
 pub returns : goal.returns
 unfolding number_words
 returns c =
-    put_as (line_put plan_word (_ ∷ _ ∷ _ ∷ _ ∷ []) c.put_line.ensures (omega arith)) refl (omega arith)
+    puts_as (line_put plan_word (_ ∷ _ ∷ _ ∷ _ ∷ []) c.put_line.ensures (omega arith)) refl (omega arith)

@@ -2,10 +2,10 @@
 use mathlib.Core.Path.{refl}
 use native.Mathlib.Omega.{arith}
 use Rattle.sheet_text_rules.specs.ShowText.{sheet_text}
-use Rattle.text.proofs.TextLaws.{put_short_then, put_as}
+use Rattle.text.proofs.PageLaws.{puts_then, puts_as}
 use Rattle.command_show.proofs.showing.put_sheet.Goals as goal
 
 pub returns : goal.returns
 unfolding sheet_text
 returns c =
-    put_as (put_short_then c.put_header-first.ensures c.put_stations.ensures (omega (arith, c.requires.1))) refl (omega arith)
+    puts_as (puts_then c.put_header.ensures c.put_stations.ensures (omega (arith, c.requires.1))) refl (omega arith)

@@ -33,4 +33,4 @@ returns-in-7 c =
 pub returns-in_default : goal.returns-in_default
 unfolding found_line
 returns-in_default c =
-    rw (ne_eqb c.args.i 3 (λ e. omega (arith, e)), ne_eqb c.args.i 4 (λ e. omega (arith, e)), ne_eqb c.args.i 5 (λ e. omega (arith, e)), ne_eqb c.args.i 6 (λ e. omega (arith, e)), ne_eqb c.args.i 7 (λ e. omega (arith, e)), c.from-spare.ensures, c.walk_time-tau.ensures.sum, c.from-best.ensures, c.from-n.ensures) refl
+    rw (ne_eqb c.args.i 3 (λ e. omega (arith, e)), ne_eqb c.args.i 4 (λ e. omega (arith, e)), ne_eqb c.args.i 5 (λ e. omega (arith, e)), ne_eqb c.args.i 6 (λ e. omega (arith, e)), ne_eqb c.args.i 7 (λ e. omega (arith, e)), c.four.ensures, c.from-spare.ensures, c.walk_time-tau.ensures.sum, c.from-best.ensures, c.from-n.ensures) refl

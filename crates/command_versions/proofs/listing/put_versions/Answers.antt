@@ -1,8 +1,8 @@
 -- `put_versions` is right because the lines of the versions before this one are put.
-use mathlib.Core.Path.{refl, sym, ◌∙◌}
+use mathlib.Core.Path.{refl, sym}
 use native.Mathlib.Omega.{arith}
 use Rattle.fields.proofs.RowLaws.{rows_none, rows_step}
-use Rattle.text.proofs.TextLaws.{put_none, put_short_then, put_as}
+use Rattle.text.proofs.PageLaws.{puts_none, puts_then, puts_as}
 use Rattle.command_versions.proofs.FoundLaws.{answer_few}
 use Rattle.command_versions.proofs.KeptLaws.{count_top, all_lines}
 use borrow.Author.Rules.{rules}
@@ -18,21 +18,18 @@ loop-i-init c =
     record {
       few = rw c.count_from-n.ensures few.1;
       top = rw c.count_from-n.ensures (count_top _ _ few.0 (search rules));
-      size = refl;
-      put = put_as {most = 0} (record { put = put_none _ _; short = omega arith }) (sym (rows_none _)) (omega arith);
+      put = puts_as (puts_none _) (sym (rows_none _)) (omega arith);
     }
 
 pub loop-i-preserved : goal.loop-i-preserved
 loop-i-preserved c =
     let before = c.loop-i.invariant in
-    let more = put_short_then before.put c.put_version-next.ensures (omega arith) in
     record {
       few = before.few;
       top = before.top;
-      size = c.put_version-next.auto.page ∙ before.size;
-      put = rw rows_step (put_as more refl (omega arith));
+      put = rw rows_step (puts_as (puts_then before.put c.put_version.ensures (omega arith)) refl (omega arith));
     }
 
 pub returns : goal.returns
 returns c =
-    put_as c.loop-i.invariant.put (all_lines _ _ c.requires.0 _ _ (omega arith) c.count_from-n.ensures) (omega arith)
+    puts_as c.loop-i.invariant.put (all_lines _ _ c.requires.0 _ _ (omega arith) c.count_from-n.ensures) (omega arith)
