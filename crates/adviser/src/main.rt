@@ -10,7 +10,7 @@ use std::env::Env;
 use std::io::{Input, Print};
 use std::time::Clock;
 use streams::complaints::Complain;
-use streams::program::Words;
+use streams::program::{Obey, Words};
 use streams::{ending, hearing, program, usage};
 
 // `explain`: why the sheet on standard input is accepted or refused. Of its bytes one more is read than the longest plan has: it tells that a byte follows.
@@ -29,15 +29,19 @@ fn explain(rt: &(impl Input + Print + Complain)) -> u8 {
     status::status_of(e.number)
 }
 
-// Does the command.
-fn obey(rt: &(impl Env + Clock + Input + Print + Complain), command: Command, words: Words) -> u8 {
-    match command {
-        Command::Explain => explain(rt),
-        Command::Tune => trying::tune(rt, words.second, words.third),
-        _ => usage::elsewhere(rt),
+// What this program does.
+struct Adviser;
+
+impl<R: Env + Clock + Input + Print + Complain> Obey<R> for Adviser {
+    fn obey(&self, rt: &R, command: Command, words: Words) -> u8 {
+        match command {
+            Command::Explain => explain(rt),
+            Command::Tune => trying::tune(rt, words.second, words.third),
+            _ => usage::elsewhere(rt),
+        }
     }
 }
 
 fn main(rt: HostRuntime) {
-    program::run(&rt, |command, words| obey(&rt, command, words));
+    program::run(&rt, &Adviser);
 }

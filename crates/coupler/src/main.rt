@@ -11,22 +11,26 @@ use std::fs::Files;
 use std::io::{Input, Print};
 use std::os::fd::AsRawFd;
 use streams::complaints::Complain;
-use streams::program::Words;
+use streams::program::{Obey, Words};
 use streams::{program, usage};
 
-// Does the command.
-fn obey<R: Env + Files + Input + Print + Complain>(rt: &R, command: Command, words: Words) -> u8
+// What this program does.
+struct Coupler;
+
+impl<R: Env + Files + Input + Print + Complain> Obey<R> for Coupler
 where
     R::File: AsRawFd,
 {
-    match command {
-        Command::Hopper => planning::hopper(rt),
-        Command::HopperSheet => planning::hopper_sheet(rt),
-        Command::Refit => refitting::refit(rt, words.second),
-        _ => usage::elsewhere(rt),
+    fn obey(&self, rt: &R, command: Command, words: Words) -> u8 {
+        match command {
+            Command::Hopper => planning::hopper(rt),
+            Command::HopperSheet => planning::hopper_sheet(rt),
+            Command::Refit => refitting::refit(rt, words.second),
+            _ => usage::elsewhere(rt),
+        }
     }
 }
 
 fn main(rt: HostRuntime) {
-    program::run(&rt, |command, words| obey(&rt, command, words));
+    program::run(&rt, &Coupler);
 }

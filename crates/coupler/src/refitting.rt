@@ -8,6 +8,7 @@ use std::io::{Input, Print};
 use std::os::fd::AsRawFd;
 use streams::complaints::Complain;
 use streams::failing::{Failed, say};
+use streams::hearing::Take;
 use streams::loading::Opened;
 use streams::{ending, hearing, loading};
 
@@ -36,14 +37,16 @@ fn hear_byte(
     })
 }
 
-// Answers the lines that end in these bytes, one after the other.
-fn hear(rt: &(impl Print + Complain), begun: Heard, text: &[u8]) -> Result<Heard, Failed> {
-    let mut page = io::large_buffer();
-    let mut heard = begun;
-    for byte in text {
-        heard = hear_byte(rt, heard, *byte, &mut page)?;
+impl<R: Print + Complain> Take<R, Failed> for Heard {
+    // Answers the lines that end in these bytes, one after the other.
+    fn take(self, rt: &R, text: &[u8]) -> Result<Heard, Failed> {
+        let mut page = io::large_buffer();
+        let mut heard = self;
+        for byte in text {
+            heard = hear_byte(rt, heard, *byte, &mut page)?;
+        }
+        Ok(heard)
     }
-    Ok(heard)
 }
 
 // Answers all the changes of a train, and says whether one of their lines could not be read.
@@ -53,7 +56,7 @@ fn answer(rt: &(impl Input + Print + Complain), refit: Refit) -> Result<bool, Fa
         unread: false,
     };
     let mut text: [u8; 256] = [0; 256];
-    let last = hearing::hear_lines(rt, &mut text, begun, |heard, text| hear(rt, heard, text))?;
+    let last = hearing::hear_lines(rt, &mut text, begun)?;
     Ok(last.unread)
 }
 
@@ -84,14 +87,16 @@ where
         rt,
         b"refit: ",
         b"the path of the wagon list",
+        [b"", b"refit: standard input, output or error is closed\n"],
         word,
     ) else {
         return status::FAILED;
     };
-    let listed = listing::read(&mut file);
-    drop(file);
-    match listed {
-        Ok(listing) => couple(rt, listing),
+    match listing::read(&mut file) {
+        Ok(listing) => {
+            drop(file);
+            couple(rt, listing)
+        }
         Err(error) => loading::fail(rt, b"refit: ", path.as_str().as_bytes(), error),
     }
 }

@@ -1,6 +1,7 @@
 // Files by their paths: read whole, written and synced, and what is said where that fails.
 ghost use Rattle.std.specs.Io.{ReadsAtMost};
 ghost use Rattle.io.specs.Counts.{IsPrefixLen};
+ghost use Rattle.streams.specs.Reads.{FailsWithin};
 
 use commands::status;
 use std::env::Env;
@@ -9,6 +10,7 @@ use std::io::{Error, Write};
 use streams::complaints::Complain;
 use streams::failing::Failed;
 use streams::loading;
+use streams::loading::Unfilled;
 use streams::words::PathText;
 
 // One byte more than a store has: it tells that a byte follows it.
@@ -32,8 +34,9 @@ pub(crate) fn load(
     rt: &(impl Files + Complain),
     path: &str,
     buffer: &mut [u8],
-) -> Result<usize, Failed>
-    ensures { ReadsAtMost result buffer.new }
+) -> Result<usize, Unfilled>
+    ensures came { ReadsAtMost result buffer.new }
+    ensures failed { FailsWithin result buffer.new }
 {
     loading::load_path(rt, NAME, path, buffer)
 }

@@ -13,23 +13,27 @@ use std::fs::Files;
 use std::io::{Input, Print};
 use std::os::fd::AsRawFd;
 use streams::complaints::Complain;
-use streams::program::Words;
+use streams::program::{Obey, Words};
 use streams::{program, usage};
 
-// Does the command.
-fn obey<R: Env + Files + Input + Print + Complain>(rt: &R, command: Command, words: Words) -> u8
+// What this program does.
+struct Keeper;
+
+impl<R: Env + Files + Input + Print + Complain> Obey<R> for Keeper
 where
     R::File: AsRawFd,
 {
-    match command {
-        Command::EmptyStore => making::empty_store(rt, words.second),
-        Command::Keep => keeping::keep(rt, words.second),
-        Command::Kept => asking::kept(rt, words.second, words.third),
-        Command::Versions => asking::versions(rt, words.second),
-        _ => usage::elsewhere(rt),
+    fn obey(&self, rt: &R, command: Command, words: Words) -> u8 {
+        match command {
+            Command::EmptyStore => making::empty_store(rt, words.second),
+            Command::Keep => keeping::keep(rt, words.second),
+            Command::Kept => asking::kept(rt, words.second, words.third),
+            Command::Versions => asking::versions(rt, words.second),
+            _ => usage::elsewhere(rt),
+        }
     }
 }
 
 fn main(rt: HostRuntime) {
-    program::run(&rt, |command, words| obey(&rt, command, words));
+    program::run(&rt, &Keeper);
 }

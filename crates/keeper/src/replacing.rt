@@ -73,7 +73,8 @@ where
     };
     if loading::is_standard(&file) {
         let _ = fs::remove_file(rt, new);
-        loading::fail_closed(rt, files::NAME);
+        let line = b"olivastrum: standard input, output or error is closed\n";
+        loading::fail_closed(rt, [b"", line]);
         return None;
     }
     Some(file)

@@ -5,6 +5,7 @@ use commands::status;
 use std::io::{Input, Print};
 use streams::complaints::Complain;
 use streams::failing::{Failed, say};
+use streams::hearing::Take;
 use streams::{ending, hearing};
 use text_faults::Watch;
 use units::numbers;
@@ -16,16 +17,18 @@ struct Reading {
     watch: Watch,
 }
 
-// Takes these bytes of the text, and writes what they let out.
-fn take(rt: &(impl Print + Complain), reading: Reading, text: &[u8]) -> Result<Reading, Failed> {
-    let mut page = io::large_buffer();
-    let composed = command_compose::compose_on(reading.composing, text, &mut page);
-    let length = composed.length;
-    say(rt, &page[..length])?;
-    Ok(Reading {
-        composing: composed.composing,
-        watch: text_faults::watch_on(reading.watch, text),
-    })
+impl<R: Print + Complain> Take<R, Failed> for Reading {
+    // Takes these bytes of the text, and writes what they let out.
+    fn take(self, rt: &R, text: &[u8]) -> Result<Reading, Failed> {
+        let mut page = io::large_buffer();
+        let composed = command_compose::compose_on(self.composing, text, &mut page);
+        let length = composed.length;
+        say(rt, &page[..length])?;
+        Ok(Reading {
+            composing: composed.composing,
+            watch: text_faults::watch_on(self.watch, text),
+        })
+    }
 }
 
 // The whole text; its last line may lack its newline.
@@ -35,12 +38,7 @@ fn read(rt: &(impl Input + Print + Complain)) -> Result<Reading, Failed> {
         composing: command_compose::begin(),
         watch: text_faults::begin(),
     };
-    hearing::hear_lines(
-        rt,
-        &mut text,
-        begun,
-        |reading, text| take(rt, reading, text),
-    )
+    hearing::hear_lines(rt, &mut text, begun)
 }
 
 // Writes the sheet or the end of the log, or says why there is none.

@@ -7,29 +7,37 @@ use std::io::{Input, Print, Read};
 use std::ops::ControlFlow;
 use streams::complaints::Complain;
 use streams::failing::Failed;
+use streams::hearing::Look;
 use streams::{ending, hearing, loading, words};
 
-// Goes on. Behind a fault of the log nothing is read: no byte there changes the answer.
-fn look_on(inspecting: Inspecting, bytes: &[u8]) -> ControlFlow<Inspecting, Inspecting> {
-    let behind = inspection_stream::inspect_on(inspecting, bytes);
-    if behind.gathered.number == 0 {
-        return ControlFlow::Continue(behind);
+// What was found.
+#[derive(Clone, Copy)]
+struct Looked {
+    inspecting: Inspecting,
+}
+
+impl<R> Look<R> for Looked {
+    // Goes on. Behind a fault of the log nothing is read: no byte there changes the answer.
+    fn look(self, _: &R, bytes: &[u8]) -> Result<ControlFlow<Looked, Looked>, Failed> {
+        let inspecting = inspection_stream::inspect_on(self.inspecting, bytes);
+        if inspecting.gathered.number == 0 {
+            return Ok(ControlFlow::Continue(Looked { inspecting }));
+        }
+        Ok(ControlFlow::Break(Looked { inspecting }))
     }
-    ControlFlow::Break(behind)
 }
 
 // The whole log. The first 3,400 bytes are enough for every plan: what they say of it is what the whole log says.
 fn look(rt: &impl Complain, from: &mut impl Read) -> Result<Inspecting, Failed> {
     let mut head: [u8; log_stream::FIRST_SIZE] = [0; log_stream::FIRST_SIZE];
     let read = hearing::fill(rt, from, &mut head)?;
-    let begun = inspection_stream::inspect_start(&head[..read]);
+    let inspecting = inspection_stream::inspect_start(&head[..read]);
     if read < log_stream::FIRST_SIZE {
-        return Ok(begun);
+        return Ok(inspecting);
     }
     let mut bytes: [u8; 4_096] = [0; 4_096];
-    hearing::fill_all(rt, from, &mut bytes, begun, |inspecting, bytes| {
-        Ok(look_on(inspecting, bytes))
-    })
+    let looked = hearing::fill_all(rt, from, &mut bytes, Looked { inspecting })?;
+    Ok(looked.inspecting)
 }
 
 // Says what is on the page; the status is 0 exactly where the log is accepted.

@@ -11,41 +11,36 @@ mod running;
 mod showing;
 
 use commands::Command;
+use planned::Planned;
 use std::env::Env;
 use std::fs::Files;
 use std::io::{Input, Print};
 use std::os::fd::AsRawFd;
 use streams::complaints::Complain;
-use streams::program::Words;
+use streams::program::{Obey, Words};
 use streams::{program, usage};
 
-// Does the command.
-fn obey<R: Env + Files + Input + Print + Complain>(rt: &R, command: Command, words: Words) -> u8
+// What this program does.
+struct Olivastrum;
+
+impl<R: Env + Files + Input + Print + Complain> Obey<R> for Olivastrum
 where
     R::File: AsRawFd,
 {
-    match command {
-        Command::Compose => composing::compose(rt),
-        Command::Show => showing::show(rt),
-        Command::Run => planned::obey(
-            rt,
-            b"run: ",
-            words.second,
-            |sheet| running::start(rt, sheet),
-        ),
-        Command::Log => planned::obey(
-            rt,
-            b"log: ",
-            words.second,
-            |sheet| logging::start(rt, sheet),
-        ),
-        Command::Inspect => inspecting::inspect(rt, words.second),
-        Command::Diff => diffing::diff(rt, words.second, words.third),
-        Command::Help => command_help::print(rt),
-        _ => usage::elsewhere(rt),
+    fn obey(&self, rt: &R, command: Command, words: Words) -> u8 {
+        match command {
+            Command::Compose => composing::compose(rt),
+            Command::Show => showing::show(rt),
+            Command::Run => planned::obey(rt, Planned::Run, words.second),
+            Command::Log => planned::obey(rt, Planned::Log, words.second),
+            Command::Inspect => inspecting::inspect(rt, words.second),
+            Command::Diff => diffing::diff(rt, words.second, words.third),
+            Command::Help => command_help::print(rt),
+            _ => usage::elsewhere(rt),
+        }
     }
 }
 
 fn main(rt: HostRuntime) {
-    program::run(&rt, |command, words| obey(&rt, command, words));
+    program::run(&rt, &Olivastrum);
 }

@@ -5,6 +5,7 @@ use std::io::{Input, Print, Read};
 use std::ops::ControlFlow;
 use streams::complaints::Complain;
 use streams::failing::{Failed, say};
+use streams::hearing::Look;
 use streams::{ending, hearing, reading};
 
 // Writes the lines of the records that end in these bytes.
@@ -16,16 +17,30 @@ fn see(rt: &(impl Print + Complain), showing: Showing, bytes: &[u8]) -> Result<S
     Ok(shown.showing)
 }
 
+// What was shown.
+#[derive(Clone, Copy)]
+struct Seen {
+    showing: Showing,
+}
+
+impl<R: Print + Complain> Look<R> for Seen {
+    // No record is enough: each has its line.
+    fn look(self, rt: &R, bytes: &[u8]) -> Result<ControlFlow<Seen, Seen>, Failed> {
+        Ok(ControlFlow::Continue(Seen {
+            showing: see(rt, self.showing, bytes)?,
+        }))
+    }
+}
+
 // The rest of the input.
 fn see_rest(
     rt: &(impl Print + Complain),
     from: &mut impl Read,
-    begun: Showing,
+    showing: Showing,
 ) -> Result<Showing, Failed> {
     let mut bytes: [u8; 512] = [0; 512];
-    hearing::fill_all(rt, from, &mut bytes, begun, |showing, bytes| {
-        Ok(ControlFlow::Continue(see(rt, showing, bytes)?))
-    })
+    let seen = hearing::fill_all(rt, from, &mut bytes, Seen { showing })?;
+    Ok(seen.showing)
 }
 
 // Writes the lines of the log's first bytes, and of the records in these, 512 at a time.

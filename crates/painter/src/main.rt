@@ -13,7 +13,7 @@ use std::env::Env;
 use std::fs::Files;
 use std::io::Print;
 use streams::complaints::Complain;
-use streams::program::Words;
+use streams::program::{Obey, Words};
 use streams::{loading, program, usage, words};
 
 // `page LOG PLAN`: the plan sheet is read first, of its file one byte more than the longest plan, which tells that a byte follows it.
@@ -33,14 +33,18 @@ fn page(rt: &(impl Env + Files + Print + Complain), log: usize, word: usize) -> 
     saying::say(rt, log, None)
 }
 
-// Does the command.
-fn obey(rt: &(impl Env + Files + Print + Complain), command: Command, words: Words) -> u8 {
-    match command {
-        Command::Page => page(rt, words.second, words.third),
-        _ => usage::elsewhere(rt),
+// What this program does.
+struct Painter;
+
+impl<R: Env + Files + Print + Complain> Obey<R> for Painter {
+    fn obey(&self, rt: &R, command: Command, words: Words) -> u8 {
+        match command {
+            Command::Page => page(rt, words.second, words.third),
+            _ => usage::elsewhere(rt),
+        }
     }
 }
 
 fn main(rt: HostRuntime) {
-    program::run(&rt, |command, words| obey(&rt, command, words));
+    program::run(&rt, &Painter);
 }

@@ -4,6 +4,7 @@
 use commands::{Command, status};
 use std::io::{Input, Print};
 use streams::complaints::Complain;
+use streams::program::{Obey, Words};
 use streams::{ending, hearing, program, usage, version};
 use text::Page;
 
@@ -45,16 +46,21 @@ fn version(rt: &(impl Print + Complain)) -> u8 {
     status::DONE
 }
 
-// Does the command; no word of one here has another behind it.
-fn obey(rt: &(impl Input + Print + Complain), command: Command) -> u8 {
-    match command {
-        Command::Plan => plan(rt),
-        Command::PlanSheet => plan_sheet(rt),
-        Command::Version => version(rt),
-        _ => usage::elsewhere(rt),
+// What this program does.
+struct Planner;
+
+impl<R: Input + Print + Complain> Obey<R> for Planner {
+    // No command here has a word behind it.
+    fn obey(&self, rt: &R, command: Command, _: Words) -> u8 {
+        match command {
+            Command::Plan => plan(rt),
+            Command::PlanSheet => plan_sheet(rt),
+            Command::Version => version(rt),
+            _ => usage::elsewhere(rt),
+        }
     }
 }
 
 fn main(rt: HostRuntime) {
-    program::run(&rt, |command, _| obey(&rt, command));
+    program::run(&rt, &Planner);
 }

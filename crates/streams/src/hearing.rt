@@ -7,41 +7,54 @@ use crate::reading;
 use std::io::{Error, Input, Read};
 use std::ops::ControlFlow;
 
-// All of a stream, each piece as soon as it comes, of as many bytes as the buffer holds at most. Where a read fails, or the pieces do not end, `fail` says what that is.
-pub fn take_all<T: Copy, E, F: Fn(T, &[u8]) -> Result<T, E>, G: Fn(Option<Error>) -> E>(
+// What is made of a stream that is taken piece by piece.
+pub trait Take<R, E>: Copy {
+    // What is made of it and the piece behind it.
+    fn take(self, rt: &R, piece: &[u8]) -> Result<Self, E>;
+}
+
+// Why a stream was not taken to its end: a piece could not be taken, reading failed, or the pieces do not end.
+#[derive(Clone, Copy)]
+pub enum Cut<E> {
+    Taking(E),
+    Reading(Error),
+    Endless,
+}
+
+// All of a stream, each piece as soon as it comes, of as many bytes as the buffer holds at most.
+pub fn take_all<R, E, T: Take<R, E>>(
+    rt: &R,
     from: &mut impl Read,
     buffer: &mut [u8],
     begun: T,
-    take: F,
-    fail: G,
-) -> Result<T, E>
-    requires take { F.IsAlwaysCallable take }
-    requires fail { G.IsAlwaysCallable fail }
-{
+) -> Result<T, Cut<E>> {
     let mut taken = begun;
     for _ in 0..u64::MAX {
         match from.read(buffer) {
             Ok(0) => return Ok(taken),
-            Ok(length) => taken = take(taken, &buffer[..length])?,
-            Err(error) => return Err(fail(Some(error))),
+            Ok(length) => match taken.take(rt, &buffer[..length]) {
+                Ok(more) => taken = more,
+                Err(failed) => return Err(Cut::Taking(failed)),
+            },
+            Err(error) => return Err(Cut::Reading(error)),
         }
     }
-    Err(fail(None))
+    Err(Cut::Endless)
 }
 
 // All lines of standard input, of which the last may lack its newline.
-pub fn hear_lines<T: Copy, F: Fn(T, &[u8]) -> Result<T, Failed>>(
-    rt: &(impl Input + Complain),
+pub fn hear_lines<R: Input + Complain, T: Take<R, Failed>>(
+    rt: &R,
     buffer: &mut [u8],
     begun: T,
-    hear: F,
-) -> Result<T, Failed>
-    requires { F.IsAlwaysCallable hear }
-{
-    let heard = take_all(&mut rt.reader(), buffer, begun, &hear, |error| {
-        error.map_or(Failed, |error| unread(rt, error))
-    })?;
-    hear(heard, b"\n")
+) -> Result<T, Failed> {
+    let heard = take_all(rt, &mut rt.reader(), buffer, begun);
+    match heard {
+        Ok(lines) => lines.take(rt, b"\n"),
+        Err(Cut::Taking(failed)) => Err(failed),
+        Err(Cut::Reading(error)) => Err(unread(rt, error)),
+        Err(Cut::Endless) => Err(Failed),
+    }
 }
 
 // Fills the buffer from standard input, as far as that goes.
@@ -55,20 +68,23 @@ pub fn fill(rt: &impl Complain, from: &mut impl Read, buffer: &mut [u8]) -> Resu
     }
 }
 
+// What is made of a stream up to the piece at which that is enough.
+pub trait Look<R>: Copy {
+    // What is made of it and the piece behind it, and whether that is enough.
+    fn look(self, rt: &R, piece: &[u8]) -> Result<ControlFlow<Self, Self>, Failed>;
+}
+
 // The rest of standard input in pieces that fill the buffer, but for the last; or up to the piece at which that is enough.
-pub fn fill_all<T: Copy, F: Fn(T, &[u8]) -> Result<ControlFlow<T, T>, Failed>>(
-    rt: &impl Complain,
+pub fn fill_all<R: Complain, T: Look<R>>(
+    rt: &R,
     from: &mut impl Read,
     buffer: &mut [u8],
     begun: T,
-    take: F,
-) -> Result<T, Failed>
-    requires { F.IsAlwaysCallable take }
-{
+) -> Result<T, Failed> {
     let mut taken = begun;
     for _ in 0..u64::MAX {
         let length = fill(rt, from, buffer)?;
-        match take(taken, &buffer[..length])? {
+        match taken.look(rt, &buffer[..length])? {
             ControlFlow::Continue(more) => taken = more,
             ControlFlow::Break(enough) => return Ok(enough),
         }

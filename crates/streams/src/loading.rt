@@ -1,7 +1,8 @@
 // A file whose path is a word. Where it cannot be opened or read, the command and the path are named.
-ghost use Rattle.std.specs.Prelude.{◌≡◌};
+ghost use Rattle.std.specs.Prelude.{IfSome, ◌≡◌, int_le, pos};
 ghost use Rattle.std.specs.Io.{ReadsAtMost};
 ghost use Rattle.streams.specs.Ends.{failed};
+ghost use Rattle.streams.specs.Reads.{FailsWithin};
 
 use crate::complaints::Complain;
 use crate::failing::Failed;
@@ -31,17 +32,35 @@ pub fn fail(rt: &impl Complain, command: &[u8], path: &[u8], error: Error) -> u8
     status::FAILED
 }
 
-// A file that has the number of standard input, output or error: what is read there would be read from it, and what is said there written into it.
-pub fn fail_closed(rt: &impl Complain, command: &[u8]) -> u8
+// A file that has the number of standard input, output or error: what is read there would be read from it, and what is said there written into it. The line that says so has two parts, each a write; an empty one is none.
+pub fn fail_closed(rt: &impl Complain, line: [&[u8]; 2]) -> u8
     ensures { result ≡ failed }
 {
+    let [command, what] = line;
     rt.complain(command);
-    ending::complain(rt, b"standard input, output or error is closed\n")
+    ending::complain(rt, what)
 }
 
 // Whether an open file has one of these numbers.
-pub fn is_standard(file: &impl AsRawFd) -> bool {
+pub fn is_standard<F: AsRawFd>(file: &F) -> bool
+    ensures { IfSome (F.raw_fd file.now) (λ fd. result ≡ int_le fd (pos 2)) }
+{
     file.as_raw_fd() <= STDERR_FILENO
+}
+
+// How many bytes had come when a file could not be had or read, and why; it was named.
+#[derive(Clone, Copy)]
+pub struct Unfilled {
+    pub length: usize,
+    pub error: Error,
+}
+
+// A file that cannot be opened: it is named, and no byte came.
+fn unopened(rt: &impl Complain, command: &[u8], path: &[u8], error: Error) -> Unfilled
+    ensures { result.length ≡ 0 }
+{
+    name(rt, command, path, error);
+    Unfilled { length: 0, error }
 }
 
 // Fills the buffer from an open file; one that cannot be read is named.
@@ -51,13 +70,17 @@ pub fn fill(
     file: &mut impl Read,
     path: &[u8],
     buffer: &mut [u8],
-) -> Result<usize, Failed>
-    ensures { ReadsAtMost result buffer.new }
+) -> Result<usize, Unfilled>
+    ensures came { ReadsAtMost result buffer.new }
+    ensures failed { FailsWithin result buffer.new }
 {
     let filled = reading::fill(file, buffer);
     if let Some(error) = filled.failed {
         name(rt, command, path, error);
-        return Err(Failed);
+        return Err(Unfilled {
+            length: filled.length,
+            error,
+        });
     }
     Ok(filled.length)
 }
@@ -68,15 +91,13 @@ pub fn load_path(
     command: &[u8],
     path: &str,
     buffer: &mut [u8],
-) -> Result<usize, Failed>
-    ensures { ReadsAtMost result buffer.new }
+) -> Result<usize, Unfilled>
+    ensures came { ReadsAtMost result buffer.new }
+    ensures failed { FailsWithin result buffer.new }
 {
     match fs::open(rt, path) {
         Ok(mut file) => fill(rt, command, &mut file, path.as_bytes(), buffer),
-        Err(error) => {
-            name(rt, command, path.as_bytes(), error);
-            Err(Failed)
-        }
+        Err(error) => Err(unopened(rt, command, path.as_bytes(), error)),
     }
 }
 
@@ -102,10 +123,14 @@ pub fn load(
     command: &[u8],
     word: usize,
     sheet: &mut [u8],
-) -> Result<usize, Failed>
-    ensures { ReadsAtMost result sheet.new }
+) -> Result<usize, Unfilled>
+    ensures came { ReadsAtMost result sheet.new }
+    ensures failed { FailsWithin result sheet.new }
 {
-    let path = path(rt, command, b"the path of a file", word)?;
+    let path = match words::path(rt, word) {
+        Ok(path) => path,
+        Err(error) => return Err(unopened(rt, command, b"the path of a file", error)),
+    };
     load_path(rt, command, path.as_str(), sheet)
 }
 
@@ -116,11 +141,12 @@ pub struct Opened<F> {
     pub file: F,
 }
 
-// Opens the file whose path is the word at this place, beside the three that are open already.
+// Opens the file whose path is the word at this place, beside the three that are open already; else the line for one of those is said.
 pub fn open<R: Env + Files + Complain>(
     rt: &R,
     command: &[u8],
     called: &[u8],
+    closed: [&[u8]; 2],
     word: usize,
 ) -> Result<Opened<R::File>, Failed>
 where
@@ -135,7 +161,7 @@ where
         }
     };
     if is_standard(&file) {
-        fail_closed(rt, command);
+        fail_closed(rt, closed);
         return Err(Failed);
     }
     Ok(Opened { path, file })

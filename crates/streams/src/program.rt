@@ -26,24 +26,26 @@ const BEHIND: Words = Words {
     third: 4,
 };
 
+// What a program does.
+pub trait Obey<R> {
+    // Does the command, with the words behind it, and answers the status.
+    fn obey(&self, rt: &R, command: Command, words: Words) -> u8;
+}
+
 // Does what the words ask for; where they ask for nothing that can be done, it was said why.
-fn follow<F: FnOnce(Command, Words) -> u8>(rt: &(impl Env + Complain), words: Words, obey: F) -> u8
-    requires { F.IsAlwaysCallable obey }
-{
+fn follow<R: Env + Complain>(rt: &R, words: Words, program: &impl Obey<R>) -> u8 {
     match words::command(rt, words.first) {
-        Some(command) => obey(command, words),
+        Some(command) => program.obey(rt, command, words),
         None => status::FAILED,
     }
 }
 
 // Does what the program was called for, and tells the status where that is asked for.
-pub fn run<F: FnOnce(Command, Words) -> u8>(rt: &(impl Env + Complain), obey: F)
-    requires { F.IsAlwaysCallable obey }
-{
+pub fn run<R: Env + Complain>(rt: &R, program: &impl Obey<R>) {
     if !words::status_asked(rt) {
-        follow(rt, BARE, obey);
+        follow(rt, BARE, program);
         return;
     }
-    let status = follow(rt, BEHIND, obey);
+    let status = follow(rt, BEHIND, program);
     ending::tell(status);
 }
