@@ -48,6 +48,13 @@ by_word Help = refl
 no_shared_word : (c d : Command) → word_of c ≡ word_of d → c ≡ d
 no_shared_word c d e = same_Some c d (sym (by_word c) ∙ ap command_of e ∙ by_word d)
 
+no_command : command_of [] ≡ None
+unfolding same_bytes all_below
+no_command = refl
+
+some_word : (c : Command) → word_of c ≡ [] → ⊥
+some_word c e = none-some c (sym no_command ∙ sym (ap command_of e) ∙ by_word c)
+
 -- of a command and what is found behind it
 own_or : (b : Bool) (c d : Command) (behind : Option Command) (word : List ℕ) → (b ≡ true → word_of c ≡ word) → (behind ≡ Some d → word_of d ≡ word)
     → cond b (Some c) behind ≡ Some d → word_of d ≡ word
@@ -97,6 +104,8 @@ promised =
       found = by_word;
       own = own_word commands;
       apart = no_shared_word;
+      empty = no_command;
+      worded = some_word;
       done = done_by_word;
       miscounted = miscounted_by_word;
       nothing = nothing_asked;

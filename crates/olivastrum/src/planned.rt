@@ -33,6 +33,8 @@ fn start(rt: &(impl Input + Print + Complain), planned: Planned, sheet: &[u8]) -
 }
 
 // Reads the plan sheet in the file whose path is the word at this place, and starts with it: the longest, of 128 stations with a mode, F and g, has 3,356 bytes; one more tells that a byte follows it. A plan that is opened as one of the three would be read as the calls, or written over.
+// Its frame is its own, so that the commands without a plan need none of it.
+#[inline(never)]
 pub(crate) fn obey<R: Env + Files + Input + Print + Complain>(
     rt: &R,
     planned: Planned,
