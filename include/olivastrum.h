@@ -490,7 +490,7 @@ OLIVASTRUM_SIZE(struct olivastrum_coupled, 664);
 struct olivastrum_read_request olivastrum_read_request_sheet(const uint8_t *sheet, size_t length);
 
 /* Reads a plan sheet: the set and its allocation, or 1 to 5 or 7 with both blank. */
-#define OLIVASTRUM_STACK_READ_PLAN_SHEET 10752
+#define OLIVASTRUM_STACK_READ_PLAN_SHEET 5632
 struct olivastrum_read_plan olivastrum_read_plan_sheet(const uint8_t *sheet, size_t length);
 
 /* Writes a request sheet into the first bytes of out and leaves the rest: the sheet's length, or 2, 4, 5 or 14. */
@@ -600,7 +600,7 @@ uint8_t olivastrum_empty_store(uint8_t *area, size_t length);
  * is no store; then 1, 2, 3, 4, 5 or 7 as reading the sheet gives them; then 18 where the newest version is 4,294,967,295:
  * none is stored from then on. A refused call writes no byte. Of sixteen the oldest goes. The area is written where it
  * stands, byte after byte: a host whose power may fail in between stores in a copy, and keeps that when the call is over. */
-#define OLIVASTRUM_STACK_STORE_PLAN 6144
+#define OLIVASTRUM_STACK_STORE_PLAN 3584
 struct olivastrum_stored_plan olivastrum_store_plan(uint8_t *area, size_t length, const uint8_t *sheet, size_t sheet_length);
 
 /* Where the plan sheet of a version stands in the area: the bytes that were stored. 2 where the area is no store, then 17

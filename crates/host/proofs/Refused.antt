@@ -1,4 +1,4 @@
--- A refused call leaves the lent ring, and a refused record the lent inspection, as it was: what it stored in place is what stood there, and the rest was not touched.
+-- A refused call leaves the ring, and a refused record the lent inspection, as it was: what it stored in place is what stood there, and the rest was not touched.
 use Rattle.std.proofs.Common.{◌≡◌, ap}
 use Rattle.rings.specs.declared.Ring.{Ring}
 use Rattle.inspection.specs.declared.KeptInspection.{KeptInspection}

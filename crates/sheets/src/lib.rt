@@ -84,6 +84,7 @@ pub fn read_request(sheet: &[u8]) -> ReadRequest
 }
 
 // Reads a plan sheet.
+#[inline(always)]
 pub fn read_plan(sheet: &[u8]) -> ReadPlan
     ensures { result ≡ read_plan sheet.now }
 {

@@ -106,15 +106,15 @@ pub(crate) fn read_fields(bs: &[u8], passed: Passed, plan: bool, kept: bool) -> 
     requires { PassedFits bs.now passed }
     ensures { result ≡ fields_answer kept plan (set_of bs.now passed) (alloc_of bs.now passed) }
 {
-    let mut set = sets::blank_set();
-    let mut alloc = plans::blank_alloc();
-    read_columns(bs, passed, &mut set, &mut alloc);
-    let number = answer_number(crate::judge_sheet(plan, &set, &alloc));
+    let mut read = refused(numbers::ACCEPTED);
+    read_columns(bs, passed, &mut read.set, &mut read.alloc);
+    let number = answer_number(crate::judge_sheet(plan, &read.set, &read.alloc));
     let whole = kept | (number == numbers::ACCEPTED);
     if !whole {
         return refused(number);
     }
-    ReadPlan { set, alloc, number }
+    read.number = number;
+    read
 }
 
 // Reads a sheet: 1, 2, 3 by the first fault from the left; then 4, 5, and 7 for plans. A refused one is blank; where only its numbers are refused, it may be kept.

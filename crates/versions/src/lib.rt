@@ -80,7 +80,7 @@ pub fn store_plan(area: &mut [u8], sheet: &[u8]) -> StoredPlan
     let Some(held) = area::judge_area(area) else {
         return storing::refused(numbers::WRONG_SHAPE);
     };
-    let number = sheets::plan_number(sheet);
+    let number = storing::plan_number(sheet);
     if number != numbers::ACCEPTED {
         return storing::refused(number);
     }

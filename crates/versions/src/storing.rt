@@ -2,12 +2,21 @@
 ghost use Rattle.std.specs.Prelude.{◌≡◌, ◌++◌, ◌+◌, ◌≤◌, length, take, drop};
 ghost use Rattle.fields.specs.Rows.{laid};
 ghost use Rattle.sheets.specs.Layout.{end_bytes};
+ghost use Rattle.sheets.specs.Reading.{read_plan};
 ghost use Rattle.versions.specs.Layout.{version_start, version_bytes, zero_bytes};
 ghost use Rattle.versions.specs.Answers.{moved_down};
 ghost use Rattle.versions.specs.Bounds.{StoreHolds, RoomMade, MovesDown, VersionRoom};
 
 use crate::{MOST_KEPT, StoredPlan, VERSION_TAG, area};
 use sheets::records;
+
+// The number that reading the sheet gives. It has a frame of its own, which stands where that of the area's judgement stood, so that storing needs no more stack than judging.
+#[inline(never)]
+pub(crate) fn plan_number(sheet: &[u8]) -> u8
+    ensures { result ≡ (read_plan sheet.now).number }
+{
+    sheets::plan_number(sheet)
+}
 
 // Writes n zeros from the place on.
 pub(crate) fn clear(out: &mut [u8], from: usize, n: usize)

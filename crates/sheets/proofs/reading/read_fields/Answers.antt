@@ -1,11 +1,13 @@
 -- `read_fields` is right because it hands out what the fields hold with its judgement, and goes by the test of the definition.
-use mathlib.Core.Path.{◌∙◌}
+use mathlib.Core.Path.{ap, ◌∙◌}
+use Rattle.sheets.specs.declared.ReadPlan.{ReadPlan}
 use Rattle.sheets.proofs.ReadingLaws.{answer_blank, answer_whole}
 use Rattle.sheets.proofs.reading.read_fields.Goals as goal
 
 pub read_columns-requires : goal.read_columns-requires
 read_columns-requires c =
-    (c.requires, (c.blank_set-set.ensures, c.blank_alloc-alloc.ensures))
+    let blank = c.refused-read.ensures in
+    (c.requires, (ap (λ (r : ReadPlan). r.set) blank, ap (λ (r : ReadPlan). r.alloc) blank))
 
 pub returns-then-not-whole : goal.returns-then-not-whole
 returns-then-not-whole c =
